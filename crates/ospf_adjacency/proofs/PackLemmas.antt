@@ -3,7 +3,8 @@ use Rattle.std.proofs.Common.{◌≡◌, ℕ, ◌+◌, ◌-◌, ◌||◌, Bool, 
 use Rattle.ospf_base.specs.declared.ids.Addr.{Addr}
 use Rattle.ospf_area.specs.Posting.{PostValue, and_parcels}
 use Rattle.ospf_area.proofs.PostLemmas.{parcels_more}
-use Rattle.ospf_adjacency.specs.Packing.{bytes_in, goes_in, has_none, packed, update_to}
+use Rattle.ospf_neighbour.specs.Neighbour.{is_empty}
+use Rattle.ospf_adjacency.specs.Packing.{bytes_in, goes_in, packed, update_to}
 
 bytes_in-push : (batch : List (List ℕ)) (lsa : List ℕ) → bytes_in (batch ++ lsa ∷ []) ≡ bytes_in batch + length lsa
 bytes_in-push [] lsa = omega arith
@@ -12,8 +13,8 @@ bytes_in-push (x ∷ xs) lsa = omega (arith, bytes_in-push xs lsa)
 pub left_behind : (room left : ℕ) (batch : List (List ℕ)) (lsa : List ℕ) → left ≡ room - bytes_in batch → left - length lsa ≡ room - bytes_in (batch ++ lsa ∷ [])
 left_behind room left batch lsa is = omega (arith, is, bytes_in-push batch lsa)
 
-pub goes_by : (room left : ℕ) (batch : List (List ℕ)) (lsa : List ℕ) (goes : Bool) → left ≡ room - bytes_in batch → goes ≡ has_none batch || nat_le (length lsa) left → goes ≡ goes_in room batch lsa
-goes_by room left batch lsa goes is by = by ∙ ap (λ (k : ℕ). has_none batch || nat_le (length lsa) k) is
+pub goes_by : (room left : ℕ) (batch : List (List ℕ)) (lsa : List ℕ) (goes : Bool) → left ≡ room - bytes_in batch → goes ≡ is_empty batch || nat_le (length lsa) left → goes ≡ goes_in room batch lsa
+goes_by room left batch lsa goes is by = by ∙ ap (λ (k : ℕ). is_empty batch || nat_le (length lsa) k) is
 
 -- it goes into the Update
 pub packs_in : (room : ℕ) (to : Addr) (batch : List (List ℕ)) (lsa : List ℕ) (rest : List (List ℕ)) (out : PostValue) → true ≡ goes_in room batch lsa

@@ -29,13 +29,12 @@ names rs q = list_any (λ r. r.0 == q.0) rs
 
 -- ---- the neighbour
 
--- on broadcast links what the Hello declares is stored (10.5)
-abbrev pub with_declared : Iface → Hello → NeighbourValue → NeighbourValue
-with_declared i h n = if is_broadcast i then record n { declared = record { priority = h.priority; dr = h.designated; backup = h.backup } } else n
-
--- HelloReceived, and what the Hello declares (10.5)
+-- HelloReceived; and on broadcast links what the Hello declares is stored (10.5)
 abbrev pub heard : Iface → Hello → NeighbourValue → NeighbourValue
-heard i h n = with_declared i h (after_event HelloReceived i.settings.dead n)
+heard i h n =
+    if is_broadcast i
+    then record (after_event HelloReceived i.settings.dead n) { declared = record { priority = h.priority; dr = h.designated; backup = h.backup } }
+    else after_event HelloReceived i.settings.dead n
 
 -- 2-WayReceived where the Hello names the router, else 1-WayReceived (10.5)
 abbrev pub naming_event : Iface → Bool → NeighbourValue → NbrEvent

@@ -14,7 +14,8 @@ use Rattle.ospf_neighbour.specs.declared.machine.NbrEvent.{NbrEvent}
 use Rattle.ospf_neighbour.specs.declared.machine.NbrEvent.TheVariants.{NegotiationDone}
 use Rattle.ospf_packet.specs.Meaning.{BodyMeaning, hello, description, request, update, acknowledgment}
 use Rattle.ospf_packet.specs.declared.body.Description.{Description}
-use Rattle.ospf_exchange.specs.Exchange.{dd_fields, describes}
+use Rattle.ospf_packet.specs.Fields.{description_fields}
+use Rattle.ospf_exchange.specs.Exchange.{describes}
 use Rattle.ospf_exchange.specs.Laws.{HasHeader, HasInstance, KeepsRouter}
 use Rattle.ospf_exchange.specs.declared.rule.Local.{Local}
 use Rattle.ospf_adjacency.specs.Adjacency.{event_taken}
@@ -132,6 +133,6 @@ DescriptionKeepsRouter = (i : Iface) (local : Local) (sender : RouterId) (d : De
 -- a Database Description of the exchange has the first headers of the summary list, as many as fit the MTU, and the others stay on the
 -- list (10.8)
 abbrev pub DescriptionsAreFilled : Type 0
-DescriptionsAreFilled = (own : Own) (local : Local) (number : ℕ) (n : NeighbourValue) → ip_header + packet_header + dd_fields ≤ local.mtu
+DescriptionsAreFilled = (own : Own) (local : Local) (number : ℕ) (n : NeighbourValue) → ip_header + packet_header + description_fields ≤ local.mtu
     → (fields : Description) × (dd_body local.mtu (describes local number n) ≡ description fields (describes local number n).last_dd)
     × IsFilled (λ headers. packet_of own (description fields headers)) local.mtu n.summary (describes local number n).last_dd (describes local number n).summary

@@ -66,10 +66,7 @@ timed ns = map inactivity_ticked (filter (λ n. not (is_inactive n)) ns)
 abbrev pub wait_ticked : Iface → Iface
 wait_ticked i = record i { wait = i.wait - 1 }
 
--- the wait timer fires (9.2, WaitTimer)
-abbrev pub is_wait_over : Iface → Bool
-is_wait_over i = is_waiting i.state && (i.wait == 1)
-
--- by the timers an election is due: the wait is over, or a neighbour in 2-Way or above is removed (9.3)
+-- by the timers an election is due: the wait timer fires, or a neighbour in 2-Way or above is removed (9.2, WaitTimer; 9.3)
 abbrev pub elects_by_timers : Iface → List NeighbourValue → Bool
-elects_by_timers i ns = is_wait_over i || (is_settled i.state && list_any (λ n. is_inactive n && is_two_way n.state) ns)
+elects_by_timers i ns =
+    (is_waiting i.state && (i.wait == 1)) || (is_settled i.state && list_any (λ n. is_inactive n && is_two_way n.state) ns)

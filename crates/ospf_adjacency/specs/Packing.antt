@@ -1,9 +1,10 @@
 -- How copies of the database are packed into Updates (RFC 2328, sections 10.7, 13.3 and 13.6).
-use Rattle.std.specs.Prelude.{◌+◌, ◌-◌, ◌++◌, ◌||◌, ℕ, Bool, true, false, List, [], ◌∷◌, Option, None, Some, length, map, nat_le, if◌then◌else◌}
+use Rattle.std.specs.Prelude.{◌+◌, ◌-◌, ◌++◌, ◌||◌, ℕ, Bool, List, [], ◌∷◌, Option, None, Some, length, map, nat_le, if◌then◌else◌}
 use Rattle.ospf_base.specs.Constants.{ip_header, packet_header}
 use Rattle.ospf_base.specs.declared.ids.Addr.{Addr}
 use Rattle.ospf_base.specs.declared.ids.LsaKey.{LsaKey}
 use Rattle.ospf_lsdb.specs.Database.{Entry, Held, entry_of, lsa_of}
+use Rattle.ospf_neighbour.specs.Neighbour.{is_empty}
 use Rattle.ospf_packet.specs.Meaning.{update}
 use Rattle.ospf_area.specs.Sending.{sent_lsa}
 use Rattle.ospf_area.specs.Packets.{Parcel}
@@ -34,13 +35,9 @@ abbrev pub bytes_in : List (List ℕ) → ℕ
 bytes_in [] = 0
 bytes_in (lsa ∷ lsas) = length lsa + bytes_in lsas
 
-abbrev pub has_none : List (List ℕ) → Bool
-has_none [] = true
-has_none (lsa ∷ lsas) = false
-
 -- an LSA goes into an Update behind these: a first one always does
 abbrev pub goes_in : ℕ → List (List ℕ) → List ℕ → Bool
-goes_in room batch lsa = has_none batch || nat_le (length lsa) (room - bytes_in batch)
+goes_in room batch lsa = is_empty batch || nat_le (length lsa) (room - bytes_in batch)
 
 abbrev pub last_batch : List (List ℕ) → List (List (List ℕ))
 last_batch [] = []

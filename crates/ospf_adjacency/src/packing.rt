@@ -4,7 +4,8 @@ ghost use Rattle.std.specs.Prelude.{◌≡◌, ◌-◌, ◌||◌, nat_le, ◌∷
 ghost use Rattle.ospf_lsdb.specs.Database.{lsa_of};
 ghost use Rattle.ospf_area.specs.Sending.{sent_lsa};
 ghost use Rattle.ospf_area.specs.Posting.{and_parcels};
-ghost use Rattle.ospf_adjacency.specs.Packing.{has_none, bytes_in, packed, update_to, update_room, updates_of};
+ghost use Rattle.ospf_neighbour.specs.Neighbour.{is_empty};
+ghost use Rattle.ospf_adjacency.specs.Packing.{bytes_in, packed, update_to, update_room, updates_of};
 
 use ospf_area::Post;
 use ospf_base::{Addr, IP_HEADER, LsaKey, PACKET_HEADER};
@@ -103,7 +104,7 @@ fn add(
 
 // Whether an LSA of so many bytes goes into an Update behind these.
 fn goes_in(batch: &[Lsa], length: usize, left: usize) -> bool
-    ensures { result ≡ has_none batch.now || nat_le length left }
+    ensures { result ≡ is_empty batch.now || nat_le length left }
 {
     batch.is_empty() || length <= left
 }

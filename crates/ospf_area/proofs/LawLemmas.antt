@@ -9,7 +9,7 @@ use Rattle.ospf_lsa.specs.declared.header.LsaHeader.{LsaHeader}
 use Rattle.ospf_neighbour.specs.Lists.{key_unlisted}
 use Rattle.ospf_neighbour.specs.Neighbour.{NeighbourValue}
 use Rattle.ospf_neighbour.specs.Neighbours.{neighbour_of}
-use Rattle.ospf_area.specs.Asking.{turned_to_next, turned_link, turned_links}
+use Rattle.ospf_area.specs.Asking.{turned_to_next, turned_link}
 use Rattle.ospf_area.specs.Changes.{changed_at, changed_if, changed_link, changed_on, delayed_at, delayed_on}
 use Rattle.ospf_area.specs.Flooding.{flooded_link, flooded_links, flooded_neighbour, on_link, released, released_link}
 use Rattle.ospf_area.specs.Laws.{changed_there, turned_there}
@@ -67,7 +67,7 @@ on_turned_link own None q = refl
 on_turned_link own (Some link) q = neighbour_of-map (turned_to_next link.settings.mtu own.tick) (λ n. turned-router link.settings.mtu own.tick n) link.neighbours q
 
 pub turns_there : (own : Own) (links : List LinkValue) (l : ℕ) (q : RouterId)
-    → neighbour_at (turned_links own links) l q ≡ option_map (turned_there own (slice_get links l)) (neighbour_at links l q)
+    → neighbour_at (map (turned_link own) links) l q ≡ option_map (turned_there own (slice_get links l)) (neighbour_at links l q)
 turns_there own links l q =
     ap (λ (o : Option LinkValue). neighbour_of (neighbours_in o) q) (slice_get-map (turned_link own) links l)
     ∙ on_turned_link own (slice_get links l) q

@@ -12,7 +12,8 @@ use Rattle.ospf_base.specs.Keys.{same_key, key_cmp}
 use Rattle.ospf_base.specs.declared.ids.LsaKey.{LsaKey}
 use Rattle.ospf_base.specs.declared.ids.RouterId.{RouterId}
 use Rattle.ospf_area.specs.Numbers.{counted, counted_one, is_numbering_of, marked, unmarked}
-use Rattle.ospf_area.specs.State.{kept_in, numbering_of, was_sent}
+use Rattle.ospf_lsdb.specs.Moments.{among}
+use Rattle.ospf_area.specs.State.{kept_in, numbering_of}
 use Rattle.ospf_area.specs.declared.state.Numbering.{Numbering}
 use Rattle.ospf_area.proofs.LawLemmas.{find-map}
 
@@ -161,12 +162,12 @@ pub is_here : (key k : LsaKey) → is_eq (key_cmp key k) ≡ same_key k key
 is_here key k = is_eq-key_cmp key k ∙ same_key-turned key k
 
 -- what the set has was sent
-pub set_has : (key : LsaKey) (sent : List LsaKey) → list_any (λ k. is_eq (key_cmp key k)) sent ≡ was_sent sent key
+pub set_has : (key : LsaKey) (sent : List LsaKey) → list_any (λ k. is_eq (key_cmp key k)) sent ≡ among sent key
 set_has key [] = refl
 set_has key (x ∷ xs) = ap (λ (b : Bool). b || list_any (λ k. is_eq (key_cmp key k)) xs) (is_here key x) ∙ ap (λ (b : Bool). same_key x key || b) (set_has key xs)
 
 -- a key that is put in is marked, beside those that were
-put_in : (key k : LsaKey) (sent : List LsaKey) → was_sent (insert_key key_cmp sent key) k ≡ (same_key key k || was_sent sent k)
+put_in : (key k : LsaKey) (sent : List LsaKey) → among (insert_key key_cmp sent key) k ≡ (same_key key k || among sent k)
 put_in key k [] = refl
 put_in key k (x ∷ xs) = by_order (key_cmp key x) refl (put_in key k xs)
   where
@@ -183,14 +184,14 @@ put_in key k (x ∷ xs) = by_order (key_cmp key x) refl (put_in key k xs)
     turned true false c = refl
     turned false b c = refl
 
-    by_order : (o : Ordering) → key_cmp key x ≡ o → was_sent (insert_key key_cmp xs key) k ≡ (same_key key k || was_sent xs k)
-        → was_sent (match_ordering o (key ∷ x ∷ xs) (x ∷ xs) (x ∷ insert_key key_cmp xs key)) k ≡ (same_key key k || (same_key x k || was_sent xs k))
+    by_order : (o : Ordering) → key_cmp key x ≡ o → among (insert_key key_cmp xs key) k ≡ (same_key key k || among xs k)
+        → among (match_ordering o (key ∷ x ∷ xs) (x ∷ xs) (x ∷ insert_key key_cmp xs key)) k ≡ (same_key key k || (same_key x k || among xs k))
     by_order Less e rest = refl
     by_order Equal e rest =
         let one : x ≡ key = same_key-eq x key (sym (is_here key x) ∙ ap is_eq e) in
-        ap (λ (j : LsaKey). same_key j k || was_sent xs k) one ∙ twice (same_key key k) (was_sent xs k)
-        ∙ ap (λ (j : LsaKey). same_key key k || (same_key j k || was_sent xs k)) (sym one)
-    by_order Greater e rest = ap (λ (b : Bool). same_key x k || b) rest ∙ turned (same_key x k) (same_key key k) (was_sent xs k)
+        ap (λ (j : LsaKey). same_key j k || among xs k) one ∙ twice (same_key key k) (among xs k)
+        ∙ ap (λ (j : LsaKey). same_key key k || (same_key j k || among xs k)) (sym one)
+    by_order Greater e rest = ap (λ (b : Bool). same_key x k || b) rest ∙ turned (same_key x k) (same_key key k) (among xs k)
 
 -- where the key is not marked, nothing leaves
 all_stay : (key : LsaKey) (sent : List LsaKey) → list_any (λ k. is_eq (key_cmp key k)) sent ≡ false → unmarked key sent ≡ sent
@@ -219,37 +220,37 @@ pub taken_out : (key : LsaKey) (sent left : List LsaKey) → left ≡ remove_key
 taken_out key sent left is none = is ∙ taken_first key sent (sym (ap (λ ks. list_any (λ k. is_eq (key_cmp key k)) ks) is) ∙ none)
 
 -- the key's own marks are gone
-unmarked_here : (key : LsaKey) (sent : List LsaKey) → was_sent (unmarked key sent) key ≡ false
+unmarked_here : (key : LsaKey) (sent : List LsaKey) → among (unmarked key sent) key ≡ false
 unmarked_here key [] = refl
 unmarked_here key (x ∷ xs) = by_test (same_key x key) refl (unmarked_here key xs)
   where
-    by_test : (b : Bool) → same_key x key ≡ b → was_sent (unmarked key xs) key ≡ false → was_sent (if not b then x ∷ unmarked key xs else unmarked key xs) key ≡ false
+    by_test : (b : Bool) → same_key x key ≡ b → among (unmarked key xs) key ≡ false → among (if not b then x ∷ unmarked key xs else unmarked key xs) key ≡ false
     by_test true e rest = rest
-    by_test false e rest = ap (λ (b : Bool). b || was_sent (unmarked key xs) key) e ∙ rest
+    by_test false e rest = ap (λ (b : Bool). b || among (unmarked key xs) key) e ∙ rest
 
 -- those of others stay
-unmarked_there : (key k : LsaKey) (sent : List LsaKey) → same_key key k ≡ false → was_sent (unmarked key sent) k ≡ was_sent sent k
+unmarked_there : (key k : LsaKey) (sent : List LsaKey) → same_key key k ≡ false → among (unmarked key sent) k ≡ among sent k
 unmarked_there key k [] apart = refl
 unmarked_there key k (x ∷ xs) apart = by_test (same_key x key) refl (unmarked_there key k xs apart)
   where
-    by_test : (b : Bool) → same_key x key ≡ b → was_sent (unmarked key xs) k ≡ was_sent xs k
-        → was_sent (if not b then x ∷ unmarked key xs else unmarked key xs) k ≡ (same_key x k || was_sent xs k)
+    by_test : (b : Bool) → same_key x key ≡ b → among (unmarked key xs) k ≡ among xs k
+        → among (if not b then x ∷ unmarked key xs else unmarked key xs) k ≡ (same_key x k || among xs k)
     by_test true e rest =
         rest
-        ∙ sym (ap (λ (b : Bool). b || was_sent xs k) (ap (λ (j : LsaKey). same_key j k) (same_key-eq x key e) ∙ apart))
+        ∙ sym (ap (λ (b : Bool). b || among xs k) (ap (λ (j : LsaKey). same_key j k) (same_key-eq x key e) ∙ apart))
     by_test false e rest = ap (λ (b : Bool). same_key x k || b) rest
 
-unmarked_at : (key : LsaKey) (sent : List LsaKey) (k : LsaKey) → was_sent (unmarked key sent) k ≡ (if same_key key k then false else was_sent sent k)
+unmarked_at : (key : LsaKey) (sent : List LsaKey) (k : LsaKey) → among (unmarked key sent) k ≡ (if same_key key k then false else among sent k)
 unmarked_at key sent k = by_test (same_key key k) refl
   where
-    by_test : (b : Bool) → same_key key k ≡ b → was_sent (unmarked key sent) k ≡ (if b then false else was_sent sent k)
-    by_test true e = subst (λ (j : LsaKey). was_sent (unmarked key sent) j ≡ false) (same_key-eq key k e) (unmarked_here key sent)
+    by_test : (b : Bool) → same_key key k ≡ b → among (unmarked key sent) k ≡ (if b then false else among sent k)
+    by_test true e = subst (λ (j : LsaKey). among (unmarked key sent) j ≡ false) (same_key-eq key k e) (unmarked_here key sent)
     by_test false e = unmarked_there key k sent e
 
-pub marks : (key : LsaKey) (went : Bool) (sent : List LsaKey) (k : LsaKey) → was_sent (marked key went sent) k ≡ (if same_key key k then went else was_sent sent k)
+pub marks : (key : LsaKey) (went : Bool) (sent : List LsaKey) (k : LsaKey) → among (marked key went sent) k ≡ (if same_key key k then went else among sent k)
 marks key false sent k = unmarked_at key sent k
 marks key true sent k = put_in key k sent ∙ by_test (same_key key k)
   where
-    by_test : (b : Bool) → (b || was_sent sent k) ≡ (if b then true else was_sent sent k)
+    by_test : (b : Bool) → (b || among sent k) ≡ (if b then true else among sent k)
     by_test true = refl
     by_test false = refl

@@ -18,14 +18,15 @@ use Rattle.ospf_neighbour.specs.Neighbour.{NeighbourValue}
 use Rattle.ospf_packet.specs.Meaning as meaning
 use Rattle.ospf_exchange.specs.Requests.{asked_next}
 use Rattle.ospf_packet.specs.Meaning.{BodyMeaning, Meaning, packet_bytes}
-use Rattle.ospf_area.specs.Asking.{entry_for, request_body, turned_to_next, turned_links}
+use Rattle.ospf_area.specs.Asking.{turned_link, entry_for, request_body, turned_to_next}
 use Rattle.ospf_area.specs.Changes.{changed_at, changed_if, delayed_at}
 use Rattle.ospf_area.specs.Flooding.{came_from, flooded_links, flooded_neighbour, on_link, released}
 use Rattle.ospf_area.specs.Numbers.{counts, is_own, marked}
 use Rattle.ospf_area.specs.Outputs.{SentValue}
 use Rattle.ospf_area.specs.Packing.{IsFilled}
 use Rattle.ospf_area.specs.Sending.{datagrams, packet_of, update_out}
-use Rattle.ospf_area.specs.State.{AreaValue, LinkValue, WaitsIn, kept_in, kept_number, neighbour_at, numbering_of, was_sent}
+use Rattle.ospf_lsdb.specs.Moments.{among}
+use Rattle.ospf_area.specs.State.{AreaValue, LinkValue, WaitsIn, kept_in, kept_number, neighbour_at, numbering_of}
 use Rattle.ospf_area.specs.declared.changes.AdjacencyChange.{AdjacencyChange}
 use Rattle.ospf_area.specs.declared.flooding.Origin.{Origin}
 use Rattle.ospf_area.specs.declared.sending.Own.{Own}
@@ -58,7 +59,7 @@ turned_there own (Some link) n = turned_to_next link.settings.mtu own.tick n
 
 abbrev pub TurnedNeighbours : Type 0
 TurnedNeighbours = (own : Own) (links : List LinkValue) (l : ℕ) (q : RouterId)
-    → neighbour_at (turned_links own links) l q ≡ option_map (turned_there own (slice_get links l)) (neighbour_at links l q)
+    → neighbour_at (map (turned_link own) links) l q ≡ option_map (turned_there own (slice_get links l)) (neighbour_at links l q)
 
 -- an acknowledgement that waits changes no neighbour
 abbrev pub DelayedNeighbours : Type 0
@@ -82,7 +83,7 @@ FloodsTakeTheirKey = (key : LsaKey) (h : LsaHeader) (from : Option Origin) (tick
 -- LoadingDone and Requests change nothing of what waits
 abbrev pub TurnsTakeNothing : Type 0
 TurnsTakeNothing = (own : Own) (links : List LinkValue) (l : ℕ) (q : RouterId) (j : Instance)
-    → WaitsIn (neighbour_at (turned_links own links) l q) j ↔ WaitsIn (neighbour_at links l q) j
+    → WaitsIn (neighbour_at (map (turned_link own) links) l q) j ↔ WaitsIn (neighbour_at links l q) j
 
 -- why a neighbour in Exchange or above need not acknowledge an LSA (13.3, step 1): it came from there, or it has
 -- described one that is not older
@@ -105,7 +106,7 @@ KeepsGreatest = (key : LsaKey) (number : ℤ) (s : AreaValue) (k : LsaKey)
 
 -- a mark is one of its key (13, step 8)
 abbrev pub MarksOne : Type 0
-MarksOne = (key : LsaKey) (went : Bool) (sent : List LsaKey) (k : LsaKey) → was_sent (marked key went sent) k ≡ (if same_key key k then went else was_sent sent k)
+MarksOne = (key : LsaKey) (went : Bool) (sent : List LsaKey) (k : LsaKey) → among (marked key went sent) k ≡ (if same_key key k then went else among sent k)
 
 -- ---- what is sent
 

@@ -1,5 +1,5 @@
 -- How far the numbers of the router's own keys have come (RFC 2328, section 12.1.6).
-use Rattle.std.specs.Prelude.{◌==◌, ◌++◌, ◌||◌, ◌&&◌, ℕ, ℤ, Bool, false, true, None, List, [], ◌∷◌, filter, map, not, if◌then◌else◌}
+use Rattle.std.specs.Prelude.{◌==◌, ◌++◌, ◌||◌, ◌&&◌, ℤ, Bool, false, true, None, List, [], ◌∷◌, filter, map, not, if◌then◌else◌}
 use Rattle.std.specs.Int.{int_max}
 use Rattle.std.specs.BTreeSet.{insert_key}
 use Rattle.std.specs.List.{list_any}
@@ -45,11 +45,9 @@ is_network Network = true
 
 -- the LSA is self-originated: its Advertising Router is this one, or it is of a network whose DR's address is one of the
 -- router's own (13.4)
-abbrev pub has_that_address : ℕ → LinkValue → Bool
-has_that_address address link = link.iface.settings.address.0 == address
-
 abbrev pub is_self_originated : RouterId → List LinkValue → LsaKey → Bool
-is_self_originated router links key = is_own router key || (is_network key.kind && list_any (has_that_address key.id) links)
+is_self_originated router links key =
+    is_own router key || (is_network key.kind && list_any (λ (link : LinkValue). link.iface.settings.address.0 == key.id) links)
 
 -- ---- what went out in this tick
 

@@ -3,7 +3,6 @@ use Rattle.std.specs.Prelude.{◌+◌, ◌++◌, ℕ, min, List, [], ◌∷◌, 
 use Rattle.ospf_base.specs.Addresses.{all_spf_routers}
 use Rattle.ospf_base.specs.Constants.{largest_packet, max_age}
 use Rattle.ospf_base.specs.declared.ids.Addr.{Addr}
-use Rattle.ospf_base.specs.declared.interface.InterfaceKind.{InterfaceKind}
 use Rattle.ospf_base.specs.declared.interface.InterfaceKind.TheVariants.{PointToPoint, Broadcast}
 use Rattle.ospf_iface.specs.declared.machine.Iface.{Iface}
 use Rattle.ospf_lsa.specs.Header.{header_of}
@@ -39,12 +38,8 @@ way_out l i destination = record { link = l; source = i.settings.address; destin
 
 -- where all but Hellos, flooded Updates and delayed acknowledgements go: to the neighbour's address, but on a
 -- point-to-point link to AllSPFRouters (8.1)
-abbrev pub destination_by : InterfaceKind → Addr → Addr
-destination_by PointToPoint address = all_spf_routers
-destination_by Broadcast address = address
-
 abbrev pub to_address : Iface → Addr → Addr
-to_address i address = destination_by i.settings.kind address
+to_address i address = elim i.settings.kind [ PointToPoint ↦ all_spf_routers | Broadcast ↦ address ]
 
 -- an LSA as it is sent: older by InfTransDelay (13.3, step 5)
 abbrev pub sent_lsa : ℕ → List ℕ → List ℕ

@@ -38,12 +38,11 @@ is_awaited_of i (Some n) = is_listed i n.retransmission
 -- ---- acknowledgements
 
 -- by the interface that the LSA came on (13.5)
-abbrev pub answer_on : AcknowledgementCase → Origin → Option LinkValue → Acknowledgement
-answer_on case f None = answer.None
-answer_on case f (Some link) = acknowledgement case link.iface.state (sender_at link.iface f.address)
-
 abbrev pub answer_at : AcknowledgementCase → Origin → List LinkValue → Acknowledgement
-answer_at case f links = answer_on case f (slice_get links f.link)
+answer_at case f links = elim (slice_get links f.link) [
+  | None ↦ answer.None
+  | Some link ↦ acknowledgement case link.iface.state (sender_at link.iface f.address)
+]
 
 -- a header that is acknowledged so
 abbrev pub acknowledging : Acknowledgement → Origin → LsaHeader → AreaValue → AreaValue

@@ -116,7 +116,3 @@ abbrev pub kept_number : AreaValue → LsaKey → ℤ
 kept_number s key = kept_in s.floor (numbering_of s.numbering key)
 
 -- ---- what went out in this tick
-
--- the key's copy was sent in an Update in this tick (13, step 8)
-abbrev pub was_sent : List LsaKey → LsaKey → Bool
-was_sent sent key = list_any (λ k. same_key k key) sent

@@ -1,10 +1,11 @@
 //! What comes of request lists that are shorter: LoadingDone, and the next Requests.
 
 ghost use Rattle.std.specs.Prelude.{◌≡◌, IfOk, OnOk, map};
+ghost use Rattle.ospf_area.specs.Places.{flat_from};
 ghost use Rattle.ospf_neighbour.specs.Neighbours.{AreNeighbours};
 ghost use Rattle.ospf_exchange.specs.Requests.{request_due};
 ghost use Rattle.ospf_packet.specs.Said.{body_meant};
-ghost use Rattle.ospf_area.specs.Asking.{loaded, turned_to_next, entry_for, request_body, turned_link, turned_links, turn_requests_on, turn_requests};
+ghost use Rattle.ospf_area.specs.Asking.{loaded, turned_to_next, entry_for, request_body, turned_link, turn_requests_on};
 ghost use Rattle.ospf_area.specs.Posting.{and_parcels};
 ghost use Rattle.ospf_area.specs.Sending.{and_sends};
 ghost use Rattle.ospf_area.specs.Turns.{all_next_parcels, request_turn, turn};
@@ -50,8 +51,9 @@ pub fn turn_requests(
     out: &mut Outputs,
     alloc: Global,
 ) -> Result<(), AllocError>
-    ensures after { OnOk result (links.new ≡ turned_links own links.old) }
-    ensures sent { OnOk result (out.new ≡ and_sends out.old (turn_requests own links.old)) }
+    ensures after { OnOk result (links.new ≡ map (turned_link own) links.old) }
+    ensures sent { OnOk result (out.new ≡ and_sends out.old
+        (flat_from (turn_requests_on own) 0 links.old)) }
 {
     for (number, link) in links.iter_mut().enumerate() {
         turn_link(link, number, own, out, alloc)?;

@@ -1,10 +1,11 @@
 //! How far the numbers of the router's own keys have come.
 
-ghost use Rattle.std.specs.Prelude.{◌≡◌, OnOk, map};
+ghost use Rattle.std.specs.Prelude.{◌≡◌, ◌==◌, OnOk, map};
 ghost use Rattle.std.specs.Int.{int_max};
 ghost use Rattle.std.specs.List.{list_any};
-ghost use Rattle.ospf_area.specs.Numbers.{is_numbering_of, counted_one, counted, is_own, counts, greatest_after, is_network, has_that_address, is_self_originated, unmarked, marked};
-ghost use Rattle.ospf_area.specs.State.{was_sent};
+ghost use Rattle.ospf_area.specs.Numbers.{is_numbering_of, counted_one, counted, is_own, counts, greatest_after, is_network, is_self_originated, unmarked, marked};
+ghost use Rattle.ospf_area.specs.State.{LinkValue};
+ghost use Rattle.ospf_lsdb.specs.Moments.{among};
 
 use crate::state::{Area, AreaLink, Numbering};
 use ospf_base::{Kind, LsaKey, RouterId};
@@ -58,7 +59,7 @@ pub fn is_self_originated(router: RouterId, links: &[AreaLink], key: &LsaKey) ->
 
 /// Whether the copy of a key was sent in an Update in this tick (section 13, step 8).
 pub fn was_sent(sent: &BTreeSet<LsaKey>, key: &LsaKey) -> bool
-    ensures { result ≡ was_sent sent.now.keys key.now }
+    ensures { result ≡ among sent.now.keys key.now }
 {
     sent.contains(key)
 }
@@ -124,7 +125,8 @@ fn is_network(kind: Kind) -> bool
 
 // Whether an interface has this address.
 fn has_address(links: &[AreaLink], address: u32) -> bool
-    ensures { result ≡ list_any (has_that_address address) links.now }
+    ensures { result ≡ list_any (λ (link : LinkValue). link.iface.settings.address.0 == address)
+        links.now }
 {
     links
         .iter()

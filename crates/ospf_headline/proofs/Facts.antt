@@ -8,7 +8,7 @@ use Rattle.ospf_packet.specs.Meaning.{Meaning}
 use Rattle.ospf_packet.specs.PacketOf.{packet_of}
 use Rattle.ospf_area.specs.State.{kept_number}
 use Rattle.ospf_step.specs.Headers.{Lists}
-use Rattle.ospf_step.specs.Packets.{lsas_in, headers_in_packet}
+use Rattle.ospf_step.specs.Packets.{lsas_of, headers_in_body}
 use Rattle.ospf_step.specs.Words.{CanName, HasCopy, Asks, IsSoundState}
 use Rattle.ospf_headline.specs.World.{World, Issued, Datagram, Running, router_at, run_of, HasItsTable}
 use Rattle.ospf_headline.specs.Sound.{IssuedAt, WasIssued, number_in}
@@ -27,7 +27,7 @@ pub data IsKnownTo (x : Running) (i : ℕ) (e : Issued) : Type 0 where
 pub record Facts (w : World) : Type 0 where
   -- each LSA in a database or a sent Update has the contents of an issued one
   pub database : (r : RouterId) (x : Running) (lsa : List ℕ) → router_at w r ≡ Some x → HasCopy x.state lsa → WasIssued w.issued (contents lsa)
-  pub updates : (g : Datagram) (p : Meaning) (lsa : List ℕ) → Contains w.datagrams g → packet_of g.sent.bytes ≡ Some p → Contains (lsas_in p) lsa → WasIssued w.issued (contents lsa)
+  pub updates : (g : Datagram) (p : Meaning) (lsa : List ℕ) → Contains w.datagrams g → packet_of g.sent.bytes ≡ Some p → Contains (lsas_of p.body) lsa → WasIssued w.issued (contents lsa)
   -- the numbers issued in a run rise
   pub after : (i j : ℕ) (e f : Issued) → IssuedAt w.issued i e → IssuedAt w.issued j f → i < j → key_of e.lsa ≡ key_of f.lsa → IsAfter i e f
   pub run_begun : (i : ℕ) (e : Issued) → IssuedAt w.issued i e → e.run.name ≤ i
@@ -38,7 +38,7 @@ pub record Facts (w : World) : Type 0 where
   -- each instance that a router can name, names in a packet or is asked for is in held
   pub router : (r : RouterId) (x : Running) → router_at w r ≡ Some x → x.state.router ≡ r
   pub names : (r : RouterId) (x : Running) (i : Instance) → router_at w r ≡ Some x → CanName x.state i → Contains w.held (record { router = r; instance = i })
-  pub named : (g : Datagram) (p : Meaning) (i : Instance) → Contains w.datagrams g → packet_of g.sent.bytes ≡ Some p → Lists (headers_in_packet p) i → Contains w.held (record { router = p.router; instance = i })
+  pub named : (g : Datagram) (p : Meaning) (i : Instance) → Contains w.datagrams g → packet_of g.sent.bytes ≡ Some p → Lists (headers_in_body p.body) i → Contains w.held (record { router = p.router; instance = i })
   pub asked : (r : RouterId) (x : Running) (l : ℕ) (q : RouterId) (i : Instance) → router_at w r ≡ Some x → Asks x.state l q i → Contains w.held (record { router = q; instance = i })
   -- each copy is an LSA, and what waits for an acknowledgement is held
   pub sound : (r : RouterId) (x : Running) → router_at w r ≡ Some x → IsSoundState x.state

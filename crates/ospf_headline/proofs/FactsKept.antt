@@ -16,7 +16,7 @@ use Rattle.ospf_packet.specs.PacketOf.{packet_of}
 use Rattle.ospf_area.specs.Outputs.{OutputsValue, SentValue}
 use Rattle.ospf_area.specs.State.{AreaValue, kept_number}
 use Rattle.ospf_step.specs.Headers.{Lists}
-use Rattle.ospf_step.specs.Packets.{Received, lsas_in, headers_in_packet, headers_in_body, dd_headers_in, dd_headers_of, acknowledging_headers_in, acknowledging_headers_of}
+use Rattle.ospf_step.specs.Packets.{Received, lsas_of, headers_in_body, dd_headers_of, acknowledging_headers_of}
 use Rattle.ospf_step.specs.Words.{CanName, HasCopy, Asks, Brings, IsSoundState}
 use Rattle.ospf_lsdb.specs.Moments.{among}
 use Rattle.ospf_update.specs.Removal.{lowest_number}
@@ -110,17 +110,17 @@ module _ {is_dropped : Event → AreaValue → Bool} (w w' : World) (r : RouterI
   names_held i (inl n) = was_held _ (facts.names r x i step.was n)
   names_held i (inr b) = brings_held i b
 
-  hears_by : (headers : Meaning → List LsaHeader) → ((p : Meaning) (h : LsaHeader) → Contains (headers p) h → Contains (headers_in_packet p) h) → (l : ℕ) (q : RouterId) (i : Instance) → Hears headers (heard_in event) l q i → Contains w'.held (record { router = q; instance = i })
+  hears_by : (headers : BodyMeaning → List LsaHeader) → ((b : BodyMeaning) (h : LsaHeader) → Contains (headers b) h → Contains (headers_in_body b) h) → (l : ℕ) (q : RouterId) (i : Instance) → Hears headers (heard_in event) l q i → Contains w'.held (record { router = q; instance = i })
   hears_by headers among_all l q i h =
       let (g, sent, reads) = was_sent h.received h.is_heard in
       let (header, c, is) = h.named in
-      was_held _ (subst (λ q. Contains w.held (record { router = q; instance = i })) h.from (facts.named g h.received.packet i sent reads (header, among_all h.received.packet header c, is)))
+      was_held _ (subst (λ q. Contains w.held (record { router = q; instance = i })) h.from (facts.named g h.received.packet i sent reads (header, among_all h.received.packet.body header c, is)))
 
   pub described_held : (l : ℕ) (q : RouterId) (i : Instance) → IsDescribed (heard_in event) l q i → Contains w'.held (record { router = q; instance = i })
-  described_held l q i h = hears_by dd_headers_in (λ p header c. dd_named p.body header c) l q i h
+  described_held l q i h = hears_by dd_headers_of dd_named l q i h
 
   pub acknowledged_held : (l : ℕ) (q : RouterId) (i : Instance) → IsAcknowledged (heard_in event) l q i → Contains w'.held (record { router = q; instance = i })
-  acknowledged_held l q i h = hears_by acknowledging_headers_in (λ p header c. acknowledged_named p.body header c) l q i h
+  acknowledged_held l q i h = hears_by acknowledging_headers_of acknowledged_named l q i h
 
   pub asks_held : (l : ℕ) (q : RouterId) (i : Instance) → Asks x.state l q i ⊎ IsDescribed (heard_in event) l q i → Contains w'.held (record { router = q; instance = i })
   asks_held l q i (inl c) = was_held _ (facts.asked r x l q i step.was c)
@@ -146,7 +146,7 @@ module _ {is_dropped : Event → AreaValue → Bool} (w w' : World) (r : RouterI
       go (IsThat.TheOne e o) = has_issued (contents lsa) (laws.database lsa (subst (λ z. HasCopy z.state lsa) (sym (same_Some x' y o)) c))
       go (IsThat.Another n o) = was_issued (contents lsa) (facts.database q y lsa o c)
 
-  pub updates_kept : (g : Datagram) (p : Meaning) (lsa : List ℕ) → Contains w'.datagrams g → packet_of g.sent.bytes ≡ Some p → Contains (lsas_in p) lsa → WasIssued w'.issued (contents lsa)
+  pub updates_kept : (g : Datagram) (p : Meaning) (lsa : List ℕ) → Contains w'.datagrams g → packet_of g.sent.bytes ≡ Some p → Contains (lsas_of p.body) lsa → WasIssued w'.issued (contents lsa)
   updates_kept g p lsa c reads in_p =
       elim (datagram_cases g c) [
         | inl old ↦ was_issued (contents lsa) (facts.updates g p lsa old reads in_p)
@@ -169,7 +169,7 @@ module _ {is_dropped : Event → AreaValue → Bool} (w w' : World) (r : RouterI
           (names_held i (laws.names i (subst (λ z. CanName z.state i) (sym (same_Some x' y o)) n)))
       go (IsThat.Another _ o) = was_held _ (facts.names q y i o n)
 
-  pub named_kept : (g : Datagram) (p : Meaning) (i : Instance) → Contains w'.datagrams g → packet_of g.sent.bytes ≡ Some p → Lists (headers_in_packet p) i → Contains w'.held (record { router = p.router; instance = i })
+  pub named_kept : (g : Datagram) (p : Meaning) (i : Instance) → Contains w'.datagrams g → packet_of g.sent.bytes ≡ Some p → Lists (headers_in_body p.body) i → Contains w'.held (record { router = p.router; instance = i })
   named_kept g p i c reads in_p =
       elim (datagram_cases g c) [
         | inl old ↦ was_held _ (facts.named g p i old reads in_p)

@@ -10,7 +10,7 @@ use Rattle.ospf_packet.specs.PacketOf.{packet_of}
 use Rattle.ospf_neighbour.specs.Machine.{is_exchanging}
 use Rattle.ospf_area.specs.Outputs.{OutputsValue}
 use Rattle.ospf_area.specs.State.{AreaValue, Awaits, state_of}
-use Rattle.ospf_step.specs.Packets.{lsas_in}
+use Rattle.ospf_step.specs.Packets.{lsas_of}
 use Rattle.ospf_step.specs.Words.{HoldsInstance, HasCopy, Brings}
 use Rattle.ospf_flood.specs.Rules.{max_sequence_number}
 use Rattle.ospf_step.specs.Accounts.{IsReplaced}
@@ -36,7 +36,7 @@ pub record WasIssued (issued : List Issued) (content : List ℕ) : Type 0 where
 -- the LSA stands in the database of a running router, or in an Update ever sent
 pub data HeldAnywhere (w : World) (lsa : List ℕ) : Type 0 where
   InDatabase : (r : RouterId) (x : Running) → router_at w r ≡ Some x → HasCopy x.state lsa → HeldAnywhere w lsa
-  InUpdate : (g : Datagram) (p : Meaning) → Contains w.datagrams g → packet_of g.sent.bytes ≡ Some p → Contains (lsas_in p) lsa → HeldAnywhere w lsa
+  InUpdate : (g : Datagram) (p : Meaning) → Contains w.datagrams g → packet_of g.sent.bytes ≡ Some p → Contains (lsas_of p.body) lsa → HeldAnywhere w lsa
 
 -- a run is low where its first number is at or below one that was issued for its key when it began
 pub record IsLow (issued : List Issued) (e : Issued) : Type 0 where

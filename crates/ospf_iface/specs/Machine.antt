@@ -59,14 +59,15 @@ is_changed i e = not ((e.dr.0 == i.dr.0) && (e.backup.0 == i.backup.0))
 abbrev pub change_of : Iface → Bool → Bool → Bool → IfaceChange
 change_of i adj_ok kills hello = record { state = i.state; dr = i.dr; backup = i.backup; adj_ok = adj_ok; kills = kills; hello = hello }
 
--- Waiting lasts RouterDeadInterval (9.1)
-abbrev pub wait_in : IfaceSettings → IfaceState → ℕ
-wait_in s Waiting = s.dead
-wait_in s _ = 0
-
--- the interface becomes operational (9.3, InterfaceUp)
+-- the interface becomes operational; Waiting lasts RouterDeadInterval (9.1; 9.3, InterfaceUp)
 abbrev pub started : Iface → Iface
-started i = record i { state = first_state i.settings; dr = nowhere; backup = nowhere; wait = wait_in i.settings (first_state i.settings); hello_in = i.settings.hello }
+started i = record i {
+  state = first_state i.settings;
+  dr = nowhere;
+  backup = nowhere;
+  wait = elim (first_state i.settings) [ Waiting ↦ i.settings.dead | _ ↦ 0 ];
+  hello_in = i.settings.hello;
+}
 
 -- the interface after an election (9.4, steps 5 and 6)
 abbrev pub elected : Elected → Iface → Iface

@@ -7,14 +7,14 @@ use Rattle.ospf_area.specs.Sending.{and_sends}
 use Rattle.ospf_area.specs.State.{AreaValue, LinkValue}
 use Rattle.ospf_area.specs.declared.sending.Own.{Own}
 use Rattle.ospf_area.specs.Posting.{posted_all}
-use Rattle.ospf_links.specs.Elections.{IsReady, AreReady, ElectsAt, ElectsFrom, ElectsIf, ElectsLink, ElectsThere}
+use Rattle.ospf_links.specs.Elections.{IsReady, AreReady, ElectsAt, ElectsFrom, ElectsIf, ElectsThere}
 
 -- the election of a link that is there
 pub elects_some : (now before after : AreaValue) (out out' : OutputsValue) (l : ℕ) (link link' : LinkValue) (next' : ℕ) (own : Own) (sent : List Parcel)
-    → before ≡ now → slice_get now.links l ≡ Some link → own ≡ own_of now → ElectsLink own before.next_dd link link' next' sent
+    → before ≡ now → slice_get now.links l ≡ Some link → own ≡ own_of now → ElectsIf link.elects own before.next_dd link link' next' sent
     → after ≡ record before { links = set before.links l link'; next_dd = next' } → out' ≡ and_sends out (posted_all own l link.iface sent) → ElectsAt l now out after out'
 elects_some now before after out out' l link link' next' own sent same there is elects after_is out_is =
-    let own_elects : ElectsLink (own_of now) now.next_dd link link' next' sent = subst (λ (w : Own). ElectsLink w now.next_dd link link' next' sent) is (subst (λ (s : AreaValue). ElectsLink own s.next_dd link link' next' sent) same elects) in
+    let own_elects : ElectsIf link.elects (own_of now) now.next_dd link link' next' sent = subst (λ (w : Own). ElectsIf link.elects w now.next_dd link link' next' sent) is (subst (λ (s : AreaValue). ElectsIf link.elects own s.next_dd link link' next' sent) same elects) in
     let after_now : after ≡ record now { links = set now.links l link'; next_dd = next' } = after_is ∙ ap (λ (s : AreaValue). record s { links = set s.links l link'; next_dd = next' }) same in
     let out_now : out' ≡ and_sends out (posted_all (own_of now) l link.iface sent) = out_is ∙ ap (λ (w : Own). and_sends out (posted_all w l link.iface sent)) is in
     subst (λ (o : Option LinkValue). ElectsThere o l now out after out') (sym there) (link', next', sent, own_elects, after_now, out_now)

@@ -27,15 +27,11 @@ abbrev pub ElectsIf : Bool → Own → ℕ → LinkValue → LinkValue → ℕ �
 ElectsIf false own next link link' next' sent = (link' ≡ link) × (next' ≡ next) × (sent ≡ [])
 ElectsIf true own next link link' next' sent = ElectsOnLink link.settings.mtu own.tick next link link' next' sent
 
--- the election of a link that has its turn
-abbrev pub ElectsLink : Own → ℕ → LinkValue → LinkValue → ℕ → List Parcel → Type 0
-ElectsLink own next link link' next' sent = ElectsIf link.elects own next link link' next' sent
-
 -- that of link l, which may not be there
 abbrev pub ElectsThere : Option LinkValue → ℕ → AreaValue → OutputsValue → AreaValue → OutputsValue → Type 0
 ElectsThere None l before out after out' = (after ≡ before) × (out' ≡ out)
 ElectsThere (Some link) l before out after out' =
-    (link' : LinkValue) × (next' : ℕ) × (sent : List Parcel) × ElectsLink (own_of before) before.next_dd link link' next' sent
+    (link' : LinkValue) × (next' : ℕ) × (sent : List Parcel) × ElectsIf link.elects (own_of before) before.next_dd link link' next' sent
     × (after ≡ record before { links = set before.links l link'; next_dd = next' }) × (out' ≡ and_sends out (posted_all (own_of before) l link.iface sent))
 
 -- that of link l

@@ -8,7 +8,6 @@ use Rattle.ospf_neighbour.specs.Neighbour.{NeighbourValue}
 use Rattle.ospf_area.specs.Turns.{Turn}
 use Rattle.ospf_area.specs.Numbers.{marked}
 use Rattle.ospf_area.specs.Outputs.{SentValue}
-use Rattle.ospf_area.specs.Places.{flat_from}
 use Rattle.ospf_area.specs.State.{LinkValue}
 use Rattle.ospf_area.specs.declared.sending.Own.{Own}
 use Rattle.ospf_area.specs.declared.state.LinkSettings.{LinkSettings}
@@ -33,10 +32,6 @@ neighbour_repeated own i settings db n = (repeats_for own i settings db n).neigh
 abbrev pub repeats_to : Own → ℕ → Iface → LinkSettings → List Held → NeighbourValue → List SentValue
 repeats_to own l i settings db n = posted_all own l i (repeats_for own i settings db n).sent
 
--- the keys whose copies go out to it
-abbrev pub keys_to : Own → LinkSettings → List Held → NeighbourValue → List LsaKey
-keys_to own settings db n = due_keys settings.retransmit own.tick db n
-
 -- ---- one link
 
 abbrev pub link_repeated : Own → List Held → LinkValue → LinkValue
@@ -46,15 +41,6 @@ abbrev pub link_repeats_out : Own → List Held → ℕ → LinkValue → List S
 link_repeats_out own db l link = flat_map (repeats_to own l link.iface link.settings db) link.neighbours
 
 abbrev pub keys_out : Own → List Held → LinkValue → List LsaKey
-keys_out own db link = flat_map (keys_to own link.settings db) link.neighbours
+keys_out own db link = flat_map (due_keys link.settings.retransmit own.tick db) link.neighbours
 
 -- ---- all links
-
-abbrev pub repeated_links : Own → List Held → List LinkValue → List LinkValue
-repeated_links own db links = map (link_repeated own db) links
-
-abbrev pub all_repeats : Own → List Held → List LinkValue → List SentValue
-all_repeats own db links = flat_from (link_repeats_out own db) 0 links
-
-abbrev pub all_keys : Own → List Held → List LinkValue → List LsaKey
-all_keys own db links = flat_map (keys_out own db) links

@@ -10,21 +10,15 @@ use Rattle.ospf_area.specs.Posting.{posted_all}
 
 -- ---- parts on the neighbours of a link
 
+-- the links after a part on one of them, which may not be there
 abbrev pub worked_links_on : Option LinkValue → (LinkValue → Neighbourhood) → ℕ → List LinkValue → List LinkValue
 worked_links_on None part l links = links
 worked_links_on (Some link) part l links = set links l (with_neighbourhood (part link) link)
 
--- the links after a part on link l
-abbrev pub worked_links : (LinkValue → Neighbourhood) → ℕ → List LinkValue → List LinkValue
-worked_links part l links = worked_links_on (slice_get links l) part l links
-
+-- the router's next DD number then
 abbrev pub work_next_on : Option LinkValue → (LinkValue → Neighbourhood) → ℕ → ℕ
 work_next_on None part next = next
 work_next_on (Some link) part next = (part link).next
-
--- the router's next DD number then
-abbrev pub work_next : (LinkValue → Neighbourhood) → ℕ → ℕ → List LinkValue → ℕ
-work_next part l next links = work_next_on (slice_get links l) part next
 
 abbrev pub work_sent_on : Option LinkValue → (LinkValue → Neighbourhood) → Own → ℕ → List SentValue
 work_sent_on None part own l = []
@@ -36,7 +30,8 @@ work_sent part own l links = work_sent_on (slice_get links l) part own l
 
 -- the router after it
 abbrev pub worked : (LinkValue → Neighbourhood) → ℕ → AreaValue → AreaValue
-worked part l s = record s { links = worked_links part l s.links; next_dd = work_next part l s.next_dd s.links }
+worked part l s =
+    record s { links = worked_links_on (slice_get s.links l) part l s.links; next_dd = work_next_on (slice_get s.links l) part s.next_dd }
 
 -- ---- changes of a link
 

@@ -5,7 +5,7 @@ ghost use Rattle.ospf_adjacency.specs.Elections.{AreOfLink, ElectsOn, elects_in}
 ghost use Rattle.ospf_area.specs.Packets.{Parcel};
 ghost use Rattle.ospf_area.specs.Posting.{posted_all};
 ghost use Rattle.ospf_area.specs.Sending.{and_sends};
-ghost use Rattle.ospf_links.specs.Elections.{AreReady, ElectsAll, ElectsAt, ElectsLink, ElectsOnLink, IsReady};
+ghost use Rattle.ospf_links.specs.Elections.{ElectsIf, AreReady, ElectsAll, ElectsAt, ElectsOnLink, IsReady};
 
 use crate::link::{iface_of, put_back, take_out};
 use ospf_adjacency::elect_on;
@@ -57,7 +57,7 @@ fn elect_link(
     requires { IsReady link.old }
     ensures { OnOk result
         ((sent : List Parcel)
-        × ElectsLink own next.old link.old link.new next.new sent
+        × ElectsIf link.old.elects own next.old link.old link.new next.new sent
         × (out.new ≡ and_sends out.old (posted_all own number link.old.iface sent))) }
 {
     if !link.elects {

@@ -2,9 +2,11 @@
 
 ghost use Rattle.std.specs.Prelude.{◌≡◌, OnOk, map};
 ghost use Rattle.std.specs.List.{flat_map};
+ghost use Rattle.ospf_adjacency.specs.Repeats.{due_keys};
 ghost use Rattle.ospf_area.specs.Sending.{and_sends};
 ghost use Rattle.ospf_area.specs.Posting.{local_by};
-ghost use Rattle.ospf_links.specs.Repeats.{all_keys, all_repeats, keys_out, keys_to, link_repeated, marked_all, neighbour_repeated, repeated_links, link_repeats_out, repeats_to};
+ghost use Rattle.ospf_area.specs.Places.{flat_from};
+ghost use Rattle.ospf_links.specs.Repeats.{keys_out, link_repeated, marked_all, neighbour_repeated, link_repeats_out, repeats_to};
 
 use crate::link::{put_back, take_out};
 use crate::marks::mark_all;
@@ -29,11 +31,11 @@ pub fn repeat_all(
     out: &mut Outputs,
     alloc: Global,
 ) -> Result<(), AllocError>
-    ensures after { OnOk result (links.new ≡ repeated_links own database.now links.old) }
+    ensures after { OnOk result (links.new ≡ map (link_repeated own database.now) links.old) }
     ensures sent { OnOk result (out.new ≡ and_sends out.old
-        (all_repeats own database.now links.old)) }
+        (flat_from (link_repeats_out own database.now) 0 links.old)) }
     ensures marks { OnOk result (sent.new.keys
-        ≡ marked_all (all_keys own database.now links.old) sent.old.keys) }
+        ≡ marked_all (flat_map (keys_out own database.now) links.old) sent.old.keys) }
 {
     for (number, link) in links.iter_mut().enumerate() {
         repeat_on(link, number, database, own, sent, out, alloc)?;
@@ -100,7 +102,7 @@ fn repeat_to_all(
         all.old.items)) }
     ensures marks { OnOk result
         (sent.new.keys
-        ≡ marked_all (flat_map (keys_to on.now.own on.now.settings database.now) all.old.items)
+        ≡ marked_all (flat_map (due_keys on.now.settings.retransmit on.now.own.tick database.now) all.old.items)
         sent.old.keys) }
 {
     repeat_to_each(all, on, database, sent, out, alloc)?;
@@ -127,7 +129,7 @@ fn repeat_to_each(
         all.old)) }
     ensures marks { OnOk result
         (sent.new.keys
-        ≡ marked_all (flat_map (keys_to on.now.own on.now.settings database.now) all.old)
+        ≡ marked_all (flat_map (due_keys on.now.settings.retransmit on.now.own.tick database.now) all.old)
         sent.old.keys) }
 {
     for neighbour in all.iter_mut() {
@@ -155,7 +157,7 @@ fn repeat_to(
         neighbour.old)) }
     ensures marks { OnOk result
         (sent.new.keys
-        ≡ marked_all (keys_to on.now.own on.now.settings database.now neighbour.old)
+        ≡ marked_all (due_keys on.now.settings.retransmit on.now.own.tick database.now neighbour.old)
         sent.old.keys) }
 {
     let at = OnLink {

@@ -17,7 +17,7 @@ use Rattle.ospf_originate.specs.Numbers.{waits}
 use Rattle.ospf_wanted.specs.Own.{wanted_value}
 use Rattle.ospf_wanted.specs.declared.wants.OwnLsa.{OwnLsa}
 use Rattle.ospf_originate.specs.Sound.{AreNumbered}
-use Rattle.ospf_originate.specs.Steps.{wants, is_heard, action_of, candidates}
+use Rattle.ospf_originate.specs.Steps.{wants, action_of, candidates}
 use Rattle.ospf_wanted.specs.Wanted.{WantedValue, wanted_key, wanted_of}
 use Rattle.ospf_originate.specs.declared.action.OwnAction.{OwnAction}
 use Rattle.ospf_originate.specs.declared.action.OwnAction.TheVariants.{Leave}
@@ -92,10 +92,10 @@ no_candidate s key numbered is =
     let front = neither (among (map wanted_key (wants s)) key) (among (map (λ n. n.key) s.numbering) key) (sym (among-append (map wanted_key (wants s)) (map (λ n. n.key) s.numbering) key) ∙ parts.0) in
     let wanted : wanted_of (wants s) key ≡ None = none_wanted (wants s) key front.0 in
     let unnumbered : numbering_of s.numbering key ≡ None = none_numbered s.numbering key front.1 in
-    let unheard : is_heard s key ≡ false = none_heard s.heard key parts.1 in
+    let unheard : among s.heard key ≡ false = none_heard s.heard key parts.1 in
     let never : is_some (database_entry s key) ≡ true → (is_own s.router key) ≡ true → ⊥ =
     λ there own. false≢true (sym (ap (λ (o : Option Numbering). is_some o) unnumbered) ∙ numbered key there own) in
-    ap (λ (o : Option WantedValue). own_action o (database_entry s key) (is_heard s key) (is_own s.router key) (waits s.tick s.numbering key) (kept_number s key)) wanted
+    ap (λ (o : Option WantedValue). own_action o (database_entry s key) (among s.heard key) (is_own s.router key) (waits s.tick s.numbering key) (kept_number s key)) wanted
     ∙ ap (λ (b : Bool). unwanted_action (database_entry s key) b (is_own s.router key)) unheard
     ∙ left_alone (database_entry s key) (is_own s.router key) never
 
@@ -118,7 +118,7 @@ due_whole s xs ns heard ks seen rising key numbered wanted is_ns is_heard_by is 
 
 -- what becomes of a key, from what is known of it
 pub action_is : (s : AreaValue) (key : LsaKey) (ws : List WantedValue) (w : Option WantedValue) (copy : Option Entry) (heard own waited : Bool) (kept : ℤ) (a : OwnAction)
-    → ws ≡ wants s → w ≡ wanted_of ws key → copy ≡ database_entry s key → heard ≡ is_heard s key → own ≡ is_own s.router key → waited ≡ waits s.tick s.numbering key → kept ≡ kept_number s key
+    → ws ≡ wants s → w ≡ wanted_of ws key → copy ≡ database_entry s key → heard ≡ among s.heard key → own ≡ is_own s.router key → waited ≡ waits s.tick s.numbering key → kept ≡ kept_number s key
     → a ≡ own_action w copy heard own waited kept → a ≡ action_of s key
 unfolding action_of
 action_is s key ws w copy heard own waited kept a of_ws of_w of_copy of_heard of_own of_waited of_kept is =
@@ -127,6 +127,6 @@ action_is s key ws w copy heard own waited kept a of_ws of_w of_copy of_heard of
     ∙ ap (λ (o : Option WantedValue). own_action o copy heard own waited kept) found
     ∙ ap (λ (o : Option Entry). own_action (wanted_of (wants s) key) o heard own waited kept) of_copy
     ∙ ap (λ (b : Bool). own_action (wanted_of (wants s) key) (database_entry s key) b own waited kept) of_heard
-    ∙ ap (λ (b : Bool). own_action (wanted_of (wants s) key) (database_entry s key) (is_heard s key) b waited kept) of_own
-    ∙ ap (λ (b : Bool). own_action (wanted_of (wants s) key) (database_entry s key) (is_heard s key) (is_own s.router key) b kept) of_waited
-    ∙ ap (λ (n : ℤ). own_action (wanted_of (wants s) key) (database_entry s key) (is_heard s key) (is_own s.router key) (waits s.tick s.numbering key) n) of_kept
+    ∙ ap (λ (b : Bool). own_action (wanted_of (wants s) key) (database_entry s key) (among s.heard key) b waited kept) of_own
+    ∙ ap (λ (b : Bool). own_action (wanted_of (wants s) key) (database_entry s key) (among s.heard key) (is_own s.router key) b kept) of_waited
+    ∙ ap (λ (n : ℤ). own_action (wanted_of (wants s) key) (database_entry s key) (among s.heard key) (is_own s.router key) (waits s.tick s.numbering key) n) of_kept

@@ -18,7 +18,8 @@ use Rattle.ospf_originate.specs.Actions.{is_due, next_action, own_action, unwant
 use Rattle.ospf_originate.specs.Idle.{IsIdle, is_left, is_quiet, key_left, network_left, none_heard, own_router, unwanted_left, wanted_left}
 use Rattle.ospf_originate.specs.Numbers.{waits}
 use Rattle.ospf_originate.specs.Sound.{AreApart, AreNumbered}
-use Rattle.ospf_originate.specs.Steps.{OwnLsas, action_of, is_heard, wants}
+use Rattle.ospf_lsdb.specs.Moments.{among}
+use Rattle.ospf_originate.specs.Steps.{OwnLsas, action_of, wants}
 use Rattle.ospf_wanted.specs.Wanted.{WantedValue, is_dr_of, network_of, networks_at, wanted, wanted_key, wanted_of}
 use Rattle.ospf_originate.specs.declared.action.OwnAction.{OwnAction}
 use Rattle.ospf_originate.specs.declared.action.OwnAction.TheVariants.{Leave, Flush, Issue}
@@ -173,13 +174,13 @@ wanted_action_is : (s : AreaValue) (key : LsaKey) (w : WantedValue) → s.heard 
     → action_of s key ≡ wanted_action w (database_entry s key) false (waits s.tick s.numbering key) (kept_number s key)
 unfolding action_of own_action
 wanted_action_is s key w unheard is =
-    ap (λ (o : Option WantedValue). own_action o (database_entry s key) (is_heard s key) (is_own s.router key) (waits s.tick s.numbering key) (kept_number s key)) is
+    ap (λ (o : Option WantedValue). own_action o (database_entry s key) (among s.heard key) (is_own s.router key) (waits s.tick s.numbering key) (kept_number s key)) is
     ∙ ap (λ (ks : List LsaKey). wanted_action w (database_entry s key) (list_any (λ k. same_key k key) ks) (waits s.tick s.numbering key) (kept_number s key)) unheard
 
 unwanted_action_is : (s : AreaValue) (key : LsaKey) → s.heard ≡ [] → wanted_of (wants s) key ≡ None → action_of s key ≡ unwanted_action (database_entry s key) false (is_own s.router key)
 unfolding action_of own_action
 unwanted_action_is s key unheard is =
-    ap (λ (o : Option WantedValue). own_action o (database_entry s key) (is_heard s key) (is_own s.router key) (waits s.tick s.numbering key) (kept_number s key)) is
+    ap (λ (o : Option WantedValue). own_action o (database_entry s key) (among s.heard key) (is_own s.router key) (waits s.tick s.numbering key) (kept_number s key)) is
     ∙ ap (λ (ks : List LsaKey). unwanted_action (database_entry s key) (list_any (λ k. same_key k key) ks) (is_own s.router key)) unheard
 
 wanted_rests : (s : AreaValue) (key : LsaKey) (w : WantedValue) → IsFound (wanted_left s) key w

@@ -21,7 +21,8 @@ use Rattle.ospf_originate.specs.Actions.{own_action, wanted_action, unwanted_act
 use Rattle.ospf_originate.specs.Laws.{IsNextIssue}
 use Rattle.ospf_wanted.specs.Made.{lsa_value}
 use Rattle.ospf_originate.specs.Numbers.{waits}
-use Rattle.ospf_originate.specs.Steps.{wants, is_heard, action_of}
+use Rattle.ospf_lsdb.specs.Moments.{among}
+use Rattle.ospf_originate.specs.Steps.{wants, action_of}
 use Rattle.ospf_wanted.specs.Wanted.{WantedValue, wanted_key, wanted_of}
 use Rattle.ospf_wanted.specs.Wanted.WantedValue.{RouterLsa, NetworkLsa}
 use Rattle.ospf_originate.specs.declared.action.OwnAction.TheVariants.{Leave, Flush, Issue}
@@ -93,7 +94,7 @@ tells (Some w) copy heard own waited kept number is = record { value = w; is_wan
 
 pub issue_tells : (s : AreaValue) (key : LsaKey) (number : ℤ) → action_of s key ≡ Issue number → IsNextIssue (wanted_of (wants s) key) (kept_number s key) number
 unfolding action_of
-issue_tells s key number is = tells (wanted_of (wants s) key) (database_entry s key) (is_heard s key) (is_own s.router key) (waits s.tick s.numbering key) (kept_number s key) number is
+issue_tells s key number is = tells (wanted_of (wants s) key) (database_entry s key) (among s.heard key) (is_own s.router key) (waits s.tick s.numbering key) (kept_number s key) number is
 
 pub next_is_newer : (new copy : LsaHeader) (kept : ℤ) → copy.number ≤ℤ kept → new.number ≡ kept +ℤ pos 1 → recency new copy ≡ Newer
 next_is_newer new copy kept below next =

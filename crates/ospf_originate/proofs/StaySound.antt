@@ -27,7 +27,7 @@ use Rattle.ospf_lsdb.specs.Database as lsdb
 use Rattle.ospf_neighbour.specs.Lists.{key_unlisted}
 use Rattle.ospf_neighbour.specs.Neighbours.{max_neighbours}
 use Rattle.ospf_area.proofs.PlaceLemmas.{length-map_from}
-use Rattle.ospf_area.specs.Asking.{turned_to_next, turned_link, turned_links}
+use Rattle.ospf_area.specs.Asking.{turned_to_next, turned_link}
 use Rattle.ospf_area.specs.Changes.{changed_at, changed_if, changed_link, changed_on, delayed_at, delayed_on}
 use Rattle.ospf_area.specs.Flooding.{flooded_link, flooded_links, flooded_neighbour, on_link, goes_anywhere, released, released_link}
 use Rattle.ospf_update.specs.Acks.{undelayed_link}
@@ -42,7 +42,7 @@ use Rattle.ospf_area.specs.declared.flooding.Origin.{Origin}
 use Rattle.ospf_area.specs.declared.sending.Own.{Own}
 use Rattle.ospf_area.specs.declared.state.Numbering.{Numbering}
 use Rattle.ospf_update.specs.Aging.{Flushes, TickAges, copies_sent, copy_flooded, copy_flooded_by, copy_sent, noted, turned_area}
-use Rattle.ospf_update.specs.Meets.{MeetsLsa, MeetsRule, RestartsExchange, Stores, flooded_area, header_met, heard_by, named_by, replied, reply_to, rule_met, taken_off}
+use Rattle.ospf_update.specs.Meets.{Becomes, MeetsLsa, MeetsRule, Stores, restarted, flooded_area, header_met, heard_by, named_by, replied, reply_to, rule_met, taken_off}
 use Rattle.ospf_update.specs.Updates.{MeetsAndTurns, TakesSlice, TakesSlices, TakesUpdate}
 use Rattle.ospf_update.specs.Updates.TakesSlice.{Met, PassedOver}
 use Rattle.ospf_update.proofs.PassLemmas.{passed}
@@ -106,7 +106,7 @@ flooded_up : (key : LsaKey) (h : LsaHeader) (from : Option Origin) (tick : ℕ) 
 flooded_up key h from tick xs up =
     set_up_from (flooded_link key h from tick) (λ l x. record { iface = refl; many = length-map x.neighbours (flooded_neighbour key h (on_link from l) tick) }) xs up
 
-turned_up : (own : Own) (xs : List LinkValue) → AreSetUp xs → AreSetUp (turned_links own xs)
+turned_up : (own : Own) (xs : List LinkValue) → AreSetUp xs → AreSetUp (map (turned_link own) xs)
 turned_up own xs up = set_up_map (turned_link own) (λ x. record { iface = refl; many = length-map x.neighbours (turned_to_next x.settings.mtu own.tick) }) xs up
 
 changed_up : (f : Origin) (change : AdjacencyChange) (tick : ℕ) (xs : List LinkValue) → AreSetUp xs → AreSetUp (changed_at f change tick xs)
@@ -136,7 +136,7 @@ along : (s s' : AreaValue) → s' ≡ s → IsSound s → IsSound s'
 along s s' is sound = subst (λ (x : AreaValue). IsSound x) (sym is) sound
 
 pub turned_sound : (s : AreaValue) → IsSound s → IsSound (turned_area s)
-turned_sound s sound = relinked s (turned_links (own_of s) s.links) (turned_up (own_of s) s.links sound.links) sound
+turned_sound s sound = relinked s (map (turned_link (own_of s)) s.links) (turned_up (own_of s) s.links sound.links) sound
 
 pub answered_sound : (s : AreaValue) → IsSound s → IsSound (record s { heard = [] })
 answered_sound s sound = rest s s.links s.direct s.tick s.next_dd s.sent [] sound.links sound
@@ -198,7 +198,7 @@ replied_sound (Some lsa) f key s sound =
     let links = changed_at f (AdjacencyChange.IsSent (instance_of lsa)) s.tick s.links in
     rest s links s.direct s.tick s.next_dd (marked key true s.sent) s.heard (changed_up f (AdjacencyChange.IsSent (instance_of lsa)) s.tick s.links sound.links) sound
 
-restart_sound : (f : Origin) (s : AreaValue) (o o' : OutputsValue) (s' : AreaValue) → RestartsExchange f s o o' s' → IsSound s → IsSound s'
+restart_sound : (f : Origin) (s : AreaValue) (o o' : OutputsValue) (s' : AreaValue) → Becomes (restarted f s) o o' s' → IsSound s → IsSound s'
 restart_sound f s o o' s' is sound =
     along _ s' is.state (rest s (changed_at f (AdjacencyChange.Restarts s.next_dd) s.tick s.links) s.direct s.tick _ s.sent s.heard (changed_up f (AdjacencyChange.Restarts s.next_dd) s.tick s.links sound.links) sound)
 
@@ -208,7 +208,7 @@ rule_sound (Some AcknowledgesExpired) f lsa s o o' s' is sound = along _ s' is.s
 rule_sound (Some TooSoon) f lsa s o o' s' is sound = along s s' is.state sound
 rule_sound (Some Installs) f lsa s o o' s' is sound =
     along _ s' is.state (heard_sound (key_of lsa) _ (acknowledging_sound _ f (header_of lsa) is.mid (store_sound lsa (Some f) s is.mid is.stores sound)))
-rule_sound (Some BadRequest) f lsa s o o' s' is sound = restart_sound f s o o' s' is sound
+rule_sound (Some BadRequest) f lsa s o o' s' is sound = restart_sound f s _ o' s' is sound
 rule_sound (Some Duplicate) f lsa s o o' s' is sound =
     along _ s' is.state (acknowledging_sound _ f (header_of lsa) _ (changed_sound f (AdjacencyChange.Acknowledges (instance_of lsa)) s sound))
 rule_sound (Some Stale) f lsa s o o' s' is sound = along _ s' is.state (replied_sound (reply_to s (key_of lsa)) f (key_of lsa) s sound)
@@ -352,7 +352,7 @@ parts_stay = record {
   acknowledging = acknowledging_sound;
   stored = store_sound;
   met = lsa_sound;
-  restarted = restart_sound;
+  begun_again = restart_sound;
   turned = turned_sound;
   copied = sent_sound;
   flooded = λ lsa from s sound. relinked s (flooded_links (key_of lsa) (header_of lsa) from s.tick s.links) (flooded_up (key_of lsa) (header_of lsa) from s.tick s.links sound.links) sound;

@@ -1,6 +1,8 @@
 -- Laws of own LSAs: their numbers, and what is kept for them; those of what is wanted stand in `ospf_wanted`.
-use Rattle.std.specs.Prelude.{◌≡◌, ◌&&◌, ◌+ℤ◌, ◌≤ℤ◌, ℕ, ℤ, pos, true, List, [], Option, Some, if◌then◌else◌}
+use Rattle.std.specs.Prelude.{◌≡◌, ◌&&◌, ◌+ℤ◌, ◌≤ℤ◌, ℕ, ℤ, pos, true, List, [], Option, Some, if◌then◌else◌, map}
 use Rattle.std.specs.Int.{int_max}
+use Rattle.ospf_update.specs.Acks.{undelayed_link}
+use Rattle.ospf_area.specs.Asking.{turned_link}
 use Rattle.ospf_base.specs.Keys.{same_key}
 use Rattle.ospf_base.specs.declared.ids.LsaKey.{LsaKey}
 use Rattle.ospf_lsa.specs.Lsa.{IsLsa}
@@ -9,7 +11,6 @@ use Rattle.ospf_lsa.specs.Value.{IsMade}
 use Rattle.ospf_lsa.specs.declared.header.LsaHeader.{LsaHeader}
 use Rattle.ospf_lsa.specs.declared.recency.Recency.TheVariants.{Newer}
 use Rattle.ospf_lsdb.specs.Database.{IsDatabase}
-use Rattle.ospf_area.specs.Asking.{turned_links}
 use Rattle.ospf_area.specs.Changes.{changed_at, delayed_at}
 use Rattle.ospf_area.specs.Flooding.{flooded_links, released}
 use Rattle.ospf_area.specs.Laws.{AreShort}
@@ -21,10 +22,9 @@ use Rattle.ospf_area.specs.declared.changes.AdjacencyChange.{AdjacencyChange}
 use Rattle.ospf_area.specs.declared.flooding.Origin.{Origin}
 use Rattle.ospf_area.specs.declared.sending.Own.{Own}
 use Rattle.ospf_flood.specs.declared.acknowledgement.Acknowledgement.{Acknowledgement}
-use Rattle.ospf_update.specs.Acks.{undelayed}
 use Rattle.ospf_update.specs.Aging.{Flushes, TickAges, copy_sent, turned_area}
 use Rattle.ospf_update.specs.Laws.{IsShortLsa}
-use Rattle.ospf_update.specs.Meets.{MeetsLsa, RestartsExchange, Stores, flooded_area, header_met}
+use Rattle.ospf_update.specs.Meets.{Becomes, MeetsLsa, Stores, restarted, flooded_area, header_met}
 use Rattle.ospf_update.specs.Removal.{Removes}
 use Rattle.ospf_update.specs.Updates.{TakesUpdate}
 use Rattle.ospf_originate.specs.Numbers.{issued_at_in}
@@ -86,10 +86,10 @@ pub record AreaStaysSound : Type 0 where
 pub record LinksStaySetUp : Type 0 where
   pub released : (key : LsaKey) (links : List LinkValue) → AreSetUp links → AreSetUp (released key links)
   pub flooded : (key : LsaKey) (h : LsaHeader) (from : Option Origin) (tick : ℕ) (links : List LinkValue) → AreSetUp links → AreSetUp (flooded_links key h from tick links)
-  pub turned : (own : Own) (links : List LinkValue) → AreSetUp links → AreSetUp (turned_links own links)
+  pub turned : (own : Own) (links : List LinkValue) → AreSetUp links → AreSetUp (map (turned_link own) links)
   pub changed : (f : Origin) (change : AdjacencyChange) (tick : ℕ) (links : List LinkValue) → AreSetUp links → AreSetUp (changed_at f change tick links)
   pub delayed : (number : ℕ) (h : LsaHeader) (links : List LinkValue) → AreSetUp links → AreSetUp (delayed_at number h links)
-  pub undelayed : (links : List LinkValue) → AreSetUp links → AreSetUp (undelayed links)
+  pub undelayed : (links : List LinkValue) → AreSetUp links → AreSetUp (map undelayed_link links)
 
 -- and so does each call of which these are made keep it
 pub record PartsStaySound : Type 0 where
@@ -99,7 +99,7 @@ pub record PartsStaySound : Type 0 where
   pub acknowledging : (a : Acknowledgement) (f : Origin) (h : LsaHeader) (s : AreaValue) → IsSound s → IsSound (acknowledging a f h s)
   pub stored : (lsa : List ℕ) (from : Option Origin) (s s' : AreaValue) → Stores lsa from s s' → IsSound s → IsSound s'
   pub met : (f : Origin) (lsa : List ℕ) (s : AreaValue) (o o' : OutputsValue) (s' : AreaValue) → MeetsLsa f lsa s o o' s' → IsSound s → IsSound s'
-  pub restarted : (f : Origin) (s : AreaValue) (o o' : OutputsValue) (s' : AreaValue) → RestartsExchange f s o o' s' → IsSound s → IsSound s'
+  pub begun_again : (f : Origin) (s : AreaValue) (o o' : OutputsValue) (s' : AreaValue) → Becomes (restarted f s) o o' s' → IsSound s → IsSound s'
   pub turned : (s : AreaValue) → IsSound s → IsSound (turned_area s)
   pub copied : (key : LsaKey) (s : AreaValue) → IsSound s → IsSound (copy_sent key s)
   pub flooded : (lsa : List ℕ) (from : Option Origin) (s : AreaValue) → IsSound s → IsSound (flooded_area lsa from s)

@@ -16,14 +16,12 @@ abbrev pub issued_at_in : Option Numbering → Option ℕ
 issued_at_in None = None
 issued_at_in (Some n) = n.issued_at
 
--- a tick less than MinLSInterval ago
-abbrev pub is_recent : ℕ → Option ℕ → Bool
-is_recent tick None = false
-is_recent tick (Some issued) = not (have_passed min_ls_interval issued tick)
-
 -- the key was issued less than MinLSInterval ago (12.4)
 abbrev pub waits : ℕ → List Numbering → LsaKey → Bool
-waits tick ns key = is_recent tick (issued_at_in (numbering_of ns key))
+waits tick ns key = elim (issued_at_in (numbering_of ns key)) [
+  | None ↦ false
+  | Some issued ↦ not (have_passed min_ls_interval issued tick)
+]
 
 -- an LSA of the key was issued in a tick
 abbrev pub issued_one : LsaKey → ℕ → Numbering → Numbering

@@ -1,7 +1,6 @@
 -- Own LSAs as they are issued and flushed (RFC 2328, sections 12.4, 13.4 and 14.1), over a router's part of an area.
-use Rattle.std.specs.Prelude.{◌≡◌, ◌++◌, ℕ, ℤ, Bool, false, List, [], ◌∷◌, Option, None, Some, map}
-use Rattle.std.specs.List.{list_any, flat_map}
-use Rattle.ospf_base.specs.Keys.{same_key}
+use Rattle.std.specs.Prelude.{◌≡◌, ◌++◌, ℕ, ℤ, false, List, [], ◌∷◌, Option, None, Some, map}
+use Rattle.std.specs.List.{flat_map}
 use Rattle.ospf_base.specs.declared.ids.LsaKey.{LsaKey}
 use Rattle.ospf_lsa.specs.Lsa.{IsLsa}
 use Rattle.ospf_lsa.specs.Value.{IsMade}
@@ -13,7 +12,7 @@ use Rattle.ospf_area.specs.Sending.{and_sends}
 use Rattle.ospf_area.specs.State.{AreaValue, database_entry, kept_number}
 use Rattle.ospf_area.specs.declared.state.Numbering.{Numbering}
 use Rattle.ospf_update.specs.Aging.{Flushes, turn_out, turned_area}
-use Rattle.ospf_update.specs.Meets.{Stores, Unchanged, store_updates}
+use Rattle.ospf_update.specs.Meets.{Becomes, Stores, store_updates}
 use Rattle.ospf_originate.specs.Actions.{IsUsed, own_action}
 use Rattle.ospf_wanted.specs.Made.{lsa_value}
 use Rattle.ospf_originate.specs.Numbers.{waits, issued}
@@ -44,13 +43,9 @@ pub record Issues (w : WantedValue) (number : ℤ) (before : AreaValue) (out out
 abbrev pub wants : AreaValue → List WantedValue
 wants s = wanted s.stub_router s.router s.links
 
--- a self-originated one of the key was installed in this step
-abbrev pub is_heard : AreaValue → LsaKey → Bool
-is_heard s key = list_any (λ k. same_key k key) s.heard
-
 -- what becomes of a key (12.4, 13.4)
 unfoldable pub action_of : AreaValue → LsaKey → OwnAction
-action_of s key = own_action (wanted_of (wants s) key) (database_entry s key) (is_heard s key) (is_own s.router key) (waits s.tick s.numbering key) (kept_number s key)
+action_of s key = own_action (wanted_of (wants s) key) (database_entry s key) (among s.heard key) (is_own s.router key) (waits s.tick s.numbering key) (kept_number s key)
 
 -- an issue, and LoadingDone and the next Requests that come of it (10.3, 10.9)
 pub record IssuesAndTurns (w : WantedValue) (number : ℤ) (before : AreaValue) (out out' : OutputsValue) (after : AreaValue) : Type 0 where
@@ -62,7 +57,7 @@ pub record IssuesAndTurns (w : WantedValue) (number : ℤ) (before : AreaValue) 
 
 -- the wanted LSA of a key is issued with a number, if one is wanted
 abbrev pub IssuesIf : Option WantedValue → ℤ → AreaValue → OutputsValue → OutputsValue → AreaValue → Type 0
-IssuesIf None number before out out' after = Unchanged before out out' after
+IssuesIf None number before out out' after = Becomes before out out' after
 IssuesIf (Some w) number before out out' after = IssuesAndTurns w number before out out' after
 
 -- a copy's age becomes MaxAge, and nothing else of it changes; it is flooded to all, and LoadingDone and the next Requests
@@ -74,7 +69,7 @@ pub record FlushesAndTurns (key : LsaKey) (before : AreaValue) (out out' : Outpu
 
 -- what an action does to the router, by what it wants
 abbrev pub Acts : OwnAction → List WantedValue → LsaKey → AreaValue → OutputsValue → OutputsValue → AreaValue → Type 0
-Acts Leave ws key before out out' after = Unchanged before out out' after
+Acts Leave ws key before out out' after = Becomes before out out' after
 Acts Flush ws key before out out' after = FlushesAndTurns key before out out' after
 Acts (Issue number) ws key before out out' after = IssuesIf (wanted_of ws key) number before out out' after
 
@@ -94,7 +89,7 @@ due_of action keys = flat_map (λ key. due_as (action key) key) keys
 
 -- one after the other
 abbrev pub ActsInTurn : List WantedValue → List DueAction → AreaValue → OutputsValue → OutputsValue → AreaValue → Type 0
-ActsInTurn ws [] before out out' after = Unchanged before out out' after
+ActsInTurn ws [] before out out' after = Becomes before out out' after
 ActsInTurn ws (d ∷ ds) before out out' after =
     (mid : AreaValue) × (mid_out : OutputsValue) × Acts d.action ws d.key before out mid_out mid × ActsInTurn ws ds mid mid_out out' after
 

@@ -6,8 +6,8 @@ use Rattle.ospf_area.specs.Outputs.{OutputsValue, SentValue, no_outputs, then_ou
 use Rattle.ospf_area.specs.State.{AreaValue, state_of}
 use Rattle.ospf_base.specs.declared.ids.Instance.{Instance}
 use Rattle.ospf_base.specs.declared.ids.LsaKey.{LsaKey}
+use Rattle.ospf_update.specs.Meets.{Becomes}
 use Rattle.ospf_step.specs.Packets.{Received}
-use Rattle.ospf_step.specs.Unchanged.{DoesNothing}
 use Rattle.ospf_step.specs.Words.{IsSoundState}
 use Rattle.ospf_step.specs.Accounts.{Accounts, Adjusts, NoneEntersExchange, Sends}
 use Rattle.ospf_step.proofs.Compose.{Accounts-then}
@@ -30,7 +30,7 @@ Adjusts-accountable heard before out after a none_enters none_ended = record {
   none_ended = none_ended;
 }
 
-pub Unchanged-accountable : (heard : Option Received) (before : AreaValue) (out : OutputsValue) (after : AreaValue) → DoesNothing before out after → IsAccountable heard before out after
+pub Unchanged-accountable : (heard : Option Received) (before : AreaValue) (out : OutputsValue) (after : AreaValue) → Becomes before no_outputs out after → IsAccountable heard before out after
 Unchanged-accountable heard before out after u =
     Adjusts-accountable heard before out after (Unchanged-adjusts heard before out after u)
     (λ l q up. subst (λ s. is_exchanging (state_of s l q) ≡ true) u.state up)

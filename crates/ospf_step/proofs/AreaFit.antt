@@ -1,5 +1,5 @@
 -- The calls of the area, and own LSAs, keep all links fit.
-use Rattle.std.proofs.Common.{◌≡◌, ◌==◌, ◌++◌, ℕ, ℤ, Bool, true, false, List, [], ◌∷◌, Option, None, Some, refl, sym, ap, subst, ◌∙◌, if◌then◌else◌}
+use Rattle.std.proofs.Common.{◌≡◌, ◌==◌, ◌++◌, ℕ, ℤ, Bool, true, false, List, [], ◌∷◌, Option, None, Some, refl, sym, ap, subst, ◌∙◌, if◌then◌else◌, map}
 use Rattle.ospf_base.specs.Constants.{max_age}
 use Rattle.ospf_base.specs.declared.ids.LsaKey.{LsaKey}
 use Rattle.ospf_base.specs.declared.ids.Instance.{Instance}
@@ -16,7 +16,7 @@ use Rattle.ospf_lsdb.specs.Database.{Entry, reached_at}
 use Rattle.ospf_lsdb.specs.Database as lsdb
 use Rattle.ospf_neighbour.specs.Lists.{key_unlisted}
 use Rattle.ospf_area.proofs.NeighbourLemmas.{changed_if-router, flooded-router, turned-router}
-use Rattle.ospf_area.specs.Asking.{turned_to_next, turned_link, turned_links}
+use Rattle.ospf_area.specs.Asking.{turned_to_next, turned_link}
 use Rattle.ospf_area.specs.Changes.{changed_at, changed_if, changed_link, changed_on, delayed_at, delayed_on}
 use Rattle.ospf_area.specs.Flooding.{came_from, flooded_link, flooded_links, flooded_neighbour, on_link, goes_anywhere, released, released_link}
 use Rattle.ospf_area.specs.Numbers.{is_self_originated}
@@ -51,7 +51,7 @@ module _ (r : RouterId) where
   flooded_fit key h from tick xs fit = fit_from r (flooded_link key h from tick)
       (λ l x. record { iface = refl; elects = refl; same = ids_map (flooded_neighbour key h (on_link from l) tick) (λ n. flooded-router key h (came_from (on_link from l) n) tick n) x.neighbours }) 0 xs fit
 
-  turned_fit : (own : Own) (xs : List LinkValue) → AllFit r xs → AllFit r (turned_links own xs)
+  turned_fit : (own : Own) (xs : List LinkValue) → AllFit r xs → AllFit r (map (turned_link own) xs)
   turned_fit own xs fit = fit_map r (turned_link own)
       (λ x. kin_fit r x (turned_link own x) (record { iface = refl; elects = refl; same = ids_map (turned_to_next x.settings.mtu own.tick) (turned-router x.settings.mtu own.tick) x.neighbours })) xs fit
 

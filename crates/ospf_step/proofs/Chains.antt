@@ -75,7 +75,7 @@ read_own R out out' read p = AreRead-right out p.own (subst (λ o. AreReadAsSent
 lsa_puts : (f : Origin) (lsa : List ℕ) (before : AreaValue) (out out' : OutputsValue) (after : AreaValue) → MeetsLsa f lsa before out out' after → PutsOut (λ o. MeetsLsa f lsa before no_outputs o after) out out'
 lsa_puts f lsa before out out' after m = by (rule_met before f lsa) m
   where
-    unchanged : meets.Unchanged before out out' after → PutsOut (λ o. meets.Unchanged before no_outputs o after) out out'
+    unchanged : meets.Becomes before out out' after → PutsOut (λ o. meets.Becomes before no_outputs o after) out out'
     unchanged u = record { own = no_outputs; is = record { state = u.state; outputs = refl }; behind = u.outputs ∙ sym (then_nothing out) }
 
     by : (r : Option LsaRule) → MeetsRule r f lsa before out out' after → PutsOut (λ o. MeetsRule r f lsa before no_outputs o after) out out'

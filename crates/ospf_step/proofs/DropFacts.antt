@@ -5,14 +5,15 @@ use Rattle.std.proofs.lemmas.Option.{none-some, same_Some}
 use Rattle.ospf_base.specs.declared.ids.AreaId.{AreaId}
 use Rattle.ospf_base.specs.declared.ids.Addr.{Addr}
 use Rattle.ospf_base.specs.declared.ids.RouterId.{RouterId}
-use Rattle.ospf_base.specs.declared.interface.InterfaceKind.TheVariants.{PointToPoint}
+use Rattle.ospf_base.specs.declared.interface.InterfaceKind.{InterfaceKind}
+use Rattle.ospf_base.specs.declared.interface.InterfaceKind.TheVariants.{PointToPoint, Broadcast}
 use Rattle.ospf_exchange.specs.declared.rule.Local.{Local}
 use Rattle.ospf_iface.specs.declared.machine.Iface.{Iface}
 use Rattle.ospf_neighbour.specs.Machine.{is_exchanging}
 use Rattle.ospf_neighbour.specs.Neighbour.{NeighbourValue, is_empty}
 use Rattle.ospf_neighbour.specs.Neighbours.{at_address, neighbour_of}
 use Rattle.ospf_packet.specs.Meaning.{BodyMeaning, Meaning, hello, description, request, update, acknowledgment}
-use Rattle.ospf_adjacency.specs.Adjacency.{is_broadcast, is_broadcast_kind}
+use Rattle.ospf_adjacency.specs.Adjacency.{is_broadcast}
 use Rattle.ospf_area.specs.Sending.{own_of}
 use Rattle.ospf_area.specs.State.{AreaValue, LinkValue}
 use Rattle.ospf_area.specs.Posting.{local_of}
@@ -60,7 +61,7 @@ no_length (n ∷ ns) is = absurd (true≢false is)
 
 pub alone : (i : Iface) (ns : List NeighbourValue) (q : RouterId) (source : Addr) → i.settings.kind ≡ PointToPoint → neighbour_of ns q ≡ None → drop_of_hello i ns q (sender_in i ns q source) ≡ None → length ns ≡ 0
 alone i ns q source kind none is =
-    let by_ends : is_broadcast i ≡ false = ap is_broadcast_kind kind in
+    let by_ends : is_broadcast i ≡ false = ap (λ (k : InterfaceKind). elim k [ PointToPoint ↦ false | Broadcast ↦ true ]) kind in
     let sender : sender_in i ns q source ≡ None = ap (λ (b : Bool). if b then at_address ns source else neighbour_of ns q) by_ends ∙ none in
     let new : drop_of_new i ns q ≡ None = subst (λ (o : Option NeighbourValue). drop_of_hello i ns q o ≡ None) sender is in
     let here = peel (is_elsewhere i ns q) dropped.WrongRouter _ new in

@@ -27,7 +27,7 @@ use Rattle.ospf_neighbour.specs.Neighbour.{NeighbourValue}
 use Rattle.ospf_area.specs.Outputs.{OutputsValue}
 use Rattle.ospf_area.specs.State.{AreaValue, LinkValue, neighbour, state_of, state_in, database_entry, copy_of, copy_in, kept_number, Awaits, WaitsIn}
 use Rattle.ospf_step.specs.Headers.{IsOfInstance, Lists}
-use Rattle.ospf_step.specs.Packets.{Received, lsas_in, headers_in_packet}
+use Rattle.ospf_step.specs.Packets.{Received, lsas_of, headers_in_body}
 use Rattle.ospf_area.specs.Places.{map_from}
 use Rattle.ospf_step.specs.Words.{CanName, HoldsInstance, HasCopy, Asks, Brings, ListsAreHeld, IsSoundState, delayed, delayed_in, list_in}
 use Rattle.ospf_lsdb.specs.Moments.{among}
@@ -84,8 +84,8 @@ pub record IsAccounted (heard : Option Received) (before : AreaValue) (out : Out
   pub told : (l : ℕ) (n : NeighbourValue) → came l n ≡ true → IsAcknowledged heard l n.router (instance_at e)
   pub acknowledged : (l : ℕ) (h : LsaHeader) (i : Instance) → Contains (acks l) h → IsOfInstance h i → i ≡ instance_at e
   pub bears : (p : Meaning) → Sends out p → p.router ≡ before.router
-  pub sends : (p : Meaning) (lsa : List ℕ) → Sends out p → Contains (lsas_in p) lsa → contents lsa ≡ e.contents
-  pub names : (p : Meaning) (i : Instance) → Sends out p → Lists (headers_in_packet p) i → i ≡ instance_at e
+  pub sends : (p : Meaning) (lsa : List ℕ) → Sends out p → Contains (lsas_of p.body) lsa → contents lsa ≡ e.contents
+  pub names : (p : Meaning) (i : Instance) → Sends out p → Lists (headers_in_body p.body) i → i ≡ instance_at e
   pub numbers : Numbers heard before out after
   pub counted : (instance_at e).key.router ≡ before.router → (instance_at e).number ≤ℤ kept_number after (instance_at e).key
   pub none_ended : out.ended ≡ []

@@ -25,23 +25,24 @@ use Rattle.ospf_packet.specs.Meaning.{BodyMeaning, hello, description, request, 
 use Rattle.ospf_neighbour.specs.Neighbour.{NeighbourValue}
 use Rattle.ospf_area.specs.Changes.{changed_on, delayed_on}
 use Rattle.ospf_update.specs.Meets as meets
-use Rattle.ospf_update.specs.Meets.{Stores, MeetsRule, MeetsLsa, Admits, AnswersExpired, RestartsExchange, AcknowledgesDuplicate, Replies, reply_of, reply_to, reply_out, lsa_out, lsa_out_on, heard_by, first_dd_on, restarted, replied, named_as, named_by, taken_off}
+use Rattle.ospf_update.specs.Meets.{Becomes, MeetsRule, MeetsLsa, Admits, duplicated, header_met, reply_of, reply_to, reply_out, lsa_out, lsa_out_on, heard_by, first_dd_on, restarted, replied, named_by, taken_off}
 use Rattle.ospf_area.specs.Sending.{own_of, and_sends, packet_of, sent_lsa}
 use Rattle.ospf_area.specs.Numbers.{is_self_originated}
-use Rattle.ospf_area.specs.Outputs.{OutputsValue, SentValue, no_outputs, AreReadAsSent}
+use Rattle.ospf_area.specs.Outputs.{and_takes, OutputsValue, SentValue, no_outputs, AreReadAsSent}
 use Rattle.ospf_area.specs.Places.{map_from}
 use Rattle.ospf_area.specs.Flooding.{flooded_back, released}
 use Rattle.ospf_flood.specs.Links.{case_of_newer, case_of_same}
 use Rattle.ospf_flood.specs.declared.acknowledgement.AcknowledgementCase.TheVariants.{Expired}
 use Rattle.ospf_area.specs.Standing.{acknowledging, answer_at, is_awaited_of, is_requested_of, is_taken_in, origin_neighbour}
-use Rattle.ospf_area.specs.State.{AreaValue, LinkValue, database_entry, copy_in, copy_of, kept_in, numbering_of, some_link_loading, was_sent}
+use Rattle.ospf_lsdb.specs.Moments.{among}
+use Rattle.ospf_area.specs.State.{AreaValue, LinkValue, database_entry, copy_in, copy_of, kept_in, numbering_of, some_link_loading}
 use Rattle.ospf_area.specs.declared.changes.AdjacencyChange.{AdjacencyChange}
 use Rattle.ospf_area.specs.declared.changes.AdjacencyChange.TheVariants as change
 use Rattle.ospf_area.specs.declared.flooding.Origin.{Origin}
 use Rattle.ospf_step.specs.Links.{AreKnown, IsKnownPacket}
 use Rattle.ospf_step.specs.Headers.{IsOfInstance}
-use Rattle.ospf_step.specs.Packets.{Received, lsas_in, lsas_of, acknowledging_headers_in, acknowledging_headers_of}
-use Rattle.ospf_step.specs.Parts.{LsaPart, HeaderPart}
+use Rattle.ospf_step.specs.Packets.{Received, lsas_of, acknowledging_headers_of}
+use Rattle.ospf_step.specs.Parts.{LsaPart}
 use Rattle.ospf_step.specs.Words.{CanName, HoldsInstance, HasCopy, Brings, IsSoundState}
 use Rattle.ospf_step.specs.Accounts.{HasContents, IsAcknowledged, TakesItsPlace, Sends, Numbers}
 use Rattle.ospf_step.proofs.Accountable.{IsAccountable, Unchanged-accountable, both-accountable, then_nothing, sent_packet}
@@ -190,7 +191,7 @@ holds_copy : (s : AreaValue) (key : LsaKey) (copy : Entry) → database_entry s 
 holds_copy s key copy at = (lsa_of copy, has_entry s key copy at, refl)
 
 -- an LSA heard names its instance
-names-lsa : (heard : Option Received) (r : Received) (lsa : List ℕ) → heard ≡ Some r → Contains (lsas_in r.packet) lsa → IsLsa lsa → IsAcknowledged heard r.link r.packet.router (instance_of lsa)
+names-lsa : (heard : Option Received) (r : Received) (lsa : List ℕ) → heard ≡ Some r → Contains (lsas_of r.packet.body) lsa → IsLsa lsa → IsAcknowledged heard r.link r.packet.router (instance_of lsa)
 names-lsa heard r lsa h c is = record { received = r; is_heard = h; link = refl; from = refl; named = (header_of lsa, by r.packet.body c, header_is_of lsa is) }
   where
     by : (b : BodyMeaning) → Contains (lsas_of b) lsa → Contains (acknowledging_headers_of b) (header_of lsa)
@@ -208,7 +209,7 @@ as_state heard s t u a same x = subst (λ v. IsAccountable heard s a v) (sym sam
 
 -- ---- the rules of an Update
 
-module _ (heard : Option Received) (p : Meaning) (f : Origin) (lsa : List ℕ) (before : AreaValue) (out : OutputsValue) (after : AreaValue) (is_lsa : IsLsa lsa) (sound : IsSoundState before) (hears : heard ≡ Some (record { link = f.link; packet = p })) (from : p.router ≡ f.router) (in_p : Contains (lsas_in p) lsa) (read : AreReadAsSent out.sent) where
+module _ (heard : Option Received) (p : Meaning) (f : Origin) (lsa : List ℕ) (before : AreaValue) (out : OutputsValue) (after : AreaValue) (is_lsa : IsLsa lsa) (sound : IsSoundState before) (hears : heard ≡ Some (record { link = f.link; packet = p })) (from : p.router ≡ f.router) (in_p : Contains (lsas_of p.body) lsa) (read : AreReadAsSent out.sent) where
   received : Received
   received = record { link = f.link; packet = p }
 
@@ -222,7 +223,7 @@ module _ (heard : Option Received) (p : Meaning) (f : Origin) (lsa : List ℕ) (
   named : (s : AreaValue) (o : OutputsValue) → CanName s (instance_of lsa) ⊎ Brings o (instance_of lsa) → IsNamed s o (header_of lsa)
   named s o known i is = subst (λ i. CanName s i ⊎ Brings o i) (header_names lsa i is) known
 
-  nothing : meets.Unchanged before no_outputs out after → IsAccountable heard before out after
+  nothing : Becomes before no_outputs out after → IsAccountable heard before out after
   nothing u = Unchanged-accountable heard before out after (record { state = u.state; outputs = u.outputs })
 
   -- it is stored, and flooded
@@ -268,7 +269,7 @@ module _ (heard : Option Received) (p : Meaning) (f : Origin) (lsa : List ℕ) (
           (named a.mid no_outputs (inl (CanName.InDatabase (Stores-holds lsa (Some f) true before a.mid (Stores-by lsa (Some f) before a.mid a.stores)))))
 
   -- it is at MaxAge, and not known
-  answered : database_entry before (key_of lsa) ≡ None → AnswersExpired f lsa before no_outputs out after → IsAccountable heard before out after
+  answered : database_entry before (key_of lsa) ≡ None → Becomes (acknowledging (answer_at Expired f before.links) f (header_of lsa) before) (and_takes no_outputs (instance_of lsa)) out after → IsAccountable heard before out after
   answered none a =
       as_state heard before after _ out a.state
       (ack-accountable heard out (answer_at Expired f before.links) f (header_of lsa) (key_of lsa) false before sends (named before out (inr brings)))
@@ -293,7 +294,7 @@ module _ (heard : Option Received) (p : Meaning) (f : Origin) (lsa : List ℕ) (
       }
 
   -- BadLSReq
-  restarting : RestartsExchange f before no_outputs out after → IsAccountable heard before out after
+  restarting : Becomes (restarted f before) (and_sends no_outputs (meets.first_dd f before)) out after → IsAccountable heard before out after
   restarting r =
       as_outputs heard before after out (and_sends no_outputs (meets.first_dd f before)) r.outputs
       (as_state heard before after (restarted f before) _ r.state
@@ -313,7 +314,7 @@ module _ (heard : Option Received) (p : Meaning) (f : Origin) (lsa : List ℕ) (
       first d c = by (slice_get before.links f.link) d c
 
   -- the same instance as the copy
-  duplicate : (copy : Entry) → database_entry before (key_of lsa) ≡ Some copy → recency (header_of lsa) (header_at copy) ≡ Same → AcknowledgesDuplicate f lsa before no_outputs out after → IsAccountable heard before out after
+  duplicate : (copy : Entry) → database_entry before (key_of lsa) ≡ Some copy → recency (header_of lsa) (header_at copy) ≡ Same → Becomes (duplicated f lsa before) no_outputs out after → IsAccountable heard before out after
   duplicate copy at same d =
       as_outputs heard before after out no_outputs d.outputs
       (as_state heard before after _ no_outputs d.state
@@ -340,7 +341,7 @@ module _ (heard : Option Received) (p : Meaning) (f : Origin) (lsa : List ℕ) (
       acknowledged = ack-accountable heard no_outputs how f (header_of lsa) (key_of lsa) false mid (sends_nothing mid) (named mid no_outputs (inl (CanName.InDatabase holds)))
 
   -- older than the copy
-  stale : Replies f (key_of lsa) before no_outputs out after → IsAccountable heard before out after
+  stale : Becomes (replied (reply_to before (key_of lsa)) f (key_of lsa) before) (and_sends no_outputs (reply_out (reply_to before (key_of lsa)) f before)) out after → IsAccountable heard before out after
   stale r = go (reply_to before (key_of lsa)) is_copy (subst (λ o. AreReadAsSent o.sent) r.outputs read) r.state r.outputs
     where
       by : (o : Option Entry) (sent : Bool) → database_entry before (key_of lsa) ≡ o → (l : List ℕ) → reply_of o sent ≡ Some l → HasCopy before l
@@ -352,7 +353,7 @@ module _ (heard : Option Received) (p : Meaning) (f : Origin) (lsa : List ℕ) (
           if_sent false is = absurd (none-some l is)
 
       is_copy : (l : List ℕ) → reply_to before (key_of lsa) ≡ Some l → HasCopy before l
-      is_copy l is = by (database_entry before (key_of lsa)) (was_sent before.sent (key_of lsa)) refl l is
+      is_copy l is = by (database_entry before (key_of lsa)) (among before.sent (key_of lsa)) refl l is
 
       link_sends : (l : List ℕ) (o : Option LinkValue) (d : SentValue) → HasCopy before l → Contains (lsa_out_on (own_of before) f l o) d → IsKnownPacket before d.packet
       link_sends l None d has c = absurd (Contains-nil d c)
@@ -395,7 +396,7 @@ module _ (heard : Option Received) (p : Meaning) (f : Origin) (lsa : List ℕ) (
 
 -- ---- a header of an Acknowledgment
 
-module _ (heard : Option Received) (p : Meaning) (f : Origin) (h : LsaHeader) (before : AreaValue) (out : OutputsValue) (after : AreaValue) (sound : IsSoundState before) (hears : heard ≡ Some (record { link = f.link; packet = p })) (from : p.router ≡ f.router) (in_p : Contains (acknowledging_headers_in p) h) where
+module _ (heard : Option Received) (p : Meaning) (f : Origin) (h : LsaHeader) (before : AreaValue) (out : OutputsValue) (after : AreaValue) (sound : IsSoundState before) (hears : heard ≡ Some (record { link = f.link; packet = p })) (from : p.router ≡ f.router) (in_p : Contains (acknowledging_headers_of p.body) h) where
   -- where it is the same as the copy, it names the copy's instance
   names_copy : (o : Option LsaKey) → key_of_header h ≡ o → (copy : Entry) → exchange.copy_in_database before.database o ≡ Some copy → recency h (header_at copy) ≡ Same → IsOfInstance h (instance_at copy)
   names_copy None key copy at same = absurd (none-some copy at)
@@ -419,12 +420,12 @@ module _ (heard : Option Received) (p : Meaning) (f : Origin) (h : LsaHeader) (b
   is_named None at i is = absurd (none-some i is)
   is_named (Some copy) at i is = by (recency h (header_at copy)) refl is
     where
-      by : (r : Recency) → recency h (header_at copy) ≡ r → named_as r copy ≡ Some i → IsOfInstance h i
+      by : (r : Recency) → recency h (header_at copy) ≡ r → elim r [ Same ↦ Some (instance_at copy) | _ ↦ None ] ≡ Some i → IsOfInstance h i
       by Same same is = subst (λ i. IsOfInstance h i) (same_Some (instance_at copy) i is) (names_copy (key_of_header h) refl copy at same)
       by Newer same is = absurd (none-some i is)
       by Older same is = absurd (none-some i is)
 
-  pub HeaderPart-accountable : HeaderPart f h before out after → IsAccountable heard before out after
+  pub HeaderPart-accountable : Becomes (header_met f h before) no_outputs out after → IsAccountable heard before out after
   HeaderPart-accountable m = taken_off_by (named_by h (exchange.copy_in_database before.database (key_of_header h))) (is_named (exchange.copy_in_database before.database (key_of_header h)) refl) m.state m.outputs
 
 -- what is passed over: a new acknowledgement is of no instance
@@ -447,7 +448,7 @@ passed-accountable heard s t p = subst (λ x. IsAccountable heard s no_outputs x
     shrinks = shrink_by heard no_outputs s after still alone (map_from-id 0 s.links) refl refl refl refl now (λ l link. map-id link.neighbours) (λ l link x c. inl c) (λ l n. same-shrinks heard l n)
 
 -- one LSA of an Update, or what is passed over
-pub LsaPart-accountable : (heard : Option Received) (p : Meaning) (f : Origin) (lsa : List ℕ) (before : AreaValue) (out : OutputsValue) (after : AreaValue) → IsSoundState before → heard ≡ Some (record { link = f.link; packet = p }) → p.router ≡ f.router → Contains (lsas_in p) lsa → AreReadAsSent out.sent → LsaPart f lsa before out after → IsAccountable heard before out after
+pub LsaPart-accountable : (heard : Option Received) (p : Meaning) (f : Origin) (lsa : List ℕ) (before : AreaValue) (out : OutputsValue) (after : AreaValue) → IsSoundState before → heard ≡ Some (record { link = f.link; packet = p }) → p.router ≡ f.router → Contains (lsas_of p.body) lsa → AreReadAsSent out.sent → LsaPart f lsa before out after → IsAccountable heard before out after
 LsaPart-accountable heard p f lsa before out after sound hears from in_p read (LsaPart.Meets is m) = MeetsLsa-accountable heard p f lsa before out after is sound hears from in_p read m
 LsaPart-accountable heard p f lsa before out after sound hears from in_p read (LsaPart.PassedOver not_one passes outputs) =
     subst (λ o. IsAccountable heard before o after) (sym outputs) (passed-accountable heard before after (passed before.passes_over f lsa before after passes))

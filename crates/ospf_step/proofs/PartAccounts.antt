@@ -34,9 +34,10 @@ use Rattle.ospf_area.specs.Sending.{own_of}
 use Rattle.ospf_area.specs.Outputs.{OutputsValue, SentValue, no_outputs, sends, AreReadAsSent}
 use Rattle.ospf_area.specs.State.{AreaValue, LinkValue, neighbour, neighbours_in, state_in, database_entry, copy_in, copy_of, kept_number, some_link_loading, Awaits, WaitsIn}
 use Rattle.ospf_area.specs.declared.flooding.Origin.{Origin}
+use Rattle.ospf_update.specs.Meets.{Becomes}
 use Rattle.ospf_step.specs.Headers.{IsOfInstance, Lists}
-use Rattle.ospf_step.specs.Packets.{Received, lsas_in, headers_in_packet}
-use Rattle.ospf_step.specs.Parts.{DirectPart, IssuePart, ExpiryPart, AgesPart, AnswersAll, RemovalPart, at_max_age, leaves_if, ends_run_if}
+use Rattle.ospf_step.specs.Packets.{Received, lsas_of, headers_in_body}
+use Rattle.ospf_step.specs.Parts.{IssuePart, ExpiryPart, AgesPart, AnswersAll, RemovalPart, at_max_age, leaves_if, ends_run_if}
 use Rattle.ospf_update.specs.Removal.{some_awaits, lowest_number, is_last}
 use Rattle.ospf_area.specs.Numbers.{is_own}
 use Rattle.ospf_step.specs.Words.{CanName, HoldsInstance, HasCopy, Brings, IsSoundState, ListsAreHeld, delayed_in, list_in}
@@ -63,7 +64,7 @@ one_of x y (suc k, within, is) = absurd (omega arith)
 
 -- ---- direct acknowledgements
 
-pub DirectPart-accountable : (heard : Option Received) (f : Origin) (before : AreaValue) (out : OutputsValue) (after : AreaValue) → AreReadAsSent out.sent → DirectPart f before out after → IsAccountable heard before out after
+pub DirectPart-accountable : (heard : Option Received) (f : Origin) (before : AreaValue) (out : OutputsValue) (after : AreaValue) → AreReadAsSent out.sent → Becomes (record before { direct = [] }) (sends (direct_out f before)) out after → IsAccountable heard before out after
 DirectPart-accountable heard f before out after read d =
     subst (λ o. IsAccountable heard before o after) (sym d.outputs)
     (subst (λ s. IsAccountable heard before (sends (direct_out f before)) s) (sym d.state)
@@ -87,8 +88,8 @@ DirectPart-accountable heard f before out after read d =
         let a = direct-packets (own_of before) f before.direct (slice_get before.links f.link) x c in
         record {
           router = ap (λ m. m.router) a.packet;
-          lsas = λ lsa m. absurd (Contains-nil lsa (subst (λ m. Contains (lsas_in m) lsa) a.packet m));
-          names = λ i lists. let (h, m, is) = lists in CanName.ToAcknowledgeNow (h, a.within h (subst (λ m. Contains (headers_in_packet m) h) a.packet m), is);
+          lsas = λ lsa m. absurd (Contains-nil lsa (subst (λ m. Contains (lsas_of m.body) lsa) a.packet m));
+          names = λ i lists. let (h, m, is) = lists in CanName.ToAcknowledgeNow (h, a.within h (subst (λ m. Contains (headers_in_body m.body) h) a.packet m), is);
         }
 
 -- ---- an own LSA is issued
@@ -196,9 +197,9 @@ module _ (heard : Option Received) (key : LsaKey) (copy : Entry) (before : AreaV
   an_update : (p : Meaning) → Sends out p → IsUpdateOf (own_of before) (lsa_of (at_max_age copy)) p
   an_update p s = subst (λ m. IsUpdateOf (own_of before) (lsa_of (at_max_age copy)) m) (sent_packet out p read s) (flooding-packets (own_of before) (lsa_of (at_max_age copy)) None before.links s.datagram (subst (λ o. Contains o.sent s.datagram) x.outputs s.sent))
 
-  names_it : (p : Meaning) (i : Instance) → IsUpdateOf (own_of before) (lsa_of (at_max_age copy)) p → Lists (headers_in_packet p) i → i ≡ instance_at (at_max_age copy)
+  names_it : (p : Meaning) (i : Instance) → IsUpdateOf (own_of before) (lsa_of (at_max_age copy)) p → Lists (headers_in_body p.body) i → i ≡ instance_at (at_max_age copy)
   names_it p i u (h, c, is) =
-      let it = one_of (header_of u.one) h (subst (λ m. Contains (headers_in_packet m) h) u.packet c) in
+      let it = one_of (header_of u.one) h (subst (λ m. Contains (headers_in_body m.body) h) u.packet c) in
       sym (header_names u.one i (subst (λ h. IsOfInstance h i) it is)) ∙ same_contents u.one (lsa_of (at_max_age copy)) u.same
 
   is_accounted : IsAccounted heard before out after e came no_acks past
@@ -216,7 +217,7 @@ module _ (heard : Option Received) (key : LsaKey) (copy : Entry) (before : AreaV
     told = λ l n c. absurd (false≢true c);
     acknowledged = λ l h i c. absurd (Contains-nil h c);
     bears = λ p s. ap (λ m. m.router) (an_update p s).packet;
-    sends = λ p one s c. (let u = an_update p s in ap contents (one_of u.one one (subst (λ m. Contains (lsas_in m) one) u.packet c)) ∙ u.same);
+    sends = λ p one s c. (let u = an_update p s in ap contents (one_of u.one one (subst (λ m. Contains (lsas_of m.body) one) u.packet c)) ∙ u.same);
     names = λ p i s lists. names_it p i (an_update p s) lists;
     numbers = Numbers-none_issued heard before out after (ap (λ o. o.issued) x.outputs)
         (λ k goes_on. subst (λ n. kept_number before k ≤ℤ n) (sym (x.numbering k)) (omega (arith, ints)))

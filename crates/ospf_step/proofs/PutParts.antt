@@ -13,7 +13,7 @@ use Rattle.ospf_area.specs.Places.{flat_from}
 use Rattle.ospf_area.specs.Sending.{and_sends, own_of}
 use Rattle.ospf_area.specs.State.{AreaValue, LinkValue, database_entry}
 use Rattle.ospf_area.specs.declared.flooding.Origin.{Origin}
-use Rattle.ospf_update.specs.Acks.{delayed_out, delayed_out_on, undelayed, undelayed_link}
+use Rattle.ospf_update.specs.Acks.{delayed_out_on, undelayed_link}
 use Rattle.ospf_update.specs.Aging.{Flushes, TickAges, copies_sent, copy_sent}
 use Rattle.ospf_update.specs.Meets.{header_met}
 use Rattle.ospf_update.specs.Removal.{Removes, RemovesAll, and_ends, ends_run, leaving}
@@ -91,10 +91,10 @@ all_acks_known s k (link ∷ links) within d c = elim (Contains-append_cases (de
   | inr later ↦ all_acks_known s (suc k) links (λ l link at. within (suc l) link at) d later
 ]
 
-pub acknowledgements_put : (s t : AreaValue) (out out' : OutputsValue) → AreReadAsSent out'.sent → t ≡ record s { links = undelayed s.links } → out' ≡ and_sends out (delayed_out (own_of s) s.links) → PutsOut (λ o. Quiet s o t) out out'
+pub acknowledgements_put : (s t : AreaValue) (out out' : OutputsValue) → AreReadAsSent out'.sent → t ≡ record s { links = map undelayed_link s.links } → out' ≡ and_sends out (flat_from (delayed_out_on (own_of s)) 0 s.links) → PutsOut (λ o. Quiet s o t) out out'
 acknowledgements_put s t out out' read state outputs =
-    let ds = delayed_out (own_of s) s.links in
-    let links : t.links ≡ undelayed s.links = ap (λ s. s.links) state in
+    let ds = flat_from (delayed_out_on (own_of s)) 0 s.links in
+    let links : t.links ≡ map undelayed_link s.links = ap (λ s. s.links) state in
     let rest : ChangesLinks s t = subst (λ a. ChangesLinks s a) (sym state) refl in
     puts_sent (λ o. Quiet s o t) out out' ds
     (part_quiet s t (sends ds) ds rest refl (read_own out out' ds outputs read)

@@ -14,16 +14,16 @@ use Rattle.ospf_lsa.proofs.Aging.{IsLsa-age}
 use Rattle.ospf_lsdb.specs.Database.{Entry, lsa_of}
 use Rattle.ospf_lsa.specs.Lsa.{IsLsa, key_of, instance_of}
 use Rattle.ospf_lsa.specs.declared.header.LsaHeader.{LsaHeader}
-use Rattle.ospf_packet.specs.Meaning.{Meaning}
+use Rattle.ospf_packet.specs.Meaning.{BodyMeaning, Meaning}
 use Rattle.ospf_neighbour.specs.Laws.{Waits}
 use Rattle.ospf_neighbour.specs.Machine.{is_exchanging}
 use Rattle.ospf_neighbour.specs.Neighbour.{NeighbourValue}
 use Rattle.ospf_area.specs.Outputs.{OutputsValue, no_outputs}
 use Rattle.ospf_area.specs.State.{AreaValue, LinkValue, neighbour, state_of, state_in, database_entry, copy_in, kept_number, Awaits, WaitsIn}
+use Rattle.ospf_update.specs.Meets.{Becomes}
 use Rattle.ospf_step.specs.Headers.{IsOfInstance, Lists}
-use Rattle.ospf_step.specs.Packets.{Received, lsas_in, headers_in_packet, dd_headers_in, acknowledging_headers_in}
+use Rattle.ospf_step.specs.Packets.{Received, lsas_of, headers_in_body, dd_headers_of, acknowledging_headers_of}
 use Rattle.ospf_area.specs.Places.{map_from}
-use Rattle.ospf_step.specs.Unchanged.{DoesNothing}
 use Rattle.ospf_step.specs.Words.{CanName, HoldsInstance, HasCopy, Brings, IsSoundState, delayed, delayed_in, list_in}
 use Rattle.ospf_update.specs.Removal.{lowest_number}
 use Rattle.ospf_lsdb.specs.Moments.{among}
@@ -106,7 +106,7 @@ Adjusts-sound heard before out after a sound = record {
         (subst (λ i. i.number ≤ℤ kept_number before i.key) one (sound.numbers was.old was.copy own_before))
 
 -- nothing happens
-pub Unchanged-adjusts : (heard : Option Received) (before : AreaValue) (out : OutputsValue) (after : AreaValue) → DoesNothing before out after → Adjusts heard before out after
+pub Unchanged-adjusts : (heard : Option Received) (before : AreaValue) (out : OutputsValue) (after : AreaValue) → Becomes before no_outputs out after → Adjusts heard before out after
 Unchanged-adjusts heard before out after u =
     subst (λ after. Adjusts heard before out after) (sym u.state) (subst (λ out. Adjusts heard before out before) (sym u.outputs) (record {
       same_router = refl;
@@ -145,8 +145,8 @@ Adjusts-with_packet heard before out after same a = record {
   again = a.again;
   gone = a.gone;
   ends = λ key e. let largest = a.ends key e in record { lsa = largest.lsa; has = hear (contents largest.lsa) largest.has; number = largest.number };
-  asks = λ l q i c. elim (a.asks l q i c) [ inl there ↦ inl there | inr e ↦ absurd (deaf dd_headers_in l q i e) ];
-  leaves = λ l q i c. elim (a.leaves l q i c) [ inl stays ↦ inl stays | inr left ↦ inr (elim left [ inl e ↦ absurd (deaf acknowledging_headers_in l q i e) | inr fell ↦ inr fell ]) ];
+  asks = λ l q i c. elim (a.asks l q i c) [ inl there ↦ inl there | inr e ↦ absurd (deaf dd_headers_of l q i e) ];
+  leaves = λ l q i c. elim (a.leaves l q i c) [ inl stays ↦ inl stays | inr left ↦ inr (elim left [ inl e ↦ absurd (deaf acknowledging_headers_of l q i e) | inr fell ↦ inr fell ]) ];
 }
   where
     hear : (content : List ℕ) → HasContents None before out content → HasContents heard before out content
@@ -154,7 +154,7 @@ Adjusts-with_packet heard before out after same a = record {
     hear content (HasContents.Heard p lsa h c e) = absurd (none-some p h)
     hear content (HasContents.Issued lsa c e) = HasContents.Issued lsa c e
 
-    deaf : (headers : Meaning → List LsaHeader) (l : ℕ) (q : RouterId) (i : Instance) → Hears headers None l q i → ⊥
+    deaf : (headers : BodyMeaning → List LsaHeader) (l : ℕ) (q : RouterId) (i : Instance) → Hears headers None l q i → ⊥
     deaf headers l q i e = none-some e.received e.is_heard
 
 -- the header is of what the router can name, or takes now
@@ -183,8 +183,8 @@ pub record OnlySendsKnown (before : AreaValue) (out : OutputsValue) : Type 0 whe
   pub issued : out.issued ≡ []
   pub ended : out.ended ≡ []
   pub bears : (p : Meaning) → Sends out p → p.router ≡ before.router
-  pub updates : (p : Meaning) (lsa : List ℕ) → Sends out p → Contains (lsas_in p) lsa → WasHeld before (contents lsa)
-  pub named : (p : Meaning) (i : Instance) → Sends out p → Lists (headers_in_packet p) i → CanName before i
+  pub updates : (p : Meaning) (lsa : List ℕ) → Sends out p → Contains (lsas_of p.body) lsa → WasHeld before (contents lsa)
+  pub named : (p : Meaning) (i : Instance) → Sends out p → Lists (headers_in_body p.body) i → CanName before i
 
 pub waits_in : (o : Option NeighbourValue) (i : Instance) → WaitsIn o i → (n : NeighbourValue) × (o ≡ Some n) × Waits n i
 waits_in None i w = absurd w

@@ -12,7 +12,7 @@ use Rattle.ospf_area.specs.State.{AreaValue}
 use Rattle.ospf_area.specs.declared.flooding.Origin.{Origin}
 use Rattle.ospf_step.specs.Accounts.{Accounts, Adjusts, NoneEntersExchange}
 use Rattle.ospf_step.specs.Neighbours.{Quiet}
-use Rattle.ospf_step.specs.Packets.{Received, lsas_in, lsas_of, acknowledging_headers_in, acknowledging_headers_of}
+use Rattle.ospf_step.specs.Packets.{Received, lsas_of, acknowledging_headers_of}
 use Rattle.ospf_step.specs.Parts.{AgesPart, AnswersAll, IssuePart, ExpiryPart}
 use Rattle.ospf_step.specs.Step.{Event, Part, Then, Times, AndRequests, OwnStep, ExpiryStep, IsPart, Chain, lsa_parts, first_parts, last_parts, parts_of_packet, parts_of_datagram, heard_in, StepLaws}
 use Rattle.ospf_step.specs.Step.Part.{HelloComes, DdComes, RequestComes, LsaComes, HeaderComes, DirectAcknowledgements, LinkChanges, Ages, Timers, Hellos, Acknowledgements, Repeats, Requests, Elections, OwnLsas, Removals}
@@ -59,8 +59,8 @@ ExpiryStep-accountable heard before out after sound read x = AndRequests-account
 
 -- the parts that stand between the first DD packet and the removals, with what they are of
 abbrev Between : Option Received → Part → Type 0
-Between heard (LsaComes f lsa) = (p : Meaning) × (heard ≡ Some (record { link = f.link; packet = p })) × (p.router ≡ f.router) × Contains (lsas_in p) lsa
-Between heard (HeaderComes f h) = (p : Meaning) × (heard ≡ Some (record { link = f.link; packet = p })) × (p.router ≡ f.router) × Contains (acknowledging_headers_in p) h
+Between heard (LsaComes f lsa) = (p : Meaning) × (heard ≡ Some (record { link = f.link; packet = p })) × (p.router ≡ f.router) × Contains (lsas_of p.body) lsa
+Between heard (HeaderComes f h) = (p : Meaning) × (heard ≡ Some (record { link = f.link; packet = p })) × (p.router ≡ f.router) × Contains (acknowledging_headers_of p.body) h
 Between heard (DdComes f p) = ⊥
 Between heard Removals = ⊥
 Between heard (HelloComes f p) = ⊤
@@ -146,11 +146,11 @@ chain_ends : (heard : Option Received) (parts : List Part) (before : AreaValue) 
 chain_ends heard [] before out after sound read b t = last_end heard before out after sound read t
 chain_ends heard (part ∷ parts) before out after sound read (b, bs) t = one_more heard part (parts ++ last_parts) before out after sound read b (λ mid o sound read rest. chain_ends heard parts mid o after sound read bs rest) t
 
-between_lsas : (heard : Option Received) (f : Origin) (p : Meaning) (lsas : List (List ℕ)) → heard ≡ Some (record { link = f.link; packet = p }) → p.router ≡ f.router → ((lsa : List ℕ) → Contains lsas lsa → Contains (lsas_in p) lsa) → AllBetween heard (lsa_parts f lsas ++ DirectAcknowledgements f ∷ [])
+between_lsas : (heard : Option Received) (f : Origin) (p : Meaning) (lsas : List (List ℕ)) → heard ≡ Some (record { link = f.link; packet = p }) → p.router ≡ f.router → ((lsa : List ℕ) → Contains lsas lsa → Contains (lsas_of p.body) lsa) → AllBetween heard (lsa_parts f lsas ++ DirectAcknowledgements f ∷ [])
 between_lsas heard f p [] h from within = (tt, tt)
 between_lsas heard f p (lsa ∷ lsas) h from within = ((p, h, from, within lsa (0, omega arith, refl)), (tt, between_lsas heard f p lsas h from (λ x c. let (k, inside, is) = c in within x (suc k, omega arith, is))))
 
-between_headers : (heard : Option Received) (f : Origin) (p : Meaning) (hs : List LsaHeader) → heard ≡ Some (record { link = f.link; packet = p }) → p.router ≡ f.router → ((h : LsaHeader) → Contains hs h → Contains (acknowledging_headers_in p) h) → AllBetween heard (map (λ h. HeaderComes f h) hs)
+between_headers : (heard : Option Received) (f : Origin) (p : Meaning) (hs : List LsaHeader) → heard ≡ Some (record { link = f.link; packet = p }) → p.router ≡ f.router → ((h : LsaHeader) → Contains hs h → Contains (acknowledging_headers_of p.body) h) → AllBetween heard (map (λ h. HeaderComes f h) hs)
 between_headers heard f p [] h from within = tt
 between_headers heard f p (x ∷ xs) h from within = ((p, h, from, within x (0, omega arith, refl)), between_headers heard f p xs h from (λ y c. let (k, inside, is) = c in within y (suc k, omega arith, is)))
 

@@ -1,5 +1,6 @@
 -- That a tick, an event and the end of a step are the chains of their parts.
-use Rattle.std.proofs.Common.{◌≡◌, ◌++◌, List, ◌∷◌, refl, subst, ℕ, Bool, true, false, Some, sym, ap, slice_get, ◌∙◌, []}
+use Rattle.std.proofs.Common.{◌≡◌, ◌++◌, List, ◌∷◌, refl, subst, ℕ, Bool, true, false, Some, sym, ap, slice_get, ◌∙◌, [], map}
+use Rattle.ospf_links.specs.Repeats.{link_repeated}
 use Rattle.ospf_base.specs.declared.ids.LsaKey.{LsaKey}
 use Rattle.ospf_lsdb.specs.Database.{IsDatabase}
 use Rattle.ospf_area.specs.Outputs.{AreReadAsSent, OutputsValue, SentValue}
@@ -13,7 +14,6 @@ use Rattle.ospf_step.specs.Step.Part.{Acknowledgements, Ages, Hellos, Repeats, T
 use Rattle.ospf_step.proofs.Accountable.{AreRead-left}
 use Rattle.ospf_step.proofs.Chains.{puts_more, update_puts, puts_none}
 use Rattle.ospf_step.proofs.PutParts.{acknowledgements_put, ages_put, headers_put, removals_put}
-use Rattle.ospf_links.specs.Repeats.{repeated_links}
 use Rattle.ospf_step.specs.Invariants.{AreRising, NoneWaitsBelow}
 use Rattle.ospf_step.specs.Ticks.{acknowledgements_out, helloed_area, hellos_out, tick_out, ticked_area, timed_area}
 use Rattle.ospf_step.proofs.Parts.{due_hellos_put, timers_put, down_puts, hello_puts, up_puts}
@@ -43,7 +43,7 @@ pub read_before : (R : OutputsValue → Type 0) (out out' : OutputsValue) → Pu
 read_before R out out' p read = AreRead-left out p.own (subst (λ o. AreReadAsSent o.sent) p.behind read)
 
 pub tick_puts : (rest : List Part) (marks : List LsaKey) (s aged t u : AreaValue) (expired : List SentValue) (out mid_out out' : OutputsValue) → AreRising aged.links → AreRising (ticked_area aged).links → IsDatabase aged.database → AreReadAsSent out'.sent → TickAges s expired aged
-    → t ≡ record (ticked_area aged) { links = repeated_links (own_of aged) aged.database (ticked_area aged).links; sent = marks } → mid_out ≡ tick_out aged (and_sends out expired)
+    → t ≡ record (ticked_area aged) { links = map (link_repeated (own_of aged) aged.database) (ticked_area aged).links; sent = marks } → mid_out ≡ tick_out aged (and_sends out expired)
     → PutsOut (λ o. Chain rest t o u) mid_out out' → PutsOut (λ o. Chain (first_parts Event.Tick ++ rest) s o u) out out'
 tick_puts rest marks s aged t u expired out mid_out out' aged_rise ticked_rise is read ages state outputs next =
     let timed = timed_area aged in

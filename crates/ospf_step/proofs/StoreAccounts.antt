@@ -28,7 +28,7 @@ use Rattle.ospf_area.specs.Places.{map_from}
 use Rattle.ospf_area.specs.State.{AreaValue, LinkValue, database_entry, copy_in, copy_of, kept_number}
 use Rattle.ospf_area.specs.declared.flooding.Origin.{Origin}
 use Rattle.ospf_step.specs.Headers.{IsOfInstance, Lists}
-use Rattle.ospf_step.specs.Packets.{Received, lsas_in, headers_in_packet}
+use Rattle.ospf_step.specs.Packets.{Received, lsas_of, headers_in_body}
 use Rattle.ospf_step.specs.Words.{HoldsInstance, Brings}
 use Rattle.ospf_step.specs.Accounts.{HasContents, IsAcknowledged, TakesItsPlace, Sends, Numbers}
 use Rattle.ospf_step.proofs.Accountable.{IsAccountable, sent_packet}
@@ -52,12 +52,12 @@ one_of x y (zero, within, is) = sym is
 one_of x y (suc k, within, is) = absurd (omega arith)
 
 -- what the packets of the Updates say
-sent_one : (out : OutputsValue) (s : AreaValue) (lsa : List ℕ) (p : Meaning) → IsUpdateOf (own_of s) lsa p → (one : List ℕ) → Contains (lsas_in p) one → contents one ≡ contents lsa
-sent_one out s lsa p u one c = ap contents (one_of u.one one (subst (λ m. Contains (lsas_in m) one) u.packet c)) ∙ u.same
+sent_one : (out : OutputsValue) (s : AreaValue) (lsa : List ℕ) (p : Meaning) → IsUpdateOf (own_of s) lsa p → (one : List ℕ) → Contains (lsas_of p.body) one → contents one ≡ contents lsa
+sent_one out s lsa p u one c = ap contents (one_of u.one one (subst (λ m. Contains (lsas_of m.body) one) u.packet c)) ∙ u.same
 
-names_one : (s : AreaValue) (lsa : List ℕ) (p : Meaning) (i : Instance) → IsUpdateOf (own_of s) lsa p → Lists (headers_in_packet p) i → i ≡ instance_of lsa
+names_one : (s : AreaValue) (lsa : List ℕ) (p : Meaning) (i : Instance) → IsUpdateOf (own_of s) lsa p → Lists (headers_in_body p.body) i → i ≡ instance_of lsa
 names_one s lsa p i u (h, c, is) =
-    let it = one_of (header_of u.one) h (subst (λ m. Contains (headers_in_packet m) h) u.packet c) in
+    let it = one_of (header_of u.one) h (subst (λ m. Contains (headers_in_body m.body) h) u.packet c) in
     sym (header_names u.one i (subst (λ h. IsOfInstance h i) it is)) ∙ same_contents u.one lsa u.same
 
 -- the entry that an LSA is stored as

@@ -14,7 +14,7 @@ use Rattle.ospf_neighbour.specs.declared.machine.NbrEvent.TheVariants as event
 use Rattle.ospf_neighbour.specs.declared.machine.NeighbourState.{NeighbourState}
 use Rattle.ospf_neighbour.specs.declared.machine.NeighbourState.TheVariants as state
 use Rattle.ospf_update.specs.Aging.{turned_area, turn_out}
-use Rattle.ospf_area.specs.Asking.{loaded, turned_to_next, turned_link, turned_links, request_body, turn_request, turn_requests_on}
+use Rattle.ospf_area.specs.Asking.{loaded, turned_to_next, turned_link, request_body, turn_request, turn_requests_on}
 use Rattle.ospf_area.specs.Sending.{own_of, datagrams, packet_of, to_address, way_out}
 use Rattle.ospf_area.specs.Outputs.{SentValue, no_outputs, sends, AreReadAsSent}
 use Rattle.ospf_area.specs.Places.{flat_from}
@@ -105,7 +105,7 @@ nothing-quiet s =
 
 -- ---- all of them
 
-link_turned : (own : Own) (links : List LinkValue) (l : ℕ) → slice_get (turned_links own links) l ≡ option_map (turned_link own) (slice_get links l)
+link_turned : (own : Own) (links : List LinkValue) (l : ℕ) → slice_get (map (turned_link own) links) l ≡ option_map (turned_link own) (slice_get links l)
 link_turned own [] l = refl
 link_turned own (link ∷ links) zero = refl
 link_turned own (link ∷ links) (suc l) = link_turned own links l

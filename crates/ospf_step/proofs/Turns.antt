@@ -3,6 +3,7 @@ use Rattle.std.proofs.Common.{◌≡◌, ◌⊎◌, inl, inr, ◌==◌, ◌&&◌
 use Rattle.std.specs.List.{AllByRecursion, Contains, flat_map}
 use Rattle.std.proofs.lemmas.Bool.{cases_Bool, cond-true, cond-false, eqb-true}
 use Rattle.std.proofs.lemmas.Option.{none-some, same_Some}
+use Rattle.ospf_area.specs.Places.{flat_from}
 use Rattle.ospf_base.specs.Sums.{contents}
 use Rattle.ospf_base.specs.declared.ids.Instance.{Instance}
 use Rattle.ospf_base.specs.declared.ids.LsaKey.{LsaKey}
@@ -35,14 +36,14 @@ use Rattle.ospf_step.specs.Accounts.{WasHeld}
 use Rattle.ospf_step.specs.Headers.{IsOfInstance}
 use Rattle.ospf_step.specs.Links.{AreKnown, ChangesLinks, EntersNot, OnOneLink}
 use Rattle.ospf_step.specs.Neighbours.{NeighbourGoes, NeighbourGoesOn, NeighboursGo, Quiet, told_by}
-use Rattle.ospf_step.specs.Packets.{dd_headers_in}
+use Rattle.ospf_step.specs.Packets.{dd_headers_of}
 use Rattle.ospf_step.specs.Puts.{PutsOut}
 use Rattle.ospf_step.specs.Words.{CanName}
 use Rattle.ospf_step.proofs.LinkParts.{goes_same, link_same, one_goes, one_quiet, quiet_same}
 use Rattle.ospf_step.proofs.StateFacts.{Contains-map_cases, Contains-nil, header_names, same_contents, copy_of-has, neighbour-router, same_router}
 use Rattle.ospf_links.specs.Parts.{description_by, description_part, neighbourhood_of, request_by, request_part, with_neighbourhood}
 use Rattle.ospf_area.specs.Posting.{local_by, local_of, posted_all}
-use Rattle.ospf_links.specs.Repeats.{all_repeats, link_repeated, neighbour_repeated, repeated_links, repeats_for, link_repeats_out, repeats_to}
+use Rattle.ospf_links.specs.Repeats.{link_repeated, neighbour_repeated, repeats_for, link_repeats_out, repeats_to}
 use Rattle.ospf_links.specs.Works.{work_sent, worked}
 use Rattle.ospf_step.specs.Invariants.{AreRising, NoneWaitsBelow}
 use Rattle.ospf_step.proofs.Known.{goes_on, SaysKnown, both_known, links_known, none_known, posted_known, says_known, says_nothing}
@@ -80,7 +81,7 @@ of_area s l link r n at found = ap (λ o. neighbour_of (neighbours_in o) r) at �
 
 module _ (f : Origin) (p : Meaning) (d : Description) (s t : AreaValue) (is : IsDatabase s.database) (below : NoneWaitsBelow s f.link f.router) (sender : p.router ≡ f.router) where
   after : LinkValue → Option NeighbourValue → Neighbourhood
-  after link o = description_by o link.iface (local_of (own_of s) link) f.router d (dd_headers_in p) s.database (neighbourhood_of link s.next_dd)
+  after link o = description_by o link.iface (local_of (own_of s) link) f.router d (dd_headers_of p.body) s.database (neighbourhood_of link s.next_dd)
 
   described : (link : LinkValue) (o : Option NeighbourValue) → neighbour_of link.neighbours f.router ≡ o → OnOneLink f.link link (with_neighbourhood (after link o) link) (posted_all (own_of s) f.link link.iface (after link o).sent) s (sends (posted_all (own_of s) f.link link.iface (after link o).sent)) t → NeighboursGo (Some (record { link = f.link; packet = p })) s (sends (posted_all (own_of s) f.link link.iface (after link o).sent)) t
   unfolding after
@@ -88,30 +89,30 @@ module _ (f : Origin) (p : Meaning) (d : Description) (s t : AreaValue) (is : Is
   described link (Some n) found one =
       let local = local_of (own_of s) link in
       let turn = turn_of n (neighbourhood_of link s.next_dd) in
-      let u = description_turn link.iface local f.router d (dd_headers_in p) s.database turn in
+      let u = description_turn link.iface local f.router d (dd_headers_of p.body) s.database turn in
       let at : neighbour s f.link f.router ≡ Some n = of_area s f.link link f.router n one.at found in
-      let same : u.neighbour.router ≡ f.router = (description_keeps_router link.iface local f.router d (dd_headers_in p) s.database turn).router ∙ neighbour-router s f.link f.router n at in
-      let told : told_by (Some (record { link = f.link; packet = p })) f.link f.router ≡ dd_headers_in p = cond-true _ _ _ (ap (λ b. b && (p.router.0 == f.router.0)) (same_id f.link) ∙ (ap (λ (r : RouterId). r.0 == f.router.0) sender ∙ same_id f.router.0)) in
-      let goes = goes_on s (dd_headers_in p) n u.neighbour is (description_goes link.iface local f.router d (dd_headers_in p) s.database turn (below n at)) in
+      let same : u.neighbour.router ≡ f.router = (description_keeps_router link.iface local f.router d (dd_headers_of p.body) s.database turn).router ∙ neighbour-router s f.link f.router n at in
+      let told : told_by (Some (record { link = f.link; packet = p })) f.link f.router ≡ dd_headers_of p.body = cond-true _ _ _ (ap (λ b. b && (p.router.0 == f.router.0)) (same_id f.link) ∙ (ap (λ (r : RouterId). r.0 == f.router.0) sender ∙ same_id f.router.0)) in
+      let goes = goes_on s (dd_headers_of p.body) n u.neighbour is (description_goes link.iface local f.router d (dd_headers_of p.body) s.database turn (below n at)) in
       one_goes (Some (record { link = f.link; packet = p })) f.link link (with_neighbourhood (after link (Some n)) link) (posted_all (own_of s) f.link link.iface u.sent) s _ t one
       (record {
         goes = one_goes_on s (told_by (Some (record { link = f.link; packet = p })) f.link) n u.neighbour f.router link.neighbours found same (subst (λ hs. NeighbourGoesOn s hs n u.neighbour) (sym told) goes);
         waiting = λ h c. c;
       })
-      (posted_known s f.link link.iface u.sent (λ q inside. says q (description_says_only link.iface local f.router d (dd_headers_in p) s.database turn q inside) at))
+      (posted_known s f.link link.iface u.sent (λ q inside. says q (description_says_only link.iface local f.router d (dd_headers_of p.body) s.database turn q inside) at))
     where
       says : (q : Parcel) → Contains [] q ⊎ SaysOnly s.database n q.body → neighbour s f.link f.router ≡ Some n → SaysKnown s q.body
       says q (inl none) at = absurd (Contains-nil q none)
       says q (inr only) at = says_known s f.link f.router n at is q.body only
 
-pub description_puts : (f : Origin) (p : Meaning) (d : Description) (s t : AreaValue) (out out' : OutputsValue) → IsDatabase s.database → NoneWaitsBelow s f.link f.router → p.router ≡ f.router → AreReadAsSent out'.sent → t ≡ worked (description_part (own_of s) f d (dd_headers_in p) s.database s.next_dd) f.link s → out' ≡ and_sends out (work_sent (description_part (own_of s) f d (dd_headers_in p) s.database s.next_dd) (own_of s) f.link s.links) → PutsOut (λ o. NeighboursGo (Some (record { link = f.link; packet = p })) s o t) out out'
+pub description_puts : (f : Origin) (p : Meaning) (d : Description) (s t : AreaValue) (out out' : OutputsValue) → IsDatabase s.database → NoneWaitsBelow s f.link f.router → p.router ≡ f.router → AreReadAsSent out'.sent → t ≡ worked (description_part (own_of s) f d (dd_headers_of p.body) s.database s.next_dd) f.link s → out' ≡ and_sends out (work_sent (description_part (own_of s) f d (dd_headers_of p.body) s.database s.next_dd) (own_of s) f.link s.links) → PutsOut (λ o. NeighboursGo (Some (record { link = f.link; packet = p })) s o t) out out'
 unfolding after
 description_puts f p d s t out out' is below sender read state outputs =
-    work_puts (λ o. NeighboursGo (Some (record { link = f.link; packet = p })) s o t) (description_part (own_of s) f d (dd_headers_in p) s.database s.next_dd) f.link s.sent s t out out' state outputs read (λ same. same_go (Some (record { link = f.link; packet = p })) s t same)
+    work_puts (λ o. NeighboursGo (Some (record { link = f.link; packet = p })) s o t) (description_part (own_of s) f d (dd_headers_of p.body) s.database s.next_dd) f.link s.sent s t out out' state outputs read (λ same. same_go (Some (record { link = f.link; packet = p })) s t same)
     (λ link one. described f p d s t is below sender link (neighbour_of link.neighbours f.router) refl one)
 
 -- of these headers, which the packet tells
-pub description_told : (f : Origin) (p : Meaning) (d : Description) (headers : List LsaHeader) (s t : AreaValue) (out out' : OutputsValue) → IsDatabase s.database → NoneWaitsBelow s f.link f.router → p.router ≡ f.router → headers ≡ dd_headers_in p → AreReadAsSent out'.sent → t ≡ worked (description_part (own_of s) f d headers s.database s.next_dd) f.link s → out' ≡ and_sends out (work_sent (description_part (own_of s) f d headers s.database s.next_dd) (own_of s) f.link s.links) → PutsOut (λ o. NeighboursGo (Some (record { link = f.link; packet = p })) s o t) out out'
+pub description_told : (f : Origin) (p : Meaning) (d : Description) (headers : List LsaHeader) (s t : AreaValue) (out out' : OutputsValue) → IsDatabase s.database → NoneWaitsBelow s f.link f.router → p.router ≡ f.router → headers ≡ dd_headers_of p.body → AreReadAsSent out'.sent → t ≡ worked (description_part (own_of s) f d headers s.database s.next_dd) f.link s → out' ≡ and_sends out (work_sent (description_part (own_of s) f d headers s.database s.next_dd) (own_of s) f.link s.links) → PutsOut (λ o. NeighboursGo (Some (record { link = f.link; packet = p })) s o t) out out'
 description_told f p d headers s t out out' is below sender told read state outputs =
     description_puts f p d s t out out' is below sender read (state ∙ ap (λ hs. worked (description_part (own_of s) f d hs s.database s.next_dd) f.link s) told)
     (outputs ∙ ap (λ hs. and_sends out (work_sent (description_part (own_of s) f d hs s.database s.next_dd) (own_of s) f.link s.links)) told)
@@ -240,8 +241,8 @@ module _ (s : AreaValue) (is : IsDatabase s.database) (l k : ℕ) (link : LinkVa
 link_repeats : (s : AreaValue) → IsDatabase s.database → AreRising s.links → (l k : ℕ) (link : LinkValue) → slice_get s.links l ≡ Some link → RepeatsQuiet s link.neighbours (link_repeated (own_of s) s.database link).neighbours (link_repeats_out (own_of s) s.database k link)
 link_repeats s is rising l k link at = repeats_quiet s is l k link link.neighbours (λ j n there. of_area s l link n.router n at (stands link.neighbours (rising l link at) j n there))
 
-pub repeats_put : (s t : AreaValue) (keys : List LsaKey) (out out' : OutputsValue) → IsDatabase s.database → AreRising s.links → AreReadAsSent out'.sent → t ≡ record s { links = repeated_links (own_of s) s.database s.links; sent = keys } → out' ≡ and_sends out (all_repeats (own_of s) s.database s.links) → PutsOut (λ o. Quiet s o t) out out'
+pub repeats_put : (s t : AreaValue) (keys : List LsaKey) (out out' : OutputsValue) → IsDatabase s.database → AreRising s.links → AreReadAsSent out'.sent → t ≡ record s { links = map (link_repeated (own_of s) s.database) s.links; sent = keys } → out' ≡ and_sends out (flat_from (link_repeats_out (own_of s) s.database) 0 s.links) → PutsOut (λ o. Quiet s o t) out out'
 repeats_put s t keys out out' is rising read state outputs =
-    all_links_put (link_repeated (own_of s) s.database) (all_repeats (own_of s) s.database s.links) s t out out' (ap (λ (a : AreaValue). a.links) state) (subst (λ a. ChangesLinks s a) (sym state) refl) outputs read
+    all_links_put (link_repeated (own_of s) s.database) (flat_from (link_repeats_out (own_of s) s.database) 0 s.links) s t out out' (ap (λ (a : AreaValue). a.links) state) (subst (λ a. ChangesLinks s a) (sym state) refl) outputs read
     (λ l link at. let quiet = (link_repeats s is rising l l link at).quiet in record { link = record { goes = quiet.goes; waiting = λ h c. c }; enters = quiet.enters })
     (links_known s (link_repeats_out (own_of s) s.database) (λ k link is_in. (link_repeats s is rising is_in.0 k link is_in.1).known))

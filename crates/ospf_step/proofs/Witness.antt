@@ -4,11 +4,11 @@ use Rattle.std.proofs.lemmas.Option.{none-some}
 use Rattle.ospf_packet.specs.Meaning.{Meaning}
 use Rattle.ospf_area.specs.Outputs.{OutputsValue, no_outputs}
 use Rattle.ospf_area.specs.State.{AreaValue}
+use Rattle.ospf_update.specs.Meets.{Becomes}
 use Rattle.ospf_step.specs.Accounts.{Sends}
 use Rattle.ospf_step.specs.Neighbours.{Quiet}
 use Rattle.ospf_step.specs.Parts.{AgesPart, AnswersAll, RemovalPart}
 use Rattle.ospf_step.specs.Step.{Event, Then, StepLaws}
-use Rattle.ospf_step.specs.Unchanged.{DoesNothing}
 use Rattle.ospf_update.specs.Removal.{lowest_number}
 use Rattle.ospf_step.specs.Words.{IsSoundState}
 use Rattle.ospf_step.proofs.StateFacts.{Contains-nil}
@@ -69,7 +69,7 @@ removes = record {
   ended = λ key. refl;
 }
 
-nothing : (t : ℕ) → DoesNothing (at_tick t) no_outputs (at_tick t)
+nothing : (t : ℕ) → Becomes (at_tick t) no_outputs no_outputs (at_tick t)
 nothing t = record { state = refl; outputs = refl }
 
 answers : AnswersAll (at_tick 1) no_outputs (at_tick 1)

@@ -11,13 +11,13 @@ use Rattle.ospf_lsa.specs.Lsa.{key_of, instance_of}
 use Rattle.ospf_lsa.specs.Recency.{recency}
 use Rattle.ospf_lsa.specs.declared.header.LsaHeader.{LsaHeader}
 use Rattle.ospf_lsa.specs.declared.recency.Recency.TheVariants.{Newer}
-use Rattle.ospf_packet.specs.Meaning.{Meaning}
+use Rattle.ospf_packet.specs.Meaning.{BodyMeaning, Meaning}
 use Rattle.ospf_packet.specs.PacketOf.{packet_of}
 use Rattle.ospf_neighbour.specs.Machine.{is_exchanging}
 use Rattle.ospf_area.specs.Outputs.{OutputsValue, SentValue}
 use Rattle.ospf_area.specs.State.{AreaValue, Awaits, state_of, copy_of, kept_number}
 use Rattle.ospf_step.specs.Headers.{Lists}
-use Rattle.ospf_step.specs.Packets.{Received, lsas_in, headers_in_packet, dd_headers_in, acknowledging_headers_in}
+use Rattle.ospf_step.specs.Packets.{Received, lsas_of, headers_in_body, dd_headers_of, acknowledging_headers_of}
 use Rattle.ospf_step.specs.Words.{HasCopy, HoldsInstance, Asks, CanName, Brings, ListsAreHeld}
 use Rattle.ospf_lsdb.specs.Moments.{among}
 use Rattle.ospf_update.specs.Removal.{lowest_number}
@@ -30,25 +30,25 @@ pub record Sends (out : OutputsValue) (p : Meaning) : Type 0 where
   pub reads : packet_of datagram.bytes ≡ Some p
 
 -- the packet heard came in on link l from q, and by these headers of it names the instance
-pub record Hears (headers : Meaning → List LsaHeader) (heard : Option Received) (l : ℕ) (q : RouterId) (i : Instance) : Type 0 where
+pub record Hears (headers : BodyMeaning → List LsaHeader) (heard : Option Received) (l : ℕ) (q : RouterId) (i : Instance) : Type 0 where
   pub received : Received
   pub is_heard : heard ≡ Some received
   pub link : received.link ≡ l
   pub from : received.packet.router ≡ q
-  pub named : Lists (headers received.packet) i
+  pub named : Lists (headers received.packet.body) i
 
 -- by a Database Description (10.6)
 abbrev pub IsDescribed : Option Received → ℕ → RouterId → Instance → Type 0
-IsDescribed heard l q i = Hears dd_headers_in heard l q i
+IsDescribed heard l q i = Hears dd_headers_of heard l q i
 
 -- by an Acknowledgment, or by an Update that has an LSA of the very instance (13.7; 13, step 7a)
 abbrev pub IsAcknowledged : Option Received → ℕ → RouterId → Instance → Type 0
-IsAcknowledged heard l q i = Hears acknowledging_headers_in heard l q i
+IsAcknowledged heard l q i = Hears acknowledging_headers_of heard l q i
 
 -- an LSA of these contents was held before, was heard in an Update, or is issued now
 pub data HasContents (heard : Option Received) (before : AreaValue) (out : OutputsValue) (content : List ℕ) : Type 0 where
   Held : (lsa : List ℕ) → HasCopy before lsa → contents lsa ≡ content → HasContents heard before out content
-  Heard : (received : Received) (lsa : List ℕ) → heard ≡ Some received → Contains (lsas_in received.packet) lsa → contents lsa ≡ content → HasContents heard before out content
+  Heard : (received : Received) (lsa : List ℕ) → heard ≡ Some received → Contains (lsas_of received.packet.body) lsa → contents lsa ≡ content → HasContents heard before out content
   Issued : (lsa : List ℕ) → Contains out.issued lsa → contents lsa ≡ content → HasContents heard before out content
 
 -- q on link l has told of i in the packet heard, or in a DD packet of one that covers i: in the packet heard, or in one
@@ -61,7 +61,7 @@ pub data HasWord (heard : Option Received) (before : AreaValue) (l : ℕ) (q : R
 -- the new LSA took the old one's place: it was heard in an Update and installed, or is issued, with a greater number.
 -- What is taken while there is a copy of its key is installed
 pub data TakesItsPlace (heard : Option Received) (out : OutputsValue) (old new : List ℕ) : Type 0 where
-  Installed : (received : Received) → heard ≡ Some received → Contains (lsas_in received.packet) new → Contains out.taken (instance_of new) → TakesItsPlace heard out old new
+  Installed : (received : Received) → heard ≡ Some received → Contains (lsas_of received.packet.body) new → Contains out.taken (instance_of new) → TakesItsPlace heard out old new
   Issued : Contains out.issued new → (instance_of old).number <ℤ (instance_of new).number → TakesItsPlace heard out old new
 
 -- an LSA took the place of the copy of instance i that the database had, at its age then, and is newer than it (13.1)
@@ -115,10 +115,10 @@ pub record Accounts (heard : Option Received) (before : AreaValue) (out : Output
   pub bears : (p : Meaning) → Sends out p → p.router ≡ before.router
   -- what is held and sent on was held, heard or issued, unchanged but for its age
   pub database : (lsa : List ℕ) → HasCopy after lsa → HasContents heard before out (contents lsa)
-  pub updates : (p : Meaning) (lsa : List ℕ) → Sends out p → Contains (lsas_in p) lsa → HasContents heard before out (contents lsa)
+  pub updates : (p : Meaning) (lsa : List ℕ) → Sends out p → Contains (lsas_of p.body) lsa → HasContents heard before out (contents lsa)
   -- what it can name, and names, it could name before or brings now
   pub names : (i : Instance) → CanName after i → CanName before i ⊎ Brings out i
-  pub named : (p : Meaning) (i : Instance) → Sends out p → Lists (headers_in_packet p) i → CanName before i ⊎ Brings out i
+  pub named : (p : Meaning) (i : Instance) → Sends out p → Lists (headers_in_body p.body) i → CanName before i ⊎ Brings out i
   pub holds : (i : Instance) → HoldsInstance after i → HoldsInstance before i ⊎ Brings out i
   -- what it asks of q, q told in a DD packet
   pub asks : (l : ℕ) (q : RouterId) (i : Instance) → Asks after l q i → Asks before l q i ⊎ IsDescribed heard l q i
@@ -142,9 +142,9 @@ pub record Adjusts (heard : Option Received) (before : AreaValue) (out : Outputs
   pub same_router : after.router ≡ before.router
   pub bears : (p : Meaning) → Sends out p → p.router ≡ before.router
   pub copies : (lsa : List ℕ) → HasCopy after lsa → WasKept heard before lsa
-  pub updates : (p : Meaning) (lsa : List ℕ) → Sends out p → Contains (lsas_in p) lsa → WasHeld before (contents lsa)
+  pub updates : (p : Meaning) (lsa : List ℕ) → Sends out p → Contains (lsas_of p.body) lsa → WasHeld before (contents lsa)
   pub names : (i : Instance) → CanName after i → CanName before i ⊎ Brings out i
-  pub named : (p : Meaning) (i : Instance) → Sends out p → Lists (headers_in_packet p) i → CanName before i
+  pub named : (p : Meaning) (i : Instance) → Sends out p → Lists (headers_in_body p.body) i → CanName before i
   pub asks : (l : ℕ) (q : RouterId) (i : Instance) → Asks after l q i → Asks before l q i ⊎ IsDescribed heard l q i
   pub leaves : (l : ℕ) (q : RouterId) (i : Instance) → Awaits before l q i → Awaits after l q i ⊎ (IsAcknowledged heard l q i ⊎ (is_exchanging (state_of after l q) ≡ false))
   pub lists : ListsAreHeld before → ListsAreHeld after

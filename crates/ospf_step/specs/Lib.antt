@@ -3,7 +3,6 @@ pub mod Packets
 pub mod Words
 pub mod Accounts
 pub mod Neighbours
-pub mod Unchanged
 pub mod Parts
 pub mod Step
 pub mod Links

@@ -11,7 +11,7 @@ use Rattle.ospf_neighbour.specs.Neighbours.{neighbour_of}
 use Rattle.ospf_area.specs.Outputs.{AreReadAsSent, OutputsValue, SentValue, sends}
 use Rattle.ospf_area.specs.State.{AreaValue, LinkValue, state_in}
 use Rattle.ospf_step.specs.Headers.{Lists}
-use Rattle.ospf_step.specs.Packets.{Received, lsas_in, headers_in_packet}
+use Rattle.ospf_step.specs.Packets.{Received, lsas_of, headers_in_body}
 use Rattle.ospf_step.specs.Words.{CanName}
 use Rattle.ospf_step.specs.Accounts.{WasHeld}
 use Rattle.ospf_step.specs.Neighbours.{NeighbourGoes, told_by}
@@ -33,8 +33,8 @@ pub record OnOneLink (l : ℕ) (link link' : LinkValue) (ds : List SentValue) (b
 -- a packet that names and has only what the router has
 pub record IsKnownPacket (s : AreaValue) (m : Meaning) : Type 0 where
   pub router : m.router ≡ s.router
-  pub lsas : (lsa : List ℕ) → Contains (lsas_in m) lsa → WasHeld s (contents lsa)
-  pub names : (i : Instance) → Lists (headers_in_packet m) i → CanName s i
+  pub lsas : (lsa : List ℕ) → Contains (lsas_of m.body) lsa → WasHeld s (contents lsa)
+  pub names : (i : Instance) → Lists (headers_in_body m.body) i → CanName s i
 
 -- each of these datagrams is of such a packet
 abbrev pub AreKnown : AreaValue → List SentValue → Type 0

@@ -12,14 +12,14 @@ use Rattle.ospf_neighbour.specs.Neighbour.{NeighbourValue}
 use Rattle.ospf_area.specs.Outputs.{OutputsValue}
 use Rattle.ospf_area.specs.State.{AreaValue, neighbour, database_entry, kept_number}
 use Rattle.ospf_step.specs.Headers.{IsOfInstance, Lists}
-use Rattle.ospf_step.specs.Packets.{Received, lsas_in, headers_in_packet, dd_headers_in}
+use Rattle.ospf_step.specs.Packets.{Received, lsas_of, headers_in_body, dd_headers_of}
 use Rattle.ospf_step.specs.Words.{HoldsInstance, CanName, delayed}
 use Rattle.ospf_step.specs.Accounts.{Sends, WasHeld, NoneEntersExchange}
 
 -- the headers that the packet heard, a DD packet that came in on link l from q, tells
 abbrev pub told_by : Option Received → ℕ → RouterId → List LsaHeader
 told_by None l q = []
-told_by (Some r) l q = if (r.link == l) && (r.packet.router.0 == q.0) then dd_headers_in r.packet else []
+told_by (Some r) l q = if (r.link == l) && (r.packet.router.0 == q.0) then dd_headers_of r.packet.body else []
 
 -- a header stands where it stood, or is of a copy of the database
 abbrev pub IsOldOrHeld : AreaValue → List LsaHeader → LsaHeader → Type 0
@@ -58,8 +58,8 @@ pub record NeighboursGo (heard : Option Received) (before : AreaValue) (out : Ou
   pub database : (key : LsaKey) → database_entry after key ≡ database_entry before key
   pub numbering : (key : LsaKey) → kept_number after key ≡ kept_number before key
   pub bears : (p : Meaning) → Sends out p → p.router ≡ before.router
-  pub updates : (p : Meaning) (lsa : List ℕ) → Sends out p → Contains (lsas_in p) lsa → WasHeld before (contents lsa)
-  pub named : (p : Meaning) (i : Instance) → Sends out p → Lists (headers_in_packet p) i → CanName before i
+  pub updates : (p : Meaning) (lsa : List ℕ) → Sends out p → Contains (lsas_of p.body) lsa → WasHeld before (contents lsa)
+  pub named : (p : Meaning) (i : Instance) → Sends out p → Lists (headers_in_body p.body) i → CanName before i
   pub taken : out.taken ≡ []
   pub issued : out.issued ≡ []
   pub ended : out.ended ≡ []

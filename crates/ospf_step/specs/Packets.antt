@@ -36,22 +36,6 @@ acknowledging_headers_of (hello fields neighbours) = []
 acknowledging_headers_of (description fields headers) = []
 acknowledging_headers_of (request entries) = []
 
--- and so of a packet, by its body
-abbrev pub lsas_in : Meaning → List (List ℕ)
-lsas_in p = lsas_of p.body
-
--- the headers of a packet that is a DD packet, and of another one none
-abbrev pub dd_headers_in : Meaning → List LsaHeader
-dd_headers_in p = dd_headers_of p.body
-
--- the headers by which a packet names instances
-abbrev pub headers_in_packet : Meaning → List LsaHeader
-headers_in_packet p = headers_in_body p.body
-
--- the headers by which a packet acknowledges (13.7; 13, step 7a)
-abbrev pub acknowledging_headers_in : Meaning → List LsaHeader
-acknowledging_headers_in p = acknowledging_headers_of p.body
-
 -- a packet that came in on a link
 pub record Received : Type 0 where
   pub link : ℕ

@@ -5,7 +5,6 @@ use Rattle.ospf_base.specs.Keys.{same_key}
 use Rattle.ospf_base.specs.declared.ids.LsaKey.{LsaKey}
 use Rattle.ospf_lsa.specs.Header.{header_of}
 use Rattle.ospf_lsa.specs.Lsa.{IsLsa, key_of, instance_of}
-use Rattle.ospf_lsa.specs.declared.header.LsaHeader.{LsaHeader}
 use Rattle.ospf_lsdb.specs.Database.{Entry, entry_from, lsa_of, Installs}
 use Rattle.ospf_lsdb.specs.Moments.{among}
 use Rattle.ospf_area.specs.Flooding.{flooded_links, flooding_updates, released}
@@ -14,9 +13,8 @@ use Rattle.ospf_area.specs.Outputs.{OutputsValue, no_outputs, sends}
 use Rattle.ospf_area.specs.Sending.{own_of}
 use Rattle.ospf_area.specs.State.{AreaValue, database_entry, kept_number, some_link_loading}
 use Rattle.ospf_area.specs.declared.flooding.Origin.{Origin}
-use Rattle.ospf_update.specs.Acks.{direct_out}
 use Rattle.ospf_update.specs.Aging.{AgesRise}
-use Rattle.ospf_update.specs.Meets.{MeetsLsa, header_met}
+use Rattle.ospf_update.specs.Meets.{MeetsLsa}
 use Rattle.ospf_update.specs.Removal.{is_last, is_leaving, lowest_number}
 use Rattle.ospf_update.specs.Updates.{PassesOver}
 
@@ -26,16 +24,6 @@ use Rattle.ospf_update.specs.Updates.{PassesOver}
 pub data LsaPart (f : Origin) (lsa : List ℕ) (before : AreaValue) (out : OutputsValue) (after : AreaValue) : Type 0 where
   Meets : IsLsa lsa → MeetsLsa f lsa before no_outputs out after → LsaPart f lsa before out after
   PassedOver : (IsLsa lsa → ⊥) → PassesOver before.passes_over f lsa before after → out ≡ no_outputs → LsaPart f lsa before out after
-
--- one header of an Acknowledgment (13.7)
-pub record HeaderPart (f : Origin) (h : LsaHeader) (before : AreaValue) (out : OutputsValue) (after : AreaValue) : Type 0 where
-  pub state : after ≡ header_met f h before
-  pub outputs : out ≡ no_outputs
-
--- the direct acknowledgements of an Update go to its sender, as many in a packet as fit (13.5)
-pub record DirectPart (f : Origin) (before : AreaValue) (out : OutputsValue) (after : AreaValue) : Type 0 where
-  pub state : after ≡ record before { direct = [] }
-  pub outputs : out ≡ sends (direct_out f before)
 
 -- ---- own LSAs, and those that come to MaxAge
 

@@ -6,13 +6,14 @@ use Rattle.ospf_lsa.specs.declared.header.LsaHeader.{LsaHeader}
 use Rattle.ospf_lsdb.specs.Database.{Entry}
 use Rattle.ospf_packet.specs.Meaning.{BodyMeaning, hello, description, request, update, acknowledgment, Meaning}
 use Rattle.ospf_packet.specs.PacketOf.{packet_of}
-use Rattle.ospf_area.specs.Outputs.{OutputsValue, then_outputs, AreReadAsSent}
+use Rattle.ospf_area.specs.Outputs.{OutputsValue, no_outputs, sends, then_outputs, AreReadAsSent}
 use Rattle.ospf_area.specs.State.{AreaValue}
 use Rattle.ospf_area.specs.declared.flooding.Origin.{Origin}
+use Rattle.ospf_update.specs.Acks.{direct_out}
+use Rattle.ospf_update.specs.Meets.{Becomes, header_met}
 use Rattle.ospf_step.specs.Neighbours.{NeighboursGo, Quiet}
 use Rattle.ospf_step.specs.Packets.{Received}
-use Rattle.ospf_step.specs.Parts.{LsaPart, HeaderPart, DirectPart, IssuePart, ExpiryPart, AgesPart, AnswersAll, RemovalPart}
-use Rattle.ospf_step.specs.Unchanged.{DoesNothing}
+use Rattle.ospf_step.specs.Parts.{LsaPart, IssuePart, ExpiryPart, AgesPart, AnswersAll, RemovalPart}
 
 -- what a router is stepped with: a datagram that comes in on a link, a second that passes, or a link that comes or goes
 pub data Event : Type 0 where
@@ -58,7 +59,7 @@ pub record Then (First : OutputsValue → AreaValue → Type 0) (Next : AreaValu
 
 -- so many of one kind, one after another
 abbrev pub Times : ℕ → (AreaValue → OutputsValue → AreaValue → Type 0) → AreaValue → OutputsValue → AreaValue → Type 0
-Times zero R before out after = DoesNothing before out after
+Times zero R before out after = Becomes before no_outputs out after
 Times (suc n) R before out after = Then (R before) (Times n R) out after
 
 -- what is flooded may empty a request list
@@ -83,8 +84,10 @@ IsPart (HelloComes f p) before out after = Quiet before out after
 IsPart (DdComes f p) before out after = NeighboursGo (Some (record { link = f.link; packet = p })) before out after
 IsPart (RequestComes f p) before out after = Quiet before out after
 IsPart (LsaComes f lsa) before out after = LsaPart f lsa before out after
-IsPart (HeaderComes f h) before out after = HeaderPart f h before out after
-IsPart (DirectAcknowledgements f) before out after = DirectPart f before out after
+-- by one header of an Acknowledgment (13.7)
+IsPart (HeaderComes f h) before out after = Becomes (header_met f h before) no_outputs out after
+-- they go to the sender of the Update, as many in a packet as fit (13.5)
+IsPart (DirectAcknowledgements f) before out after = Becomes (record before { direct = [] }) (sends (direct_out f before)) out after
 IsPart (LinkChanges link up) before out after = Quiet before out after
 IsPart Ages before out after = (n : ℕ) × Then (AgesPart before) (Times n ExpiryStep) out after
 IsPart Timers before out after = Quiet before out after
@@ -98,7 +101,7 @@ IsPart Removals before out after = RemovalPart before out after
 
 -- the parts, one after another
 abbrev pub Chain : List Part → AreaValue → OutputsValue → AreaValue → Type 0
-Chain [] before out after = DoesNothing before out after
+Chain [] before out after = Becomes before no_outputs out after
 Chain (part ∷ parts) before out after = Then (IsPart part before) (Chain parts) out after
 
 -- each LSA of an Update, and the Requests that become due by it
@@ -133,5 +136,5 @@ last_parts = Elections ∷ OwnLsas ∷ Removals ∷ []
 -- a step of a router that drops these events: they change nothing, and any other is taken in parts. What is sent is read
 -- again
 pub data StepLaws (is_dropped : Event → AreaValue → Bool) (event : Event) (before : AreaValue) (out : OutputsValue) (after : AreaValue) : Type 0 where
-  Drops : is_dropped event before ≡ true → DoesNothing before out after → StepLaws is_dropped event before out after
+  Drops : is_dropped event before ≡ true → Becomes before no_outputs out after → StepLaws is_dropped event before out after
   Takes : is_dropped event before ≡ false → AreReadAsSent out.sent → Chain (first_parts event ++ last_parts) before out after → StepLaws is_dropped event before out after

@@ -1,5 +1,7 @@
 -- What an event does to the router before the step ends (RFC 2328, sections 9.3, 10.5 to 10.9, 13, 13.5 to 13.7 and 14).
-use Rattle.std.specs.Prelude.{◌≡◌, ℕ, List, [], Option, None, Some, slice_get}
+use Rattle.std.specs.Prelude.{◌≡◌, ℕ, List, [], Option, None, Some, slice_get, map}
+use Rattle.ospf_area.specs.Places.{flat_from}
+use Rattle.std.specs.List.{flat_map}
 use Rattle.ospf_base.specs.declared.ids.Addr.{Addr}
 use Rattle.ospf_area.specs.Outputs.{OutputsValue, SentValue}
 use Rattle.ospf_area.specs.Sending.{and_sends, own_of}
@@ -11,33 +13,31 @@ use Rattle.ospf_step.specs.Puts.{headers_met}
 use Rattle.ospf_step.specs.Step.{Event}
 use Rattle.ospf_step.specs.Step.Event.{Datagram, Tick, LinkUp, LinkDown}
 use Rattle.ospf_links.specs.Parts.{answered_on, description_part, hello_part, link_down, link_up, request_part}
-use Rattle.ospf_links.specs.Repeats.{all_keys, all_repeats, marked_all, repeated_links}
+use Rattle.ospf_links.specs.Repeats.{keys_out, link_repeats_out, link_repeated, marked_all}
 use Rattle.ospf_links.specs.Works.{link_changed, up_out_on, work_sent, worked}
 use Rattle.ospf_packet.specs.Meaning.{BodyMeaning, Meaning, hello, description, request, update, acknowledgment}
 use Rattle.ospf_packet.specs.PacketOf.{packet_of}
 use Rattle.ospf_update.specs.Aging.{TickAges}
+use Rattle.ospf_update.specs.Meets.{Becomes}
 use Rattle.ospf_update.specs.Updates.{TakesUpdate}
-
--- the router becomes this, and these datagrams go out
-pub record BecomesState (made : AreaValue) (datagrams : List SentValue) (out out' : OutputsValue) (after : AreaValue) : Type 0 where
-  pub state : after ≡ made
-  pub outputs : out' ≡ and_sends out datagrams
 
 -- ---- packets (8.2)
 
 -- what a packet of this origin says is taken
 abbrev pub TakesBody : BodyMeaning → Origin → AreaValue → OutputsValue → OutputsValue → AreaValue → Type 0
 TakesBody (hello fields heard) f s out out' after =
-    BecomesState (worked (hello_part (own_of s) f fields (names heard s.router) s.next_dd) f.link s)
-    (work_sent (hello_part (own_of s) f fields (names heard s.router) s.next_dd) (own_of s) f.link s.links) out out' after
+    Becomes (worked (hello_part (own_of s) f fields (names heard s.router) s.next_dd) f.link s)
+    (and_sends out (work_sent (hello_part (own_of s) f fields (names heard s.router) s.next_dd) (own_of s) f.link s.links)) out' after
 TakesBody (description fields headers) f s out out' after =
-    BecomesState (worked (description_part (own_of s) f fields headers s.database s.next_dd) f.link s)
-    (work_sent (description_part (own_of s) f fields headers s.database s.next_dd) (own_of s) f.link s.links) out out' after
+    Becomes (worked (description_part (own_of s) f fields headers s.database s.next_dd) f.link s)
+    (and_sends out (work_sent (description_part (own_of s) f fields headers s.database s.next_dd) (own_of s) f.link s.links)) out' after
 TakesBody (request entries) f s out out' after =
-    BecomesState (record (worked (request_part (own_of s) f s.database entries s.next_dd) f.link s) { sent = marked_all (answered_on (slice_get s.links f.link) f.router s.database entries) s.sent })
-    (work_sent (request_part (own_of s) f s.database entries s.next_dd) (own_of s) f.link s.links) out out' after
+    Becomes (record (worked (request_part (own_of s) f s.database entries s.next_dd) f.link s) {
+      sent = marked_all (answered_on (slice_get s.links f.link) f.router s.database entries) s.sent;
+    })
+    (and_sends out (work_sent (request_part (own_of s) f s.database entries s.next_dd) (own_of s) f.link s.links)) out' after
 TakesBody (update lsas) f s out out' after = TakesUpdate f lsas s out out' after
-TakesBody (acknowledgment headers) f s out out' after = BecomesState (headers_met f headers s) [] out out' after
+TakesBody (acknowledgment headers) f s out out' after = Becomes (headers_met f headers s) (and_sends out []) out' after
 
 -- where a packet comes from
 abbrev pub origin_of : ℕ → Addr → Meaning → Origin
@@ -52,10 +52,10 @@ TakesDatagram link source (Some m) s out out' after = TakesBody m.body (origin_o
 
 -- what is sent again
 abbrev pub repeated : AreaValue → AreaValue
-repeated s = record s { links = repeated_links (own_of s) s.database s.links; sent = marked_all (all_keys (own_of s) s.database s.links) s.sent }
+repeated s = record s { links = map (link_repeated (own_of s) s.database) s.links; sent = marked_all (flat_map (keys_out (own_of s) s.database) s.links) s.sent }
 
 abbrev pub repeats_out : AreaValue → List SentValue
-repeats_out s = all_repeats (own_of s) s.database s.links
+repeats_out s = flat_from (link_repeats_out (own_of s) s.database) 0 s.links
 
 -- a tick: ages, timers, Hellos, acknowledgements and repeats, in this order
 pub record TakesTick (s : AreaValue) (out out' : OutputsValue) (after : AreaValue) : Type 0 where
@@ -71,5 +71,6 @@ pub record TakesTick (s : AreaValue) (out out' : OutputsValue) (after : AreaValu
 abbrev pub TakesEvent : Event → AreaValue → OutputsValue → OutputsValue → AreaValue → Type 0
 TakesEvent (Datagram link source destination bytes) s out out' after = TakesDatagram link source (packet_of bytes) s out out' after
 TakesEvent Tick s out out' after = TakesTick s out out' after
-TakesEvent (LinkUp link) s out out' after = BecomesState (link_changed link_up link s) (up_out_on (slice_get s.links link) (own_of s) link) out out' after
-TakesEvent (LinkDown link) s out out' after = BecomesState (link_changed link_down link s) [] out out' after
+TakesEvent (LinkUp link) s out out' after =
+    Becomes (link_changed link_up link s) (and_sends out (up_out_on (slice_get s.links link) (own_of s) link)) out' after
+TakesEvent (LinkDown link) s out out' after = Becomes (link_changed link_down link s) (and_sends out []) out' after

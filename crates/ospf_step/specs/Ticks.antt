@@ -5,9 +5,9 @@ use Rattle.ospf_area.specs.Outputs.{OutputsValue, SentValue}
 use Rattle.ospf_area.specs.Places.{flat_from}
 use Rattle.ospf_area.specs.Sending.{and_sends, own_of}
 use Rattle.ospf_area.specs.State.{AreaValue}
-use Rattle.ospf_update.specs.Acks.{delayed_out, undelayed}
+use Rattle.ospf_update.specs.Acks.{delayed_out_on, undelayed_link}
 use Rattle.ospf_links.specs.Parts.{hello_out, hello_sent, link_timed}
-use Rattle.ospf_links.specs.Repeats.{all_repeats}
+use Rattle.ospf_links.specs.Repeats.{link_repeats_out}
 
 -- the timers of all links were counted
 abbrev pub timed_area : AreaValue → AreaValue
@@ -22,10 +22,10 @@ hellos_out s = flat_from (hello_out (own_of s)) 0 s.links
 
 -- then the delayed acknowledgements
 abbrev pub acknowledged_area : AreaValue → AreaValue
-acknowledged_area s = record s { links = undelayed s.links }
+acknowledged_area s = record s { links = map undelayed_link s.links }
 
 abbrev pub acknowledgements_out : AreaValue → List SentValue
-acknowledgements_out s = delayed_out (own_of s) s.links
+acknowledgements_out s = flat_from (delayed_out_on (own_of s)) 0 s.links
 
 -- the router, up to what is sent again, which changes its links once more
 abbrev pub ticked_area : AreaValue → AreaValue
@@ -34,4 +34,4 @@ ticked_area s = acknowledged_area (helloed_area (timed_area s))
 -- what goes out behind these outputs, with what is sent again
 abbrev pub tick_out : AreaValue → OutputsValue → OutputsValue
 tick_out s out =
-    and_sends (and_sends (and_sends out (hellos_out (timed_area s))) (acknowledgements_out (helloed_area (timed_area s)))) (all_repeats (own_of s) s.database (ticked_area s).links)
+    and_sends (and_sends (and_sends out (hellos_out (timed_area s))) (acknowledgements_out (helloed_area (timed_area s)))) (flat_from (link_repeats_out (own_of s) s.database) 0 (ticked_area s).links)

@@ -14,7 +14,7 @@ ghost use Rattle.ospf_area.specs.State.{AreaValue};
 ghost use Rattle.ospf_area.specs.declared.flooding.Origin.{Origin};
 ghost use Rattle.ospf_links.specs.Parts.{description_part, hello_part, link_down, link_up, request_part};
 ghost use Rattle.ospf_links.specs.Works.{link_changed, up_out_on, work_sent, worked};
-ghost use Rattle.ospf_step.specs.Packets.{dd_headers_in};
+ghost use Rattle.ospf_step.specs.Packets.{dd_headers_of};
 ghost use Rattle.ospf_step.specs.Puts.{PutsOut};
 ghost use Rattle.ospf_step.specs.Step.{IsPart, Part};
 ghost use Rattle.ospf_step.specs.Invariants.{NoneWaitsBelow};
@@ -34,7 +34,7 @@ pub fn descriptions_put_out()
     ensures { (f : Origin) (p : Meaning) (d : Description) (headers : List LsaHeader)
         (s t : AreaValue) (out out' : OutputsValue) →
         IsDatabase s.database → NoneWaitsBelow s f.link f.router → p.router ≡ f.router → headers
-        ≡ dd_headers_in p → AreReadAsSent out'.sent →
+        ≡ dd_headers_of p.body → AreReadAsSent out'.sent →
         t ≡ worked (description_part (own_of s) f d headers s.database s.next_dd) f.link s →
         out' ≡ and_sends out (work_sent (description_part (own_of s) f d headers s.database
         s.next_dd) (own_of s) f.link s.links) →

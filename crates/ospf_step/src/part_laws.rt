@@ -1,6 +1,8 @@
 //! Laws: what the contracts of the calls below say of the outputs so far and of those after, is a part put behind them.
 
 ghost use Rattle.std.specs.Prelude.{◌≡◌, ◌++◌, ◌∷◌, [], Bool, false, List, Some, map, suc, ℕ};
+ghost use Rattle.ospf_update.specs.Acks.{undelayed_link, delayed_out_on};
+ghost use Rattle.ospf_area.specs.Places.{flat_from};
 ghost use Rattle.ospf_base.specs.declared.ids.LsaKey.{LsaKey};
 ghost use Rattle.ospf_lsa.specs.declared.header.LsaHeader.{LsaHeader};
 ghost use Rattle.ospf_lsdb.specs.Database.{Entry, IsDatabase};
@@ -8,7 +10,6 @@ ghost use Rattle.ospf_area.specs.Outputs.{AreReadAsSent, OutputsValue, SentValue
 ghost use Rattle.ospf_area.specs.Sending.{and_sends, own_of};
 ghost use Rattle.ospf_area.specs.State.{AreaValue, database_entry};
 ghost use Rattle.ospf_area.specs.declared.flooding.Origin.{Origin};
-ghost use Rattle.ospf_update.specs.Acks.{delayed_out, undelayed};
 ghost use Rattle.ospf_update.specs.Aging.{Flushes, TickAges, turn_out, turned_area};
 ghost use Rattle.ospf_update.specs.Removal.{Removes};
 ghost use Rattle.ospf_update.specs.Updates.{TakesUpdate};
@@ -72,8 +73,8 @@ pub fn next_requests_put_out()
 /// The delayed acknowledgements of a tick are a part.
 pub fn acknowledgements_put_out()
     ensures { (s t : AreaValue) (out out' : OutputsValue) →
-        AreReadAsSent out'.sent → t ≡ record s { links = undelayed s.links } → out'
-        ≡ and_sends out (delayed_out (own_of s) s.links) →
+        AreReadAsSent out'.sent → t ≡ record s { links = map undelayed_link s.links } → out'
+        ≡ and_sends out (flat_from (delayed_out_on (own_of s)) 0 s.links) →
         PutsOut (λ o. Quiet s o t) out out' }
 {}
 

@@ -1,7 +1,7 @@
 //! A step.
 
 ghost use Rattle.std.specs.Prelude.{◌≡◌, ◌≢◌, None, IfOk, OnErr, OnOk, slice_get};
-ghost use Rattle.ospf_area.specs.Sending.{own_of};
+ghost use Rattle.ospf_area.specs.Sending.{and_sends, own_of};
 ghost use Rattle.ospf_step.specs.Accounts.{Accounts};
 ghost use Rattle.ospf_step.specs.Step.{StepLaws, heard_in};
 ghost use Rattle.ospf_step.specs.Words.{IsSoundState};
@@ -13,7 +13,8 @@ ghost use Rattle.ospf_step.specs.Fit.{IsFitRouter};
 ghost use Rattle.ospf_step.specs.Ready.{IsReadyFor};
 ghost use Rattle.ospf_step.specs.Same.{IsSameRouter};
 ghost use Rattle.ospf_step.specs.Steps.{StepsArea};
-ghost use Rattle.ospf_step.specs.Takes.{BecomesState, TakesEvent};
+ghost use Rattle.ospf_step.specs.Takes.{TakesEvent};
+ghost use Rattle.ospf_update.specs.Meets.{Becomes};
 
 use crate::datagrams::take_datagram;
 use crate::dropped::Dropped;
@@ -116,9 +117,9 @@ fn take(
 // As `ospf_links::take_up`, and the router stays fit.
 fn take_up(area: &mut Area, link: usize, out: &mut Outputs, alloc: Global) -> Result<(), AllocError>
     requires { IsFitRouter area.old }
-    ensures takes { OnOk result (BecomesState (link_changed link_up link area.old)
-        (up_out_on (slice_get area.old.links link) (own_of area.old) link) out.old out.new
-        area.new) }
+    ensures takes { OnOk result (Becomes (link_changed link_up link area.old)
+        (and_sends out.old (up_out_on (slice_get area.old.links link) (own_of area.old) link))
+        out.new area.new) }
     ensures fit { OnOk result (IsFitRouter area.new) }
 {
     ospf_links::take_up(area, link, out, alloc)

@@ -1,6 +1,7 @@
 //! Laws: what a tick does on all links is a part put behind the outputs so far, and the whole tick is the chain of its parts.
 
 ghost use Rattle.std.specs.Prelude.{◌≡◌, List, map};
+ghost use Rattle.ospf_links.specs.Repeats.{link_repeats_out, link_repeated};
 ghost use Rattle.ospf_base.specs.declared.ids.LsaKey.{LsaKey};
 ghost use Rattle.ospf_lsdb.specs.Database.{IsDatabase};
 ghost use Rattle.ospf_area.specs.Outputs.{AreReadAsSent, OutputsValue, SentValue};
@@ -9,7 +10,6 @@ ghost use Rattle.ospf_area.specs.Sending.{and_sends, own_of};
 ghost use Rattle.ospf_area.specs.State.{AreaValue};
 ghost use Rattle.ospf_update.specs.Aging.{TickAges};
 ghost use Rattle.ospf_links.specs.Parts.{hello_out, hello_sent, link_timed};
-ghost use Rattle.ospf_links.specs.Repeats.{all_repeats, repeated_links};
 ghost use Rattle.ospf_step.specs.Begins.{BeginsChain};
 ghost use Rattle.ospf_step.specs.Puts.{PutsOut};
 ghost use Rattle.ospf_step.specs.Step.{Chain, Event, IsPart, Part};
@@ -35,8 +35,8 @@ pub fn due_hellos_put_out()
 pub fn repeats_put_out()
     ensures { (marks : List LsaKey) (s t : AreaValue) (out out' : OutputsValue) →
         IsDatabase s.database → AreRising s.links → AreReadAsSent out'.sent →
-        t ≡ record s { links = repeated_links (own_of s) s.database s.links; sent = marks } →
-        out' ≡ and_sends out (all_repeats (own_of s) s.database s.links) →
+        t ≡ record s { links = map (link_repeated (own_of s) s.database) s.links; sent = marks } →
+        out' ≡ and_sends out (flat_from (link_repeats_out (own_of s) s.database) 0 s.links) →
         PutsOut (λ o. IsPart Part.Repeats s o t) out out' }
 {}
 
@@ -45,7 +45,7 @@ pub fn ticks_are_chains()
     ensures { (marks : List LsaKey) (s aged : AreaValue) (expired : List SentValue)
         (out : OutputsValue) → AreRising aged.links → AreRising (ticked_area aged).links →
         IsDatabase aged.database → TickAges s expired aged →
-        let repeated = repeated_links (own_of aged) aged.database (ticked_area aged).links in
+        let repeated = map (link_repeated (own_of aged) aged.database) (ticked_area aged).links in
         BeginsChain Event.Tick s out
         (record (ticked_area aged) { links = repeated; sent = marks })
         (tick_out aged (and_sends out expired)) }

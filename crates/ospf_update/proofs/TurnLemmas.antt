@@ -24,7 +24,7 @@ use Rattle.ospf_neighbour.specs.declared.machine.NeighbourState.TheVariants.{Dow
 use Rattle.ospf_neighbour.specs.declared.neighbour.Listed.{Listed}
 use Rattle.ospf_area.proofs.NeighbourLemmas.{turned-router}
 use Rattle.ospf_area.proofs.SendingLemmas.{sends_none}
-use Rattle.ospf_area.specs.Asking.{loaded, request_to, turn_request, turn_requests, turn_requests_on, turned_to_next, turned_link, turned_links}
+use Rattle.ospf_area.specs.Asking.{loaded, request_to, turn_request, turn_requests_on, turned_to_next, turned_link}
 use Rattle.ospf_area.specs.Changes.{changed_at, delayed_on}
 use Rattle.ospf_area.specs.Outputs.{OutputsValue, SentValue}
 use Rattle.ospf_area.specs.Places.{flat_from, map_from}
@@ -183,7 +183,7 @@ link_quiet own l link quiet =
     flat_map_none (turn_request own l link.iface link.settings.mtu) (turned_to_next link.settings.mtu own.tick) (quiet_again own l link.iface link.settings.mtu) link.neighbours quiet
 
 -- behind a turn that sent nothing none waits
-pub turned_rests : (own : Own) (links : List LinkValue) → turn_requests own links ≡ [] → AreTurned own (turned_links own links)
+pub turned_rests : (own : Own) (links : List LinkValue) → flat_from (turn_requests_on own) 0 links ≡ [] → AreTurned own (map (turned_link own) links)
 turned_rests own links quiet = record {
   still = map_again (turned_link own) (link_again own) links;
   quiet = flat_from_none (turn_requests_on own) (turned_link own) (link_quiet own) 0 links quiet;

@@ -8,7 +8,6 @@ use Rattle.ospf_lsa.specs.declared.header.LsaHeader.{LsaHeader}
 use Rattle.ospf_packet.specs.Meaning as meaning
 use Rattle.ospf_area.specs.Outputs.{SentValue}
 use Rattle.ospf_area.specs.Packets.{Parcel}
-use Rattle.ospf_area.specs.Places.{flat_from}
 use Rattle.ospf_area.specs.Sending.{datagrams, own_of, packet_of, to_address, way_out}
 use Rattle.ospf_area.specs.State.{AreaValue, LinkValue}
 use Rattle.ospf_area.specs.declared.flooding.Origin.{Origin}
@@ -53,12 +52,9 @@ packets room hs = cut (length hs) room hs
 abbrev pub ack_out : Own → Way → List LsaHeader → List SentValue
 ack_out own way hs = datagrams way (packet_of own (meaning.acknowledgment hs))
 
--- Acknowledgments, as many headers in each as fit
-abbrev pub packed_out : Own → Way → ℕ → List LsaHeader → List SentValue
-packed_out own way room hs = flat_map (ack_out own way) (packets room hs)
-
+-- Acknowledgments of these headers in their order, as many in each as fit
 abbrev pub acks_out : Own → Way → ℕ → List LsaHeader → List SentValue
-acks_out own way mtu hs = packed_out own way (ack_room mtu) (in_order hs)
+acks_out own way mtu hs = flat_map (ack_out own way) (packets (ack_room mtu) (in_order hs))
 
 -- ---- as they are put to go out
 
@@ -89,11 +85,5 @@ direct_out f s = direct_out_on (own_of s) f s.direct (slice_get s.links f.link)
 abbrev pub delayed_out_on : Own → ℕ → LinkValue → List SentValue
 delayed_out_on own l link = acks_out own (way_out l link.iface (flooding_address link.iface)) link.settings.mtu link.delayed
 
-abbrev pub delayed_out : Own → List LinkValue → List SentValue
-delayed_out own links = flat_from (delayed_out_on own) 0 links
-
 abbrev pub undelayed_link : LinkValue → LinkValue
 undelayed_link link = record link { delayed = [] }
-
-abbrev pub undelayed : List LinkValue → List LinkValue
-undelayed links = map undelayed_link links

@@ -1,12 +1,13 @@
 -- LSAs at MaxAge (RFC 2328, sections 14 and 14.1).
-use Rattle.std.specs.Prelude.{◌≡◌, ◌+◌, ◌%◌, ◌^◌, ◌++◌, Bool, true, Option, None, Some, List, [], ◌∷◌, option_map, if◌then◌else◌}
+use Rattle.std.specs.Prelude.{◌≡◌, ◌+◌, ◌%◌, ◌^◌, ◌++◌, Bool, true, Option, None, Some, List, [], ◌∷◌, option_map, if◌then◌else◌, map}
+use Rattle.ospf_area.specs.Places.{flat_from}
+use Rattle.ospf_area.specs.Asking.{turn_requests_on, turned_link}
 use Rattle.ospf_base.specs.Constants.{max_age}
 use Rattle.ospf_base.specs.declared.ids.LsaKey.{LsaKey}
 use Rattle.ospf_lsdb.specs.Database as lsdb
 use Rattle.ospf_lsdb.specs.Database.{Ages, Entry, Puts, held_of, lsa_of, reached_at}
 use Rattle.ospf_lsa.specs.Header.{header_of}
 use Rattle.ospf_lsa.specs.Lsa.{key_of}
-use Rattle.ospf_area.specs.Asking.{turn_requests, turned_links}
 use Rattle.ospf_area.specs.Flooding.{flooding_updates, goes_anywhere}
 use Rattle.ospf_update.specs.Meets.{flooded_area}
 use Rattle.ospf_area.specs.Numbers.{marked}
@@ -18,10 +19,10 @@ use Rattle.ospf_area.specs.State.{AreaValue, database_entry}
 
 -- LoadingDone and the next Requests of all neighbours
 abbrev pub turned_area : AreaValue → AreaValue
-turned_area s = record s { links = turned_links (own_of s) s.links }
+turned_area s = record s { links = map (turned_link (own_of s)) s.links }
 
 abbrev pub turn_out : AreaValue → List SentValue
-turn_out s = turn_requests (own_of s) s.links
+turn_out s = flat_from (turn_requests_on (own_of s)) 0 s.links
 
 -- ---- a copy goes to all
 

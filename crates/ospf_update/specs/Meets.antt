@@ -16,8 +16,7 @@ use Rattle.ospf_lsa.specs.Header.{header_of}
 use Rattle.ospf_lsa.specs.Lsa.{key_of, instance_of}
 use Rattle.ospf_lsa.specs.Recency.{recency}
 use Rattle.ospf_lsa.specs.declared.header.LsaHeader.{LsaHeader}
-use Rattle.ospf_lsa.specs.declared.recency.Recency.{Recency}
-use Rattle.ospf_lsa.specs.declared.recency.Recency.TheVariants.{Newer, Older, Same}
+use Rattle.ospf_lsa.specs.declared.recency.Recency.TheVariants.{Same}
 use Rattle.ospf_lsdb.specs.Database as lsdb
 use Rattle.ospf_lsdb.specs.Database.{Entry, entry_from, lsa_of}
 use Rattle.ospf_packet.specs.Meaning as meaning
@@ -28,7 +27,8 @@ use Rattle.ospf_area.specs.Numbers.{counts, greatest_after, is_self_originated, 
 use Rattle.ospf_area.specs.Outputs.{OutputsValue, SentValue, and_takes}
 use Rattle.ospf_area.specs.Sending.{and_sends, datagrams, own_of, packet_of, sent_lsa, to_address, update_out, way_out}
 use Rattle.ospf_area.specs.Standing.{acknowledging, answer_at, is_awaited_of, is_requested_of, is_taken_in, origin_neighbour}
-use Rattle.ospf_area.specs.State.{AreaValue, LinkValue, database_entry, some_link_loading, was_sent}
+use Rattle.ospf_lsdb.specs.Moments.{among}
+use Rattle.ospf_area.specs.State.{AreaValue, LinkValue, database_entry, some_link_loading}
 use Rattle.ospf_area.specs.declared.changes.AdjacencyChange.TheVariants.{Acknowledges, IsSent, Restarts}
 use Rattle.ospf_area.specs.declared.flooding.Origin.{Origin}
 use Rattle.ospf_area.specs.declared.sending.Own.{Own}
@@ -69,10 +69,10 @@ rule_met s f lsa =
     then Some (lsa_rule (header_of lsa) (database_entry s (key_of lsa)) (some_link_loading s.links) (is_requested_of (key_of lsa) (origin_neighbour s.links f)) s.tick)
     else None
 
--- nothing happens
-pub record Unchanged (before : AreaValue) (out out' : OutputsValue) (after : AreaValue) : Type 0 where
-  pub state : after ≡ before
-  pub outputs : out' ≡ out
+-- the router becomes this, and all that it has put out becomes that
+pub record Becomes (made : AreaValue) (puts out' : OutputsValue) (after : AreaValue) : Type 0 where
+  pub state : after ≡ made
+  pub outputs : out' ≡ puts
 
 -- a self-originated LSA is to be answered at the end of the step (13.4)
 abbrev pub heard_by : LsaKey → AreaValue → AreaValue
@@ -85,11 +85,6 @@ pub record Admits (f : Origin) (lsa : List ℕ) (before : AreaValue) (out out' :
   pub state : after ≡ heard_by (key_of lsa)
       (acknowledging (answer_at (case_of_newer (flooded_back (key_of lsa) (header_of lsa) (Some f) (released (key_of lsa) before.links))) f mid.links) f (header_of lsa) mid)
   pub outputs : out' ≡ and_takes (and_sends out (store_updates lsa (Some f) before)) (instance_of lsa)
-
--- it is at MaxAge and not known: it is acknowledged, and nothing else (13, step 4)
-pub record AnswersExpired (f : Origin) (lsa : List ℕ) (before : AreaValue) (out out' : OutputsValue) (after : AreaValue) : Type 0 where
-  pub state : after ≡ acknowledging (answer_at Expired f before.links) f (header_of lsa) before
-  pub outputs : out' ≡ and_takes out (instance_of lsa)
 
 -- ---- the exchange of databases begins again
 
@@ -109,11 +104,6 @@ first_dd f s = first_dd_on (own_of s) f s.next_dd (slice_get s.links f.link)
 abbrev pub restarted : Origin → AreaValue → AreaValue
 restarted f s = record s { links = changed_at f (Restarts s.next_dd) s.tick s.links; next_dd = (s.next_dd + 1) % 2 ^ 32 }
 
--- it was asked for, and is no newer than the copy: BadLSReq (13, step 6)
-pub record RestartsExchange (f : Origin) (before : AreaValue) (out out' : OutputsValue) (after : AreaValue) : Type 0 where
-  pub state : after ≡ restarted f before
-  pub outputs : out' ≡ and_sends out (first_dd f before)
-
 -- ---- the same instance as the copy
 
 -- where it was waited for, that ends; it is acknowledged by the table (13, step 7)
@@ -121,10 +111,6 @@ abbrev pub duplicated : Origin → List ℕ → AreaValue → AreaValue
 duplicated f lsa s =
     acknowledging (answer_at (case_of_same (is_awaited_of (instance_of lsa) (origin_neighbour s.links f))) f s.links) f (header_of lsa)
     (record s { links = changed_at f (Acknowledges (instance_of lsa)) s.tick s.links })
-
-pub record AcknowledgesDuplicate (f : Origin) (lsa : List ℕ) (before : AreaValue) (out out' : OutputsValue) (after : AreaValue) : Type 0 where
-  pub state : after ≡ duplicated f lsa before
-  pub outputs : out' ≡ out
 
 -- ---- older than the copy
 
@@ -134,7 +120,7 @@ reply_of None sent = None
 reply_of (Some copy) sent = if is_sent_back copy sent then Some (lsa_of copy) else None
 
 abbrev pub reply_to : AreaValue → LsaKey → Option (List ℕ)
-reply_to s key = reply_of (database_entry s key) (was_sent s.sent key)
+reply_to s key = reply_of (database_entry s key) (among s.sent key)
 
 -- an LSA in an Update to the neighbour
 abbrev pub lsa_out_on : Own → Origin → List ℕ → Option LinkValue → List SentValue
@@ -154,20 +140,23 @@ abbrev pub replied : Option (List ℕ) → Origin → LsaKey → AreaValue → A
 replied None f key s = s
 replied (Some lsa) f key s = record s { links = changed_at f (IsSent (instance_of lsa)) s.tick s.links; sent = marked key true s.sent }
 
-pub record Replies (f : Origin) (key : LsaKey) (before : AreaValue) (out out' : OutputsValue) (after : AreaValue) : Type 0 where
-  pub state : after ≡ replied (reply_to before key) f key before
-  pub outputs : out' ≡ and_sends out (reply_out (reply_to before key) f before)
-
 -- ---- the rules together
 
+-- what an LSA does by the rule that it meets (13, steps 4 to 8)
 abbrev pub MeetsRule : Option LsaRule → Origin → List ℕ → AreaValue → OutputsValue → OutputsValue → AreaValue → Type 0
-MeetsRule None f lsa before out out' after = Unchanged before out out' after
-MeetsRule (Some AcknowledgesExpired) f lsa before out out' after = AnswersExpired f lsa before out out' after
-MeetsRule (Some TooSoon) f lsa before out out' after = Unchanged before out out' after
+-- its sender is below Exchange: nothing happens
+MeetsRule None f lsa before out out' after = Becomes before out out' after
+-- it is at MaxAge and not known: it is acknowledged, and nothing else (step 4)
+MeetsRule (Some AcknowledgesExpired) f lsa before out out' after =
+    Becomes (acknowledging (answer_at Expired f before.links) f (header_of lsa) before) (and_takes out (instance_of lsa)) out' after
+-- its copy came less than MinLSArrival ago: nothing happens (step 5a)
+MeetsRule (Some TooSoon) f lsa before out out' after = Becomes before out out' after
 MeetsRule (Some Installs) f lsa before out out' after = Admits f lsa before out out' after
-MeetsRule (Some BadRequest) f lsa before out out' after = RestartsExchange f before out out' after
-MeetsRule (Some Duplicate) f lsa before out out' after = AcknowledgesDuplicate f lsa before out out' after
-MeetsRule (Some Stale) f lsa before out out' after = Replies f (key_of lsa) before out out' after
+-- it was asked for, and is no newer than the copy: BadLSReq (step 6)
+MeetsRule (Some BadRequest) f lsa before out out' after = Becomes (restarted f before) (and_sends out (first_dd f before)) out' after
+MeetsRule (Some Duplicate) f lsa before out out' after = Becomes (duplicated f lsa before) out out' after
+MeetsRule (Some Stale) f lsa before out out' after =
+    Becomes (replied (reply_to before (key_of lsa)) f (key_of lsa) before) (and_sends out (reply_out (reply_to before (key_of lsa)) f before)) out' after
 
 -- one LSA of an Update, from the outputs so far to those after it (13)
 abbrev pub MeetsLsa : Origin → List ℕ → AreaValue → OutputsValue → OutputsValue → AreaValue → Type 0
@@ -175,15 +164,10 @@ MeetsLsa f lsa before out out' after = MeetsRule (rule_met before f lsa) f lsa b
 
 -- ---- a header of an Acknowledgment
 
--- the instance that it names: that of the copy, to which it is the same (13.7)
-abbrev pub named_as : Recency → Entry → Option Instance
-named_as Same copy = Some (instance_at copy)
-named_as Newer copy = None
-named_as Older copy = None
-
+-- the instance that it names: that of the copy, where this is the same (13.7)
 abbrev pub named_by : LsaHeader → Option Entry → Option Instance
 named_by h None = None
-named_by h (Some copy) = named_as (recency h (header_at copy)) copy
+named_by h (Some copy) = elim (recency h (header_at copy)) [ Same ↦ Some (instance_at copy) | _ ↦ None ]
 
 abbrev pub taken_off : Origin → Option Instance → AreaValue → AreaValue
 taken_off f None s = s

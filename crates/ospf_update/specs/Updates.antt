@@ -1,5 +1,7 @@
 -- A Link State Update (RFC 2328, section 13).
-use Rattle.std.specs.Prelude.{◌≡◌, ◌≤◌, ◌++◌, ℕ, Bool, true, false, length, Option, Some, List, [], ◌∷◌}
+use Rattle.std.specs.Prelude.{◌≡◌, ◌≤◌, ◌++◌, ℕ, Bool, true, false, length, Option, Some, List, [], ◌∷◌, map}
+use Rattle.ospf_area.specs.Places.{flat_from}
+use Rattle.ospf_area.specs.Asking.{turn_requests_on, turned_link}
 use Rattle.ospf_flood.specs.declared.rule.LsaRule.{LsaRule}
 use Rattle.ospf_flood.specs.declared.rule.LsaRule.TheVariants.{BadRequest, Installs}
 use Rattle.ospf_base.specs.Bytes.{number_at}
@@ -10,8 +12,7 @@ use Rattle.ospf_lsa.specs.Header.{header_of}
 use Rattle.ospf_lsa.specs.Lsa.{IsLsa, type_of}
 use Rattle.ospf_update.specs.Acks.{direct_out}
 use Rattle.ospf_update.specs.Aging.{turned_area, turn_out}
-use Rattle.ospf_update.specs.Meets.{MeetsLsa, Unchanged}
-use Rattle.ospf_area.specs.Asking.{turn_requests, turned_links}
+use Rattle.ospf_update.specs.Meets.{Becomes, MeetsLsa}
 use Rattle.ospf_area.specs.Outputs.{OutputsValue}
 use Rattle.ospf_area.specs.Sending.{and_sends, own_of}
 use Rattle.ospf_area.specs.Standing.{is_taken_in, origin_neighbour}
@@ -57,7 +58,7 @@ pub data TakesSlice (f : Origin) (bytes : List ℕ) (before : AreaValue) (out ou
 
 -- one after the other
 abbrev pub TakesSlices : Origin → List (List ℕ) → AreaValue → OutputsValue → OutputsValue → AreaValue → Type 0
-TakesSlices f [] before out out' after = Unchanged before out out' after
+TakesSlices f [] before out out' after = Becomes before out out' after
 TakesSlices f (bytes ∷ slices) before out out' after =
     (mid : AreaValue) × (so_far : OutputsValue) × TakesSlice f bytes before out so_far mid × TakesSlices f slices mid so_far out' after
 
@@ -73,8 +74,8 @@ pub record TakesUpdate (f : Origin) (slices : List (List ℕ)) (before : AreaVal
 
 -- no neighbour waits for a turn: it would change none, and send nothing
 pub record AreTurned (own : Own) (links : List LinkValue) : Type 0 where
-  pub still : turned_links own links ≡ links
-  pub quiet : turn_requests own links ≡ []
+  pub still : map (turned_link own) links ≡ links
+  pub quiet : flat_from (turn_requests_on own) 0 links ≡ []
 
 abbrev pub IsTurned : AreaValue → Type 0
 IsTurned s = AreTurned (own_of s) s.links

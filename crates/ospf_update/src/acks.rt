@@ -2,7 +2,8 @@
 
 ghost use Rattle.std.specs.Prelude.{◌≡◌, ◌<◌, ◌∷◌, [], IfOk, OnOk, Some, slice_get, map};
 ghost use Rattle.std.specs.Ordering.{is_lt};
-ghost use Rattle.ospf_update.specs.Acks.{header_precedes, in_order, ack_room, ack_parcel, ack_parcels, packed_parcels, direct_out_on, direct_out, delayed_out_on, delayed_out, undelayed_link, undelayed};
+ghost use Rattle.ospf_area.specs.Places.{flat_from};
+ghost use Rattle.ospf_update.specs.Acks.{header_precedes, in_order, ack_room, ack_parcel, ack_parcels, packed_parcels, direct_out_on, direct_out, delayed_out_on, undelayed_link};
 ghost use Rattle.ospf_area.specs.Posting.{and_parcels};
 ghost use Rattle.ospf_area.specs.Sending.{and_sends, own_of};
 
@@ -57,8 +58,9 @@ pub fn send_delayed(
     out: &mut Outputs,
     alloc: Global,
 ) -> Result<(), AllocError>
-    ensures after { OnOk result (links.new ≡ undelayed links.old) }
-    ensures sent { OnOk result (out.new ≡ and_sends out.old (delayed_out own links.old)) }
+    ensures after { OnOk result (links.new ≡ map undelayed_link links.old) }
+    ensures sent { OnOk result (out.new ≡ and_sends out.old
+        (flat_from (delayed_out_on own) 0 links.old)) }
 {
     for (number, link) in links.iter_mut().enumerate() {
         send_delayed_on(link, number, own, out, alloc)?;

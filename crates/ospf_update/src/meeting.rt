@@ -5,12 +5,14 @@ ghost use Rattle.ospf_base.specs.Constants.{max_age};
 ghost use Rattle.ospf_exchange.specs.Headers.{copy_in_database};
 ghost use Rattle.ospf_lsa.specs.Header.{key_of_header};
 ghost use Rattle.ospf_lsa.specs.Header.{header_of};
-ghost use Rattle.ospf_lsa.specs.Lsa.{key_of};
+ghost use Rattle.ospf_lsa.specs.Lsa.{instance_of, key_of};
 ghost use Rattle.ospf_area.specs.Flooding.{flooded_back, released};
 ghost use Rattle.ospf_area.specs.Numbers.{marked};
-ghost use Rattle.ospf_update.specs.Meets.{InstallsIn, store_updates, Stores, rule_met, heard_by, Admits, AnswersExpired, RestartsExchange, first_dd_on, duplicated, reply_to, lsa_out_on, Replies, MeetsRule, MeetsLsa, named_by, header_met};
+ghost use Rattle.ospf_update.specs.Meets.{InstallsIn, store_updates, Stores, rule_met, heard_by, Admits, Becomes, first_dd, first_dd_on, duplicated, replied, reply_out, reply_to, restarted, lsa_out_on, MeetsRule, MeetsLsa, named_by, header_met};
 ghost use Rattle.ospf_area.specs.Outputs.{and_takes};
 ghost use Rattle.ospf_area.specs.Sending.{and_sends, own_of};
+ghost use Rattle.ospf_area.specs.Standing.{acknowledging, answer_at};
+ghost use Rattle.ospf_flood.specs.declared.acknowledgement.AcknowledgementCase.TheVariants.{Expired};
 
 use ospf_area::{
     AdjacencyChange, Area, AreaLink, Flooded, Origin, Outputs, Own, Post, acknowledge_by,
@@ -98,7 +100,8 @@ pub fn restart(
     out: &mut Outputs,
     alloc: Global,
 ) -> Result<(), AllocError>
-    ensures { OnOk result (RestartsExchange from area.old out.old out.new area.new) }
+    ensures { OnOk result (Becomes (restarted from area.old)
+        (and_sends out.old (first_dd from area.old)) out.new area.new) }
 {
     let own = own_of(area);
     let number = area.next_dd;
@@ -245,7 +248,8 @@ fn on_expired(
     lsa: &LsaView,
     out: &mut Outputs,
 ) -> Result<(), AllocError>
-    ensures { OnOk result (AnswersExpired from lsa.now area.old out.old out.new area.new) }
+    ensures { OnOk result (Becomes (acknowledging (answer_at Expired from area.old.links) from
+        (header_of lsa.now) area.old) (and_takes out.old (instance_of lsa.now)) out.new area.new) }
 {
     let answer = answer_at(&area.links, AcknowledgementCase::Expired, from);
     acknowledge_by(area, answer, from, &lsa.header())?;
@@ -315,7 +319,8 @@ fn reply(
     out: &mut Outputs,
     alloc: Global,
 ) -> Result<(), AllocError>
-    ensures { OnOk result (Replies from key area.old out.old out.new area.new) }
+    ensures { OnOk result (Becomes (replied (reply_to area.old key) from key area.old)
+        (and_sends out.old (reply_out (reply_to area.old key) from area.old)) out.new area.new) }
 {
     let Some(copy) = reply_to(area, &key, alloc)? else {
         return Ok(());

@@ -14,7 +14,6 @@ use Rattle.ospf_iface.specs.declared.machine.IfaceState.{IfaceState}
 use Rattle.ospf_iface.specs.declared.machine.IfaceState.TheVariants.{Dr}
 use Rattle.ospf_base.specs.Keys.{same_key}
 use Rattle.ospf_neighbour.specs.Neighbour.{NeighbourValue}
-use Rattle.ospf_neighbour.specs.declared.machine.NeighbourState.{NeighbourState}
 use Rattle.ospf_neighbour.specs.declared.machine.NeighbourState.TheVariants.{Full}
 
 -- an LSA that is wanted, without its number: a router-LSA of a router with these links; or a network-LSA of this Link
@@ -25,13 +24,9 @@ pub data WantedValue : Type 0 where
 
 -- ---- what is asked of a link
 
-abbrev pub is_full_state : NeighbourState → Bool
-is_full_state Full = true
-is_full_state _ = false
-
 -- the neighbour is fully adjacent (10.1)
 abbrev pub is_full : NeighbourValue → Bool
-is_full n = is_full_state n.state
+is_full n = elim n.state [ Full ↦ true | _ ↦ false ]
 
 -- the router is fully adjacent to the neighbour of this address
 abbrev pub is_full_at : ℕ → NeighbourValue → Bool

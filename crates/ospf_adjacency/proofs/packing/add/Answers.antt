@@ -1,5 +1,6 @@
 use Rattle.std.proofs.Common.{◌≡◌, ℕ, ◌-◌, ◌∙◌, ◌++◌, ◌∷◌, ◌||◌, [], List, length, nat_le, sym, ap}
-use Rattle.ospf_adjacency.specs.Packing.{bytes_in, has_none, goes_in}
+use Rattle.ospf_neighbour.specs.Neighbour.{is_empty}
+use Rattle.ospf_adjacency.specs.Packing.{bytes_in, goes_in}
 use Rattle.ospf_adjacency.proofs.PackLemmas.{left_behind, left_whole, goes_by, packs_after, packs_anew}
 use Rattle.ospf_adjacency.proofs.packing.add.Goals as goal
 use Rattle.ospf_adjacency.proofs.packing.add.Goals.{then-not-goes_in+in_ok-send, else-not-goes_in}
@@ -17,8 +18,8 @@ pub returns-clause-sent : goal.returns-clause-sent
 returns-clause-sent c = λ rest.
     let by : c.goes_in.result ≡ goes_in c.args.room c.args.batch.now.items c.args.lsa =
     goes_by c.args.room c.args.left.now c.args.batch.now.items c.args.lsa c.goes_in.result c.requires
-    (c.goes_in.ensures ∙ ap (λ (b : List (List ℕ)). has_none b || nat_le (length c.as_bytes-length.result.now) c.args.left.now) c.deref.ensures.value
-    ∙ ap (λ (l : List ℕ). has_none c.args.batch.now.items || nat_le (length l) c.args.left.now) (c.as_bytes-length.ensures.bytes ∙ c.view.ensures.same)) in
+    (c.goes_in.ensures ∙ ap (λ (b : List (List ℕ)). is_empty b || nat_le (length c.as_bytes-length.result.now) c.args.left.now) c.deref.ensures.value
+    ∙ ap (λ (l : List ℕ). is_empty c.args.batch.now.items || nat_le (length l) c.args.left.now) (c.as_bytes-length.ensures.bytes ∙ c.view.ensures.same)) in
     elim c.if-not-goes_in.branch [
       | then-not-goes_in+in_ok-send w ↦
           packs_anew c.args.room c.args.destination c.args.batch.now.items c.push.new.self.items c.args.lsa rest c.args.post.now c.if-not-goes_in.post

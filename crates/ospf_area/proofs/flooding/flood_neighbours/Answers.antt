@@ -8,7 +8,7 @@ use Rattle.ospf_lsa.specs.Header.{header_of}
 use Rattle.ospf_lsa.specs.declared.header.LsaHeader.{LsaHeader}
 use Rattle.ospf_lsa.specs.Lsa.{key_of}
 use Rattle.ospf_neighbour.specs.Neighbour.{NeighbourValue}
-use Rattle.ospf_area.specs.Flooding.{came_from, flooded_neighbour, some_listed, is_listed_at}
+use Rattle.ospf_area.specs.Flooding.{came_from, flooded_neighbour, some_listed}
 use Rattle.ospf_area.specs.declared.flooding.Origin.{Origin}
 use Rattle.ospf_neighbour.proofs.NeighbourLemmas.{AreNeighbours-same, routers-set}
 use Rattle.ospf_area.proofs.NeighbourLemmas.{flooded-router}
@@ -22,7 +22,7 @@ module _ (k key : LsaKey) (head h : LsaHeader) (by : Bool) (here : Option Origin
   as_flooded tick n is_key is_head is_by =
       ap (λ (x : LsaKey). flooded x head by tick n) is_key ∙ ap (λ (x : LsaHeader). flooded key x by tick n) is_head ∙ ap (λ (x : Bool). flooded key h x tick n) is_by
 
-  as_listed : (n : NeighbourValue) → k ≡ key → head ≡ h → by ≡ came_from here n → lists (offer_to k head by n) ≡ is_listed_at key h here n
+  as_listed : (n : NeighbourValue) → k ≡ key → head ≡ h → by ≡ came_from here n → lists (offer_to k head by n) ≡ lists (offer_to key h (came_from here n) n)
   as_listed n is_key is_head is_by =
       ap (λ (x : LsaKey). lists (offer_to x head by n)) is_key ∙ ap (λ (x : LsaHeader). lists (offer_to key x by n)) is_head ∙ ap (λ (x : Bool). lists (offer_to key h x n)) is_by
 
@@ -36,7 +36,7 @@ loop-neighbour-preserved c =
     let key = key_of c.args.lsa.now in
     let h = header_of c.args.lsa.now in
     let f = flooded_neighbour key h c.args.here c.args.tick in
-    let test = is_listed_at key h c.args.here in
+    let test = λ (n : NeighbourValue). lists (offer_to key h (came_from c.args.here n) n) in
     let xs = c.args.neighbours.now in
     let i = c.loop-neighbour.neighbour-index in
     let x = c.neighbour-item.result in
