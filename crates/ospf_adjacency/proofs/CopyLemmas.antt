@@ -16,8 +16,8 @@ use Rattle.ospf_area.specs.declared.sending.Own.{Own}
 use Rattle.ospf_area.proofs.PackLemmas.{ip_length-is}
 use Rattle.ospf_adjacency.specs.Answers.{answered_keys, asked_keys}
 use Rattle.ospf_adjacency.specs.ResendLaws.{KeysGoInOrder, UpdatesArePacked}
-use Rattle.ospf_adjacency.specs.Packing.{bytes_in, copies_of, goes_in, packed, update_room, with_copy}
-use Rattle.ospf_adjacency.specs.Repeats.{is_key_due}
+use Rattle.ospf_adjacency.specs.Packing.{bytes_in, copies_of, goes_in, packed, update_room}
+use Rattle.ospf_adjacency.proofs.Words.{with_copy, is_key_due}
 use Rattle.ospf_adjacency.proofs.KeyLists.{filter_rises, keys_rise}
 
 -- ---- the whole list

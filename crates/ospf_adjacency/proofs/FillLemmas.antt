@@ -18,7 +18,7 @@ description_sized own fields headers = omega (arith, ip_length-is own (descripti
 
 pub descriptions_are_filled : DescriptionsAreFilled
 unfolding describes
-descriptions_are_filled own local number n within =
+descriptions_are_filled own i local number n within =
     let m = describes local number n in
     let fields : Description = record { mtu = local.mtu; options = router_options; flags = m.exchanging.flags; number = m.exchanging.number } in
     let room = dd_room local.mtu in

@@ -10,7 +10,8 @@ use Rattle.ospf_lsdb.specs.Moments.{among}
 use Rattle.ospf_lsdb.specs.Timers.{KeysRise}
 use Rattle.ospf_packet.specs.declared.entry.RequestEntry.{RequestEntry}
 use Rattle.ospf_exchange.specs.Headers.{copy_in_database}
-use Rattle.ospf_exchange.specs.Requests.{Answers, all_held, is_asked, is_held, is_key, key_asked}
+use Rattle.ospf_exchange.specs.Requests.{Answers, all_held, is_asked, key_asked}
+use Rattle.ospf_exchange.proofs.Words.{is_held, is_key}
 use Rattle.ospf_adjacency.specs.Answers.{asked_keys}
 
 pub bool_cases : (b : Bool) → (b ≡ true) ⊎ (b ≡ false)

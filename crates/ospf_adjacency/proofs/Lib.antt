@@ -15,3 +15,4 @@ pub mod LawLemmas
 pub mod SayLemmas
 pub mod SameLemmas
 pub mod FillLemmas
+pub mod Words

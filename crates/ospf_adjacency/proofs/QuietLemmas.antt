@@ -30,10 +30,11 @@ use Rattle.ospf_area.specs.Packets.{Parcel, dd_parcel, request_parcel}
 use Rattle.ospf_adjacency.proofs.MemberLemmas.{cons_cases, cons_first, cons_rest, map_from, none_of_nil}
 use Rattle.ospf_adjacency.proofs.LawLemmas.{event_keeps}
 use Rattle.ospf_adjacency.proofs.SayLemmas.{events_say_only}
-use Rattle.ospf_adjacency.specs.Answers.{asked_keys, copies_turn, resent_copy, resent_keys}
+use Rattle.ospf_adjacency.specs.Answers.{asked_keys, copies_turn, resent_keys}
+use Rattle.ospf_adjacency.proofs.Words.{resent_copy, with_copy, last_batch}
 use Rattle.ospf_adjacency.specs.Repeats.{dd_again, due_keys, request_again}
 use Rattle.ospf_adjacency.specs.ResendLaws.{IsCopy, HasCopiesOnly, IsQuiet, AnswersAreQuiet, RepeatsAreQuiet}
-use Rattle.ospf_adjacency.specs.Packing.{with_copy, copies_of, goes_in, last_batch, packed, update_to, update_room, updates_of}
+use Rattle.ospf_adjacency.specs.Packing.{copies_of, goes_in, packed, update_to, update_room, updates_of}
 
 -- ---- copies
 

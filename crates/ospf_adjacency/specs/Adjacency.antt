@@ -3,7 +3,6 @@ use Rattle.std.specs.Prelude.{◌==◌, ◌||◌, ◌+◌, ◌%◌, ◌^◌, ℕ
 use Rattle.ospf_base.specs.declared.ids.Addr.{Addr}
 use Rattle.ospf_base.specs.declared.interface.InterfaceKind.TheVariants.{PointToPoint, Broadcast}
 use Rattle.ospf_iface.specs.declared.machine.Iface.{Iface}
-use Rattle.ospf_neighbour.specs.declared.machine.Effect.{Effect}
 use Rattle.ospf_neighbour.specs.declared.machine.Effect.TheVariants.{AdjacencyBegins}
 use Rattle.ospf_neighbour.specs.declared.machine.NbrEvent.{NbrEvent}
 use Rattle.ospf_neighbour.specs.Machine.{transition}
@@ -27,14 +26,9 @@ wants_adjacency i a = if is_broadcast i then is_chosen i i.settings.address || i
 
 -- ---- events
 
--- the effect with which an adjacency begins
-abbrev pub is_beginning : Effect → Bool
-is_beginning AdjacencyBegins = true
-is_beginning _ = false
-
 -- by the event an adjacency begins, and a first DD packet goes to the neighbour (10.8)
 abbrev pub begins_by : NbrEvent → NeighbourValue → Bool
-begins_by e n = is_beginning (transition n.state e (is_empty n.requests)).effect
+begins_by e n = elim (transition n.state e (is_empty n.requests)).effect [ AdjacencyBegins ↦ true | _ ↦ false ]
 
 -- the neighbour after an event: where an adjacency begins it takes `next`, the router's next DD number (10.3, 10.8)
 abbrev pub event_taken : NbrEvent → ℕ → ℕ → ℕ → NeighbourValue → NeighbourValue

@@ -22,13 +22,9 @@ use Rattle.ospf_area.specs.Packets.{Parcel, dd_parcel, parcel_if}
 abbrev pub candidate_of : NeighbourValue → Candidate
 candidate_of n = record { id = n.router; address = n.address; priority = n.declared.priority; dr = n.declared.dr; backup = n.declared.backup }
 
--- the neighbours in 2-Way or above (9.4, step 1)
-abbrev pub taking_part : List NeighbourValue → List Candidate
-taking_part ns = map candidate_of (filter (λ n. is_two_way n.state) ns)
-
--- and the router itself
+-- the router itself, and the neighbours in 2-Way or above (9.4, step 1)
 abbrev pub candidates_of : Iface → List NeighbourValue → List Candidate
-candidates_of i ns = own_candidate i ∷ taking_part ns
+candidates_of i ns = own_candidate i ∷ map candidate_of (filter (λ (n : NeighbourValue). is_two_way n.state) ns)
 
 -- ---- AdjOK?
 

@@ -24,7 +24,7 @@ use Rattle.ospf_area.specs.Turns.{Turn, request_turn}
 use Rattle.ospf_area.specs.Packing.{IsFilled}
 use Rattle.ospf_area.specs.Sending.{packet_of}
 use Rattle.ospf_area.specs.declared.sending.Own.{Own}
-use Rattle.ospf_area.specs.Packets.{Parcel, dd_body}
+use Rattle.ospf_area.specs.Packets.{Parcel, dd_parcel}
 
 -- a neighbour goes on: new on its lists are copies of the database and, on the request list, what it told; a list is left only
 -- below Exchange
@@ -133,6 +133,6 @@ DescriptionKeepsRouter = (i : Iface) (local : Local) (sender : RouterId) (d : De
 -- a Database Description of the exchange has the first headers of the summary list, as many as fit the MTU, and the others stay on the
 -- list (10.8)
 abbrev pub DescriptionsAreFilled : Type 0
-DescriptionsAreFilled = (own : Own) (local : Local) (number : ℕ) (n : NeighbourValue) → ip_header + packet_header + description_fields ≤ local.mtu
-    → (fields : Description) × (dd_body local.mtu (describes local number n) ≡ description fields (describes local number n).last_dd)
+DescriptionsAreFilled = (own : Own) (i : Iface) (local : Local) (number : ℕ) (n : NeighbourValue) → ip_header + packet_header + description_fields ≤ local.mtu
+    → (fields : Description) × ((dd_parcel i local.mtu (describes local number n)).body ≡ description fields (describes local number n).last_dd)
     × IsFilled (λ headers. packet_of own (description fields headers)) local.mtu n.summary (describes local number n).last_dd (describes local number n).summary

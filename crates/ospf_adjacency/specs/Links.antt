@@ -15,21 +15,21 @@ use Rattle.ospf_adjacency.specs.Heard.{is_waiting, is_settled}
 
 -- ---- Hellos that go out
 
--- the fields of the Hello that an interface sends: the DR and the Backup are 0.0.0.0 where the link has two ends (9.5)
-abbrev pub own_hello : Iface → Hello
-own_hello i = record {
-  mask = i.settings.mask;
-  hello_interval = i.settings.hello;
-  options = router_options;
-  priority = i.settings.priority;
-  dead_interval = i.settings.dead;
-  designated = (if is_broadcast i then i.dr else nowhere);
-  backup = (if is_broadcast i then i.backup else nowhere);
-}
-
--- the Hello that a link sends to all: it names the link's neighbours (9.5)
+-- the Hello that a link sends to all: it names the link's neighbours. The DR and the Backup are 0.0.0.0 where the link has two
+-- ends (9.5)
 abbrev pub hello_parcel : Iface → List NeighbourValue → Parcel
-hello_parcel i ns = record { destination = all_spf_routers; body = hello (own_hello i) (map (λ n. n.router) ns) }
+hello_parcel i ns = record {
+  destination = all_spf_routers;
+  body = hello (record {
+    mask = i.settings.mask;
+    hello_interval = i.settings.hello;
+    options = router_options;
+    priority = i.settings.priority;
+    dead_interval = i.settings.dead;
+    designated = (if is_broadcast i then i.dr else nowhere);
+    backup = (if is_broadcast i then i.backup else nowhere);
+  }) (map (λ n. n.router) ns);
+}
 
 -- a Hello is due: the link is up, and HelloInterval is over (9.5)
 abbrev pub is_hello_due : Iface → Bool
@@ -55,12 +55,9 @@ down i = if is_down i.state then i else iface_stopped i
 abbrev pub is_inactive : NeighbourValue → Bool
 is_inactive n = n.inactivity == 1
 
-abbrev pub inactivity_ticked : NeighbourValue → NeighbourValue
-inactivity_ticked n = record n { inactivity = n.inactivity - 1 }
-
 -- the neighbours a tick later: the inactive ones are removed (10.3, InactivityTimer)
 abbrev pub timed : List NeighbourValue → List NeighbourValue
-timed ns = map inactivity_ticked (filter (λ n. not (is_inactive n)) ns)
+timed ns = map (λ (n : NeighbourValue). record n { inactivity = n.inactivity - 1 }) (filter (λ n. not (is_inactive n)) ns)
 
 -- the wait timer, a tick later
 abbrev pub wait_ticked : Iface → Iface

@@ -1,9 +1,9 @@
 -- How copies of the database are packed into Updates (RFC 2328, sections 10.7, 13.3 and 13.6).
-use Rattle.std.specs.Prelude.{◌+◌, ◌-◌, ◌++◌, ◌||◌, ℕ, Bool, List, [], ◌∷◌, Option, None, Some, length, map, nat_le, if◌then◌else◌}
+use Rattle.std.specs.Prelude.{◌+◌, ◌-◌, ◌++◌, ◌||◌, ℕ, Bool, List, [], ◌∷◌, None, Some, length, map, nat_le, if◌then◌else◌}
 use Rattle.ospf_base.specs.Constants.{ip_header, packet_header}
 use Rattle.ospf_base.specs.declared.ids.Addr.{Addr}
 use Rattle.ospf_base.specs.declared.ids.LsaKey.{LsaKey}
-use Rattle.ospf_lsdb.specs.Database.{Entry, Held, entry_of, lsa_of}
+use Rattle.ospf_lsdb.specs.Database.{Held, entry_of, lsa_of}
 use Rattle.ospf_neighbour.specs.Neighbour.{is_empty}
 use Rattle.ospf_packet.specs.Meaning.{update}
 use Rattle.ospf_area.specs.Sending.{sent_lsa}
@@ -11,15 +11,10 @@ use Rattle.ospf_area.specs.Packets.{Parcel}
 
 -- ---- copies
 
--- the copy of an entry, if there is one, as it is sent: InfTransDelay older (13.3)
-abbrev pub with_copy : ℕ → Option Entry → List (List ℕ) → List (List ℕ)
-with_copy delay None rest = rest
-with_copy delay (Some e) rest = sent_lsa delay (lsa_of e) ∷ rest
-
--- the copies of these keys, as they are sent
+-- the copies of these keys, where there are any, as they are sent: InfTransDelay older (13.3)
 abbrev pub copies_of : List Held → ℕ → List LsaKey → List (List ℕ)
 copies_of db delay [] = []
-copies_of db delay (k ∷ ks) = with_copy delay (entry_of db k) (copies_of db delay ks)
+copies_of db delay (k ∷ ks) = elim (entry_of db k) [ None ↦ copies_of db delay ks | Some e ↦ sent_lsa delay (lsa_of e) ∷ copies_of db delay ks ]
 
 -- ---- Updates
 
@@ -39,13 +34,9 @@ bytes_in (lsa ∷ lsas) = length lsa + bytes_in lsas
 abbrev pub goes_in : ℕ → List (List ℕ) → List ℕ → Bool
 goes_in room batch lsa = is_empty batch || nat_le (length lsa) (room - bytes_in batch)
 
-abbrev pub last_batch : List (List ℕ) → List (List (List ℕ))
-last_batch [] = []
-last_batch (lsa ∷ lsas) = (lsa ∷ lsas) ∷ []
-
 -- LSAs in their order, as many in an Update as fit, behind those that are in the first one already
 abbrev pub packed : ℕ → List (List ℕ) → List (List ℕ) → List (List (List ℕ))
-packed room batch [] = last_batch batch
+packed room batch [] = elim batch [ [] ↦ [] | lsa ∷ lsas ↦ (lsa ∷ lsas) ∷ [] ]
 packed room batch (lsa ∷ lsas) = if goes_in room batch lsa then packed room (batch ++ lsa ∷ []) lsas else batch ∷ packed room (lsa ∷ []) lsas
 
 abbrev pub update_to : Addr → List (List ℕ) → Parcel

@@ -1,11 +1,12 @@
 -- What is sent again to one neighbour (RFC 2328, sections 10.8, 10.9 and 13.6).
-use Rattle.std.specs.Prelude.{◌&&◌, ◌++◌, ◌∷◌, [], ℕ, Bool, List, filter, map, if◌then◌else◌}
+use Rattle.std.specs.Prelude.{◌&&◌, ◌++◌, ◌∷◌, [], ℕ, List, filter, map, if◌then◌else◌}
 use Rattle.std.specs.List.{list_any}
 use Rattle.ospf_base.specs.Keys.{same_key}
 use Rattle.ospf_base.specs.declared.ids.LsaKey.{LsaKey}
 use Rattle.ospf_iface.specs.declared.machine.Iface.{Iface}
 use Rattle.ospf_lsdb.specs.Database.{Held, key_at}
 use Rattle.ospf_neighbour.specs.Neighbour.{NeighbourValue}
+use Rattle.ospf_neighbour.specs.declared.neighbour.Listed.{Listed}
 use Rattle.ospf_exchange.specs.Requests.{asked_next}
 use Rattle.ospf_exchange.specs.Timers.{dd_due, request_repeat_due}
 use Rattle.ospf_exchange.specs.declared.rule.Local.{Local}
@@ -27,13 +28,10 @@ request_again i local retransmit t =
     then record t { neighbour = asked_next local.mtu local.tick t.neighbour; sent = t.sent ++ request_parcel i (asked_next local.mtu local.tick t.neighbour) ∷ [] }
     else t
 
--- an entry of the key is due on the neighbour's retransmission list (13.6)
-abbrev pub is_key_due : ℕ → ℕ → NeighbourValue → LsaKey → Bool
-is_key_due retransmit tick n key = list_any (λ l. is_resend_due retransmit tick l && same_key l.instance.key key) n.retransmission
-
--- the keys of the database of which an entry is due, in their order: each once
+-- the keys of the database of which an entry is due on the neighbour's retransmission list (13.6), in their order: each once
 abbrev pub due_keys : ℕ → ℕ → List Held → NeighbourValue → List LsaKey
-due_keys retransmit tick db n = filter (is_key_due retransmit tick n) (map key_at db)
+due_keys retransmit tick db n =
+    filter (λ key. list_any (λ (l : Listed). is_resend_due retransmit tick l && same_key l.instance.key key) n.retransmission) (map key_at db)
 
 -- its DD packet, then its Request, then the copies of what is due on its retransmission list
 abbrev pub repeats_turn : Iface → Local → ℕ → ℕ → List Held → Turn → Turn

@@ -1,7 +1,7 @@
 //! Where an adjacency is wanted, and how one begins.
 
 ghost use Rattle.std.specs.Prelude.{◌≡◌, OnOk};
-ghost use Rattle.ospf_adjacency.specs.Adjacency.{is_broadcast, is_chosen, wants_adjacency, is_beginning, begins_by, event_taken, number_by};
+ghost use Rattle.ospf_adjacency.specs.Adjacency.{is_broadcast, is_chosen, wants_adjacency, begins_by, event_taken, number_by};
 ghost use Rattle.ospf_adjacency.specs.Descriptions.{event_turn};
 ghost use Rattle.ospf_area.specs.Turns.{turn};
 
@@ -69,16 +69,10 @@ fn count_event(neighbour: &mut Neighbour, event: NbrEvent, at: &OnLink, post: &m
 {
     let next = post.next();
     let change = neighbour.event(event, at.iface.settings.dead);
-    if !is_beginning(change.effect) {
+    if !matches!(change.effect, Effect::AdjacencyBegins) {
         return false;
     }
     begin(neighbour, next, at.local.tick);
     post.set_next(next.wrapping_add(1));
     true
-}
-
-fn is_beginning(effect: Effect) -> bool
-    ensures { result ≡ is_beginning effect }
-{
-    matches!(effect, Effect::AdjacencyBegins)
 }

@@ -1,9 +1,11 @@
 //! Requests that are answered.
 
-ghost use Rattle.std.specs.Prelude.{◌≡◌, IsTrue, IfOk, OnOk};
+ghost use Rattle.std.specs.Prelude.{◌≡◌, IsTrue, IfOk, OnOk, None, Some};
+ghost use Rattle.ospf_lsdb.specs.Database.{instance_at};
+ghost use Rattle.ospf_neighbour.specs.Lists.{resent};
 ghost use Rattle.ospf_neighbour.specs.Machine.{is_exchanging};
 ghost use Rattle.ospf_area.specs.Turns.{turn};
-ghost use Rattle.ospf_adjacency.specs.Answers.{resent_copy, resent_keys, copies_turn, answered_keys, answer_turn};
+ghost use Rattle.ospf_adjacency.specs.Answers.{resent_keys, copies_turn, answered_keys, answer_turn};
 
 use crate::adjacency::take_event;
 use crate::packing::send_copies;
@@ -87,7 +89,11 @@ fn resend_keys(neighbour: &mut Neighbour, keys: &BTreeSet<LsaKey>, database: &Ls
 
 // A copy counts as sent to the neighbour.
 fn resend_copy(neighbour: &mut Neighbour, copy: Option<EntryView<'_>>, tick: u64)
-    ensures { neighbour.new ≡ resent_copy copy.entry tick neighbour.old }
+    ensures { neighbour.new
+        ≡ (elim copy.entry [
+          | None ↦ neighbour.old
+          | Some e ↦ resent (instance_at e) tick neighbour.old
+        ]) }
 {
     if let Some(copy) = copy {
         neighbour.resend(&copy.instance(), tick);

@@ -1,10 +1,11 @@
 //! Links that go up and down, and their timers.
 
-ghost use Rattle.std.specs.Prelude.{◌≡◌, ◌&&◌, [], true, false, map, filter, not};
+ghost use Rattle.std.specs.Prelude.{◌≡◌, ◌&&◌, [], true, false, map, filter, not, ◌-◌};
 ghost use Rattle.std.specs.List.{list_any};
 ghost use Rattle.ospf_neighbour.specs.Machine.{is_two_way};
+ghost use Rattle.ospf_neighbour.specs.Neighbour.{NeighbourValue};
 ghost use Rattle.ospf_iface.specs.Machine.{is_down};
-ghost use Rattle.ospf_adjacency.specs.Links.{is_inactive, inactivity_ticked, timed, up, down, wait_ticked, elects_by_timers};
+ghost use Rattle.ospf_adjacency.specs.Links.{is_inactive, timed, up, down, wait_ticked, elects_by_timers};
 
 use crate::heard::{is_settled, is_waiting};
 use ospf_iface::{Iface, IfaceEvent};
@@ -75,7 +76,8 @@ fn is_inactive(neighbour: &Neighbour) -> bool
 
 // The inactivity timers count.
 fn count(neighbours: &mut [Neighbour])
-    ensures { neighbours.new ≡ map inactivity_ticked neighbours.old }
+    ensures { neighbours.new
+        ≡ map (λ (n : NeighbourValue). record n { inactivity = n.inactivity - 1 }) neighbours.old }
 {
     for neighbour in neighbours.iter_mut() {
         let _ = neighbour.inactivity_tick();

@@ -14,7 +14,8 @@ use Rattle.ospf_area.specs.Changes.{changed_at, changed_if, changed_link, change
 use Rattle.ospf_area.specs.Flooding.{flooded_link, flooded_links, flooded_neighbour, on_link, released, released_link}
 use Rattle.ospf_area.specs.Laws.{changed_there, turned_there}
 use Rattle.ospf_area.specs.Places.{map_from}
-use Rattle.ospf_area.specs.State.{LinkValue, neighbour_at, neighbours_in}
+use Rattle.ospf_area.specs.State.{LinkValue, neighbour_at}
+use Rattle.ospf_area.proofs.Words.{neighbours_in}
 use Rattle.ospf_area.specs.declared.changes.AdjacencyChange.{AdjacencyChange}
 use Rattle.ospf_area.specs.declared.flooding.Origin.{Origin}
 use Rattle.ospf_area.specs.declared.sending.Own.{Own}

@@ -7,3 +7,4 @@ pub mod NumberLemmas
 pub mod WaitLemmas
 pub mod ShortLemmas
 pub mod PackLemmas
+pub mod Words

@@ -2,12 +2,13 @@
 use Rattle.std.proofs.Common.{◌≡◌, ℕ, ◌==◌, Bool, true, false, if◌then◌else◌, refl}
 use Rattle.ospf_base.specs.declared.ids.LsaKey.{LsaKey}
 use Rattle.ospf_base.specs.declared.ids.RouterId.{RouterId}
-use Rattle.ospf_flood.specs.Offers.{flooded, after_offer, offer_to}
+use Rattle.ospf_flood.specs.Offers.{flooded, offer_to}
+use Rattle.ospf_flood.proofs.Words.{after_offer}
 use Rattle.ospf_flood.specs.declared.offer.Offer.{Offer}
 use Rattle.ospf_flood.specs.declared.offer.Offer.TheVariants.{PassesOver, Satisfies, Lists}
 use Rattle.ospf_lsa.specs.declared.header.LsaHeader.{LsaHeader}
 use Rattle.ospf_neighbour.specs.Machine.{transition}
-use Rattle.ospf_neighbour.specs.Neighbour.{NeighbourValue, with_effect, is_empty}
+use Rattle.ospf_neighbour.specs.Neighbour.{NeighbourValue, is_empty, with_effect}
 use Rattle.ospf_neighbour.specs.declared.machine.Effect.{Effect}
 use Rattle.ospf_neighbour.specs.declared.machine.Effect.TheVariants.{Nothing, TimerRestarts, AdjacencyBegins, ExchangeBegins, ListsEmptied, Removed}
 use Rattle.ospf_neighbour.specs.declared.machine.NbrEvent.{NbrEvent}

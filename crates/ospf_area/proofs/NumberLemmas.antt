@@ -13,7 +13,8 @@ use Rattle.ospf_base.specs.declared.ids.LsaKey.{LsaKey}
 use Rattle.ospf_base.specs.declared.ids.RouterId.{RouterId}
 use Rattle.ospf_area.specs.Numbers.{counted, counted_one, is_numbering_of, marked, unmarked}
 use Rattle.ospf_lsdb.specs.Moments.{among}
-use Rattle.ospf_area.specs.State.{kept_in, numbering_of}
+use Rattle.ospf_area.specs.State.{numbering_of}
+use Rattle.ospf_area.proofs.Words.{kept_in}
 use Rattle.ospf_area.specs.declared.state.Numbering.{Numbering}
 use Rattle.ospf_area.proofs.LawLemmas.{find-map}
 

@@ -6,7 +6,7 @@ use Rattle.std.proofs.Math.Nat.{mul-le-mul_right}
 use Rattle.ospf_lsa.specs.declared.header.LsaHeader.{LsaHeader}
 use Rattle.ospf_packet.specs.Meaning.{BodyMeaning, Meaning, packet_body_bytes}
 use Rattle.ospf_packet.proofs.BodyLengths.{request_length}
-use Rattle.ospf_exchange.specs.Requests.{request_room}
+use Rattle.ospf_exchange.proofs.Words.{request_room}
 use Rattle.ospf_area.specs.Asking.{entry_for}
 use Rattle.ospf_area.specs.Laws.{RequestsAreFilled, request_for}
 use Rattle.ospf_area.specs.Packing.{IsFilled, ip_length}

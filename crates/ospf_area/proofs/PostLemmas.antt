@@ -4,13 +4,14 @@ use Rattle.std.specs.List.{flat_map}
 use Rattle.std.proofs.lemmas.List.{append_assoc, append-nil}
 use Rattle.ospf_base.specs.declared.ids.Addr.{Addr}
 use Rattle.ospf_iface.specs.declared.machine.Iface.{Iface}
-use Rattle.ospf_area.specs.Asking.{loaded, turn_request, turn_requests_on}
+use Rattle.ospf_area.specs.Asking.{loaded, turn_requests_on}
 use Rattle.ospf_area.specs.Outputs.{OutputsValue, SentValue}
 use Rattle.ospf_area.specs.Sending.{and_sends, sent_lsa, update_out, way_out}
 use Rattle.ospf_area.specs.declared.sending.Own.{Own}
 use Rattle.ospf_area.proofs.SendingLemmas.{sends_more}
 use Rattle.ospf_area.specs.Packets.{Parcel, lsa_parcel, parcel_if, request_parcel}
-use Rattle.ospf_area.specs.Posting.{PostValue, and_parcels, local_by, local_of, posted, posted_all}
+use Rattle.ospf_area.specs.Posting.{PostValue, and_parcels, local_by, local_of, posted_all}
+use Rattle.ospf_area.proofs.Words.{posted, turn_request}
 use Rattle.ospf_area.specs.Turns.{Turn, all_next_parcels, next_parcels, request_turn, turn}
 use Rattle.ospf_area.specs.State.{LinkValue}
 use Rattle.ospf_area.specs.declared.post.OnLink.{OnLink}

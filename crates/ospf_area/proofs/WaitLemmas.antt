@@ -5,7 +5,8 @@ use Rattle.std.specs.Option.{option_map}
 use Rattle.ospf_base.specs.declared.ids.Instance.{Instance}
 use Rattle.ospf_base.specs.declared.ids.LsaKey.{LsaKey}
 use Rattle.ospf_flood.proofs.LawLemmas.{flood_takes, flooded_is_put}
-use Rattle.ospf_flood.specs.Offers.{instance_with, looked_at, offer_by, offer_over}
+use Rattle.ospf_flood.specs.Offers.{instance_with, looked_at, offer_by}
+use Rattle.ospf_flood.proofs.Words.{offer_over}
 use Rattle.ospf_flood.specs.declared.offer.Offer.TheVariants.{PassesOver, Lists}
 use Rattle.ospf_lsa.specs.Recency.{recency}
 use Rattle.ospf_lsa.specs.declared.header.LsaHeader.{LsaHeader}

@@ -26,7 +26,7 @@ use Rattle.ospf_area.specs.Outputs.{SentValue}
 use Rattle.ospf_area.specs.Packing.{IsFilled}
 use Rattle.ospf_area.specs.Sending.{datagrams, packet_of, update_out}
 use Rattle.ospf_lsdb.specs.Moments.{among}
-use Rattle.ospf_area.specs.State.{AreaValue, LinkValue, WaitsIn, kept_in, kept_number, neighbour_at, numbering_of}
+use Rattle.ospf_area.specs.State.{AreaValue, LinkValue, WaitsIn, kept_number, neighbour_at, numbering_of}
 use Rattle.ospf_area.specs.declared.changes.AdjacencyChange.{AdjacencyChange}
 use Rattle.ospf_area.specs.declared.flooding.Origin.{Origin}
 use Rattle.ospf_area.specs.declared.sending.Own.{Own}
@@ -102,7 +102,8 @@ FloodReaches = (key : LsaKey) (h : LsaHeader) (from : Option Origin) (tick : ℕ
 -- of the router's own keys the greatest number is kept, and no other number changes (12.1.6)
 abbrev pub KeepsGreatest : Type 0
 KeepsGreatest = (key : LsaKey) (number : ℤ) (s : AreaValue) (k : LsaKey)
-    → kept_in s.floor (numbering_of (counts key number s) k) ≡ (if same_key key k && is_own s.router k then int_max (kept_number s k) number else kept_number s k)
+    → (elim (numbering_of (counts key number s) k) [ None ↦ s.floor | Some n ↦ n.kept ])
+    ≡ (if same_key key k && is_own s.router k then int_max (kept_number s k) number else kept_number s k)
 
 -- a mark is one of its key (13, step 8)
 abbrev pub MarksOne : Type 0

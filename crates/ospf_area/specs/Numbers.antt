@@ -4,7 +4,6 @@ use Rattle.std.specs.Int.{int_max}
 use Rattle.std.specs.BTreeSet.{insert_key}
 use Rattle.std.specs.List.{list_any}
 use Rattle.ospf_base.specs.Keys.{same_key, key_cmp}
-use Rattle.ospf_base.specs.declared.ids.Kind.{Kind}
 use Rattle.ospf_base.specs.declared.ids.Kind.TheVariants.{Router, Network}
 use Rattle.ospf_base.specs.declared.ids.LsaKey.{LsaKey}
 use Rattle.ospf_base.specs.declared.ids.RouterId.{RouterId}
@@ -39,15 +38,11 @@ greatest_after key number s = if is_own s.router key then int_max s.greatest num
 
 -- ---- what the router answers itself
 
-abbrev pub is_network : Kind → Bool
-is_network Router = false
-is_network Network = true
-
 -- the LSA is self-originated: its Advertising Router is this one, or it is of a network whose DR's address is one of the
 -- router's own (13.4)
 abbrev pub is_self_originated : RouterId → List LinkValue → LsaKey → Bool
 is_self_originated router links key =
-    is_own router key || (is_network key.kind && list_any (λ (link : LinkValue). link.iface.settings.address.0 == key.id) links)
+    is_own router key || (elim key.kind [ Router ↦ false | Network ↦ true ] && list_any (λ (link : LinkValue). link.iface.settings.address.0 == key.id) links)
 
 -- ---- what went out in this tick
 

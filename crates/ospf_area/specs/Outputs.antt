@@ -15,13 +15,9 @@ pub record SentValue : Type 0 where
   pub bytes : List ℕ
   pub packet : Meaning
 
--- its bytes are read as its packet
-abbrev pub IsReadAsSent : SentValue → Type 0
-IsReadAsSent d = packet_of d.bytes ≡ Some d.packet
-
--- and so are those of all
+-- the bytes of each are read as its packet
 abbrev pub AreReadAsSent : List SentValue → Type 0
-AreReadAsSent ds = All IsReadAsSent ds
+AreReadAsSent ds = All (λ (d : SentValue). packet_of d.bytes ≡ Some d.packet) ds
 
 -- the datagrams sent, the instances installed from an Update or acknowledged as expired without a copy (13), the LSAs
 -- issued, as bytes (12.4), and the keys whose numbering run it ended (12.1.6)

@@ -18,11 +18,11 @@ abbrev pub parcel_if : Bool → Parcel → List Parcel
 parcel_if b p = if b then p ∷ [] else []
 
 -- the last DD packet sent to the neighbour, or to be sent to it (10.8)
-abbrev pub dd_body : ℕ → NeighbourValue → BodyMeaning
-dd_body mtu n = description (record { mtu = mtu; options = router_options; flags = n.exchanging.flags; number = n.exchanging.number }) n.last_dd
-
 abbrev pub dd_parcel : Iface → ℕ → NeighbourValue → Parcel
-dd_parcel i mtu n = record { destination = to_address i n.address; body = dd_body mtu n }
+dd_parcel i mtu n = record {
+  destination = to_address i n.address;
+  body = description (record { mtu = mtu; options = router_options; flags = n.exchanging.flags; number = n.exchanging.number }) n.last_dd;
+}
 
 -- the last Request sent to the neighbour, or to be sent to it (10.9)
 abbrev pub request_parcel : Iface → NeighbourValue → Parcel

@@ -27,10 +27,6 @@ pub record PostValue : Type 0 where
 abbrev pub and_parcels : PostValue → List Parcel → PostValue
 and_parcels p ps = record p { sent = p.sent ++ ps }
 
--- a packet that goes out of link l, as it is sent
-abbrev pub posted : Own → ℕ → Iface → Parcel → List SentValue
-posted own l i p = datagrams (way_out l i p.destination) (packet_of own p.body)
-
--- packets that go out of link l, in their order
+-- packets that go out of link l, in their order, as they are sent
 abbrev pub posted_all : Own → ℕ → Iface → List Parcel → List SentValue
-posted_all own l i ps = flat_map (posted own l i) ps
+posted_all own l i ps = flat_map (λ (p : Parcel). datagrams (way_out l i p.destination) (packet_of own p.body)) ps

@@ -1,5 +1,5 @@
 -- A router's part of an area, as its laws read it (RFC 2328, sections 8 to 13).
-use Rattle.std.specs.Prelude.{ℕ, ℤ, Bool, List, [], Option, None, Some, find, slice_get}
+use Rattle.std.specs.Prelude.{ℕ, ℤ, Bool, List, [], Option, None, Some, find, slice_get, option_map}
 use Rattle.std.specs.List.{list_any}
 use Rattle.ospf_base.specs.Keys.{same_key}
 use Rattle.ospf_base.specs.declared.ids.AreaId.{AreaId}
@@ -52,27 +52,17 @@ pub record AreaValue : Type 0 where
 
 -- ---- what is read of it
 
--- the neighbours of a link that may not be there
-abbrev pub neighbours_in : Option LinkValue → List NeighbourValue
-neighbours_in None = []
-neighbours_in (Some link) = link.neighbours
-
--- what router q is on link l
+-- what router q is on link l, which may not be there
 abbrev pub neighbour_at : List LinkValue → ℕ → RouterId → Option NeighbourValue
-neighbour_at links l q = neighbour_of (neighbours_in (slice_get links l)) q
+neighbour_at links l q = neighbour_of (elim (slice_get links l) [ None ↦ [] | Some link ↦ link.neighbours ]) q
 
 -- what it is to this router
 abbrev pub neighbour : AreaValue → ℕ → RouterId → Option NeighbourValue
 neighbour s l q = neighbour_at s.links l q
 
--- the state of a neighbour: one that is not there is Down (10.1)
-abbrev pub state_in : Option NeighbourValue → NeighbourState
-state_in None = Down
-state_in (Some n) = n.state
-
 -- the state of router q on link l: Down where it is no neighbour there (10.1)
 abbrev pub state_of : AreaValue → ℕ → RouterId → NeighbourState
-state_of s l q = state_in (neighbour s l q)
+state_of s l q = elim (neighbour s l q) [ None ↦ Down | Some n ↦ n.state ]
 
 -- the instance waits for the acknowledgement of a neighbour that may not be there
 abbrev pub WaitsIn : Option NeighbourValue → Instance → Type 0
@@ -87,14 +77,9 @@ Awaits s l q i = WaitsIn (neighbour s l q) i
 abbrev pub database_entry : AreaValue → LsaKey → Option Entry
 database_entry s key = lsdb.entry_of s.database key
 
--- its bytes, at the present age
-abbrev pub copy_in : Option Entry → Option (List ℕ)
-copy_in None = None
-copy_in (Some e) = Some (lsa_of e)
-
--- the database's copy of a key, at the present age, if it has one (12.2)
+-- the bytes of the database's copy of a key, at the present age, if it has one (12.2)
 abbrev pub copy_of : AreaValue → LsaKey → Option (List ℕ)
-copy_of s key = copy_in (database_entry s key)
+copy_of s key = option_map lsa_of (database_entry s key)
 
 -- some neighbour of the router is in Exchange or Loading (13, step 4; 14)
 abbrev pub some_link_loading : List LinkValue → Bool
@@ -106,13 +91,6 @@ some_link_loading links = list_any (λ (link : LinkValue). some_loading link.nei
 abbrev pub numbering_of : List Numbering → LsaKey → Option Numbering
 numbering_of numbering key = find (λ n. same_key n.key key) numbering
 
--- the number kept for a key: the next one issued is one more (12.1.6)
-abbrev pub kept_in : ℤ → Option Numbering → ℤ
-kept_in floor None = floor
-kept_in floor (Some n) = n.kept
-
--- the number that the router keeps for a key: the floor, if the key was not numbered (12.1.6)
+-- the number that the router keeps for a key: the floor, if the key was not numbered. The next one issued is one more (12.1.6)
 abbrev pub kept_number : AreaValue → LsaKey → ℤ
-kept_number s key = kept_in s.floor (numbering_of s.numbering key)
-
--- ---- what went out in this tick
+kept_number s key = elim (numbering_of s.numbering key) [ None ↦ s.floor | Some n ↦ n.kept ]

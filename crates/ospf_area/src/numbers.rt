@@ -3,7 +3,7 @@
 ghost use Rattle.std.specs.Prelude.{◌≡◌, ◌==◌, OnOk, map};
 ghost use Rattle.std.specs.Int.{int_max};
 ghost use Rattle.std.specs.List.{list_any};
-ghost use Rattle.ospf_area.specs.Numbers.{is_numbering_of, counted_one, counted, is_own, counts, greatest_after, is_network, is_self_originated, unmarked, marked};
+ghost use Rattle.ospf_area.specs.Numbers.{is_numbering_of, counted_one, counted, is_own, counts, greatest_after, is_self_originated, unmarked, marked};
 ghost use Rattle.ospf_area.specs.State.{LinkValue};
 ghost use Rattle.ospf_lsdb.specs.Moments.{among};
 
@@ -54,7 +54,7 @@ pub fn is_self_originated(router: RouterId, links: &[AreaLink], key: &LsaKey) ->
     if is_own(router, key) {
         return true;
     }
-    is_network(key.kind) && has_address(links, key.id)
+    matches!(key.kind, Kind::Network) && has_address(links, key.id)
 }
 
 /// Whether the copy of a key was sent in an Update in this tick (section 13, step 8).
@@ -115,12 +115,6 @@ fn larger(a: i32, b: i32) -> i32
     ensures { result ≡ int_max a b }
 {
     if b < a { a } else { b }
-}
-
-fn is_network(kind: Kind) -> bool
-    ensures { result ≡ is_network kind }
-{
-    matches!(kind, Kind::Network)
 }
 
 // Whether an interface has this address.

@@ -8,7 +8,8 @@ use Rattle.ospf_lsdb.specs.Database.{Entry, Held, AreKeysRising, entries, instan
 use Rattle.ospf_lsdb.proofs.EntryLemmas.{key_of-with_age}
 use Rattle.ospf_neighbour.specs.OneAKey.{IsAloneOfKeys}
 use Rattle.ospf_neighbour.specs.declared.neighbour.Listed.{Listed}
-use Rattle.ospf_exchange.specs.Headers.{expired_of, listed_at}
+use Rattle.ospf_exchange.specs.Headers.{listed_at}
+use Rattle.ospf_exchange.proofs.Words.{expired_of}
 
 abbrev AllApart : LsaKey → List Listed → Type 0
 AllApart key ls = AllByRecursion (λ (l : Listed). same_key key l.instance.key ≡ false) ls

@@ -5,3 +5,4 @@ pub mod LawLemmas
 pub mod NotTakenLemmas
 pub mod RouterLemmas
 pub mod AloneLemmas
+pub mod Words

@@ -10,7 +10,7 @@ use Rattle.ospf_base.specs.declared.ids.Kind.TheVariants.{Router, Network}
 use Rattle.ospf_lsa.specs.Lsa.{key_of, instance_of, kind_of}
 use Rattle.ospf_lsa.specs.Listing.{IsRising}
 use Rattle.ospf_graph.specs.Advertisements.{Advertisement}
-use Rattle.ospf_edges.specs.Listed.{advertisement_by, advertisement_of, advertisements_of}
+use Rattle.ospf_edges.specs.Listed.{advertisement_of, advertisements_of, advertisement_by}
 use Rattle.ospf_headline.specs.Listings.{ListsInstance, ListTheSame, AgreeByInstance}
 use Rattle.ospf_step.proofs.SentFacts.{first_or_later}
 

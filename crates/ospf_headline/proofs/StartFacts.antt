@@ -1,6 +1,7 @@
 -- A router that starts can name nothing and asks for nothing.
 use Rattle.std.proofs.Common.{◌≡◌, ℕ, zero, suc, ℤ, List, [], ◌∷◌, length, refl, sym, ap, subst, Contains, slice_get}
-use Rattle.ospf_area.specs.State.{AreaValue, LinkValue, WaitsIn, neighbours_in}
+use Rattle.ospf_area.specs.State.{AreaValue, LinkValue, WaitsIn}
+use Rattle.ospf_area.proofs.Words.{neighbours_in}
 use Rattle.ospf_base.specs.declared.ids.Instance.{Instance}
 use Rattle.ospf_base.specs.declared.ids.RouterId.{RouterId}
 use Rattle.ospf_config.specs.declared.config.Config.{Config}
@@ -8,11 +9,11 @@ use Rattle.ospf_config.specs.declared.interface.Interface.{Interface}
 use Rattle.ospf_headline.specs.World.{IsRunningStarted}
 use Rattle.ospf_headline.specs.declared.logs.Issued.{Issued}
 use Rattle.ospf_headline.specs.declared.logs.Run.{Run}
-use Rattle.ospf_step.proofs.StateFacts.{Contains-nil}
+use Rattle.ospf_step.proofs.StateFacts.{Contains-nil, list_in, delayed_in}
 use Rattle.ospf_step.specs.Counts.{none_dropped_on}
 use Rattle.ospf_step.specs.Headers.{Lists}
 use Rattle.ospf_step.specs.declared.counts.DropCounts.{DropCounts}
-use Rattle.ospf_step.specs.Words.{Asks, CanName, delayed_in, list_in}
+use Rattle.ospf_step.specs.Words.{Asks, CanName}
 use Rattle.ospf_lsa.specs.declared.header.LsaHeader.{LsaHeader}
 use Rattle.ospf_neighbour.specs.Neighbour.{NeighbourValue}
 use Rattle.ospf_neighbour.specs.Neighbours.{neighbour_of}

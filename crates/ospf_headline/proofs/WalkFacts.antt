@@ -12,7 +12,8 @@ use Rattle.ospf_graph.specs.Routes.{IsTable, IsRoute}
 use Rattle.ospf_graph.specs.Walk.{HaveTables, IsBest, IsWalkStep, IsWalk, IsOnWay, IsSoundWalk, IsLinkCost}
 use Rattle.ospf_graph.specs.declared.route.Route.{Route}
 use Rattle.ospf_spf.specs.Walks as spf
-use Rattle.ospf_area.specs.State.{copy_in, database_entry}
+use Rattle.ospf_area.specs.State.{database_entry}
+use Rattle.ospf_area.proofs.Words.{copy_in}
 use Rattle.ospf_step.specs.Words.{HasCopy}
 use Rattle.ospf_step.proofs.StateFacts.{same_contents, key_of-lsa_of, Contains-map, Contains-map_cases, Contains-filter_cases}
 use Rattle.ospf_headline.specs.Listings.{ListTheSame, AgreeByInstance}

@@ -5,7 +5,8 @@ use Rattle.std.proofs.lemmas.List.Elements.{Contains-append_left, Contains-push,
 use Rattle.std.proofs.lemmas.Bool.Decides.{eqb_tells}
 use Rattle.ospf_base.specs.declared.ids.RouterId.{RouterId}
 use Rattle.ospf_iface.specs.declared.candidate.Candidate.{Candidate}
-use Rattle.ospf_iface.specs.Election.{Outranks, IsBestIn, HasNoneIn, declaring, declared, AreDistinct}
+use Rattle.ospf_iface.specs.Election.{Outranks, IsBestIn, HasNoneIn, declaring, AreDistinct}
+use Rattle.ospf_iface.proofs.Words.{declared}
 use Rattle.ospf_iface.specs.Choice.{BestOr}
 use Rattle.ospf_iface.specs.Choice.BestOr.{Outside, Stays, First, Follows}
 use Rattle.ospf_iface.proofs.Members.{no_member, map_same, one_member}

@@ -53,23 +53,13 @@ pub record IsElectionRound (candidates : List Candidate) (e : Elected) : Type 0 
   pub backup : IsBackup candidates e.backup
   pub dr : IsDr candidates e.backup e.dr
 
--- by this result the router is the DR; the Backup
-abbrev pub is_dr : Candidate → Elected → Bool
-is_dr c e = e.dr.0 == c.address.0
-
-abbrev pub is_backup : Candidate → Elected → Bool
-is_backup c e = e.backup.0 == c.address.0
-
 abbrev pub differs : Bool → Bool → Bool
 differs a b = if a then not b else b
 
--- the DR and Backup that a router declares
-abbrev pub declared : Candidate → Elected
-declared c = record { dr = c.dr; backup = c.backup }
-
 -- the router is now newly DR or Backup, or is now no longer DR or Backup (9.4, step 4)
 abbrev pub changes_role : Candidate → Elected → Bool
-changes_role own e = differs (is_dr own (declared own)) (is_dr own e) || differs (is_backup own (declared own)) (is_backup own e)
+changes_role own e =
+    differs (own.dr.0 == own.address.0) (e.dr.0 == own.address.0) || differs (own.backup.0 == own.address.0) (e.backup.0 == own.address.0)
 
 -- a candidate, where it is the router itself with this as its declaration
 abbrev pub declaring : RouterId → Elected → Candidate → Candidate

@@ -1,5 +1,5 @@
 -- The interface state machine (RFC 2328, sections 9.1 to 9.4).
-use Rattle.std.specs.Prelude.{◌≡◌, ◌==◌, ◌&&◌, not, ℕ, ⊤, Bool, true, false, List, Contains, if◌then◌else◌}
+use Rattle.std.specs.Prelude.{◌≡◌, ◌==◌, ◌&&◌, not, ⊤, Bool, true, false, List, Contains, if◌then◌else◌}
 use Rattle.ospf_base.specs.Addresses.{nowhere}
 use Rattle.ospf_base.specs.declared.ids.Addr.{Addr}
 use Rattle.ospf_iface.specs.declared.candidate.Candidate.{Candidate}

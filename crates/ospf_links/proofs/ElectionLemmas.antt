@@ -7,7 +7,8 @@ use Rattle.ospf_area.specs.Sending.{and_sends}
 use Rattle.ospf_area.specs.State.{AreaValue, LinkValue}
 use Rattle.ospf_area.specs.declared.sending.Own.{Own}
 use Rattle.ospf_area.specs.Posting.{posted_all}
-use Rattle.ospf_links.specs.Elections.{IsReady, AreReady, ElectsAt, ElectsFrom, ElectsIf, ElectsThere}
+use Rattle.ospf_links.specs.Elections.{IsReady, AreReady, ElectsAt, ElectsFrom, ElectsIf}
+use Rattle.ospf_links.proofs.Words.{ElectsThere}
 
 -- the election of a link that is there
 pub elects_some : (now before after : AreaValue) (out out' : OutputsValue) (l : ℕ) (link link' : LinkValue) (next' : ℕ) (own : Own) (sent : List Parcel)

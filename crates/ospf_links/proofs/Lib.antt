@@ -1,4 +1,5 @@
 pub mod NeighbourLemmas
+pub mod Words
 pub mod WorkLemmas
 pub mod ElectionLemmas
 pub mod MarkLemmas

@@ -13,7 +13,8 @@ use Rattle.ospf_adjacency.specs.Heard.{Neighbourhood, neighbourhood, place_for, 
 use Rattle.ospf_adjacency.proofs.StayLemmas.{put_rises}
 use Rattle.ospf_adjacency.specs.Answers.{answer_turn}
 use Rattle.ospf_adjacency.proofs.QuietLemmas.{answers_are_quiet}
-use Rattle.ospf_links.specs.Parts.{request_by, request_on}
+use Rattle.ospf_links.specs.Parts.{request_on}
+use Rattle.ospf_links.proofs.Words.{request_by}
 use Rattle.ospf_links.proofs.NeighbourLemmas.{few_by}
 use Rattle.ospf_links.proofs.WorkLemmas.{is_found, is_put, named_by}
 

@@ -30,8 +30,9 @@ use Rattle.ospf_area.specs.State.{LinkValue}
 use Rattle.ospf_area.specs.declared.flooding.Origin.{Origin}
 use Rattle.ospf_area.specs.declared.sending.Own.{Own}
 use Rattle.ospf_exchange.specs.Laws.{KeepsRouter}
-use Rattle.ospf_links.specs.Parts.{description_comes, description_by, description_on, hello_comes, left_beside, request_at, request_by, request_on, with_neighbourhood}
-use Rattle.ospf_links.specs.Works.{work_sent, work_sent_on, up_out_on}
+use Rattle.ospf_links.specs.Parts.{description_comes, description_on, hello_comes, left_beside, request_at, request_on, with_neighbourhood}
+use Rattle.ospf_links.specs.Works.{work_sent, up_out_on, work_sent_on}
+use Rattle.ospf_links.proofs.Words.{description_by, request_by}
 
 -- nothing is sent
 pub none_sent : (out : OutputsValue) → out ≡ and_sends out []

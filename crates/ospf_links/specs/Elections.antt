@@ -1,5 +1,5 @@
 -- The elections that end a step, with AdjOK? (RFC 2328, section 9.4).
-use Rattle.std.specs.Prelude.{◌≡◌, ℕ, zero, suc, Bool, true, false, List, [], Option, None, Some, set, length, slice_get}
+use Rattle.std.specs.Prelude.{◌≡◌, ℕ, zero, suc, Bool, true, false, List, [], None, Some, set, length, slice_get}
 use Rattle.ospf_adjacency.specs.Elections.{AreOfLink, ElectsOn, elects_in}
 use Rattle.ospf_area.specs.Packets.{Parcel}
 use Rattle.ospf_area.specs.Outputs.{OutputsValue}
@@ -28,15 +28,14 @@ ElectsIf false own next link link' next' sent = (link' ≡ link) × (next' ≡ n
 ElectsIf true own next link link' next' sent = ElectsOnLink link.settings.mtu own.tick next link link' next' sent
 
 -- that of link l, which may not be there
-abbrev pub ElectsThere : Option LinkValue → ℕ → AreaValue → OutputsValue → AreaValue → OutputsValue → Type 0
-ElectsThere None l before out after out' = (after ≡ before) × (out' ≡ out)
-ElectsThere (Some link) l before out after out' =
-    (link' : LinkValue) × (next' : ℕ) × (sent : List Parcel) × ElectsIf link.elects (own_of before) before.next_dd link link' next' sent
-    × (after ≡ record before { links = set before.links l link'; next_dd = next' }) × (out' ≡ and_sends out (posted_all (own_of before) l link.iface sent))
-
--- that of link l
 abbrev pub ElectsAt : ℕ → AreaValue → OutputsValue → AreaValue → OutputsValue → Type 0
-ElectsAt l before out after out' = ElectsThere (slice_get before.links l) l before out after out'
+ElectsAt l before out after out' = elim (slice_get before.links l) [
+  | None ↦ (after ≡ before) × (out' ≡ out)
+  | Some link ↦
+      (link' : LinkValue) × (next' : ℕ) × (sent : List Parcel) × ElectsIf link.elects (own_of before) before.next_dd link link' next' sent
+      × (after ≡ record before { links = set before.links l link'; next_dd = next' })
+      × (out' ≡ and_sends out (posted_all (own_of before) l link.iface sent))
+]
 
 -- those of the first links, in their order
 abbrev pub ElectsFrom : ℕ → AreaValue → OutputsValue → AreaValue → OutputsValue → Type 0

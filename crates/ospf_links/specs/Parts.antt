@@ -5,7 +5,6 @@ use Rattle.ospf_base.specs.declared.ids.RouterId.{RouterId}
 use Rattle.ospf_iface.specs.declared.machine.Iface.{Iface}
 use Rattle.ospf_lsa.specs.declared.header.LsaHeader.{LsaHeader}
 use Rattle.ospf_lsdb.specs.Database.{Held}
-use Rattle.ospf_neighbour.specs.Neighbour.{NeighbourValue}
 use Rattle.ospf_neighbour.specs.Neighbours.{neighbour_of}
 use Rattle.ospf_packet.specs.declared.body.Description.{Description}
 use Rattle.ospf_packet.specs.declared.body.Hello.{Hello}
@@ -51,15 +50,14 @@ abbrev pub hello_part : Own → Origin → Hello → Bool → ℕ → LinkValue 
 hello_part own f h named next link =
     hello_on link.iface (local_of own link) f.router f.address h named (neighbourhood_of link next)
 
--- a Database Description of a neighbour that may not be there; in Init it may bring an election about (10.6)
-abbrev pub description_by : Option NeighbourValue → Iface → Local → RouterId → Description → List LsaHeader → List Held → Neighbourhood → Neighbourhood
-description_by None i local q d headers db x = x
-description_by (Some n) i local q d headers db x =
-    put_back (elects_by_change i.state n (description_turn i local q d headers db (turn_of n x)).neighbour) (description_turn i local q d headers db (turn_of n x)) x
-
--- that of router q
+-- a Database Description of router q, which may be no neighbour; in Init it may bring an election about (10.6)
 abbrev pub description_on : Iface → Local → RouterId → Description → List LsaHeader → List Held → Neighbourhood → Neighbourhood
-description_on i local q d headers db x = description_by (neighbour_of x.neighbours q) i local q d headers db x
+description_on i local q d headers db x = elim (neighbour_of x.neighbours q) [
+  | None ↦ x
+  | Some n ↦
+      put_back (elects_by_change i.state n (description_turn i local q d headers db (turn_of n x)).neighbour)
+      (description_turn i local q d headers db (turn_of n x)) x
+]
 
 -- a Database Description that comes on a link
 abbrev pub description_comes : Own → Origin → Description → List LsaHeader → List Held → PostValue → LinkValue
@@ -71,14 +69,10 @@ description_comes own f d headers db p link =
 abbrev pub description_part : Own → Origin → Description → List LsaHeader → List Held → ℕ → LinkValue → Neighbourhood
 description_part own f d headers db next link = description_on link.iface (local_of own link) f.router d headers db (neighbourhood_of link next)
 
--- a Request of a neighbour that may not be there (10.7)
-abbrev pub request_by : Option NeighbourValue → Iface → Local → ℕ → List Held → List RequestEntry → Neighbourhood → Neighbourhood
-request_by None i local delay db entries x = x
-request_by (Some n) i local delay db entries x = put_back false (answer_turn i local delay db entries (turn_of n x)) x
-
--- that of router q
+-- a Request of router q, which may be no neighbour (10.7)
 abbrev pub request_on : Iface → Local → RouterId → ℕ → List Held → List RequestEntry → Neighbourhood → Neighbourhood
-request_on i local q delay db entries x = request_by (neighbour_of x.neighbours q) i local delay db entries x
+request_on i local q delay db entries x =
+    elim (neighbour_of x.neighbours q) [ None ↦ x | Some n ↦ put_back false (answer_turn i local delay db entries (turn_of n x)) x ]
 
 -- a Request that comes on a link
 abbrev pub request_at : Own → Origin → List Held → List RequestEntry → PostValue → LinkValue → Neighbourhood
@@ -90,15 +84,10 @@ request_at own f db entries p link =
 abbrev pub request_part : Own → Origin → List Held → List RequestEntry → ℕ → LinkValue → Neighbourhood
 request_part own f db entries next link = request_on link.iface (local_of own link) f.router link.settings.transmit_delay db entries (neighbourhood_of link next)
 
--- the keys whose copies answer a Request of a neighbour that may not be there, and of router f on a link that may not be
--- there (10.7)
-abbrev pub answered_by : Option NeighbourValue → List Held → List RequestEntry → List LsaKey
-answered_by None db entries = []
-answered_by (Some n) db entries = answered_keys db entries
-
+-- the keys whose copies answer a Request of router q on a link, where both are there (10.7)
 abbrev pub answered_on : Option LinkValue → RouterId → List Held → List RequestEntry → List LsaKey
 answered_on None q db entries = []
-answered_on (Some link) q db entries = answered_by (neighbour_of link.neighbours q) db entries
+answered_on (Some link) q db entries = elim (neighbour_of link.neighbours q) [ None ↦ [] | Some n ↦ answered_keys db entries ]
 
 -- ---- links that go up and down
 

@@ -42,5 +42,3 @@ link_repeats_out own db l link = flat_map (repeats_to own l link.iface link.sett
 
 abbrev pub keys_out : Own → List Held → LinkValue → List LsaKey
 keys_out own db link = flat_map (due_keys link.settings.retransmit own.tick db) link.neighbours
-
--- ---- all links

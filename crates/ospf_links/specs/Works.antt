@@ -35,13 +35,9 @@ worked part l s =
 
 -- ---- changes of a link
 
-abbrev pub some_changed : Option LinkValue → (LinkValue → LinkValue) → ℕ → AreaValue → AreaValue
-some_changed None change l s = s
-some_changed (Some link) change l s = record s { links = set s.links l (change link) }
-
 -- the router after a change of link l
 abbrev pub link_changed : (LinkValue → LinkValue) → ℕ → AreaValue → AreaValue
-link_changed change l s = some_changed (slice_get s.links l) change l s
+link_changed change l s = elim (slice_get s.links l) [ None ↦ s | Some link ↦ record s { links = set s.links l (change link) } ]
 
 -- the first Hello of a link that goes up, if it is there (9.5)
 abbrev pub up_out_on : Option LinkValue → Own → ℕ → List SentValue

@@ -1,13 +1,14 @@
 //! Requests that come.
 
-ghost use Rattle.std.specs.Prelude.{◌≡◌, false, true, Some, IfOk, OnOk, slice_get};
+ghost use Rattle.std.specs.Prelude.{◌≡◌, false, true, Some, IfOk, OnOk, slice_get, [], None};
+ghost use Rattle.ospf_adjacency.specs.Answers.{answered_keys};
 ghost use Rattle.ospf_neighbour.specs.Machine.{is_exchanging};
 ghost use Rattle.ospf_neighbour.specs.Neighbour.{NeighbourValue};
 ghost use Rattle.ospf_neighbour.specs.Neighbours.{AreNeighboursRising, neighbour_of};
 ghost use Rattle.ospf_area.specs.Sending.{and_sends, own_of};
 ghost use Rattle.ospf_area.specs.State.{LinkValue};
 ghost use Rattle.ospf_adjacency.specs.Heard.{neighbourhood};
-ghost use Rattle.ospf_links.specs.Parts.{answered_by, answered_on, left_beside, request_at, request_on, request_part, with_neighbourhood};
+ghost use Rattle.ospf_links.specs.Parts.{answered_on, left_beside, request_at, request_on, request_part, with_neighbourhood};
 ghost use Rattle.ospf_links.specs.Repeats.{marked_all};
 ghost use Rattle.ospf_links.specs.Works.{work_sent, worked};
 
@@ -92,8 +93,10 @@ fn request_comes(
     ensures keys { IfOk result
         (λ keys.
         keys.keys
-        ≡ answered_by (neighbour_of link.old.neighbours from.router) database.now
-        requests.entry) }
+        ≡ (elim (neighbour_of link.old.neighbours from.router) [
+          | None ↦ []
+          | Some n ↦ answered_keys database.now requests.entry
+        ])) }
 {
     let at = OnLink::of(own, link);
     let delay = link.settings.transmit_delay;
@@ -124,7 +127,10 @@ fn answer_in(
     ensures keys { IfOk result
         (λ keys.
         keys.keys
-        ≡ answered_by (neighbour_of all.old.items from.router) database.now requests.entry) }
+        ≡ (elim (neighbour_of all.old.items from.router) [
+          | None ↦ []
+          | Some n ↦ answered_keys database.now requests.entry
+        ])) }
 {
     let place = place_for(all, from.router);
     if !is_at(all, place, from.router) {

@@ -1,7 +1,7 @@
 -- The keys of the entries at MaxAge, after each change of a database.
 use Rattle.std.proofs.Common.{◌≡◌, ◌<◌, ◌≤◌, ◌⊎◌, inl, inr, ℕ, ◌+◌, ◌==◌, ◌&&◌, ◌||◌, nat_lt, Bool, true, false, List, [], ◌∷◌, ◌++◌, filter, map, length, refl, ap, sym, ◌∙◌, subst, arith, Option, None, Some, option_map, if◌then◌else◌}
 use Rattle.std.proofs.lemmas.Bool.{lt-ltb}
-use Rattle.std.proofs.lemmas.List.{length-map}
+use Rattle.std.proofs.lemmas.List.{length-map, nil_from_length}
 use Rattle.ospf_base.specs.declared.ids.LsaKey.{LsaKey}
 use Rattle.ospf_base.specs.Keys.{Precedes, same_key}
 use Rattle.ospf_base.proofs.KeyOrder.{Precedes-cases}
@@ -268,13 +268,10 @@ index_ages a b before after is_a is_b ages index rises here room = index_from b 
         omega (arith, same, count, index.room, room)
 
 -- where none comes to MaxAge, the list stays as it is
-none_there : (ks : List LsaKey) → 0 ≡ length ks → ks ≡ []
-none_there [] is = refl
-none_there (k ∷ ks) is = absurd (omega (arith, is))
 
 pub index_stays : (a b : List Held) (list : KeysValue) → IsDatabase a → IsDatabase b → Ages a b → IsIndex a list → 0 ≡ length (reached_at 3600 b) → IsIndex b list
 index_stays a b list is_a is_b ages index none =
-    index_ages a b list list is_a is_b ages index (index_rises a list is_a index) (λ k. ap (λ (ks : List LsaKey). among ks k || among list.keys k) (sym (none_there (reached_at 3600 b) none))) (omega arith)
+    index_ages a b list list is_a is_b ages index (index_rises a list is_a index) (λ k. ap (λ (ks : List LsaKey). among ks k || among list.keys k) (sym (nil_from_length (reached_at 3600 b) (sym none)))) (omega arith)
 
 -- and there is room for all of them
 counted : (db : List Held) → length (expired_keys db) + length (reached_at 3600 (map older db)) ≤ length db

@@ -15,7 +15,8 @@ use Rattle.ospf_base.specs.declared.ids.Kind.{Kind}
 use Rattle.ospf_base.specs.declared.ids.Kind.TheVariants.{Router, Network}
 use Rattle.ospf_base.specs.declared.ids.LsaKey.{LsaKey}
 use Rattle.ospf_base.proofs.SameKeys.{same_instance-eq, same_key-eq, same_key-refl, same_key-turned}
-use Rattle.ospf_neighbour.specs.Lists.{AreKeysOf, is_key_listed, is_listed, is_of_instance, is_of_key, key_eq, sent_again, without_instance, without_key}
+use Rattle.ospf_neighbour.specs.Lists.{AreKeysOf, is_key_listed, is_listed, is_of_instance, key_eq, sent_again, without_instance, without_key}
+use Rattle.ospf_neighbour.proofs.Words.{is_of_key}
 use Rattle.ospf_neighbour.specs.OneAKey.{IsAloneOfKeys}
 use Rattle.ospf_neighbour.specs.declared.neighbour.Listed.{Listed}
 

@@ -9,4 +9,5 @@ mod ShortOwn
 mod SoundLemmas
 mod StaySound
 mod StepLemmas
+pub mod Words
 pub use Rattle.ospf_wanted.proofs.WantedLemmas

@@ -7,7 +7,8 @@ use Rattle.ospf_base.specs.Keys.{same_key}
 use Rattle.ospf_base.specs.declared.ids.LsaKey.{LsaKey}
 use Rattle.ospf_area.proofs.LawLemmas.{find-map}
 use Rattle.ospf_area.specs.Numbers.{counted, counted_one, is_numbering_of}
-use Rattle.ospf_area.specs.State.{kept_in, numbering_of}
+use Rattle.ospf_area.specs.State.{numbering_of}
+use Rattle.ospf_area.proofs.Words.{kept_in}
 use Rattle.ospf_area.specs.declared.state.Numbering.{Numbering}
 use Rattle.ospf_update.specs.Removal.{lowest_number, reset, reset_one}
 use Rattle.ospf_originate.specs.Numbers.{issued, issued_at_in, issued_one}

@@ -8,12 +8,14 @@ use Rattle.ospf_lsa.specs.Lsa.{key_of}
 use Rattle.ospf_area.proofs.NumberLemmas.{own_counted}
 use Rattle.ospf_area.specs.Numbers.{counted, counts, is_own}
 use Rattle.ospf_area.specs.Outputs.{OutputsValue}
-use Rattle.ospf_area.specs.State.{AreaValue, kept_in, kept_number, numbering_of}
+use Rattle.ospf_area.specs.State.{AreaValue, kept_number, numbering_of}
+use Rattle.ospf_area.proofs.Words.{kept_in}
 use Rattle.ospf_area.specs.declared.state.Numbering.{Numbering}
 use Rattle.ospf_update.specs.Aging.{turned_area}
 use Rattle.ospf_originate.specs.Numbers.{issued, issued_at_in}
 use Rattle.ospf_originate.specs.Sound.{IsSound}
-use Rattle.ospf_originate.specs.Steps.{Acts, ActsInTurn, Issues, IssuesIf, OwnLsas, wants}
+use Rattle.ospf_originate.specs.Steps.{Acts, Issues, IssuesIf, OwnLsas, wants}
+use Rattle.ospf_originate.proofs.Words.{ActsInTurn}
 use Rattle.ospf_wanted.specs.Wanted.{WantedValue, wanted_key, wanted_of}
 use Rattle.ospf_originate.specs.declared.action.DueAction.{DueAction}
 use Rattle.ospf_originate.specs.declared.action.OwnAction.{OwnAction}

@@ -7,7 +7,8 @@ use denote.Ref.{Bor}
 use Rattle.ospf_wanted.specs.Wanted.{WantedValue}
 use Rattle.ospf_area.specs.Outputs.{OutputsValue}
 use Rattle.ospf_area.specs.State.{AreaValue}
-use Rattle.ospf_originate.specs.Steps.{Acts, ActsInTurn}
+use Rattle.ospf_originate.specs.Steps.{Acts}
+use Rattle.ospf_originate.proofs.Words.{ActsInTurn}
 use Rattle.ospf_originate.specs.declared.action.DueAction.{DueAction}
 
 pick : {X Y : Type 0} → (f : X → Y) (b : Bool) (x : X) (o : Option X) (p : Option Y) → option_map f o ≡ p → option_map f (if b then Some x else o) ≡ (if b then Some (f x) else p)

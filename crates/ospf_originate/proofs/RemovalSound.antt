@@ -9,7 +9,8 @@ use Rattle.ospf_lsdb.specs.Database.{Entry, Held, IsDatabase, AreKeysRising, ent
 use Rattle.ospf_area.specs.Numbers.{is_own}
 use Rattle.ospf_area.specs.Outputs.{OutputsValue}
 use Rattle.ospf_area.specs.State.{AreaValue, database_entry, kept_number, some_link_loading}
-use Rattle.ospf_update.specs.Removal.{Removes, RemovesAll, RemovesOne, ends_run, is_last, is_leaving, key_of_entry, leaving, lowest_number, reset, some_awaits}
+use Rattle.ospf_update.specs.Removal.{RemovesOne, ends_run, is_last, is_leaving, key_of_entry, leaving, lowest_number, reset, some_awaits}
+use Rattle.ospf_update.proofs.Words.{RemovesAll, Removes}
 use Rattle.ospf_originate.specs.Sound.{IsSound}
 use Rattle.ospf_originate.proofs.SoundLemmas.{Numbers, ended_numbers, fewer, known, last_is_high, numbers_of, sound_of}
 use Rattle.ospf_area.proofs.ShortLemmas.{removed_was}
@@ -66,7 +67,7 @@ module _ (k : LsaKey) (s : AreaValue) (o o' : OutputsValue) (s' : AreaValue) (is
       by_test false stays = fewer s.router s.database s'.database s.numbering s.floor s.greatest (λ key c at. (gone old key c at).1) (numbers_of s sound)
 
 all_sound : (keys : List LsaKey) (s : AreaValue) (o o' : OutputsValue) (s' : AreaValue) → RemovesAll keys s o o' s' → AllByRecursion (IsOld s) keys → IsSound s → IsSound s'
-all_sound [] s o o' s' is old sound = subst (λ (x : AreaValue). IsSound x) (sym is.0) sound
+all_sound [] s o o' s' is old sound = subst (λ (x : AreaValue). IsSound x) (sym is.state) sound
 all_sound (k ∷ keys) s o o' s' (mid, so_far, one, others) old sound =
     all_sound keys mid so_far o' s' others (map_all (IsOld s) (IsOld mid) (old_after k s o so_far mid one) keys old.1) (one_sound k s o so_far mid one old.0 sound)
 
@@ -99,7 +100,7 @@ leaving_old s (h ∷ hs) found = by_test (is_leaving s.links h.entry) refl (leav
     by_test false stays others = others
 
 pub removal_sound : (s : AreaValue) (o o' : OutputsValue) (s' : AreaValue) → IsDatabase s.database → Removes s o o' s' → IsSound s → IsSound s'
-removal_sound s o o' s' is removes sound = all_sound (leaving s) s o o' s' removes.all (by_loading (some_link_loading s.links)) sound
+removal_sound s o o' s' is removes sound = all_sound (leaving s) s o o' s' removes (by_loading (some_link_loading s.links)) sound
   where
     by_loading : (b : Bool) → AllByRecursion (IsOld s) (if b then [] else map key_of_entry (filter (is_leaving s.links) (entries s.database)))
     by_loading true = tt

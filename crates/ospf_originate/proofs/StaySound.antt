@@ -1,5 +1,5 @@
 -- Each call keeps what a router keeps for its own LSAs.
-use Rattle.std.proofs.Common.{◌≡◌, ◌≢◌, ◌≤◌, ◌≤ℤ◌, ◌==◌, ◌+◌, ◌++◌, ℕ, ℤ, suc, Bool, true, false, List, [], ◌∷◌, length, map, Option, None, Some, option_map, is_some, refl, sym, ap, subst, ◌∙◌, if◌then◌else◌, arith}
+use Rattle.std.proofs.Common.{◌≡◌, ◌≢◌, ◌≤◌, ◌≤ℤ◌, ◌==◌, ◌++◌, ℕ, ℤ, suc, Bool, true, false, List, [], ◌∷◌, length, map, Option, None, Some, option_map, is_some, refl, sym, ap, subst, ◌∙◌, if◌then◌else◌, arith}
 use Rattle.std.specs.List.{AllByRecursion}
 use Rattle.std.proofs.lemmas.Int.{ints}
 use Rattle.std.proofs.lemmas.List.{length-map}
@@ -36,14 +36,16 @@ use Rattle.ospf_area.specs.Outputs.{OutputsValue, SentValue}
 use Rattle.ospf_area.specs.Places.{map_from}
 use Rattle.ospf_area.specs.Sending.{own_of}
 use Rattle.ospf_area.specs.Standing.{acknowledging}
-use Rattle.ospf_area.specs.State.{AreaValue, LinkValue, database_entry, kept_in, numbering_of}
+use Rattle.ospf_area.specs.State.{AreaValue, LinkValue, database_entry, numbering_of}
+use Rattle.ospf_area.proofs.Words.{kept_in}
 use Rattle.ospf_area.specs.declared.changes.AdjacencyChange.{AdjacencyChange}
 use Rattle.ospf_area.specs.declared.flooding.Origin.{Origin}
 use Rattle.ospf_area.specs.declared.sending.Own.{Own}
 use Rattle.ospf_area.specs.declared.state.Numbering.{Numbering}
-use Rattle.ospf_update.specs.Aging.{Flushes, TickAges, copies_sent, copy_flooded, copy_flooded_by, copy_sent, noted, turned_area}
-use Rattle.ospf_update.specs.Meets.{Becomes, MeetsLsa, MeetsRule, Stores, restarted, flooded_area, header_met, heard_by, named_by, replied, reply_to, rule_met, taken_off}
-use Rattle.ospf_update.specs.Updates.{MeetsAndTurns, TakesSlice, TakesSlices, TakesUpdate}
+use Rattle.ospf_update.specs.Aging.{Flushes, TickAges, copies_sent, copy_flooded, copy_sent, noted, turned_area}
+use Rattle.ospf_update.specs.Meets.{Becomes, MeetsLsa, MeetsRule, Stores, restarted, flooded_area, header_met, heard_by, named_by, replied, reply_to, rule_met}
+use Rattle.ospf_update.proofs.Words.{taken_off, copy_flooded_by, TakesSlices}
+use Rattle.ospf_update.specs.Updates.{MeetsAndTurns, TakesSlice, TakesUpdate}
 use Rattle.ospf_update.specs.Updates.TakesSlice.{Met, PassedOver}
 use Rattle.ospf_update.proofs.PassLemmas.{passed}
 use Rattle.ospf_originate.specs.Laws.{LinksStaySetUp, PartsStaySound}

@@ -9,7 +9,8 @@ use Rattle.ospf_area.specs.State.{AreaValue}
 use Rattle.ospf_update.specs.Meets.{Stores, store_updates}
 use Rattle.ospf_wanted.specs.Made.{lsa_value}
 use Rattle.ospf_originate.specs.Numbers.{issued}
-use Rattle.ospf_originate.specs.Steps.{Issues, and_issues}
+use Rattle.ospf_originate.specs.Steps.{Issues}
+use Rattle.ospf_originate.proofs.Words.{and_issues}
 use Rattle.ospf_wanted.specs.Wanted.{WantedValue, wanted_key}
 
 ticked : LsaKey → ℕ → AreaValue → AreaValue

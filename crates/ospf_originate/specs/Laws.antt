@@ -24,8 +24,8 @@ use Rattle.ospf_area.specs.declared.sending.Own.{Own}
 use Rattle.ospf_flood.specs.declared.acknowledgement.Acknowledgement.{Acknowledgement}
 use Rattle.ospf_update.specs.Aging.{Flushes, TickAges, copy_sent, turned_area}
 use Rattle.ospf_update.specs.Laws.{IsShortLsa}
-use Rattle.ospf_update.specs.Meets.{Becomes, MeetsLsa, Stores, restarted, flooded_area, header_met}
-use Rattle.ospf_update.specs.Removal.{Removes}
+use Rattle.ospf_update.specs.Meets.{Becomes, MeetsLsa, Stores, restarted, flooded_area, header_met, InTurn}
+use Rattle.ospf_update.specs.Removal.{RemovesOne, leaving}
 use Rattle.ospf_update.specs.Updates.{TakesUpdate}
 use Rattle.ospf_originate.specs.Numbers.{issued_at_in}
 use Rattle.ospf_originate.specs.Sound.{AreSetUp, IsSound}
@@ -80,7 +80,7 @@ pub record AreaStaysSound : Type 0 where
   pub updated : (f : Origin) (slices : List (List ℕ)) (s : AreaValue) (o o' : OutputsValue) (s' : AreaValue) → TakesUpdate f slices s o o' s' → IsSound s → IsSound s'
   pub acknowledged : (f : Origin) (h : LsaHeader) (s : AreaValue) → IsSound s → IsSound (header_met f h s)
   pub aged : (s : AreaValue) (sent : List SentValue) (s' : AreaValue) → TickAges s sent s' → IsSound s → IsSound s'
-  pub removed : (s : AreaValue) (o o' : OutputsValue) (s' : AreaValue) → IsDatabase s.database → Removes s o o' s' → IsSound s → IsSound s'
+  pub removed : (s : AreaValue) (o o' : OutputsValue) (s' : AreaValue) → IsDatabase s.database → InTurn RemovesOne (leaving s) s o o' s' → IsSound s → IsSound s'
 
 -- links that are set up stay so, whatever their lists and neighbours do
 pub record LinksStaySetUp : Type 0 where

@@ -12,7 +12,7 @@ use Rattle.ospf_area.specs.Sending.{and_sends}
 use Rattle.ospf_area.specs.State.{AreaValue, database_entry, kept_number}
 use Rattle.ospf_area.specs.declared.state.Numbering.{Numbering}
 use Rattle.ospf_update.specs.Aging.{Flushes, turn_out, turned_area}
-use Rattle.ospf_update.specs.Meets.{Becomes, Stores, store_updates}
+use Rattle.ospf_update.specs.Meets.{Becomes, Stores, store_updates, InTurn}
 use Rattle.ospf_originate.specs.Actions.{IsUsed, own_action}
 use Rattle.ospf_wanted.specs.Made.{lsa_value}
 use Rattle.ospf_originate.specs.Numbers.{waits, issued}
@@ -23,9 +23,6 @@ use Rattle.ospf_originate.specs.declared.action.OwnAction.TheVariants.{Leave, Fl
 
 -- ---- an issue
 
-abbrev pub and_issues : OutputsValue → List SentValue → List ℕ → OutputsValue
-and_issues out updates lsa = record out { sent = out.sent ++ updates; issued = out.issued ++ lsa ∷ [] }
-
 -- a wanted LSA is issued with a number (12.4): it is stored as any other, in place of the old copy, which is on no
 -- retransmission list, at age 0, flooded to all, and its number kept; and the tick of the issue is kept too
 pub record Issues (w : WantedValue) (number : ℤ) (before : AreaValue) (out out' : OutputsValue) (after : AreaValue) : Type 0 where
@@ -35,7 +32,7 @@ pub record Issues (w : WantedValue) (number : ℤ) (before : AreaValue) (out out
   pub stored : AreaValue
   pub stores : Stores lsa None before stored
   pub state : after ≡ record stored { numbering = issued (wanted_key w) before.tick stored.numbering }
-  pub outputs : out' ≡ and_issues out (store_updates lsa None before) lsa
+  pub outputs : out' ≡ record out { sent = out.sent ++ store_updates lsa None before; issued = out.issued ++ lsa ∷ [] }
 
 -- ---- the own LSAs that end a step
 
@@ -87,12 +84,6 @@ HasUsedNumber d = IsUsed d.action
 abbrev pub due_of : (LsaKey → OwnAction) → List LsaKey → List DueAction
 due_of action keys = flat_map (λ key. due_as (action key) key) keys
 
--- one after the other
-abbrev pub ActsInTurn : List WantedValue → List DueAction → AreaValue → OutputsValue → OutputsValue → AreaValue → Type 0
-ActsInTurn ws [] before out out' after = Becomes before out out' after
-ActsInTurn ws (d ∷ ds) before out out' after =
-    (mid : AreaValue) × (mid_out : OutputsValue) × Acts d.action ws d.key before out mid_out mid × ActsInTurn ws ds mid mid_out out' after
-
 -- the keys of which something may be due: those that are wanted, those that are numbered, and those that were heard
 abbrev pub candidates : List WantedValue → List Numbering → List LsaKey → List LsaKey
 candidates ws ns heard = map wanted_key ws ++ map (λ n. n.key) ns ++ heard
@@ -109,5 +100,5 @@ pub record OwnLsas (before : AreaValue) (out out' : OutputsValue) (after : AreaV
   pub due : List DueAction
   pub is_due : IsDue before due
   pub mid : AreaValue
-  pub each : ActsInTurn (wants before) due before out out' mid
+  pub each : InTurn (λ (d : DueAction). Acts d.action (wants before) d.key) due before out out' mid
   pub answered : after ≡ record mid { heard = [] }

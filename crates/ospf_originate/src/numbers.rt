@@ -1,7 +1,7 @@
 //! How far the numbers of a router's own LSAs have come, and when each was last issued.
 
-ghost use Rattle.std.specs.Prelude.{◌≡◌, map};
-ghost use Rattle.ospf_area.specs.State.{numbering_of, kept_in};
+ghost use Rattle.std.specs.Prelude.{◌≡◌, None, Some};
+ghost use Rattle.ospf_area.specs.State.{numbering_of};
 ghost use Rattle.ospf_originate.specs.Numbers.{issued_at_in, waits, issued_one, issued};
 
 use ospf_area::Numbering;
@@ -12,7 +12,7 @@ const MIN_LS_INTERVAL: u16 = 5;
 
 /// The number kept for a key: the greatest of its numbering run, or the floor.
 pub(crate) fn kept_number(all: &[Numbering], floor: i32, key: &LsaKey) -> i32
-    ensures { result ≡ kept_in floor (numbering_of all.now key.now) }
+    ensures { result ≡ (elim (numbering_of all.now key.now) [ None ↦ floor | Some n ↦ n.kept ]) }
 {
     match numbering_of(all, key) {
         Some(numbering) => numbering.kept,

@@ -13,7 +13,8 @@ ghost use Rattle.ospf_wanted.specs.Made.{CanBeMade, CanBeMadeIf, Needs};
 ghost use Rattle.ospf_originate.specs.Idle.{IsIdle};
 ghost use Rattle.ospf_wanted.specs.Own.{wanted_value};
 ghost use Rattle.ospf_originate.specs.Sound.{AreNumbered, IsSound};
-ghost use Rattle.ospf_originate.specs.Steps.{wants, action_of, Acts, ActsInTurn, FlushesAndTurns, HasUsedNumber, IssuesAndTurns, IssuesIf, due_as, due_of, candidates, IsDue, OwnLsas};
+ghost use Rattle.ospf_update.specs.Meets.{InTurn};
+ghost use Rattle.ospf_originate.specs.Steps.{wants, action_of, Acts, FlushesAndTurns, HasUsedNumber, IssuesAndTurns, IssuesIf, due_as, due_of, candidates, IsDue, OwnLsas};
 ghost use Rattle.ospf_wanted.specs.Wanted.{wanted_of, wanted_key};
 
 use crate::action::{DueAction, OwnAction, own_action};
@@ -240,8 +241,9 @@ fn act_in_turn(
 ) -> Result<(), AllocError>
     requires made { AllByRecursion CanBeMade (map wanted_value all.now) }
     requires used { AllByRecursion HasUsedNumber due.now }
-    ensures { OnOk result (ActsInTurn (map wanted_value all.now) due.now area.old out.old out.new
-        area.new) }
+    ensures { OnOk result
+        (InTurn (λ (d : DueAction). Acts d.action (map wanted_value all.now) d.key) due.now
+        area.old out.old out.new area.new) }
 {
     for d in due {
         act(area, all, d, out, alloc)?;

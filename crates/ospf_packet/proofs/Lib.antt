@@ -11,3 +11,4 @@ pub mod AgeLaw
 pub mod Cells
 pub mod Spelled
 mod Sealing
+pub mod Words

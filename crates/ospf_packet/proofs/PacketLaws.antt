@@ -8,7 +8,8 @@ use Rattle.ospf_base.specs.Constants.{largest_packet, lsa_header, packet_header}
 use Rattle.ospf_base.specs.Sums.{packet_checksum}
 use Rattle.ospf_packet.specs.Fields.{description_fields, hello_fields}
 use Rattle.ospf_packet.specs.Packet.{IsBody, IsPacketFreeOf, IsPacket, meaning_of, packet_type, body_of}
-use Rattle.ospf_packet.specs.PacketOf.{are_slices, implies, is_body, is_first_slice, is_packet, packet_of}
+use Rattle.ospf_packet.specs.PacketOf.{are_slices, implies, is_body, is_packet, packet_of}
+use Rattle.ospf_packet.proofs.Words.{is_first_slice}
 use Rattle.ospf_packet.specs.Requests.{request_size}
 use Rattle.ospf_packet.specs.Slices.{AreSlices, IsFirstSlice, lsa_length}
 use Rattle.ospf_packet.specs.declared.fault.PacketFault.TheVariants as fault

@@ -9,14 +9,12 @@ use Rattle.ospf_packet.specs.Packet.{meaning_of, packet_type, body_of}
 use Rattle.ospf_packet.specs.Requests.{request_size}
 use Rattle.ospf_packet.specs.Slices.{lsa_length}
 
--- a slice stands at the front, as a test (`IsFirstSlice` of Slices)
-abbrev pub is_first_slice : List ℕ → Bool
-is_first_slice bytes = nat_le lsa_header (length bytes) && (nat_le lsa_header (lsa_length bytes) && nat_le (lsa_length bytes) (length bytes))
-
 -- the bytes are so many slices and nothing else, as a test (`AreSlices` of Slices)
 abbrev pub are_slices : ℕ → List ℕ → Bool
 are_slices zero bytes = length bytes == 0
-are_slices (suc n) bytes = is_first_slice bytes && are_slices n (drop (lsa_length bytes) bytes)
+are_slices (suc n) bytes =
+    (nat_le lsa_header (length bytes) && (nat_le lsa_header (lsa_length bytes) && nat_le (lsa_length bytes) (length bytes)))
+    && are_slices n (drop (lsa_length bytes) bytes)
 
 -- where the first holds, the second does
 abbrev pub implies : Bool → Bool → Bool

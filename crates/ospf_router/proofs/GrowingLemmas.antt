@@ -12,7 +12,7 @@ use Rattle.ospf_base.specs.declared.prefix.Prefix.{Prefix}
 use Rattle.ospf_lsa.specs.Listing.{IsPut}
 use Rattle.ospf_lsa.specs.Lsa.{key_of, kind_of}
 use Rattle.ospf_edges.specs.Given.{AreEndsAt, IsEdgesOf, IsEndsOf}
-use Rattle.ospf_edges.specs.Listed.{advertisement_by, advertisement_of, advertisements_of}
+use Rattle.ospf_edges.specs.Listed.{advertisement_of, advertisements_of, advertisement_by}
 use Rattle.ospf_edges.specs.declared.end.End.{End}
 use Rattle.ospf_graph.specs.Advertisements.{Advertisement, IsListed, IsNetwork, router_lsa, network_lsa}
 use Rattle.ospf_graph.specs.Elsewhere.{AreSameBut, vertex_of}

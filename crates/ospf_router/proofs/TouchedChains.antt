@@ -20,9 +20,11 @@ use Rattle.ospf_area.specs.Outputs.{OutputsValue, no_outputs, then_outputs}
 use Rattle.ospf_area.specs.Standing.{acknowledging}
 use Rattle.ospf_area.specs.State.{AreaValue, database_entry}
 use Rattle.ospf_area.specs.declared.flooding.Origin.{Origin}
-use Rattle.ospf_update.specs.Meets.{MeetsRule, heard_by, replied, rule_met, taken_off}
+use Rattle.ospf_update.specs.Meets.{MeetsRule, heard_by, replied, rule_met}
+use Rattle.ospf_update.proofs.Words.{taken_off}
 use Rattle.ospf_update.proofs.PassLemmas.{passed}
-use Rattle.ospf_step.specs.Parts.{AgesPart, AnswersAll, ExpiryPart, IssuePart, LsaPart, RemovalPart, leaves_if}
+use Rattle.ospf_step.specs.Parts.{AgesPart, ExpiryPart, IssuePart, LsaPart, RemovalPart, leaves_if}
+use Rattle.ospf_step.proofs.StateFacts.{AnswersAll}
 use Rattle.ospf_step.specs.Step.{AndRequests, Chain, Event, ExpiryStep, IsPart, OwnStep, Part, StepLaws, Then, Times}
 use Rattle.ospf_step.specs.Step.Part.{HelloComes, DdComes, RequestComes, LsaComes, HeaderComes, DirectAcknowledgements, LinkChanges, Ages, Timers, Hellos, Acknowledgements, Repeats, Requests, Elections, OwnLsas, Removals}
 use Rattle.ospf_step.specs.Words.{Brings}
@@ -183,7 +185,7 @@ expiry_step_keeps s out t step = requests_keep (ExpiryPart step.key step.copy) s
 
 issue_keeps : (lsa : List ℕ) (s : AreaValue) (out : OutputsValue) (t : AreaValue) → IssuePart lsa s out t → KeepsBut out s t
 issue_keeps lsa s out t is =
-    stores_keep lsa s.tick false out s t is.stores.database
+    stores_keep lsa s.tick false out s t is.database
     (Brings.Issues lsa (subst (λ (ls : List (List ℕ)). Contains ls lsa) (sym is.issued) (last_of [] lsa)) refl)
 
 own_keeps : (s : AreaValue) (out : OutputsValue) (t : AreaValue) → OwnStep s out t → KeepsBut out s t

@@ -1,7 +1,7 @@
 -- A router: its part of the area, and its routing table (RFC 2328, sections 5 and 11).
 use Rattle.std.specs.Prelude.{◌≡◌, ℕ, ℤ, Bool, false, List, [], Option, None, Some, length, slice_get}
 use Rattle.ospf_area.specs.Standing.{is_awaited_of}
-use Rattle.ospf_area.specs.State.{AreaValue, neighbour, neighbours_in}
+use Rattle.ospf_area.specs.State.{AreaValue, neighbour}
 use Rattle.ospf_base.specs.declared.ids.Instance.{Instance}
 use Rattle.ospf_base.specs.declared.ids.RouterId.{RouterId}
 use Rattle.ospf_graph.specs.declared.route.Route.{Route}
@@ -51,7 +51,7 @@ listing_of (Some s) = listed s.database
 -- the neighbours of a link, in rising Router ID
 abbrev pub neighbours_on : Option AreaValue → ℕ → List NeighbourValue
 neighbours_on None link = []
-neighbours_on (Some s) link = neighbours_in (slice_get s.links link)
+neighbours_on (Some s) link = elim (slice_get s.links link) [ None ↦ [] | Some link ↦ link.neighbours ]
 
 -- an instance is on the retransmission list of a neighbour that may not be there (13.6)
 abbrev pub awaits_in : Option AreaValue → ℕ → RouterId → Instance → Bool

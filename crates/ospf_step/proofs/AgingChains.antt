@@ -10,7 +10,8 @@ use Rattle.ospf_lsdb.specs.Database as lsdb
 use Rattle.ospf_lsdb.specs.Database.{Entry, IsDatabase, lsa_of, key_at, key_in, reached_at, entries}
 use Rattle.ospf_base.proofs.SameKeys.{same_key-eq, same_key-refl}
 use Rattle.ospf_exchange.proofs.LawLemmas.{of_copy}
-use Rattle.ospf_update.specs.Aging.{TickAges, Flushes, turn_out, noted, copy_flooded_by, copy_flooded, copy_flood_out_by, copy_flood_out, copy_sent, copy_out, copies_sent, copies_out}
+use Rattle.ospf_update.specs.Aging.{TickAges, Flushes, turn_out, noted, copy_flooded, copy_flood_out, copy_sent, copy_out, copies_sent, copies_out}
+use Rattle.ospf_update.proofs.Words.{copy_flooded_by, copy_flood_out_by}
 use Rattle.ospf_area.specs.Flooding.{flooded_links, flooding_updates, goes_anywhere}
 use Rattle.ospf_update.specs.Meets.{flooded_area}
 use Rattle.ospf_area.specs.Sending.{own_of}

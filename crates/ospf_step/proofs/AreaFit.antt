@@ -27,14 +27,16 @@ use Rattle.ospf_area.specs.State.{AreaValue, LinkValue, database_entry}
 use Rattle.ospf_area.specs.declared.changes.AdjacencyChange.{AdjacencyChange}
 use Rattle.ospf_area.specs.declared.flooding.Origin.{Origin}
 use Rattle.ospf_area.specs.declared.sending.Own.{Own}
-use Rattle.ospf_update.specs.Aging.{Flushes, TickAges, copies_sent, copy_flooded, copy_flooded_by, copy_sent, noted, turned_area}
-use Rattle.ospf_update.specs.Meets.{MeetsRule, Stores, flooded_area, header_met, heard_by, named_by, replied, reply_to, rule_met, taken_off}
-use Rattle.ospf_update.specs.Removal.{Removes, RemovesAll, leaving}
-use Rattle.ospf_update.specs.Updates.{TakesSlice, TakesSlices, TakesUpdate}
+use Rattle.ospf_update.specs.Aging.{Flushes, TickAges, copies_sent, copy_flooded, copy_sent, noted, turned_area}
+use Rattle.ospf_update.specs.Meets.{MeetsRule, Stores, flooded_area, header_met, heard_by, named_by, replied, reply_to, rule_met}
+use Rattle.ospf_update.proofs.Words.{taken_off, copy_flooded_by, RemovesAll, Removes, TakesSlices}
+use Rattle.ospf_update.specs.Removal.{leaving}
+use Rattle.ospf_update.specs.Updates.{TakesSlice, TakesUpdate}
 use Rattle.ospf_update.specs.Updates.TakesSlice.{Met, PassedOver}
 use Rattle.ospf_update.proofs.PassLemmas.{passed}
 use Rattle.ospf_step.specs.Puts.{headers_met}
-use Rattle.ospf_originate.specs.Steps.{Acts, ActsInTurn, Issues, IssuesIf, OwnLsas, wants}
+use Rattle.ospf_originate.specs.Steps.{Acts, Issues, IssuesIf, OwnLsas, wants}
+use Rattle.ospf_originate.proofs.Words.{ActsInTurn}
 use Rattle.ospf_originate.specs.Wanted.{WantedValue, wanted_of}
 use Rattle.ospf_originate.specs.declared.action.DueAction.{DueAction}
 use Rattle.ospf_originate.specs.declared.action.OwnAction.{OwnAction}
@@ -199,9 +201,9 @@ module _ (r : RouterId) where
   -- ---- what leaves
 
   removes_all_for : (keys : List LsaKey) (s : AreaValue) (out out' : OutputsValue) (s' : AreaValue) → RemovesAll keys s out out' s' → IsFor r s → IsFor r s'
-  removes_all_for [] s out out' s' unchanged fit = along r s s' unchanged.0 fit
+  removes_all_for [] s out out' s' unchanged fit = along r s s' unchanged.state fit
   removes_all_for (key ∷ keys) s out out' s' (mid, so_far, first, others) fit =
       removes_all_for keys mid so_far out' s' others (aside_for s mid (ap (λ (x : AreaValue). x.router) first.rest) (ap (λ (x : AreaValue). x.links) first.rest) fit)
 
   pub removes_for : (s : AreaValue) (out out' : OutputsValue) (s' : AreaValue) → Removes s out out' s' → IsFor r s → IsFor r s'
-  removes_for s out out' s' is fit = removes_all_for (leaving s) s out out' s' is.all fit
+  removes_for s out out' s' is fit = removes_all_for (leaving s) s out out' s' is fit

@@ -11,7 +11,8 @@ use Rattle.ospf_update.specs.Meets.{MeetsLsa, MeetsRule, rule_met}
 use Rattle.ospf_area.specs.Outputs.{OutputsValue, SentValue, no_outputs, sends, then_outputs, and_takes, AreReadAsSent}
 use Rattle.ospf_area.specs.Sending.{and_sends}
 use Rattle.ospf_area.specs.State.{AreaValue}
-use Rattle.ospf_update.specs.Updates.{TakesSlice, TakesSlices, TakesUpdate}
+use Rattle.ospf_update.specs.Updates.{TakesSlice, TakesUpdate}
+use Rattle.ospf_update.proofs.Words.{TakesSlices}
 use Rattle.ospf_area.specs.declared.flooding.Origin.{Origin}
 use Rattle.ospf_step.specs.Neighbours.{Quiet}
 use Rattle.ospf_step.specs.Parts.{LsaPart}

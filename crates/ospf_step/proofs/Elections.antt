@@ -20,7 +20,8 @@ use Rattle.ospf_step.specs.Puts.{PutsOut}
 use Rattle.ospf_step.proofs.LinkParts.{each_same, part_quiet, quiet_same}
 use Rattle.ospf_step.proofs.StateFacts.{Contains-nil}
 use Rattle.ospf_step.proofs.PutParts.{puts_sent}
-use Rattle.ospf_links.specs.Elections.{ElectsAll, ElectsFrom, ElectsIf, ElectsThere}
+use Rattle.ospf_links.specs.Elections.{ElectsAll, ElectsFrom, ElectsIf}
+use Rattle.ospf_links.proofs.Words.{ElectsThere}
 use Rattle.ospf_area.specs.Posting.{posted_all}
 use Rattle.ospf_step.proofs.Known.{AreBare, bare_known, first_bare, link_quiet, same_goes, both_known, none_known}
 use Rattle.ospf_step.proofs.Works.{read_sent}

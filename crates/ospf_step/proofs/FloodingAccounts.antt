@@ -25,14 +25,15 @@ use Rattle.ospf_neighbour.specs.Laws.{Waits}
 use Rattle.ospf_neighbour.specs.Machine.{is_exchanging}
 use Rattle.ospf_neighbour.specs.Neighbour.{NeighbourValue}
 use Rattle.ospf_area.specs.Outputs.{OutputsValue}
-use Rattle.ospf_area.specs.State.{AreaValue, LinkValue, neighbour, state_of, state_in, database_entry, copy_of, copy_in, kept_number, Awaits, WaitsIn}
+use Rattle.ospf_area.specs.State.{AreaValue, LinkValue, neighbour, state_of, database_entry, copy_of, kept_number, Awaits, WaitsIn}
+use Rattle.ospf_area.proofs.Words.{state_in, copy_in}
 use Rattle.ospf_step.specs.Headers.{IsOfInstance, Lists}
 use Rattle.ospf_step.specs.Packets.{Received, lsas_of, headers_in_body}
 use Rattle.ospf_area.specs.Places.{map_from}
-use Rattle.ospf_step.specs.Words.{CanName, HoldsInstance, HasCopy, Asks, Brings, ListsAreHeld, IsSoundState, delayed, delayed_in, list_in}
+use Rattle.ospf_step.specs.Words.{CanName, HoldsInstance, HasCopy, Asks, Brings, ListsAreHeld, IsSoundState, delayed}
 use Rattle.ospf_lsdb.specs.Moments.{among}
 use Rattle.ospf_step.specs.Accounts.{Accounts, Numbers, HasContents, IsAcknowledged, IsDescribed, TakesItsPlace, Sends, HasWord, MayLeave, WaitsOn, WasKept, NoneEntersExchange}
-use Rattle.ospf_step.proofs.StateFacts.{Contains-nil, same_contents, neighbour-changed, link-changed, neighbour-router, list-changed, held_agree, key_of-lsa_of, copy_of-has}
+use Rattle.ospf_step.proofs.StateFacts.{Contains-nil, same_contents, neighbour-changed, link-changed, neighbour-router, list-changed, held_agree, key_of-lsa_of, copy_of-has, list_in, delayed_in}
 use Rattle.ospf_step.proofs.QuietAccounts.{kept_same, waits_in}
 
 -- a neighbour in Exchange or above gets the LSA on its list, or sent it, or asked for it or a later one

@@ -14,8 +14,10 @@ use Rattle.ospf_area.specs.Outputs.{OutputsValue, no_outputs, then_outputs}
 use Rattle.ospf_area.specs.Standing.{acknowledging}
 use Rattle.ospf_area.specs.State.{AreaValue, database_entry}
 use Rattle.ospf_area.specs.declared.flooding.Origin.{Origin}
-use Rattle.ospf_update.specs.Meets.{MeetsRule, replied, rule_met, taken_off}
-use Rattle.ospf_step.specs.Parts.{AgesPart, AnswersAll, ExpiryPart, LsaPart, RemovalPart, leaves_if}
+use Rattle.ospf_update.specs.Meets.{MeetsRule, replied, rule_met}
+use Rattle.ospf_update.proofs.Words.{taken_off}
+use Rattle.ospf_step.specs.Parts.{AgesPart, ExpiryPart, LsaPart, RemovalPart, leaves_if}
+use Rattle.ospf_step.proofs.StateFacts.{AnswersAll}
 use Rattle.ospf_step.specs.Step.{AndRequests, Chain, Event, ExpiryStep, IsPart, OwnStep, Part, StepLaws, Then, Times}
 use Rattle.ospf_step.specs.Step.Part.{HelloComes, DdComes, RequestComes, LsaComes, HeaderComes, DirectAcknowledgements, LinkChanges, Ages, Timers, Hellos, Acknowledgements, Repeats, Requests, Elections, OwnLsas, Removals}
 use Rattle.ospf_update.proofs.PassLemmas.{passed}

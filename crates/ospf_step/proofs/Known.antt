@@ -21,10 +21,11 @@ use Rattle.ospf_step.specs.Accounts.{WasHeld}
 use Rattle.ospf_step.specs.Headers.{IsOfInstance, Lists}
 use Rattle.ospf_step.specs.Links.{AreKnown, IsLinkIn, IsKnownPacket, EntersNot, LinkQuiet}
 use Rattle.ospf_step.specs.Packets.{lsas_of, headers_in_body}
-use Rattle.ospf_step.specs.Words.{CanName, HoldsInstance, list_in}
+use Rattle.ospf_step.specs.Words.{CanName, HoldsInstance}
 use Rattle.ospf_step.proofs.SentFacts.{flat_map-members, datagrams-packet}
-use Rattle.ospf_step.proofs.StateFacts.{HasHeader-held, Contains-nil, HasInstance-held}
-use Rattle.ospf_area.specs.Posting.{posted, posted_all}
+use Rattle.ospf_step.proofs.StateFacts.{HasHeader-held, Contains-nil, HasInstance-held, list_in}
+use Rattle.ospf_area.specs.Posting.{posted_all}
+use Rattle.ospf_area.proofs.Words.{posted}
 use Rattle.std.proofs.lemmas.Grind.{common_steps}
 use Rattle.ospf_neighbour.specs.declared.machine.NbrEvent.{NbrEvent}
 use Rattle.ospf_exchange.specs.declared.rule.Local.{Local}

@@ -16,7 +16,8 @@ use Rattle.ospf_area.specs.Packets.{Parcel}
 use Rattle.ospf_area.specs.State.{LinkValue}
 use Rattle.ospf_area.specs.declared.sending.Own.{Own}
 use Rattle.ospf_adjacency.specs.HelloLaws.{ElectionsComeAbout, NeighboursStayOfLink}
-use Rattle.ospf_adjacency.specs.Links.{elects_by_timers, hello_ticked, inactivity_ticked, is_inactive, timed}
+use Rattle.ospf_adjacency.specs.Links.{elects_by_timers, hello_ticked, is_inactive, timed}
+use Rattle.ospf_adjacency.proofs.Words.{inactivity_ticked}
 use Rattle.ospf_links.specs.Elections.{AreReady, ElectsIf, ElectsOnLink}
 use Rattle.ospf_links.specs.Parts.{hello_sent, link_down, link_timed, link_up}
 use Rattle.ospf_area.specs.Posting.{local_by}

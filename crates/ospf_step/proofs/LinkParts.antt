@@ -8,9 +8,10 @@ use Rattle.ospf_lsa.specs.declared.header.LsaHeader.{LsaHeader}
 use Rattle.ospf_neighbour.specs.Neighbour.{NeighbourValue}
 use Rattle.ospf_neighbour.specs.Neighbours.{neighbour_of}
 use Rattle.ospf_area.specs.Outputs.{AreReadAsSent, OutputsValue, SentValue, sends}
-use Rattle.ospf_area.specs.State.{AreaValue, LinkValue, neighbours_in}
+use Rattle.ospf_area.specs.State.{AreaValue, LinkValue}
+use Rattle.ospf_area.proofs.Words.{neighbours_in}
 use Rattle.ospf_step.specs.Packets.{Received}
-use Rattle.ospf_step.specs.Words.{delayed_in}
+use Rattle.ospf_step.proofs.StateFacts.{delayed_in}
 use Rattle.ospf_step.specs.Neighbours.{NeighbourGoes, NeighboursGo, Quiet, told_by}
 use Rattle.ospf_step.proofs.MeetAccounts.{sends_known}
 use Rattle.ospf_step.specs.Links.{AllEach, AllGo, AreKnown, ChangesLinks, Each, EntersNot, LinkGoes, LinkQuiet, OnOneLink}

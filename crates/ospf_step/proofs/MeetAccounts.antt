@@ -24,8 +24,8 @@ use Rattle.ospf_flood.specs.declared.rule.LsaRule.TheVariants as rule
 use Rattle.ospf_packet.specs.Meaning.{BodyMeaning, hello, description, request, update, acknowledgment, Meaning}
 use Rattle.ospf_neighbour.specs.Neighbour.{NeighbourValue}
 use Rattle.ospf_area.specs.Changes.{changed_on, delayed_on}
-use Rattle.ospf_update.specs.Meets as meets
-use Rattle.ospf_update.specs.Meets.{Becomes, MeetsRule, MeetsLsa, Admits, duplicated, header_met, reply_of, reply_to, reply_out, lsa_out, lsa_out_on, heard_by, first_dd_on, restarted, replied, named_by, taken_off}
+use Rattle.ospf_update.specs.Meets.{Becomes, MeetsRule, MeetsLsa, Admits, duplicated, header_met, reply_to, reply_out, lsa_out_on, heard_by, first_dd_on, restarted, replied, named_by}
+use Rattle.ospf_update.proofs.Words.{reply_of, lsa_out, taken_off, first_dd, first_description}
 use Rattle.ospf_area.specs.Sending.{own_of, and_sends, packet_of, sent_lsa}
 use Rattle.ospf_area.specs.Numbers.{is_self_originated}
 use Rattle.ospf_area.specs.Outputs.{and_takes, OutputsValue, SentValue, no_outputs, AreReadAsSent}
@@ -35,7 +35,8 @@ use Rattle.ospf_flood.specs.Links.{case_of_newer, case_of_same}
 use Rattle.ospf_flood.specs.declared.acknowledgement.AcknowledgementCase.TheVariants.{Expired}
 use Rattle.ospf_area.specs.Standing.{acknowledging, answer_at, is_awaited_of, is_requested_of, is_taken_in, origin_neighbour}
 use Rattle.ospf_lsdb.specs.Moments.{among}
-use Rattle.ospf_area.specs.State.{AreaValue, LinkValue, database_entry, copy_in, copy_of, kept_in, numbering_of, some_link_loading}
+use Rattle.ospf_area.specs.State.{AreaValue, LinkValue, database_entry, copy_of, numbering_of, some_link_loading}
+use Rattle.ospf_area.proofs.Words.{copy_in, kept_in}
 use Rattle.ospf_area.specs.declared.changes.AdjacencyChange.{AdjacencyChange}
 use Rattle.ospf_area.specs.declared.changes.AdjacencyChange.TheVariants as change
 use Rattle.ospf_area.specs.declared.flooding.Origin.{Origin}
@@ -294,23 +295,23 @@ module _ (heard : Option Received) (p : Meaning) (f : Origin) (lsa : List ℕ) (
       }
 
   -- BadLSReq
-  restarting : Becomes (restarted f before) (and_sends no_outputs (meets.first_dd f before)) out after → IsAccountable heard before out after
+  restarting : Becomes (restarted f before) (and_sends no_outputs (first_dd f before)) out after → IsAccountable heard before out after
   restarting r =
-      as_outputs heard before after out (and_sends no_outputs (meets.first_dd f before)) r.outputs
+      as_outputs heard before after out (and_sends no_outputs (first_dd f before)) r.outputs
       (as_state heard before after (restarted f before) _ r.state
-      (Shrinks-accountable heard before (and_sends no_outputs (meets.first_dd f before)) (restarted f before) (changed_on f (change.Restarts before.next_dd) before.tick) (change_of f (change.Restarts before.next_dd) before.tick)
-      (change_by heard (and_sends no_outputs (meets.first_dd f before)) f (change.Restarts before.next_dd) before (restarted f before) refl refl refl refl refl refl (λ n same. tt))
-      (sends_known before (meets.first_dd f before) (subst (λ o. AreReadAsSent o.sent) r.outputs read) first)))
+      (Shrinks-accountable heard before (and_sends no_outputs (first_dd f before)) (restarted f before) (changed_on f (change.Restarts before.next_dd) before.tick) (change_of f (change.Restarts before.next_dd) before.tick)
+      (change_by heard (and_sends no_outputs (first_dd f before)) f (change.Restarts before.next_dd) before (restarted f before) refl refl refl refl refl refl (λ n same. tt))
+      (sends_known before (first_dd f before) (subst (λ o. AreReadAsSent o.sent) r.outputs read) first)))
     where
       by : (o : Option LinkValue) (d : SentValue) → Contains (first_dd_on (own_of before) f before.next_dd o) d → IsKnownPacket before d.packet
       by None d c = absurd (Contains-nil d c)
-      by (Some link) d c = subst (λ m. IsKnownPacket before m) (sym (datagrams-packet _ (packet_of (own_of before) (description (meets.first_description link.settings.mtu before.next_dd) [])) d c)) (record {
+      by (Some link) d c = subst (λ m. IsKnownPacket before m) (sym (datagrams-packet _ (packet_of (own_of before) (description (first_description link.settings.mtu before.next_dd) [])) d c)) (record {
         router = refl;
         lsas = λ lsa c. absurd (Contains-nil lsa c);
         names = λ i lists. absurd (Contains-nil lists.0 lists.1);
       })
 
-      first : (d : SentValue) → Contains (meets.first_dd f before) d → IsKnownPacket before d.packet
+      first : (d : SentValue) → Contains (first_dd f before) d → IsKnownPacket before d.packet
       first d c = by (slice_get before.links f.link) d c
 
   -- the same instance as the copy

@@ -10,13 +10,14 @@ use Rattle.ospf_neighbour.specs.Laws.{instances}
 use Rattle.ospf_neighbour.specs.Machine.{is_exchanging}
 use Rattle.ospf_neighbour.specs.Neighbour.{NeighbourValue}
 use Rattle.ospf_area.specs.Outputs.{OutputsValue}
-use Rattle.ospf_area.specs.State.{AreaValue, neighbour, state_in, copy_in, WaitsIn}
+use Rattle.ospf_area.specs.State.{AreaValue, neighbour, WaitsIn}
+use Rattle.ospf_area.proofs.Words.{state_in, copy_in}
 use Rattle.ospf_step.specs.Headers.{IsOfInstance, Lists}
 use Rattle.ospf_step.specs.Packets.{Received}
-use Rattle.ospf_step.specs.Words.{CanName, HoldsInstance, HasCopy, list_in}
+use Rattle.ospf_step.specs.Words.{CanName, HoldsInstance, HasCopy}
 use Rattle.ospf_step.specs.Accounts.{Adjusts, IsDescribed}
 use Rattle.ospf_step.specs.Neighbours.{NeighbourGoes, NeighboursGo, told_by, IsOldOrHeld}
-use Rattle.ospf_step.proofs.StateFacts.{Contains-nil, same_router}
+use Rattle.ospf_step.proofs.StateFacts.{Contains-nil, same_router, list_in}
 use Rattle.ospf_step.proofs.QuietAccounts.{brings_none, kept_same, none_ended}
 
 -- what is told in a DD packet is heard

@@ -15,7 +15,8 @@ use Rattle.ospf_lsa.specs.declared.header.LsaHeader.{LsaHeader}
 use Rattle.ospf_lsa.specs.declared.recency.Recency.{Recency}
 use Rattle.ospf_lsa.specs.declared.recency.Recency.TheVariants.{Newer, Older, Same}
 use Rattle.ospf_neighbour.specs.Laws.{Waits, instances}
-use Rattle.ospf_neighbour.specs.Lists.{is_header_of, is_of_key, is_of_other, request_of, without_key, unrequested, key_unlisted}
+use Rattle.ospf_neighbour.specs.Lists.{is_header_of, request_of, without_key, unrequested, key_unlisted}
+use Rattle.ospf_neighbour.proofs.Words.{is_of_other, is_of_key}
 use Rattle.ospf_neighbour.specs.Machine.{is_exchanging}
 use Rattle.ospf_neighbour.specs.Neighbour.{NeighbourValue}
 use Rattle.ospf_neighbour.specs.declared.machine.NeighbourState.{NeighbourState}
@@ -23,7 +24,8 @@ use Rattle.ospf_neighbour.specs.declared.machine.NeighbourState.TheVariants as s
 use Rattle.ospf_neighbour.specs.declared.neighbour.Listed.{Listed}
 use Rattle.ospf_base.proofs.SameKeys.{same_key-refl}
 use Rattle.ospf_neighbour.proofs.LawLemmas.{takes_key, relist_waits}
-use Rattle.ospf_flood.specs.Offers.{instance_with, looked_at, offer_over, offer_by, offer_to, after_offer, flooded}
+use Rattle.ospf_flood.specs.Offers.{instance_with, looked_at, offer_by, offer_to, flooded}
+use Rattle.ospf_flood.proofs.Words.{offer_over, after_offer}
 use Rattle.ospf_flood.specs.declared.offer.Offer.{Offer}
 use Rattle.ospf_flood.specs.declared.offer.Offer.TheVariants.{PassesOver, Satisfies, Lists}
 use Rattle.ospf_flood.proofs.LawLemmas.{flood_takes, flooded_is_put}

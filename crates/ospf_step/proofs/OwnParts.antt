@@ -20,9 +20,11 @@ use Rattle.ospf_area.specs.Flooding.{flooded_links, flooding_updates, goes_anywh
 use Rattle.ospf_area.specs.Numbers.{counts, is_own}
 use Rattle.ospf_area.specs.Outputs.{AreReadAsSent, OutputsValue, SentValue, sends, then_outputs}
 use Rattle.ospf_area.specs.Sending.{own_of}
-use Rattle.ospf_area.specs.State.{AreaValue, database_entry, kept_in, kept_number, numbering_of}
+use Rattle.ospf_area.specs.State.{AreaValue, database_entry, kept_number, numbering_of}
+use Rattle.ospf_area.proofs.Words.{kept_in}
 use Rattle.ospf_area.proofs.NumberLemmas.{own_counted}
-use Rattle.ospf_update.specs.Aging.{Flushes, copy_flood_out, copy_flood_out_by, copy_flooded, copy_flooded_by, noted, turn_out}
+use Rattle.ospf_update.specs.Aging.{Flushes, copy_flood_out, copy_flooded, noted, turn_out}
+use Rattle.ospf_update.proofs.Words.{copy_flooded_by, copy_flood_out_by}
 use Rattle.ospf_update.specs.Meets.{flooded_area, store_updates}
 use Rattle.ospf_step.specs.Neighbours.{Quiet}
 use Rattle.ospf_step.specs.Parts.{ExpiryPart, IssuePart, at_max_age}
@@ -37,7 +39,8 @@ use Rattle.ospf_step.proofs.PutParts.{own_end, own_more, own_none, puts_sent}
 use Rattle.ospf_step.proofs.TurnAccounts.{turned-quiet}
 use Rattle.ospf_originate.specs.Actions.{is_due, makes_room, next_action, own_action}
 use Rattle.ospf_originate.specs.Numbers.{issued}
-use Rattle.ospf_originate.specs.Steps.{ActsInTurn, FlushesAndTurns, Issues, IssuesAndTurns, IssuesIf, OwnLsas, action_of, and_issues, due_as, due_of, wants}
+use Rattle.ospf_originate.specs.Steps.{FlushesAndTurns, Issues, IssuesAndTurns, IssuesIf, OwnLsas, action_of, due_as, due_of, wants}
+use Rattle.ospf_originate.proofs.Words.{and_issues, ActsInTurn}
 use Rattle.ospf_originate.specs.Wanted.{WantedValue, wanted_key, wanted_of}
 use Rattle.ospf_originate.specs.declared.action.OwnAction.{OwnAction}
 use Rattle.ospf_originate.specs.declared.action.OwnAction.TheVariants.{Leave, Flush, Issue}
@@ -76,12 +79,10 @@ module _ (w : WantedValue) (number : ℤ) (s : AreaValue) (out out1 : OutputsVal
     is_lsa = x.is_lsa;
     own = ap (λ (k : LsaKey). k.router) key_is ∙ own;
     number = number_is ∙ (next ∙ ap (λ k. kept_number s k +ℤ pos 1) (sym key_is));
-    stores = record {
-      database = subst (λ (a : AreaValue). Installs (entry_from x.lsa s.tick false) s.database a.database) (sym x.state) x.stores.database;
-      links = ap (λ (a : AreaValue). a.links) x.state ∙ ap (λ (a : AreaValue). a.links) x.stores.rest;
-      same_router = ap (λ (a : AreaValue). a.router) x.state ∙ ap (λ (a : AreaValue). a.router) x.stores.rest;
-      same_direct = ap (λ (a : AreaValue). a.direct) x.state ∙ ap (λ (a : AreaValue). a.direct) x.stores.rest;
-    };
+    database = subst (λ (a : AreaValue). Installs (entry_from x.lsa s.tick false) s.database a.database) (sym x.state) x.stores.database;
+    links = ap (λ (a : AreaValue). a.links) x.state ∙ ap (λ (a : AreaValue). a.links) x.stores.rest;
+    same_router = ap (λ (a : AreaValue). a.router) x.state ∙ ap (λ (a : AreaValue). a.router) x.stores.rest;
+    same_direct = ap (λ (a : AreaValue). a.direct) x.state ∙ ap (λ (a : AreaValue). a.direct) x.stores.rest;
     kept = λ k. subst (λ n. kept_number s k ≤ℤ n) (sym (kept_after k)) (counts-kept (key_of x.lsa) (header_of x.lsa).number s k);
     known = subst (λ n. (header_of x.lsa).number ≤ℤ n) (sym (kept_after (key_of x.lsa))) (counts-known (key_of x.lsa) (header_of x.lsa).number s (ap (λ (k : LsaKey). k.router) key_is ∙ own));
     sent = refl;

@@ -32,15 +32,16 @@ use Rattle.ospf_update.specs.Acks.{direct_out}
 use Rattle.ospf_area.specs.Flooding.{flooded_link}
 use Rattle.ospf_area.specs.Sending.{own_of}
 use Rattle.ospf_area.specs.Outputs.{OutputsValue, SentValue, no_outputs, sends, AreReadAsSent}
-use Rattle.ospf_area.specs.State.{AreaValue, LinkValue, neighbour, neighbours_in, state_in, database_entry, copy_in, copy_of, kept_number, some_link_loading, Awaits, WaitsIn}
+use Rattle.ospf_area.specs.State.{AreaValue, LinkValue, neighbour, database_entry, copy_of, kept_number, some_link_loading, Awaits, WaitsIn}
+use Rattle.ospf_area.proofs.Words.{neighbours_in, state_in, copy_in}
 use Rattle.ospf_area.specs.declared.flooding.Origin.{Origin}
 use Rattle.ospf_update.specs.Meets.{Becomes}
 use Rattle.ospf_step.specs.Headers.{IsOfInstance, Lists}
 use Rattle.ospf_step.specs.Packets.{Received, lsas_of, headers_in_body}
-use Rattle.ospf_step.specs.Parts.{IssuePart, ExpiryPart, AgesPart, AnswersAll, RemovalPart, at_max_age, leaves_if, ends_run_if}
+use Rattle.ospf_step.specs.Parts.{IssuePart, ExpiryPart, AgesPart, RemovalPart, at_max_age, leaves_if}
 use Rattle.ospf_update.specs.Removal.{some_awaits, lowest_number, is_last}
 use Rattle.ospf_area.specs.Numbers.{is_own}
-use Rattle.ospf_step.specs.Words.{CanName, HoldsInstance, HasCopy, Brings, IsSoundState, ListsAreHeld, delayed_in, list_in}
+use Rattle.ospf_step.specs.Words.{CanName, HoldsInstance, HasCopy, Brings, IsSoundState, ListsAreHeld}
 use Rattle.ospf_lsdb.specs.Moments.{among}
 use Rattle.ospf_flood.specs.Rules.{max_sequence_number}
 use Rattle.ospf_step.specs.Accounts.{Adjusts, HasContents, HasLargest, TakesItsPlace, Sends, WasHeld, WasKept, Numbers, NoneEntersExchange}
@@ -48,7 +49,7 @@ use Rattle.ospf_step.proofs.Accountable.{IsAccountable, Adjusts-accountable, sen
 use Rattle.ospf_step.proofs.SentFacts.{direct-packets, IsUpdateOf, flooding-packets}
 use Rattle.ospf_step.proofs.FloodingAccounts as flooding
 use Rattle.ospf_step.proofs.FloodingAccounts.{FloodsTo, IsFlooded, IsAccounted, Replaces}
-use Rattle.ospf_step.proofs.StateFacts.{Contains-nil, Contains-map_cases, Contains-from_slice_get, find-some, greater_is_newer, header_is_of, header_names, same_contents, copy_of-has, copy_of-key, entry_of-key, key_of-lsa_of}
+use Rattle.ospf_step.proofs.StateFacts.{Contains-nil, Contains-map_cases, Contains-from_slice_get, find-some, greater_is_newer, header_is_of, header_names, same_contents, copy_of-has, copy_of-key, entry_of-key, key_of-lsa_of, list_in, delayed_in, AnswersAll, ends_run_if}
 use Rattle.ospf_step.proofs.OfferFacts.{floods_to, stays_itself}
 use Rattle.ospf_step.proofs.QuietAccounts.{brings_none, kept_same, none_ended, Numbers-none_issued}
 use Rattle.ospf_step.specs.Links.{IsKnownPacket}
@@ -97,7 +98,7 @@ DirectPart-accountable heard f before out after read d =
 pub IssuePart-accountable : (heard : Option Received) (lsa : List ℕ) (before : AreaValue) (out : OutputsValue) (after : AreaValue) → IsSoundState before → AreReadAsSent out.sent → IssuePart lsa before out after → IsAccountable heard before out after
 IssuePart-accountable heard lsa before out after sound read issue =
     Stores-accountable heard lsa None false before out after
-    (record { database = issue.stores.database; links = issue.stores.links; same_router = issue.stores.same_router; same_direct = issue.stores.same_direct })
+    (record { database = issue.database; links = issue.links; same_router = issue.same_router; same_direct = issue.same_direct })
     issue.is_lsa newer (λ copy is. TakesItsPlace.Issued in_issued (more copy is)) brings only (HasContents.Issued lsa in_issued refl) (λ g is. absurd (none-some g is)) issue.sent read numbers (λ own. issue.known) issue.ended
   where
     -- the copy's number is at most the kept one

@@ -18,7 +18,8 @@ use Rattle.ospf_adjacency.specs.Laws.{DescriptionKeepsRouter}
 use Rattle.ospf_adjacency.specs.Heard.{Neighbourhood, elects_by_hello, elects_by_change, hello_turn, sender_of, turn_of}
 use Rattle.ospf_adjacency.proofs.GoLemmas.{heard_router}
 use Rattle.ospf_adjacency.specs.HelloLaws.{ElectionsComeAbout, NeighboursStayOfLink}
-use Rattle.ospf_links.specs.Parts.{description_part, description_by, hello_part, neighbourhood_of, request_by, request_part, with_neighbourhood}
+use Rattle.ospf_links.specs.Parts.{description_part, hello_part, neighbourhood_of, request_part, with_neighbourhood}
+use Rattle.ospf_links.proofs.Words.{description_by, request_by}
 use Rattle.ospf_area.specs.Posting.{local_of}
 use Rattle.ospf_adjacency.specs.Answers.{answer_turn}
 use Rattle.ospf_adjacency.specs.ResendLaws.{AnswersAreQuiet}

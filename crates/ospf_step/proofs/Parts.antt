@@ -26,7 +26,8 @@ use Rattle.ospf_step.proofs.StateFacts.{Contains-nil}
 use Rattle.ospf_step.proofs.PutParts.{puts_sent}
 use Rattle.ospf_links.specs.Parts.{hello_out, hello_part, hello_sent, link_down, link_timed, link_up, neighbourhood_of, up_parcels, with_neighbourhood}
 use Rattle.ospf_area.specs.Posting.{local_of, posted_all}
-use Rattle.ospf_links.specs.Works.{link_changed, some_changed, up_out_on, work_sent, worked}
+use Rattle.ospf_links.specs.Works.{link_changed, up_out_on, work_sent, worked}
+use Rattle.ospf_links.proofs.Words.{some_changed}
 use Rattle.ospf_step.specs.Invariants.{AreRising}
 use Rattle.ospf_step.proofs.Known.{AreBare, bare_if, bare_known, event_bare, link_quiet, same_goes, links_known, none_known}
 use Rattle.ospf_step.proofs.Works.{all_links_put, nothing_read, one_link, puts_nothing, read_sent, same_quiet, silent_links_put, work_puts}

@@ -16,20 +16,21 @@ use Rattle.ospf_area.specs.declared.flooding.Origin.{Origin}
 use Rattle.ospf_update.specs.Acks.{delayed_out_on, undelayed_link}
 use Rattle.ospf_update.specs.Aging.{Flushes, TickAges, copies_sent, copy_sent}
 use Rattle.ospf_update.specs.Meets.{header_met}
-use Rattle.ospf_update.specs.Removal.{Removes, RemovesAll, and_ends, ends_run, leaving}
+use Rattle.ospf_update.specs.Removal.{and_ends, ends_run, leaving}
+use Rattle.ospf_update.proofs.Words.{RemovesAll, Removes}
 use Rattle.ospf_step.specs.Links.{AllEach, AreKnown, ChangesLinks, IsLinkIn, IsKnownPacket, LinkQuiet}
 use Rattle.ospf_step.specs.Neighbours.{Quiet}
 use Rattle.ospf_step.specs.Parts.{ExpiryPart, RemovalPart}
 use Rattle.ospf_step.specs.Puts.{PutsOut, headers_met}
 use Rattle.ospf_step.specs.Step.{AndRequests, Chain, IsPart, OwnStep, Part, Times}
 use Rattle.ospf_step.specs.Step.Part.{HeaderComes}
-use Rattle.ospf_step.specs.Words.{CanName, delayed_in}
+use Rattle.ospf_step.specs.Words.{CanName}
 use Rattle.ospf_step.proofs.Accountable.{AreRead-right, then_nothing}
 use Rattle.ospf_step.proofs.SentFacts.{acks-packets}
 use Rattle.ospf_step.proofs.AgingChains.{Flushes-is_part, TickAges-is_part, same_database}
 use Rattle.ospf_step.proofs.Chains.{puts_more, then_assoc, then_sends}
 use Rattle.ospf_step.proofs.LinkParts.{goes_same, map_each, part_quiet}
-use Rattle.ospf_step.proofs.StateFacts.{Contains-nil}
+use Rattle.ospf_step.proofs.StateFacts.{Contains-nil, delayed_in}
 use Rattle.ospf_step.proofs.RemovalChains.{Removes-is_part}
 
 -- a part that sends alone
@@ -139,7 +140,7 @@ ends_one true key out = refl
 ends_one false key out = ended_none out
 
 anywhere : (keys : List LsaKey) (s : AreaValue) (out out' : OutputsValue) (t : AreaValue) → RemovesAll keys s out out' t → Anywhere keys s out out' t
-anywhere [] s out out' t (state, outputs) = record { ends = []; here = outputs ∙ ended_none out; from = λ o. (state, sym (ended_none o)) }
+anywhere [] s out out' t same = record { ends = []; here = same.outputs ∙ ended_none out; from = λ o. record { state = same.state; outputs = sym (ended_none o) } }
 anywhere (key ∷ keys) s out out' t (mid, so_far, one, rest) =
     let later = anywhere keys mid so_far out' t rest in
     let first = one_ended (ends_run s key) key in
@@ -156,9 +157,9 @@ anywhere (key ∷ keys) s out out' t (mid, so_far, one, rest) =
 
 pub removals_put : (s t : AreaValue) (out out' : OutputsValue) → IsDatabase s.database → Removes s out out' t → PutsOut (λ o. RemovalPart s o t) out out'
 removals_put s t out out' is r =
-    let a = anywhere (leaving s) s out out' t r.all in
+    let a = anywhere (leaving s) s out out' t r in
     let o = and_ended no_outputs a.ends in
-    record { own = o; is = Removes-is_part s t o is (record { all = a.from no_outputs }); behind = a.here ∙ then_ended out a.ends }
+    record { own = o; is = Removes-is_part s t o is (a.from no_outputs); behind = a.here ∙ then_ended out a.ends }
 
 -- ---- own LSAs
 

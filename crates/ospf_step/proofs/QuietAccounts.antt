@@ -19,16 +19,17 @@ use Rattle.ospf_neighbour.specs.Laws.{Waits}
 use Rattle.ospf_neighbour.specs.Machine.{is_exchanging}
 use Rattle.ospf_neighbour.specs.Neighbour.{NeighbourValue}
 use Rattle.ospf_area.specs.Outputs.{OutputsValue, no_outputs}
-use Rattle.ospf_area.specs.State.{AreaValue, LinkValue, neighbour, state_of, state_in, database_entry, copy_in, kept_number, Awaits, WaitsIn}
+use Rattle.ospf_area.specs.State.{AreaValue, LinkValue, neighbour, state_of, database_entry, kept_number, Awaits, WaitsIn}
+use Rattle.ospf_area.proofs.Words.{state_in, copy_in}
 use Rattle.ospf_update.specs.Meets.{Becomes}
 use Rattle.ospf_step.specs.Headers.{IsOfInstance, Lists}
 use Rattle.ospf_step.specs.Packets.{Received, lsas_of, headers_in_body, dd_headers_of, acknowledging_headers_of}
 use Rattle.ospf_area.specs.Places.{map_from}
-use Rattle.ospf_step.specs.Words.{CanName, HoldsInstance, HasCopy, Brings, IsSoundState, delayed, delayed_in, list_in}
+use Rattle.ospf_step.specs.Words.{CanName, HoldsInstance, HasCopy, Brings, IsSoundState, delayed}
 use Rattle.ospf_update.specs.Removal.{lowest_number}
 use Rattle.ospf_lsdb.specs.Moments.{among}
 use Rattle.ospf_step.specs.Accounts.{Accounts, Adjusts, WasHeld, WasKept, HasLargest, Numbers, HasContents, Hears, IsAcknowledged, Sends, MayLeave}
-use Rattle.ospf_step.proofs.StateFacts.{Contains-nil, same_contents, neighbour-changed, link-changed, neighbour-router, list-changed}
+use Rattle.ospf_step.proofs.StateFacts.{Contains-nil, same_contents, neighbour-changed, link-changed, neighbour-router, list-changed, list_in, delayed_in}
 
 pub brings_none : (out : OutputsValue) (i : Instance) → out.taken ≡ [] → out.issued ≡ [] → Brings out i → ⊥
 brings_none out i taken issued (Brings.Takes c) = Contains-nil i (subst (λ is. Contains is i) taken c)

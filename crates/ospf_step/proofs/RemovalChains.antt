@@ -12,12 +12,14 @@ use Rattle.ospf_base.specs.Keys.{same_key}
 use Rattle.ospf_base.proofs.SameKeys.{same_key-eq}
 use Rattle.ospf_area.specs.Numbers.{is_numbering_of, is_own}
 use Rattle.ospf_area.specs.Outputs.{OutputsValue, no_outputs}
-use Rattle.ospf_update.specs.Removal.{is_leaving, key_of_entry, leaving, is_last, ends_run, reset_one, reset, and_ends, RemovesOne, RemovesAll, Removes, some_awaits, lowest_number}
-use Rattle.ospf_area.specs.State.{AreaValue, database_entry, kept_number, kept_in, numbering_of, some_link_loading}
+use Rattle.ospf_update.specs.Removal.{is_leaving, key_of_entry, leaving, is_last, ends_run, reset_one, reset, and_ends, RemovesOne, some_awaits, lowest_number}
+use Rattle.ospf_update.proofs.Words.{RemovesAll, Removes}
+use Rattle.ospf_area.specs.State.{AreaValue, database_entry, kept_number, numbering_of, some_link_loading}
+use Rattle.ospf_area.proofs.Words.{kept_in}
 use Rattle.ospf_area.specs.declared.state.Numbering.{Numbering}
-use Rattle.ospf_step.specs.Parts.{RemovalPart, leaves_if, ends_run_if}
+use Rattle.ospf_step.specs.Parts.{RemovalPart, leaves_if}
 use Rattle.ospf_lsdb.specs.Moments.{among}
-use Rattle.ospf_step.proofs.StateFacts.{find-map, find-some}
+use Rattle.ospf_step.proofs.StateFacts.{find-map, find-some, ends_run_if}
 use Rattle.ospf_step.proofs.NumberFacts.{first_found, find-append, any_found, none_found}
 use Rattle.ospf_base.specs.Constants.{max_age}
 
@@ -176,7 +178,7 @@ one_stays key s t out out' r = record {
     in_issued false = refl
 
 all_stay : (keys : List LsaKey) (s t : AreaValue) (out out' : OutputsValue) → RemovesAll keys s out out' t → RestStays s t out out'
-all_stay [] s t out out' (state, outputs) = record { links = ap (λ s. s.links) state; router = ap (λ s. s.router) state; direct = ap (λ s. s.direct) state; sent = ap (λ o. o.sent) outputs; taken = ap (λ o. o.taken) outputs; issued = ap (λ o. o.issued) outputs }
+all_stay [] s t out out' same = record { links = ap (λ s. s.links) same.state; router = ap (λ s. s.router) same.state; direct = ap (λ s. s.direct) same.state; sent = ap (λ o. o.sent) same.outputs; taken = ap (λ o. o.taken) same.outputs; issued = ap (λ o. o.issued) same.outputs }
 all_stay (key ∷ keys) s t out out' (m, so_far, one, rest) =
     let a = one_stays key s m out so_far one in
     let b = all_stay keys m t so_far out' rest in
@@ -191,10 +193,10 @@ two_ended false false later true then_ p q = ap (λ b. later && b) (q refl)
 two_ended false false later false then_ p q = ap (λ b. later && b) (q refl)
 
 all_removed : (keys : List LsaKey) (s t : AreaValue) (out out' : OutputsValue) → RemovesAll keys s out out' t → (k : LsaKey) → RemovedAt keys s t out out' k
-all_removed [] s t out out' (state, outputs) k = record {
-  entry = ap (λ s. database_entry s k) state;
-  kept = ap (λ s. kept_number s k) state;
-  ended = ap (λ o. among o.ended k) outputs ∙ sym (or_false (among out.ended k));
+all_removed [] s t out out' same k = record {
+  entry = ap (λ s. database_entry s k) same.state;
+  kept = ap (λ s. kept_number s k) same.state;
+  ended = ap (λ o. among o.ended k) same.outputs ∙ sym (or_false (among out.ended k));
 }
 all_removed (key ∷ keys) s t out out' (m, so_far, one, rest) k =
     let r = all_removed keys m t so_far out' rest k in
@@ -319,16 +321,16 @@ ends_by s k (Some e) = refl
 -- the removals that end a step (14, 12.1.6)
 pub Removes-is_part : (before after : AreaValue) (out : OutputsValue) → IsDatabase before.database → Removes before no_outputs out after → RemovalPart before out after
 Removes-is_part before after out is r = record {
-  database = λ k. (all_removed (leaving before) before after no_outputs out r.all k).entry ∙ (ap (λ b. cond b (gone (database_entry before k)) (database_entry before k)) (leaving_by before k is) ∙ gone_leaves before (database_entry before k));
+  database = λ k. (all_removed (leaving before) before after no_outputs out r k).entry ∙ (ap (λ b. cond b (gone (database_entry before k)) (database_entry before k)) (leaving_by before k is) ∙ gone_leaves before (database_entry before k));
   same_links = rest.links;
   same_router = rest.router;
   same_direct = rest.direct;
-  numbering = λ k. (all_removed (leaving before) before after no_outputs out r.all k).kept ∙ ap (λ b. cond b lowest_number (kept_number before k)) (sym (all_removed (leaving before) before after no_outputs out r.all k).ended);
+  numbering = λ k. (all_removed (leaving before) before after no_outputs out r k).kept ∙ ap (λ b. cond b lowest_number (kept_number before k)) (sym (all_removed (leaving before) before after no_outputs out r k).ended);
   sent = rest.sent;
   taken = rest.taken;
   issued = rest.issued;
-  ended = λ k. (all_removed (leaving before) before after no_outputs out r.all k).ended ∙ (ap (λ b. b && ends_run before k) (leaving_by before k is) ∙ ends_by before k (database_entry before k));
+  ended = λ k. (all_removed (leaving before) before after no_outputs out r k).ended ∙ (ap (λ b. b && ends_run before k) (leaving_by before k is) ∙ ends_by before k (database_entry before k));
 }
   where
     rest : RestStays before after no_outputs out
-    rest = all_stay (leaving before) before after no_outputs out r.all
+    rest = all_stay (leaving before) before after no_outputs out r

@@ -4,7 +4,7 @@ use Rattle.std.specs.List.{Contains, slice_get, filter, find, AllByRecursion}
 use Rattle.std.specs.Option.{option_map}
 use Rattle.std.proofs.lemmas.Bool.{false≢true, cond-true, eqb-true, ltb-false}
 use Rattle.std.proofs.lemmas.Option.{none-some, same_Some, slice_get_within, get_or_from_slice_get}
-use Rattle.std.specs.Prelude.{◌<ℤ◌, int_lt, nat_lt, if◌then◌else◌}
+use Rattle.std.specs.Prelude.{◌<ℤ◌, int_lt, nat_lt, if◌then◌else◌, ◌&&◌}
 use Rattle.std.proofs.lemmas.Int.{ints}
 use Rattle.ospf_base.specs.Constants.{max_age}
 use Rattle.ospf_base.specs.Instances.{Covers}
@@ -26,14 +26,50 @@ use Rattle.ospf_lsdb.specs.Database.{Entry, Held, lsa_of, key_in, key_at, held_o
 use Rattle.ospf_base.proofs.SameKeys.{same_key-eq}
 use Rattle.ospf_neighbour.specs.Neighbour.{NeighbourValue}
 use Rattle.ospf_neighbour.specs.Neighbours.{neighbour_of}
-use Rattle.ospf_area.specs.State.{AreaValue, LinkValue, neighbour, neighbours_in, database_entry, copy_of, copy_in}
+use Rattle.ospf_area.specs.State.{AreaValue, LinkValue, neighbour, database_entry, copy_of}
+use Rattle.ospf_area.proofs.Words.{neighbours_in, copy_in}
 use Rattle.ospf_area.specs.Places.{map_from}
-use Rattle.ospf_step.specs.Words.{HasCopy, HoldsInstance, list_in}
-use Rattle.ospf_step.specs.Parts.{at_max_age}
+use Rattle.ospf_step.specs.Words.{HasCopy, HoldsInstance}
+use Rattle.ospf_step.specs.Parts.{at_max_age, leaves_if}
 use Rattle.ospf_exchange.specs.Laws.{HasHeader, HasInstance}
 use Rattle.ospf_exchange.proofs.LawLemmas.{of_copy}
 use Rattle.ospf_lsa.specs.declared.fault.LsaFault.TheVariants as fault
 use Rattle.ospf_lsdb.specs.Database as lsdb
+use Rattle.ospf_area.specs.Outputs.{OutputsValue, no_outputs}
+use Rattle.ospf_update.specs.Meets.{Becomes}
+use Rattle.ospf_base.specs.declared.ids.Addr.{Addr}
+use Rattle.ospf_packet.specs.Meaning.{Meaning}
+use Rattle.ospf_step.specs.Step.{Part, parts_of_packet}
+use Rattle.ospf_area.specs.Numbers.{is_own}
+use Rattle.ospf_update.specs.Removal.{is_last}
+
+-- ---- parts of definitions of specs/ by names of their own
+
+-- a list of a neighbour that may not be there
+abbrev pub list_in : {A : Type 0} → (NeighbourValue → List A) → Option NeighbourValue → List A
+list_in list None = []
+list_in list (Some n) = list n
+
+-- the acknowledgements that wait on a link that may not be there (13.5)
+abbrev pub delayed_in : Option LinkValue → List LsaHeader
+delayed_in None = []
+delayed_in (Some link) = link.delayed
+
+-- what a datagram brings, if it is a packet
+abbrev pub parts_of_datagram : ℕ → Addr → Option Meaning → List Part
+parts_of_datagram link source None = []
+parts_of_datagram link source (Some p) = parts_of_packet (record { link = link; router = p.router; address = source }) p p.body
+
+-- and with it goes the numbering run of an own key that has used up its numbers (12.1.6)
+abbrev pub ends_run_if : AreaValue → LsaKey → Option Entry → Bool
+ends_run_if s key None = false
+ends_run_if s key (Some e) = leaves_if s (Some e) && (is_own s.router key && is_last (Some e))
+
+-- what was to be answered is answered (13.4)
+abbrev pub AnswersAll : AreaValue → OutputsValue → AreaValue → Type 0
+AnswersAll before out after = Becomes (record before { heard = [] }) no_outputs out after
+
+-- ---- facts
 
 -- what a test lets through, and nothing else, stays in a filter
 pub Contains-map_cases : {X Y : Type 0} (f : X → Y) (xs : List X) (y : Y) → Contains (map f xs) y → (x : X) × Contains xs x × (f x ≡ y)

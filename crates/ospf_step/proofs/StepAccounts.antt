@@ -13,8 +13,9 @@ use Rattle.ospf_area.specs.declared.flooding.Origin.{Origin}
 use Rattle.ospf_step.specs.Accounts.{Accounts, Adjusts, NoneEntersExchange}
 use Rattle.ospf_step.specs.Neighbours.{Quiet}
 use Rattle.ospf_step.specs.Packets.{Received, lsas_of, acknowledging_headers_of}
-use Rattle.ospf_step.specs.Parts.{AgesPart, AnswersAll, IssuePart, ExpiryPart}
-use Rattle.ospf_step.specs.Step.{Event, Part, Then, Times, AndRequests, OwnStep, ExpiryStep, IsPart, Chain, lsa_parts, first_parts, last_parts, parts_of_packet, parts_of_datagram, heard_in, StepLaws}
+use Rattle.ospf_step.specs.Parts.{AgesPart, IssuePart, ExpiryPart}
+use Rattle.ospf_step.specs.Step.{Event, Part, Then, Times, AndRequests, OwnStep, ExpiryStep, IsPart, Chain, lsa_parts, first_parts, last_parts, parts_of_packet, heard_in, StepLaws}
+use Rattle.ospf_step.proofs.StateFacts.{parts_of_datagram, AnswersAll}
 use Rattle.ospf_step.specs.Step.Part.{HelloComes, DdComes, RequestComes, LsaComes, HeaderComes, DirectAcknowledgements, LinkChanges, Ages, Timers, Hellos, Acknowledgements, Repeats, Requests, Elections, OwnLsas, Removals}
 use Rattle.ospf_step.specs.Words.{IsSoundState}
 use Rattle.ospf_step.proofs.Accountable.{IsAccountable, Adjusts-accountable, Unchanged-accountable, both-accountable, then_nothing, AreRead-left, AreRead-right}

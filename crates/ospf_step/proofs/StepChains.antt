@@ -9,7 +9,8 @@ use Rattle.ospf_area.specs.State.{AreaValue}
 use Rattle.ospf_update.specs.Aging.{TickAges}
 use Rattle.ospf_step.specs.Begins.{BeginsChain, BeginsWork, IsArrival}
 use Rattle.ospf_step.specs.Puts.{PutsOut, headers_met}
-use Rattle.ospf_step.specs.Step.{Chain, Event, IsPart, Part, first_parts, parts_of_datagram, parts_of_packet, last_parts}
+use Rattle.ospf_step.specs.Step.{Chain, Event, IsPart, Part, first_parts, parts_of_packet, last_parts}
+use Rattle.ospf_step.proofs.StateFacts.{parts_of_datagram}
 use Rattle.ospf_step.specs.Step.Part.{Acknowledgements, Ages, Hellos, Repeats, Timers, DdComes, HelloComes, LinkChanges, RequestComes}
 use Rattle.ospf_step.proofs.Accountable.{AreRead-left}
 use Rattle.ospf_step.proofs.Chains.{puts_more, update_puts, puts_none}
@@ -31,7 +32,7 @@ use Rattle.ospf_step.specs.Packets.{dd_headers_of}
 use Rattle.ospf_links.specs.Parts.{description_part, hello_part, link_down, link_up, request_part}
 use Rattle.ospf_links.specs.Works.{link_changed, up_out_on, work_sent, worked}
 use Rattle.ospf_step.specs.Takes.{origin_of}
-use Rattle.ospf_update.specs.Removal.{Removes}
+use Rattle.ospf_update.proofs.Words.{Removes}
 use Rattle.ospf_links.specs.Elections.{ElectsAll}
 use Rattle.ospf_originate.specs.Steps.{OwnLsas}
 use Rattle.ospf_step.proofs.Elections.{elects_database, elects_put}

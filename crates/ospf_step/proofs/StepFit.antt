@@ -12,16 +12,17 @@ use Rattle.ospf_area.specs.Outputs.{OutputsValue, SentValue}
 use Rattle.ospf_area.specs.Sending.{own_of}
 use Rattle.ospf_area.specs.State.{AreaValue, LinkValue}
 use Rattle.ospf_area.specs.declared.flooding.Origin.{Origin}
-use Rattle.ospf_links.specs.Elections.{ElectsAll, ElectsAt, ElectsFrom, ElectsThere}
+use Rattle.ospf_links.specs.Elections.{ElectsAll, ElectsAt, ElectsFrom}
 use Rattle.ospf_links.specs.Parts.{description_part, hello_part, hello_sent, link_down, link_timed, link_up, request_part, with_neighbourhood}
 use Rattle.ospf_links.specs.Repeats.{link_repeated}
-use Rattle.ospf_links.specs.Works.{link_changed, some_changed, worked, worked_links_on, work_next_on}
+use Rattle.ospf_links.specs.Works.{link_changed, worked, worked_links_on, work_next_on}
+use Rattle.ospf_links.proofs.Words.{some_changed, ElectsThere}
 use Rattle.ospf_step.specs.Puts.{headers_met}
 use Rattle.ospf_packet.specs.Meaning.{BodyMeaning, hello, description, request, update, acknowledgment}
 use Rattle.ospf_update.specs.Acks.{undelayed_link}
 use Rattle.ospf_update.specs.Aging.{TickAges}
 use Rattle.ospf_update.specs.Meets.{header_met}
-use Rattle.ospf_update.specs.Removal.{Removes}
+use Rattle.ospf_update.proofs.Words.{Removes}
 use Rattle.ospf_originate.specs.Laws.{AreaStaysSound, OwnStaySound}
 use Rattle.ospf_originate.specs.Sound.{IsSetUp, IsSound}
 use Rattle.ospf_originate.specs.Steps.{OwnLsas}

@@ -10,10 +10,11 @@ use Rattle.ospf_area.specs.State.{AreaValue, LinkValue}
 use Rattle.ospf_area.specs.declared.flooding.Origin.{Origin}
 use Rattle.ospf_step.specs.Step.{Event}
 use Rattle.ospf_step.specs.Step.Event.{Datagram, Tick, LinkUp, LinkDown}
-use Rattle.ospf_links.specs.Elections.{ElectsAt, ElectsFrom, ElectsThere}
+use Rattle.ospf_links.specs.Elections.{ElectsAt, ElectsFrom}
 use Rattle.ospf_links.specs.Parts.{description_part, hello_part, hello_sent, link_down, link_timed, link_up, request_part, with_neighbourhood}
 use Rattle.ospf_links.specs.Repeats.{link_repeated}
-use Rattle.ospf_links.specs.Works.{link_changed, some_changed, worked, worked_links_on, work_next_on}
+use Rattle.ospf_links.specs.Works.{link_changed, worked, worked_links_on, work_next_on}
+use Rattle.ospf_links.proofs.Words.{some_changed, ElectsThere}
 use Rattle.ospf_packet.specs.Meaning.{BodyMeaning, Meaning, hello, description, request, update, acknowledgment}
 use Rattle.ospf_packet.specs.PacketOf.{packet_of}
 use Rattle.ospf_update.specs.Acks.{undelayed_link}

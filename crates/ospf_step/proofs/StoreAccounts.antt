@@ -25,7 +25,8 @@ use Rattle.ospf_update.specs.Meets.{Stores, store_updates}
 use Rattle.ospf_area.specs.Sending.{own_of}
 use Rattle.ospf_area.specs.Outputs.{OutputsValue, AreReadAsSent}
 use Rattle.ospf_area.specs.Places.{map_from}
-use Rattle.ospf_area.specs.State.{AreaValue, LinkValue, database_entry, copy_in, copy_of, kept_number}
+use Rattle.ospf_area.specs.State.{AreaValue, LinkValue, database_entry, copy_of, kept_number}
+use Rattle.ospf_area.proofs.Words.{copy_in}
 use Rattle.ospf_area.specs.declared.flooding.Origin.{Origin}
 use Rattle.ospf_step.specs.Headers.{IsOfInstance, Lists}
 use Rattle.ospf_step.specs.Packets.{Received, lsas_of, headers_in_body}

@@ -30,7 +30,8 @@ use Rattle.ospf_adjacency.specs.ResendLaws.{HasCopiesOnly, IsCopy, IsQuiet}
 use Rattle.ospf_adjacency.proofs.QuietLemmas.{answers_are_quiet, repeats_are_quiet}
 use Rattle.ospf_area.specs.Outputs.{AreReadAsSent, OutputsValue, SentValue, sends}
 use Rattle.ospf_area.specs.Sending.{and_sends, own_of}
-use Rattle.ospf_area.specs.State.{AreaValue, LinkValue, neighbour, neighbours_in, copy_in}
+use Rattle.ospf_area.specs.State.{AreaValue, LinkValue, neighbour}
+use Rattle.ospf_area.proofs.Words.{neighbours_in, copy_in}
 use Rattle.ospf_area.specs.declared.flooding.Origin.{Origin}
 use Rattle.ospf_step.specs.Accounts.{WasHeld}
 use Rattle.ospf_step.specs.Headers.{IsOfInstance}
@@ -41,7 +42,8 @@ use Rattle.ospf_step.specs.Puts.{PutsOut}
 use Rattle.ospf_step.specs.Words.{CanName}
 use Rattle.ospf_step.proofs.LinkParts.{goes_same, link_same, one_goes, one_quiet, quiet_same}
 use Rattle.ospf_step.proofs.StateFacts.{Contains-map_cases, Contains-nil, header_names, same_contents, copy_of-has, neighbour-router, same_router}
-use Rattle.ospf_links.specs.Parts.{description_by, description_part, neighbourhood_of, request_by, request_part, with_neighbourhood}
+use Rattle.ospf_links.specs.Parts.{description_part, neighbourhood_of, request_part, with_neighbourhood}
+use Rattle.ospf_links.proofs.Words.{description_by, request_by}
 use Rattle.ospf_area.specs.Posting.{local_by, local_of, posted_all}
 use Rattle.ospf_links.specs.Repeats.{link_repeated, neighbour_repeated, repeats_for, link_repeats_out, repeats_to}
 use Rattle.ospf_links.specs.Works.{work_sent, worked}

@@ -7,11 +7,11 @@ use Rattle.ospf_area.specs.State.{AreaValue}
 use Rattle.ospf_update.specs.Meets.{Becomes}
 use Rattle.ospf_step.specs.Accounts.{Sends}
 use Rattle.ospf_step.specs.Neighbours.{Quiet}
-use Rattle.ospf_step.specs.Parts.{AgesPart, AnswersAll, RemovalPart}
+use Rattle.ospf_step.specs.Parts.{AgesPart, RemovalPart}
 use Rattle.ospf_step.specs.Step.{Event, Then, StepLaws}
 use Rattle.ospf_update.specs.Removal.{lowest_number}
 use Rattle.ospf_step.specs.Words.{IsSoundState}
-use Rattle.ospf_step.proofs.StateFacts.{Contains-nil}
+use Rattle.ospf_step.proofs.StateFacts.{Contains-nil, AnswersAll}
 
 abbrev pub at_tick : ℕ → AreaValue
 at_tick t = record {

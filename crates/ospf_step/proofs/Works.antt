@@ -16,7 +16,7 @@ use Rattle.ospf_step.proofs.StateFacts.{Contains-nil}
 use Rattle.ospf_step.proofs.PutParts.{puts_sent}
 use Rattle.ospf_links.specs.Parts.{with_neighbourhood}
 use Rattle.ospf_area.specs.Posting.{posted_all}
-use Rattle.ospf_links.specs.Works.{work_next_on, work_sent, work_sent_on, worked, worked_links_on}
+use Rattle.ospf_links.specs.Works.{work_sent, worked, worked_links_on, work_next_on, work_sent_on}
 use Rattle.ospf_step.proofs.Known.{none_known}
 
 -- what is sent behind the outputs so far is read where all is

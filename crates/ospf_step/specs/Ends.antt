@@ -4,7 +4,8 @@ use Rattle.ospf_area.specs.State.{AreaValue}
 use Rattle.ospf_links.specs.Elections.{ElectsAll}
 use Rattle.ospf_lsdb.specs.Database.{IsDatabase}
 use Rattle.ospf_originate.specs.Steps.{OwnLsas}
-use Rattle.ospf_update.specs.Removal.{Removes}
+use Rattle.ospf_update.specs.Meets.{InTurn}
+use Rattle.ospf_update.specs.Removal.{RemovesOne, leaving}
 
 pub record EndsStep (s : AreaValue) (out out' : OutputsValue) (after : AreaValue) : Type 0 where
   pub database : IsDatabase s.database
@@ -15,5 +16,5 @@ pub record EndsStep (s : AreaValue) (out out' : OutputsValue) (after : AreaValue
   pub issued_out : OutputsValue
   pub own : OwnLsas elected elected_out issued_out issued
   pub issued_database : IsDatabase issued.database
-  pub removes : Removes issued issued_out out' after
+  pub removes : InTurn RemovesOne (leaving issued) issued issued_out out' after
   pub read : AreReadAsSent out'.sent

@@ -27,19 +27,16 @@ pub data LsaPart (f : Origin) (lsa : List ℕ) (before : AreaValue) (out : Outpu
 
 -- ---- own LSAs, and those that come to MaxAge
 
--- the LSA is stored in its key's place, its old copy is off all lists, and it is flooded to all
-pub record StoresOwn (lsa : List ℕ) (before after : AreaValue) : Type 0 where
-  pub database : Installs (entry_from lsa before.tick false) before.database after.database
-  pub links : after.links ≡ flooded_links (key_of lsa) (header_of lsa) None before.tick (released (key_of lsa) before.links)
-  pub same_router : after.router ≡ before.router
-  pub same_direct : after.direct ≡ before.direct
-
--- an own LSA is issued (12.4): with the number after the kept one, in place of the old copy
+-- an own LSA is issued (12.4): with the number after the kept one, in place of the old copy, which is off all lists, and it is
+-- flooded to all
 pub record IssuePart (lsa : List ℕ) (before : AreaValue) (out : OutputsValue) (after : AreaValue) : Type 0 where
   pub is_lsa : IsLsa lsa
   pub own : (key_of lsa).router ≡ before.router
   pub number : (instance_of lsa).number ≡ kept_number before (key_of lsa) +ℤ pos 1
-  pub stores : StoresOwn lsa before after
+  pub database : Installs (entry_from lsa before.tick false) before.database after.database
+  pub links : after.links ≡ flooded_links (key_of lsa) (header_of lsa) None before.tick (released (key_of lsa) before.links)
+  pub same_router : after.router ≡ before.router
+  pub same_direct : after.direct ≡ before.direct
   pub kept : (key : LsaKey) → kept_number before key ≤ℤ kept_number after key
   pub known : (instance_of lsa).number ≤ℤ kept_number after (key_of lsa)
   pub sent : out.sent ≡ flooding_updates (own_of before) lsa None (released (key_of lsa) before.links)
@@ -73,17 +70,7 @@ abbrev pub leaves_if : AreaValue → Option Entry → Bool
 leaves_if s None = false
 leaves_if s (Some e) = not (some_link_loading s.links) && is_leaving s.links e
 
--- and with it goes the numbering run of an own key that has used up its numbers (12.1.6)
-abbrev pub ends_run_if : AreaValue → LsaKey → Option Entry → Bool
-ends_run_if s key None = false
-ends_run_if s key (Some e) = leaves_if s (Some e) && (is_own s.router key && is_last (Some e))
-
--- the own LSAs that were due are issued and flushed, and what was to be answered is answered (12.4, 13.4)
-pub record AnswersAll (before : AreaValue) (out : OutputsValue) (after : AreaValue) : Type 0 where
-  pub state : after ≡ record before { heard = [] }
-  pub outputs : out ≡ no_outputs
-
--- the last of a step
+-- the last of a step. With the LSA of an own key that has used up its numbers goes its numbering run (12.1.6)
 pub record RemovalPart (before : AreaValue) (out : OutputsValue) (after : AreaValue) : Type 0 where
   pub database : (key : LsaKey) → database_entry after key ≡ (if leaves_if before (database_entry before key) then None else database_entry before key)
   pub same_links : after.links ≡ before.links
@@ -93,4 +80,5 @@ pub record RemovalPart (before : AreaValue) (out : OutputsValue) (after : AreaVa
   pub sent : out.sent ≡ []
   pub taken : out.taken ≡ []
   pub issued : out.issued ≡ []
-  pub ended : (key : LsaKey) → among out.ended key ≡ ends_run_if before key (database_entry before key)
+  pub ended : (key : LsaKey) → among out.ended key
+      ≡ (elim (database_entry before key) [ None ↦ false | Some e ↦ leaves_if before (Some e) && (is_own before.router key && is_last (Some e)) ])

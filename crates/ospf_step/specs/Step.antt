@@ -13,7 +13,7 @@ use Rattle.ospf_update.specs.Acks.{direct_out}
 use Rattle.ospf_update.specs.Meets.{Becomes, header_met}
 use Rattle.ospf_step.specs.Neighbours.{NeighboursGo, Quiet}
 use Rattle.ospf_step.specs.Packets.{Received}
-use Rattle.ospf_step.specs.Parts.{LsaPart, IssuePart, ExpiryPart, AgesPart, AnswersAll, RemovalPart}
+use Rattle.ospf_step.specs.Parts.{LsaPart, IssuePart, ExpiryPart, AgesPart, RemovalPart}
 
 -- what a router is stepped with: a datagram that comes in on a link, a second that passes, or a link that comes or goes
 pub data Event : Type 0 where
@@ -96,7 +96,8 @@ IsPart Acknowledgements before out after = Quiet before out after
 IsPart Repeats before out after = Quiet before out after
 IsPart Requests before out after = Quiet before out after
 IsPart Elections before out after = Quiet before out after
-IsPart OwnLsas before out after = (n : ℕ) × Then (Times n OwnStep before) AnswersAll out after
+IsPart OwnLsas before out after =
+    (n : ℕ) × Then (Times n OwnStep before) (λ s. Becomes (record s { heard = [] }) no_outputs) out after
 IsPart Removals before out after = RemovalPart before out after
 
 -- the parts, one after another
@@ -117,14 +118,10 @@ parts_of_packet f p (request entries) = RequestComes f p ∷ []
 parts_of_packet f p (update lsas) = lsa_parts f lsas ++ DirectAcknowledgements f ∷ []
 parts_of_packet f p (acknowledgment headers) = map (λ h. HeaderComes f h) headers
 
--- what a datagram brings, if it is a packet
-abbrev pub parts_of_datagram : ℕ → Addr → Option Meaning → List Part
-parts_of_datagram link source None = []
-parts_of_datagram link source (Some p) = parts_of_packet (record { link = link; router = p.router; address = source }) p p.body
-
 -- what an event brings
 abbrev pub first_parts : Event → List Part
-first_parts (Datagram link source destination bytes) = parts_of_datagram link source (packet_of bytes)
+first_parts (Datagram link source destination bytes) =
+    elim (packet_of bytes) [ None ↦ [] | Some p ↦ parts_of_packet (record { link = link; router = p.router; address = source }) p p.body ]
 first_parts Tick = Ages ∷ Timers ∷ Hellos ∷ Acknowledgements ∷ Repeats ∷ []
 first_parts (LinkUp link) = LinkChanges link true ∷ []
 first_parts (LinkDown link) = LinkChanges link false ∷ []

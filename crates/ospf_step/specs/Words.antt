@@ -1,11 +1,10 @@
 -- What the laws of many routers read of one router's state.
-use Rattle.std.specs.Prelude.{◌≡◌, ◌≤ℤ◌, ℕ, List, [], Option, None, Some, Contains, slice_get}
+use Rattle.std.specs.Prelude.{◌≡◌, ◌≤ℤ◌, ℕ, List, [], Some, Contains, slice_get, None}
 use Rattle.ospf_base.specs.declared.ids.Instance.{Instance}
 use Rattle.ospf_base.specs.declared.ids.RouterId.{RouterId}
 use Rattle.ospf_lsa.specs.Lsa.{IsLsa, key_of, instance_of}
 use Rattle.ospf_lsa.specs.declared.header.LsaHeader.{LsaHeader}
-use Rattle.ospf_neighbour.specs.Neighbour.{NeighbourValue}
-use Rattle.ospf_area.specs.State.{AreaValue, LinkValue, neighbour, copy_of, kept_number, Awaits}
+use Rattle.ospf_area.specs.State.{AreaValue, neighbour, copy_of, kept_number, Awaits}
 use Rattle.ospf_area.specs.Outputs.{OutputsValue}
 use Rattle.ospf_step.specs.Headers.{Lists}
 
@@ -19,39 +18,22 @@ HasCopy s lsa = copy_of s (key_of lsa) ≡ Some lsa
 abbrev pub HoldsInstance : AreaValue → Instance → Type 0
 HoldsInstance s i = (lsa : List ℕ) × HasCopy s lsa × (instance_of lsa ≡ i)
 
--- a list of a neighbour that may not be there
-abbrev pub list_in : {A : Type 0} → (NeighbourValue → List A) → Option NeighbourValue → List A
-list_in list None = []
-list_in list (Some n) = list n
-
 -- the router asks q on link l for the instance (10.9)
 abbrev pub Asks : AreaValue → ℕ → RouterId → Instance → Type 0
-Asks s l q i = Lists (list_in (λ n. n.requests) (neighbour s l q)) i
-
--- the headers that are still to be described to q (10)
-abbrev pub summary : AreaValue → ℕ → RouterId → List LsaHeader
-summary s l q = list_in (λ n. n.summary) (neighbour s l q)
-
--- the headers of the last DD packet sent to q, which may be sent again (10.8)
-abbrev pub last_dd : AreaValue → ℕ → RouterId → List LsaHeader
-last_dd s l q = list_in (λ n. n.last_dd) (neighbour s l q)
-
--- the acknowledgements that wait on a link that may not be there (13.5)
-abbrev pub delayed_in : Option LinkValue → List LsaHeader
-delayed_in None = []
-delayed_in (Some link) = link.delayed
+Asks s l q i = Lists (elim (neighbour s l q) [ None ↦ [] | Some n ↦ n.requests ]) i
 
 -- the acknowledgements that wait on link l (13.5)
 abbrev pub delayed : AreaValue → ℕ → List LsaHeader
-delayed s l = delayed_in (slice_get s.links l)
+delayed s l = elim (slice_get s.links l) [ None ↦ [] | Some link ↦ link.delayed ]
 
 -- the instances that a router can name to others: in a packet sent from now on there is no other, but for those
--- that it installs or issues first
+-- that it installs or issues first. The summary list has what is still to be described to q (10); the last DD packet sent to q
+-- may be sent again (10.8)
 pub data CanName (s : AreaValue) (i : Instance) : Type 0 where
   InDatabase : HoldsInstance s i → CanName s i
   OnRetransmissionList : (l : ℕ) (q : RouterId) → Awaits s l q i → CanName s i
-  OnSummaryList : (l : ℕ) (q : RouterId) → Lists (summary s l q) i → CanName s i
-  InLastDd : (l : ℕ) (q : RouterId) → Lists (last_dd s l q) i → CanName s i
+  OnSummaryList : (l : ℕ) (q : RouterId) → Lists (elim (neighbour s l q) [ None ↦ [] | Some n ↦ n.summary ]) i → CanName s i
+  InLastDd : (l : ℕ) (q : RouterId) → Lists (elim (neighbour s l q) [ None ↦ [] | Some n ↦ n.last_dd ]) i → CanName s i
   ToAcknowledge : (l : ℕ) → Lists (delayed s l) i → CanName s i
   ToAcknowledgeNow : Lists s.direct i → CanName s i
 

@@ -3,7 +3,8 @@
 ghost use Rattle.ospf_lsdb.specs.Database.{IsDatabase};
 ghost use Rattle.ospf_area.specs.Outputs.{AreReadAsSent, OutputsValue};
 ghost use Rattle.ospf_area.specs.State.{AreaValue};
-ghost use Rattle.ospf_update.specs.Removal.{Removes};
+ghost use Rattle.ospf_update.specs.Meets.{InTurn};
+ghost use Rattle.ospf_update.specs.Removal.{RemovesOne, leaving};
 ghost use Rattle.ospf_links.specs.Elections.{ElectsAll};
 ghost use Rattle.ospf_originate.specs.Steps.{OwnLsas};
 ghost use Rattle.ospf_step.specs.Puts.{PutsOut};
@@ -28,6 +29,6 @@ pub fn ends_are_chains()
     ensures { (s elected owned t : AreaValue) (out elected_out owned_out out' : OutputsValue) →
         IsDatabase s.database → IsDatabase owned.database → AreReadAsSent out'.sent →
         ElectsAll s out elected elected_out → OwnLsas elected elected_out owned_out owned →
-        Removes owned owned_out out' t →
+        InTurn RemovesOne (leaving owned) owned owned_out out' t →
         PutsOut (λ o. Chain last_parts s o t) out out' }
 {}

@@ -6,7 +6,8 @@ ghost use Rattle.ospf_lsdb.specs.Database.{IsDatabase};
 ghost use Rattle.ospf_originate.specs.Steps.{OwnLsas};
 ghost use Rattle.ospf_step.specs.Ends.{EndsStep};
 ghost use Rattle.ospf_step.specs.Fit.{IsFitRouter};
-ghost use Rattle.ospf_update.specs.Removal.{Removes};
+ghost use Rattle.ospf_update.specs.Meets.{InTurn};
+ghost use Rattle.ospf_update.specs.Removal.{RemovesOne, leaving};
 
 use crate::outputs_laws::database_is_one;
 use ospf_adjacency::neighbours_stay_of_link;
@@ -59,7 +60,8 @@ fn own_lsas(area: &mut Area, out: &mut Outputs, alloc: Global) -> Result<(), All
 fn remove(area: &mut Area, out: &mut Outputs, alloc: Global) -> Result<(), AllocError>
     requires { IsFitRouter area.old }
     ensures database { IsDatabase area.old.database }
-    ensures removes { OnOk result (Removes area.old out.old out.new area.new) }
+    ensures removes { OnOk result (InTurn RemovesOne (leaving area.old) area.old out.old
+        out.new area.new) }
     ensures fit { OnOk result (IsFitRouter area.new) }
 {
     // For the proof.

@@ -11,7 +11,8 @@ ghost use Rattle.ospf_area.specs.Sending.{and_sends, own_of};
 ghost use Rattle.ospf_area.specs.State.{AreaValue, database_entry};
 ghost use Rattle.ospf_area.specs.declared.flooding.Origin.{Origin};
 ghost use Rattle.ospf_update.specs.Aging.{Flushes, TickAges, turn_out, turned_area};
-ghost use Rattle.ospf_update.specs.Removal.{Removes};
+ghost use Rattle.ospf_update.specs.Meets.{InTurn};
+ghost use Rattle.ospf_update.specs.Removal.{RemovesOne, leaving};
 ghost use Rattle.ospf_update.specs.Updates.{TakesUpdate};
 ghost use Rattle.ospf_step.specs.Neighbours.{Quiet};
 ghost use Rattle.ospf_step.specs.Parts.{ExpiryPart, RemovalPart};
@@ -103,5 +104,5 @@ pub fn own_steps_put_out()
 /// The removals that end a step are a part.
 pub fn removals_put_out()
     ensures { (s t : AreaValue) (out out' : OutputsValue) →
-        IsDatabase s.database → Removes s out out' t → PutsOut (λ o. RemovalPart s o t) out out' }
+        IsDatabase s.database → InTurn RemovesOne (leaving s) s out out' t → PutsOut (λ o. RemovalPart s o t) out out' }
 {}

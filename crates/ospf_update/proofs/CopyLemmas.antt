@@ -21,7 +21,8 @@ use Rattle.ospf_area.specs.Flooding.{flooded_neighbour, goes_anywhere}
 use Rattle.ospf_area.specs.Laws.{IsSpared}
 use Rattle.ospf_area.specs.Sending.{own_of}
 use Rattle.ospf_area.specs.State.{AreaValue, Awaits, WaitsIn, database_entry, kept_number, neighbour}
-use Rattle.ospf_update.specs.Aging.{copies_sent, copy_flooded, copy_flooded_by, copy_sent, noted, turned_area}
+use Rattle.ospf_update.specs.Aging.{copies_sent, copy_flooded, copy_sent, noted, turned_area}
+use Rattle.ospf_update.proofs.Words.{copy_flooded_by}
 use Rattle.ospf_update.specs.Meets.{flooded_area}
 
 -- ---- what stays as it is

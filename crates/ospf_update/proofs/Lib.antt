@@ -14,3 +14,4 @@ pub mod PackLemmas
 pub mod PassLemmas
 pub mod PostLemmas
 pub mod AgeLemmas
+pub mod Words

@@ -21,7 +21,8 @@ use Rattle.ospf_area.specs.State.{AreaValue}
 use Rattle.ospf_area.specs.declared.changes.AdjacencyChange.TheVariants.{Acknowledges}
 use Rattle.ospf_area.specs.declared.flooding.Origin.{Origin}
 use Rattle.ospf_update.specs.Laws.{is_installed}
-use Rattle.ospf_update.specs.Meets.{MeetsLsa, MeetsRule, Stores, header_met, heard_by, named_by, replied, reply_to, rule_met, taken_off}
+use Rattle.ospf_update.specs.Meets.{MeetsLsa, MeetsRule, Stores, header_met, heard_by, named_by, replied, reply_to, rule_met}
+use Rattle.ospf_update.proofs.Words.{taken_off}
 use Rattle.ospf_update.proofs.CopyLemmas.{KeepsAll}
 
 pub keeps_both : (s m t : AreaValue) → KeepsAll s m → KeepsAll m t → KeepsAll s t

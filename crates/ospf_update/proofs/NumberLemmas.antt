@@ -18,14 +18,16 @@ use Rattle.ospf_lsdb.specs.Moments.{among}
 use Rattle.ospf_area.proofs.NumberLemmas.{own_counted}
 use Rattle.ospf_area.specs.Numbers.{is_numbering_of, is_own}
 use Rattle.ospf_area.specs.Outputs.{OutputsValue, SentValue}
-use Rattle.ospf_area.specs.State.{AreaValue, kept_in, kept_number, numbering_of}
+use Rattle.ospf_area.specs.State.{AreaValue, kept_number, numbering_of}
+use Rattle.ospf_area.proofs.Words.{kept_in}
 use Rattle.ospf_area.specs.declared.flooding.Origin.{Origin}
 use Rattle.ospf_area.specs.declared.state.Numbering.{Numbering}
 use Rattle.ospf_update.specs.Aging.{Flushes, TickAges}
 use Rattle.ospf_update.specs.Laws.{is_installed}
 use Rattle.ospf_update.specs.Meets.{MeetsLsa, Stores, header_met, rule_met}
-use Rattle.ospf_update.specs.Removal.{RemovesAll, RemovesOne, ends_run, is_last, lowest_number, reset, reset_one}
-use Rattle.ospf_update.specs.Updates.{TakesSlice, TakesSlices, TakesUpdate}
+use Rattle.ospf_update.specs.Removal.{RemovesOne, ends_run, is_last, lowest_number, reset, reset_one}
+use Rattle.ospf_update.proofs.Words.{RemovesAll, TakesSlices}
+use Rattle.ospf_update.specs.Updates.{TakesSlice, TakesUpdate}
 use Rattle.ospf_update.specs.Updates.TakesSlice.{Met, PassedOver}
 use Rattle.ospf_update.proofs.CopyLemmas.{copies_keep, copy_keeps}
 use Rattle.ospf_update.proofs.MeetLemmas.{header_keeps, met_cases}
@@ -206,7 +208,7 @@ run_gone k s o p m one key is ends =
 
 pub removes_numbers : (keys : List LsaKey) (s : AreaValue) (o o' : OutputsValue) (t : AreaValue) → RemovesAll keys s o o' t → (key : LsaKey)
     → kept_number t key ≡ (if among keys key && ends_run s key then lowest_number else kept_number s key)
-removes_numbers [] s o o' t (is, none) key = ap (λ (x : AreaValue). kept_number x key) is
+removes_numbers [] s o o' t same key = ap (λ (x : AreaValue). kept_number x key) same.state
 removes_numbers (k ∷ keys) s o o' t (m, so_far, one, rest) key =
     by_key (same_key k key) refl (one_numbers k s o so_far m one key) (removes_numbers keys m so_far o' t rest key)
   where

@@ -7,7 +7,8 @@ use Rattle.ospf_lsa.specs.declared.header.LsaHeader.{LsaHeader}
 use Rattle.ospf_neighbour.specs.declared.neighbour.Exchanging.{Exchanging}
 use Rattle.ospf_packet.specs.Meaning.{BodyMeaning, description}
 use Rattle.ospf_packet.specs.declared.body.Description.{Description}
-use Rattle.ospf_area.specs.Posting.{PostValue, and_parcels, posted, posted_all}
+use Rattle.ospf_area.specs.Posting.{PostValue, and_parcels, posted_all}
+use Rattle.ospf_area.proofs.Words.{posted}
 use Rattle.ospf_area.specs.Sending.{to_address}
 use Rattle.ospf_area.specs.State.{LinkValue}
 use Rattle.ospf_area.specs.declared.flooding.Origin.{Origin}

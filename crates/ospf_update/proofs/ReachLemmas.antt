@@ -9,7 +9,8 @@ use Rattle.ospf_base.specs.Keys.{same_key}
 use Rattle.ospf_base.specs.declared.ids.LsaKey.{LsaKey}
 use Rattle.ospf_base.specs.declared.ids.RouterId.{RouterId}
 use Rattle.ospf_exchange.specs.Requests.{asked_next, request_due}
-use Rattle.ospf_flood.specs.Offers.{after_offer, instance_with, offer_to}
+use Rattle.ospf_flood.specs.Offers.{instance_with, offer_to}
+use Rattle.ospf_flood.proofs.Words.{after_offer}
 use Rattle.ospf_flood.specs.declared.offer.Offer.{Offer}
 use Rattle.ospf_flood.specs.declared.offer.Offer.TheVariants.{PassesOver, Satisfies, Lists}
 use Rattle.ospf_lsa.specs.declared.header.LsaHeader.{LsaHeader}
@@ -30,7 +31,8 @@ use Rattle.ospf_area.specs.Laws.IsSpared.{Came, Described}
 use Rattle.ospf_area.specs.Sending.{own_of}
 use Rattle.ospf_area.specs.State.{AreaValue, Awaits, LinkValue, database_entry, neighbour}
 use Rattle.ospf_area.specs.declared.sending.Own.{Own}
-use Rattle.ospf_update.specs.Aging.{copies_sent, copy_flooded, copy_flooded_by, copy_sent}
+use Rattle.ospf_update.specs.Aging.{copies_sent, copy_flooded, copy_sent}
+use Rattle.ospf_update.proofs.Words.{copy_flooded_by}
 use Rattle.ospf_update.proofs.CopyLemmas.{copies_wait, copy_keeps, copy_reaches, flooded_copy}
 
 -- a neighbour that is in Exchange or above still, and has no other request of the key than before

@@ -7,13 +7,14 @@ use Rattle.ospf_base.specs.Keys.{Precedes, same_key}
 use Rattle.ospf_lsdb.specs.Database.{AreKeysRising, Held, IsDatabase, entries, held_of, is_expired, is_some_and, key_at, removed}
 use Rattle.ospf_lsdb.specs.Moments.{among}
 use Rattle.ospf_area.specs.Outputs.{OutputsValue}
-use Rattle.ospf_update.specs.Removal.{RemovesOne, RemovesAll, is_leaving, key_of_entry, leaving}
+use Rattle.ospf_update.specs.Removal.{RemovesOne, is_leaving, key_of_entry, leaving}
+use Rattle.ospf_update.proofs.Words.{RemovesAll}
 use Rattle.ospf_area.specs.State.{AreaValue, LinkValue, some_link_loading}
 
 -- one more
 pub RemovesAll-more : (keys : List LsaKey) (key : LsaKey) (s m e : AreaValue) (o p q : OutputsValue) → RemovesAll keys s o p m → RemovesOne key m p q e → RemovesAll (keys ++ key ∷ []) s o q e
 RemovesAll-more [] key s m e o p q none one =
-    (e, q, subst (λ (x : AreaValue). RemovesOne key x o q e) none.0 (subst (λ (x : OutputsValue). RemovesOne key m x q e) none.1 one), (refl, refl))
+    (e, q, subst (λ (x : AreaValue). RemovesOne key x o q e) none.state (subst (λ (x : OutputsValue). RemovesOne key m x q e) none.outputs one), record { state = refl; outputs = refl })
 RemovesAll-more (k ∷ keys) key s m e o p q some one =
     (some.0, some.1, some.2, RemovesAll-more keys key some.0 m e some.1 p q some.3 one)
 
@@ -44,7 +45,7 @@ one_of k key first mid last rest at is_first is_mid is_last = by_key (same_key k
 
 pub removed_all : (keys : List LsaKey) (s e : AreaValue) (o q : OutputsValue) → RemovesAll keys s o q e → (key : LsaKey)
     → held_of e.database key ≡ (if among keys key then removed (held_of s.database key) else held_of s.database key)
-removed_all [] s e o q none key = ap (λ (x : AreaValue). held_of x.database key) none.0
+removed_all [] s e o q none key = ap (λ (x : AreaValue). held_of x.database key) none.state
 removed_all (k ∷ keys) s e o q some key =
     one_of k key (held_of s.database key) (held_of some.0.database key) (held_of e.database key) (among keys key) (held_of s.database) refl (some.2.database key)
     (removed_all keys some.0 e some.1 q some.3 key)

@@ -15,8 +15,8 @@ use Rattle.ospf_area.specs.declared.flooding.Origin.{Origin}
 use Rattle.ospf_update.specs.Aging.{Flushes, TickAges}
 use Rattle.ospf_update.specs.Laws.{IsShortLsa}
 use Rattle.ospf_update.specs.Meets.{MeetsLsa, Stores, header_met}
-use Rattle.ospf_update.specs.Removal.{RemovesAll}
-use Rattle.ospf_update.specs.Updates.{TakesSlice, TakesSlices, TakesUpdate}
+use Rattle.ospf_update.proofs.Words.{RemovesAll, TakesSlices}
+use Rattle.ospf_update.specs.Updates.{TakesSlice, TakesUpdate}
 use Rattle.ospf_update.specs.Updates.TakesSlice.{Met, PassedOver}
 use Rattle.ospf_update.proofs.CopyLemmas.{copies_keep, copy_keeps}
 use Rattle.ospf_update.proofs.MeetLemmas.{header_keeps, met_cases}
@@ -65,5 +65,5 @@ ages_short s sent t is old =
     same is.mid t (ap (λ (x : AreaValue). x.database) is.state ∙ (copies_keep (reached_at max_age is.mid.database) is.mid).database) (short_aged s.database is.mid.database is.rise.database old)
 
 pub removes_short : (keys : List LsaKey) (s : AreaValue) (o o' : OutputsValue) (t : AreaValue) → RemovesAll keys s o o' t → AreShort s.database → AreShort t.database
-removes_short [] s o o' t (is, none) old = same s t (ap (λ (x : AreaValue). x.database) is) old
+removes_short [] s o o' t is old = same s t (ap (λ (x : AreaValue). x.database) is.state) old
 removes_short (key ∷ keys) s o o' t (mid, so_far, one, rest) old = removes_short keys mid so_far o' t rest (short_removed key s.database mid.database one.database old)

@@ -24,7 +24,8 @@ use Rattle.ospf_neighbour.specs.declared.machine.NeighbourState.TheVariants.{Dow
 use Rattle.ospf_neighbour.specs.declared.neighbour.Listed.{Listed}
 use Rattle.ospf_area.proofs.NeighbourLemmas.{turned-router}
 use Rattle.ospf_area.proofs.SendingLemmas.{sends_none}
-use Rattle.ospf_area.specs.Asking.{loaded, request_to, turn_request, turn_requests_on, turned_to_next, turned_link}
+use Rattle.ospf_area.specs.Asking.{loaded, turn_requests_on, turned_to_next, turned_link}
+use Rattle.ospf_area.proofs.Words.{request_to, turn_request}
 use Rattle.ospf_area.specs.Changes.{changed_at, delayed_on}
 use Rattle.ospf_area.specs.Outputs.{OutputsValue, SentValue}
 use Rattle.ospf_area.specs.Places.{flat_from, map_from}

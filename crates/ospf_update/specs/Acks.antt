@@ -1,5 +1,5 @@
 -- How acknowledgements are sent (RFC 2328, section 13.5): in order of key, as many in a packet as fit.
-use Rattle.std.specs.Prelude.{◌==◌, ◌&&◌, ◌||◌, ◌+◌, ◌-◌, ◌/◌, ℕ, zero, suc, min, Bool, Option, None, Some, List, [], ◌∷◌, drop, length, map, nat_lt, slice_get, take, if◌then◌else◌}
+use Rattle.std.specs.Prelude.{◌==◌, ◌&&◌, ◌||◌, ◌+◌, ◌-◌, ◌/◌, ℕ, zero, suc, min, Bool, List, [], ◌∷◌, drop, length, map, nat_lt, slice_get, take, if◌then◌else◌, None, Some}
 use Rattle.std.specs.List.{flat_map}
 use Rattle.ospf_base.specs.Constants.{ip_header, lsa_header, packet_header}
 use Rattle.ospf_base.specs.declared.ids.Addr.{Addr}
@@ -71,13 +71,12 @@ ack_parcels destination mtu hs = packed_parcels destination (ack_room mtu) (in_o
 
 -- ---- direct ones, at the end of an Update
 
-abbrev pub direct_out_on : Own → Origin → List LsaHeader → Option LinkValue → List SentValue
-direct_out_on own f hs None = []
-direct_out_on own f hs (Some link) = acks_out own (way_out f.link link.iface (to_address link.iface f.address)) link.settings.mtu hs
-
--- to the neighbour that sent the Update
+-- to the neighbour that sent the Update, out of its link, if that is there
 abbrev pub direct_out : Origin → AreaValue → List SentValue
-direct_out f s = direct_out_on (own_of s) f s.direct (slice_get s.links f.link)
+direct_out f s = elim (slice_get s.links f.link) [
+  | None ↦ []
+  | Some link ↦ acks_out (own_of s) (way_out f.link link.iface (to_address link.iface f.address)) link.settings.mtu s.direct
+]
 
 -- ---- delayed ones, at the next tick
 

@@ -1,11 +1,11 @@
 -- LSAs at MaxAge (RFC 2328, sections 14 and 14.1).
-use Rattle.std.specs.Prelude.{◌≡◌, ◌+◌, ◌%◌, ◌^◌, ◌++◌, Bool, true, Option, None, Some, List, [], ◌∷◌, option_map, if◌then◌else◌, map}
+use Rattle.std.specs.Prelude.{◌≡◌, ◌+◌, ◌%◌, ◌^◌, ◌++◌, Bool, true, None, Some, List, [], ◌∷◌, option_map, if◌then◌else◌, map}
 use Rattle.ospf_area.specs.Places.{flat_from}
 use Rattle.ospf_area.specs.Asking.{turn_requests_on, turned_link}
 use Rattle.ospf_base.specs.Constants.{max_age}
 use Rattle.ospf_base.specs.declared.ids.LsaKey.{LsaKey}
 use Rattle.ospf_lsdb.specs.Database as lsdb
-use Rattle.ospf_lsdb.specs.Database.{Ages, Entry, Puts, held_of, lsa_of, reached_at}
+use Rattle.ospf_lsdb.specs.Database.{Ages, Puts, held_of, lsa_of, reached_at}
 use Rattle.ospf_lsa.specs.Header.{header_of}
 use Rattle.ospf_lsa.specs.Lsa.{key_of}
 use Rattle.ospf_area.specs.Flooding.{flooding_updates, goes_anywhere}
@@ -31,19 +31,14 @@ abbrev pub noted : LsaKey → Bool → AreaValue → AreaValue
 noted key went s = if went then record s { sent = marked key true s.sent } else s
 
 -- the database's copy of a key is flooded to all neighbours, and stays where it is (14, 14.1)
-abbrev pub copy_flooded_by : Option Entry → LsaKey → AreaValue → AreaValue
-copy_flooded_by None key s = s
-copy_flooded_by (Some e) key s = noted key (goes_anywhere (key_of (lsa_of e)) (header_of (lsa_of e)) None s.links) (flooded_area (lsa_of e) None s)
-
 abbrev pub copy_flooded : LsaKey → AreaValue → AreaValue
-copy_flooded key s = copy_flooded_by (database_entry s key) key s
-
-abbrev pub copy_flood_out_by : Option Entry → AreaValue → List SentValue
-copy_flood_out_by None s = []
-copy_flood_out_by (Some e) s = flooding_updates (own_of s) (lsa_of e) None s.links
+copy_flooded key s = elim (database_entry s key) [
+  | None ↦ s
+  | Some e ↦ noted key (goes_anywhere (key_of (lsa_of e)) (header_of (lsa_of e)) None s.links) (flooded_area (lsa_of e) None s)
+]
 
 abbrev pub copy_flood_out : LsaKey → AreaValue → List SentValue
-copy_flood_out key s = copy_flood_out_by (database_entry s key) s
+copy_flood_out key s = elim (database_entry s key) [ None ↦ [] | Some e ↦ flooding_updates (own_of s) (lsa_of e) None s.links ]
 
 -- and the Requests that come of it
 abbrev pub copy_sent : LsaKey → AreaValue → AreaValue

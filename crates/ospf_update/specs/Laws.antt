@@ -24,11 +24,11 @@ use Rattle.ospf_lsa.specs.declared.header.LsaHeader.{LsaHeader}
 use Rattle.ospf_packet.specs.Meaning.{Meaning, update}
 use Rattle.ospf_packet.specs.PacketOf.{packet_of}
 use Rattle.ospf_update.specs.Aging.{Flushes, TickAges}
-use Rattle.ospf_update.specs.Meets.{MeetsLsa, Stores, header_met, rule_met}
+use Rattle.ospf_update.specs.Meets.{MeetsLsa, Stores, header_met, rule_met, InTurn}
 use Rattle.ospf_update.specs.Updates.{TakesUpdate}
 use Rattle.ospf_area.specs.Numbers.{is_own}
 use Rattle.ospf_area.specs.Outputs.{OutputsValue, SentValue}
-use Rattle.ospf_update.specs.Removal.{Removes, ends_run, leaving, lowest_number}
+use Rattle.ospf_update.specs.Removal.{ends_run, leaving, lowest_number, RemovesOne}
 use Rattle.ospf_area.specs.State.{Awaits, AreaValue, database_entry, kept_number, neighbour}
 use Rattle.ospf_area.specs.declared.flooding.Origin.{Origin}
 
@@ -64,7 +64,7 @@ StoredReaches = (lsa : List ℕ) (from : Option Origin) (before after : AreaValu
 
 -- of the LSAs that leave, those at MaxAge are gone, and nothing else changes (14)
 abbrev pub RemovedEntries : Type 0
-RemovedEntries = (before : AreaValue) (out out' : OutputsValue) (after : AreaValue) → Removes before out out' after → (key : LsaKey)
+RemovedEntries = (before : AreaValue) (out out' : OutputsValue) (after : AreaValue) → InTurn RemovesOne (leaving before) before out out' after → (key : LsaKey)
     → held_of after.database key ≡ (if among (leaving before) key then removed (held_of before.database key) else held_of before.database key)
 
 -- ---- copies that go to all
@@ -108,7 +108,7 @@ pub record NumbersAreKept : Type 0 where
   pub acknowledged : (f : Origin) (h : LsaHeader) (before : AreaValue) (key : LsaKey) → kept_number (header_met f h before) key ≡ kept_number before key
   pub flushed : (key : LsaKey) (before : AreaValue) (sent : List SentValue) (after : AreaValue) → Flushes key before sent after → (k : LsaKey) → kept_number after k ≡ kept_number before k
   pub aged : (before : AreaValue) (sent : List SentValue) (after : AreaValue) → TickAges before sent after → (key : LsaKey) → kept_number after key ≡ kept_number before key
-  pub removed : (before : AreaValue) (out out' : OutputsValue) (after : AreaValue) → Removes before out out' after → (key : LsaKey)
+  pub removed : (before : AreaValue) (out out' : OutputsValue) (after : AreaValue) → InTurn RemovesOne (leaving before) before out out' after → (key : LsaKey)
       → kept_number after key ≡ (if among (leaving before) key && ends_run before key then lowest_number else kept_number before key)
 
 -- ---- how long the LSAs of the database are
@@ -131,4 +131,4 @@ pub record AreaStaysShort : Type 0 where
   pub acknowledged : (f : Origin) (h : LsaHeader) (before : AreaValue) → AreShort before.database → AreShort (header_met f h before).database
   pub flushed : (key : LsaKey) (before : AreaValue) (sent : List SentValue) (after : AreaValue) → Flushes key before sent after → AreShort before.database → AreShort after.database
   pub aged : (before : AreaValue) (sent : List SentValue) (after : AreaValue) → TickAges before sent after → AreShort before.database → AreShort after.database
-  pub removed : (before : AreaValue) (out out' : OutputsValue) (after : AreaValue) → Removes before out out' after → AreShort before.database → AreShort after.database
+  pub removed : (before : AreaValue) (out out' : OutputsValue) (after : AreaValue) → InTurn RemovesOne (leaving before) before out out' after → AreShort before.database → AreShort after.database

@@ -20,7 +20,6 @@ use Rattle.ospf_lsa.specs.declared.recency.Recency.TheVariants.{Same}
 use Rattle.ospf_lsdb.specs.Database as lsdb
 use Rattle.ospf_lsdb.specs.Database.{Entry, entry_from, lsa_of}
 use Rattle.ospf_packet.specs.Meaning as meaning
-use Rattle.ospf_packet.specs.declared.body.Description.{Description}
 use Rattle.ospf_area.specs.Changes.{changed_at}
 use Rattle.ospf_area.specs.Flooding.{flooded_back, flooded_links, flooding_updates, goes_anywhere, released}
 use Rattle.ospf_area.specs.Numbers.{counts, greatest_after, is_self_originated, marked}
@@ -74,6 +73,12 @@ pub record Becomes (made : AreaValue) (puts out' : OutputsValue) (after : AreaVa
   pub state : after ≡ made
   pub outputs : out' ≡ puts
 
+-- what each of these does, one after the other
+abbrev pub InTurn : {X : Type 0} → (X → AreaValue → OutputsValue → OutputsValue → AreaValue → Type 0) → List X → AreaValue → OutputsValue → OutputsValue → AreaValue → Type 0
+InTurn Does [] before out out' after = Becomes before out out' after
+InTurn Does (x ∷ xs) before out out' after =
+    (mid : AreaValue) × (so_far : OutputsValue) × Does x before out so_far mid × InTurn Does xs mid so_far out' after
+
 -- a self-originated LSA is to be answered at the end of the step (13.4)
 abbrev pub heard_by : LsaKey → AreaValue → AreaValue
 heard_by key s = if is_self_originated s.router s.links key then record s { heard = s.heard ++ key ∷ [] } else s
@@ -89,16 +94,11 @@ pub record Admits (f : Origin) (lsa : List ℕ) (before : AreaValue) (out out' :
 -- ---- the exchange of databases begins again
 
 -- the first packet of an exchange: I, M and MS, and no headers (10.8)
-abbrev pub first_description : ℕ → ℕ → Description
-first_description mtu number = record { mtu = mtu; options = router_options; flags = first_flags; number = number }
-
 abbrev pub first_dd_on : Own → Origin → ℕ → Option LinkValue → List SentValue
 first_dd_on own f number None = []
 first_dd_on own f number (Some link) =
-    datagrams (way_out f.link link.iface (to_address link.iface f.address)) (packet_of own (meaning.description (first_description link.settings.mtu number) []))
-
-abbrev pub first_dd : Origin → AreaValue → List SentValue
-first_dd f s = first_dd_on (own_of s) f s.next_dd (slice_get s.links f.link)
+    datagrams (way_out f.link link.iface (to_address link.iface f.address))
+    (packet_of own (meaning.description (record { mtu = link.settings.mtu; options = router_options; flags = first_flags; number = number }) []))
 
 -- the neighbour is back in ExStart, with the next DD sequence number
 abbrev pub restarted : Origin → AreaValue → AreaValue
@@ -115,25 +115,21 @@ duplicated f lsa s =
 -- ---- older than the copy
 
 -- the copy that goes back: there is none where it was sent in an Update in this tick, or is about to leave (13, step 8)
-abbrev pub reply_of : Option Entry → Bool → Option (List ℕ)
-reply_of None sent = None
-reply_of (Some copy) sent = if is_sent_back copy sent then Some (lsa_of copy) else None
-
 abbrev pub reply_to : AreaValue → LsaKey → Option (List ℕ)
-reply_to s key = reply_of (database_entry s key) (among s.sent key)
+reply_to s key = elim (database_entry s key) [
+  | None ↦ None
+  | Some copy ↦ (if is_sent_back copy (among s.sent key) then Some (lsa_of copy) else None)
+]
 
 -- an LSA in an Update to the neighbour
 abbrev pub lsa_out_on : Own → Origin → List ℕ → Option LinkValue → List SentValue
 lsa_out_on own f lsa None = []
 lsa_out_on own f lsa (Some link) = update_out own (way_out f.link link.iface (to_address link.iface f.address)) (sent_lsa link.settings.transmit_delay lsa ∷ [])
 
-abbrev pub lsa_out : Origin → List ℕ → AreaValue → List SentValue
-lsa_out f lsa s = lsa_out_on (own_of s) f lsa (slice_get s.links f.link)
-
 -- it goes back
 abbrev pub reply_out : Option (List ℕ) → Origin → AreaValue → List SentValue
 reply_out None f s = []
-reply_out (Some lsa) f s = lsa_out f lsa s
+reply_out (Some lsa) f s = lsa_out_on (own_of s) f lsa (slice_get s.links f.link)
 
 -- it was sent to the neighbour, and in an Update in this tick
 abbrev pub replied : Option (List ℕ) → Origin → LsaKey → AreaValue → AreaValue
@@ -153,7 +149,7 @@ MeetsRule (Some AcknowledgesExpired) f lsa before out out' after =
 MeetsRule (Some TooSoon) f lsa before out out' after = Becomes before out out' after
 MeetsRule (Some Installs) f lsa before out out' after = Admits f lsa before out out' after
 -- it was asked for, and is no newer than the copy: BadLSReq (step 6)
-MeetsRule (Some BadRequest) f lsa before out out' after = Becomes (restarted f before) (and_sends out (first_dd f before)) out' after
+MeetsRule (Some BadRequest) f lsa before out out' after = Becomes (restarted f before) (and_sends out (first_dd_on (own_of before) f before.next_dd (slice_get before.links f.link))) out' after
 MeetsRule (Some Duplicate) f lsa before out out' after = Becomes (duplicated f lsa before) out out' after
 MeetsRule (Some Stale) f lsa before out out' after =
     Becomes (replied (reply_to before (key_of lsa)) f (key_of lsa) before) (and_sends out (reply_out (reply_to before (key_of lsa)) f before)) out' after
@@ -169,10 +165,7 @@ abbrev pub named_by : LsaHeader → Option Entry → Option Instance
 named_by h None = None
 named_by h (Some copy) = elim (recency h (header_at copy)) [ Same ↦ Some (instance_at copy) | _ ↦ None ]
 
-abbrev pub taken_off : Origin → Option Instance → AreaValue → AreaValue
-taken_off f None s = s
-taken_off f (Some i) s = record s { links = changed_at f (Acknowledges i) s.tick s.links }
-
 -- the router once the neighbour acknowledged it
 abbrev pub header_met : Origin → LsaHeader → AreaValue → AreaValue
-header_met f h s = taken_off f (named_by h (copy_in_database s.database (key_of_header h))) s
+header_met f h s =
+    elim (named_by h (copy_in_database s.database (key_of_header h))) [ None ↦ s | Some i ↦ record s { links = changed_at f (Acknowledges i) s.tick s.links } ]

@@ -16,13 +16,9 @@ use Rattle.ospf_area.specs.declared.state.Numbering.{Numbering}
 
 -- ---- which leave
 
--- some neighbour of the link has yet to acknowledge the instance
-abbrev pub some_awaits_on : Instance → LinkValue → Bool
-some_awaits_on i link = list_any (λ (n : NeighbourValue). is_listed i n.retransmission) link.neighbours
-
--- some neighbour of the router has
+-- some neighbour of the router has yet to acknowledge the instance
 abbrev pub some_awaits : Instance → List LinkValue → Bool
-some_awaits i links = list_any (some_awaits_on i) links
+some_awaits i links = list_any (λ (link : LinkValue). list_any (λ (n : NeighbourValue). is_listed i n.retransmission) link.neighbours) links
 
 -- an LSA at MaxAge that is on no retransmission list (14)
 abbrev pub is_leaving : List LinkValue → Entry → Bool
@@ -62,17 +58,8 @@ and_ends out key = record out { ended = out.ended ++ key ∷ [] }
 
 -- ---- they leave
 
+-- one of them is taken out
 pub record RemovesOne (key : LsaKey) (before : AreaValue) (out out' : OutputsValue) (after : AreaValue) : Type 0 where
   pub database : Puts key (removed (held_of before.database key)) before.database after.database
   pub rest : after ≡ record before { database = after.database; numbering = (if ends_run before key then reset key before.numbering else before.numbering) }
   pub outputs : out' ≡ (if ends_run before key then and_ends out key else out)
-
--- one after the other
-abbrev pub RemovesAll : List LsaKey → AreaValue → OutputsValue → OutputsValue → AreaValue → Type 0
-RemovesAll [] before out out' after = (after ≡ before) × (out' ≡ out)
-RemovesAll (key ∷ keys) before out out' after =
-    (mid : AreaValue) × (so_far : OutputsValue) × RemovesOne key before out so_far mid × RemovesAll keys mid so_far out' after
-
--- at the end of a step
-pub record Removes (before : AreaValue) (out out' : OutputsValue) (after : AreaValue) : Type 0 where
-  pub all : RemovesAll (leaving before) before out out' after

@@ -12,7 +12,7 @@ use Rattle.ospf_lsa.specs.Header.{header_of}
 use Rattle.ospf_lsa.specs.Lsa.{IsLsa, type_of}
 use Rattle.ospf_update.specs.Acks.{direct_out}
 use Rattle.ospf_update.specs.Aging.{turned_area, turn_out}
-use Rattle.ospf_update.specs.Meets.{Becomes, MeetsLsa}
+use Rattle.ospf_update.specs.Meets.{MeetsLsa, InTurn}
 use Rattle.ospf_area.specs.Outputs.{OutputsValue}
 use Rattle.ospf_area.specs.Sending.{and_sends, own_of}
 use Rattle.ospf_area.specs.Standing.{is_taken_in, origin_neighbour}
@@ -56,17 +56,11 @@ pub data TakesSlice (f : Origin) (bytes : List ℕ) (before : AreaValue) (out ou
   Met : IsLsa bytes → MeetsAndTurns f bytes before out out' after → TakesSlice f bytes before out out' after
   PassedOver : (IsLsa bytes → ⊥) → PassesOver before.passes_over f bytes before after → out' ≡ out → TakesSlice f bytes before out out' after
 
--- one after the other
-abbrev pub TakesSlices : Origin → List (List ℕ) → AreaValue → OutputsValue → OutputsValue → AreaValue → Type 0
-TakesSlices f [] before out out' after = Becomes before out out' after
-TakesSlices f (bytes ∷ slices) before out out' after =
-    (mid : AreaValue) × (so_far : OutputsValue) × TakesSlice f bytes before out so_far mid × TakesSlices f slices mid so_far out' after
-
 -- an Update: its LSAs, and then the direct acknowledgements
 pub record TakesUpdate (f : Origin) (slices : List (List ℕ)) (before : AreaValue) (out out' : OutputsValue) (after : AreaValue) : Type 0 where
   pub mid : AreaValue
   pub so_far : OutputsValue
-  pub takes : TakesSlices f slices before out so_far mid
+  pub takes : InTurn (TakesSlice f) slices before out so_far mid
   pub state : after ≡ record mid { direct = [] }
   pub outputs : out' ≡ and_sends so_far (direct_out f mid)
 

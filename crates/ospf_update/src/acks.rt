@@ -1,11 +1,11 @@
 //! How acknowledgements are sent.
 
-ghost use Rattle.std.specs.Prelude.{◌≡◌, ◌<◌, ◌∷◌, [], IfOk, OnOk, Some, slice_get, map};
+ghost use Rattle.std.specs.Prelude.{◌≡◌, ◌<◌, ◌∷◌, [], IfOk, OnOk, Some, slice_get, map, None};
 ghost use Rattle.std.specs.Ordering.{is_lt};
 ghost use Rattle.ospf_area.specs.Places.{flat_from};
-ghost use Rattle.ospf_update.specs.Acks.{header_precedes, in_order, ack_room, ack_parcel, ack_parcels, packed_parcels, direct_out_on, direct_out, delayed_out_on, undelayed_link};
+ghost use Rattle.ospf_update.specs.Acks.{header_precedes, in_order, ack_room, ack_parcel, ack_parcels, packed_parcels, direct_out, delayed_out_on, undelayed_link, acks_out};
 ghost use Rattle.ospf_area.specs.Posting.{and_parcels};
-ghost use Rattle.ospf_area.specs.Sending.{and_sends, own_of};
+ghost use Rattle.ospf_area.specs.Sending.{and_sends, own_of, to_address, way_out};
 
 use ospf_area::{Area, AreaLink, LinkSettings, Origin, Outputs, Own, Post, own_of, to_address};
 use ospf_base::{Addr, IP_HEADER, LSA_HEADER, PACKET_HEADER};
@@ -128,7 +128,11 @@ fn send_direct_from(
     alloc: Global,
 ) -> Result<(), AllocError>
     ensures { OnOk result (out.new ≡ and_sends out.old
-        (direct_out_on own from headers.now (slice_get links.now from.link))) }
+        (elim (slice_get links.now from.link) [
+          | None ↦ []
+          | Some link ↦ acks_out own (way_out from.link link.iface
+              (to_address link.iface from.address)) link.settings.mtu headers.now
+        ])) }
 {
     match links.get(from.link) {
         Some(link) => send_direct_on(link, own, from, headers, out, alloc),
@@ -145,7 +149,9 @@ fn send_direct_on(
     alloc: Global,
 ) -> Result<(), AllocError>
     ensures { OnOk result (out.new ≡ and_sends out.old
-        (direct_out_on own from headers.now (Some link.now))) }
+        (acks_out own
+        (way_out from.link link.now.iface (to_address link.now.iface from.address))
+        link.now.settings.mtu headers.now)) }
 {
     let mut post = Post::new(0, alloc);
     let to = to_address(&link.iface, from.address);

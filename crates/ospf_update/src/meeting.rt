@@ -8,7 +8,7 @@ ghost use Rattle.ospf_lsa.specs.Header.{header_of};
 ghost use Rattle.ospf_lsa.specs.Lsa.{instance_of, key_of};
 ghost use Rattle.ospf_area.specs.Flooding.{flooded_back, released};
 ghost use Rattle.ospf_area.specs.Numbers.{marked};
-ghost use Rattle.ospf_update.specs.Meets.{InstallsIn, store_updates, Stores, rule_met, heard_by, Admits, Becomes, first_dd, first_dd_on, duplicated, replied, reply_out, reply_to, restarted, lsa_out_on, MeetsRule, MeetsLsa, named_by, header_met};
+ghost use Rattle.ospf_update.specs.Meets.{InstallsIn, store_updates, Stores, rule_met, heard_by, Admits, Becomes, first_dd_on, duplicated, replied, reply_out, reply_to, restarted, lsa_out_on, MeetsRule, MeetsLsa, named_by, header_met};
 ghost use Rattle.ospf_area.specs.Outputs.{and_takes};
 ghost use Rattle.ospf_area.specs.Sending.{and_sends, own_of};
 ghost use Rattle.ospf_area.specs.Standing.{acknowledging, answer_at};
@@ -101,7 +101,8 @@ pub fn restart(
     alloc: Global,
 ) -> Result<(), AllocError>
     ensures { OnOk result (Becomes (restarted from area.old)
-        (and_sends out.old (first_dd from area.old)) out.new area.new) }
+        (and_sends out.old (first_dd_on (own_of area.old) from area.old.next_dd
+        (slice_get area.old.links from.link))) out.new area.new) }
 {
     let own = own_of(area);
     let number = area.next_dd;

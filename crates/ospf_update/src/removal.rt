@@ -1,8 +1,12 @@
 //! LSAs that leave the database.
 
 ghost use Rattle.std.specs.Prelude.{◌≡◌, IfOk, OnOk, map, filter, if◌then◌else◌};
+ghost use Rattle.std.specs.List.{list_any};
 ghost use Rattle.ospf_lsdb.specs.Database.{entries, held_of, is_some_and};
-ghost use Rattle.ospf_update.specs.Removal.{some_awaits_on, some_awaits, is_leaving, key_of_entry, leaving, is_last, ends_run, reset_one, reset, and_ends, RemovesOne, RemovesAll, Removes};
+ghost use Rattle.ospf_update.specs.Meets.{InTurn};
+ghost use Rattle.ospf_neighbour.specs.Lists.{is_listed};
+ghost use Rattle.ospf_neighbour.specs.Neighbour.{NeighbourValue};
+ghost use Rattle.ospf_update.specs.Removal.{some_awaits, is_leaving, key_of_entry, leaving, is_last, ends_run, reset_one, reset, and_ends, RemovesOne};
 
 use ospf_area::{Area, AreaLink, Numbering, Outputs, is_numbered, is_own, some_link_loading};
 use ospf_base::{Instance, LsaKey, MAX_AGE};
@@ -26,14 +30,16 @@ pub fn some_awaits(instance: &Instance, links: &[AreaLink]) -> bool
 ///
 /// `AllocError` where memory runs out; then the router is to be stopped.
 pub fn remove(area: &mut Area, out: &mut Outputs, alloc: Global) -> Result<(), AllocError>
-    ensures { OnOk result (Removes area.old out.old out.new area.new) }
+    ensures { OnOk result (InTurn RemovesOne (leaving area.old) area.old out.old out.new
+        area.new) }
 {
     let keys = leaving(area, alloc)?;
     remove_all(area, &keys, out)
 }
 
 fn some_awaits_on(instance: &Instance, link: &AreaLink) -> bool
-    ensures { result ≡ some_awaits_on instance.now link.now }
+    ensures { result ≡ list_any (λ (n : NeighbourValue). is_listed instance.now n.retransmission)
+        link.now.neighbours }
 {
     let all = link.neighbours.all();
     all.iter().any(|neighbour| neighbour.is_listed(instance))
@@ -84,7 +90,7 @@ fn is_leaving(links: &[AreaLink], copy: &EntryView<'_>) -> bool
 }
 
 fn remove_all(area: &mut Area, keys: &[LsaKey], out: &mut Outputs) -> Result<(), AllocError>
-    ensures { OnOk result (RemovesAll keys.now area.old out.old out.new area.new) }
+    ensures { OnOk result (InTurn RemovesOne keys.now area.old out.old out.new area.new) }
 {
     for key in keys {
         remove_one(area, *key, out)?;

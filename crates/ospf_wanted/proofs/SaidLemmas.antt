@@ -14,7 +14,8 @@ use Rattle.ospf_lsa.specs.Lsa.{HasLinks, HasRouters, IsLsa, IsNetworkLsa, IsRout
 use Rattle.ospf_lsa.specs.declared.fault.LsaFault.TheVariants as fault
 use Rattle.ospf_neighbour.specs.Neighbour.{NeighbourValue}
 use Rattle.ospf_iface.specs.Machine.{is_down}
-use Rattle.ospf_wanted.specs.Wanted.{attached_routers, broadcast_link, is_full, is_full_before, is_full_behind, links_at, links_of_kind, router_link, subnet_link}
+use Rattle.ospf_wanted.specs.Wanted.{attached_routers, is_full, is_full_before, is_full_behind, links_at, router_link, subnet_link}
+use Rattle.ospf_wanted.proofs.Words.{broadcast_link, links_of_kind}
 use Rattle.ospf_wanted.specs.Wanted.WantedValue.{RouterLsa, NetworkLsa}
 use Rattle.ospf_base.specs.Sums.{contents}
 use Rattle.std.proofs.lemmas.List.Folds.{flat_map-map}

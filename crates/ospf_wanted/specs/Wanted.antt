@@ -4,13 +4,11 @@ use Rattle.std.specs.List.{list_any, flat_map}
 use Rattle.ospf_base.specs.declared.ids.Kind.TheVariants.{Router, Network}
 use Rattle.ospf_base.specs.declared.ids.LsaKey.{LsaKey}
 use Rattle.ospf_base.specs.declared.ids.RouterId.{RouterId}
-use Rattle.ospf_base.specs.declared.interface.InterfaceKind.{InterfaceKind}
 use Rattle.ospf_base.specs.declared.interface.InterfaceKind.TheVariants as kind
 use Rattle.ospf_lsa.specs.declared.link.Link.{Link}
 use Rattle.ospf_lsa.specs.declared.link.LinkKind.TheVariants.{PointToPoint, Transit, Stub}
 use Rattle.ospf_area.specs.State.{LinkValue}
 use Rattle.ospf_iface.specs.Machine.{is_down}
-use Rattle.ospf_iface.specs.declared.machine.IfaceState.{IfaceState}
 use Rattle.ospf_iface.specs.declared.machine.IfaceState.TheVariants.{Dr}
 use Rattle.ospf_base.specs.Keys.{same_key}
 use Rattle.ospf_neighbour.specs.Neighbour.{NeighbourValue}
@@ -28,22 +26,14 @@ pub data WantedValue : Type 0 where
 abbrev pub is_full : NeighbourValue → Bool
 is_full n = elim n.state [ Full ↦ true | _ ↦ false ]
 
--- the router is fully adjacent to the neighbour of this address
-abbrev pub is_full_at : ℕ → NeighbourValue → Bool
-is_full_at address n = is_full n && (n.address.0 == address)
-
-abbrev pub is_dr_state : IfaceState → Bool
-is_dr_state Dr = true
-is_dr_state _ = false
-
 -- the router is the Designated Router of the link, and fully adjacent to someone there
 abbrev pub is_dr_of : LinkValue → Bool
-is_dr_of a = is_dr_state a.iface.state && list_any is_full a.neighbours
+is_dr_of a = elim a.iface.state [ Dr ↦ true | _ ↦ false ] && list_any is_full a.neighbours
 
 -- the link is one to a transit network: the router is fully adjacent to the Designated Router, or is that itself and
 -- fully adjacent to someone (12.4.1.2)
 abbrev pub is_transit : LinkValue → Bool
-is_transit a = list_any (is_full_at a.iface.dr.0) a.neighbours || is_dr_of a
+is_transit a = list_any (λ (n : NeighbourValue). is_full n && (n.address.0 == a.iface.dr.0)) a.neighbours || is_dr_of a
 
 -- ---- the links of the router-LSA
 
@@ -66,18 +56,15 @@ abbrev pub subnet_link : LinkValue → Link
 subnet_link a =
     record { id = bit_and a.iface.settings.address.0 a.iface.settings.mask; link_data = a.iface.settings.mask; kind = Stub; metric = a.settings.cost }
 
--- to the transit network of a broadcast link, or else to its subnet (12.4.1.2)
-abbrev pub broadcast_link : Bool → LinkValue → Link
-broadcast_link stub_router a = if is_transit a then network_link stub_router a else subnet_link a
-
--- the links of a link that is up: on one with two ends the fully adjacent neighbour, and then the subnet
-abbrev pub links_of_kind : InterfaceKind → Bool → LinkValue → List Link
-links_of_kind kind.PointToPoint stub_router a = map (router_link stub_router a) (filter is_full a.neighbours) ++ subnet_link a ∷ []
-links_of_kind kind.Broadcast stub_router a = broadcast_link stub_router a ∷ []
-
--- the links of a link (12.4.1)
+-- the links of a link that is up (12.4.1): on one with two ends to the fully adjacent neighbour, and then to the subnet; on a
+-- broadcast link to its transit network, or else to its subnet (12.4.1.2)
 unfoldable pub links_at : Bool → LinkValue → List Link
-links_at stub_router a = if is_down a.iface.state then [] else links_of_kind a.iface.settings.kind stub_router a
+links_at stub_router a =
+    if is_down a.iface.state then []
+    else elim a.iface.settings.kind [
+      | kind.PointToPoint ↦ map (router_link stub_router a) (filter is_full a.neighbours) ++ subnet_link a ∷ []
+      | kind.Broadcast ↦ (if is_transit a then network_link stub_router a else subnet_link a) ∷ []
+    ]
 
 -- ---- network-LSAs
 

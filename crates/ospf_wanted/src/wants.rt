@@ -1,8 +1,9 @@
 //! The LSAs of its own that a router wants.
 
-ghost use Rattle.std.specs.Prelude.{◌≡◌, ◌++◌, ◌∷◌, [], IfOk, OnOk, OnErr, map, filter};
+ghost use Rattle.std.specs.Prelude.{◌≡◌, ◌++◌, IfOk, OnOk, map, filter, ◌&&◌, ◌==◌, if◌then◌else◌};
 ghost use Rattle.std.specs.List.{list_any, flat_map};
-ghost use Rattle.ospf_wanted.specs.Wanted.{is_full, is_full_at, is_dr_state, is_dr_of, is_transit, through_metric, router_link, network_link, subnet_link, broadcast_link, links_at, is_full_before, is_full_behind, attached_routers, networks_at, wanted, wanted_key};
+ghost use Rattle.ospf_neighbour.specs.Neighbour.{NeighbourValue};
+ghost use Rattle.ospf_wanted.specs.Wanted.{is_full, is_dr_of, is_transit, through_metric, router_link, network_link, subnet_link, links_at, is_full_before, is_full_behind, attached_routers, networks_at, wanted, wanted_key};
 ghost use Rattle.ospf_wanted.specs.Own.{wanted_value};
 
 use ospf_area::AreaLink;
@@ -61,7 +62,7 @@ impl OwnLsa {
 pub fn is_dr_of(link: &AreaLink) -> bool
     ensures { result ≡ is_dr_of link.now }
 {
-    is_dr(link.iface.state) && some_full(link.neighbours.all())
+    matches!(link.iface.state, IfaceState::Dr) && some_full(link.neighbours.all())
 }
 
 /// The LSAs that a router wants (RFC 2328, section 12.4), over its links in configuration order: its router-LSA, and the
@@ -119,19 +120,14 @@ pub(crate) fn subnet_link(link: &AreaLink) -> Link
 
 // The link of a broadcast interface.
 pub(crate) fn broadcast_link(stub_router: bool, link: &AreaLink) -> Link
-    ensures { result ≡ broadcast_link stub_router link.now }
+    ensures { result
+        ≡ (if is_transit link.now then network_link stub_router link.now else subnet_link link.now) }
 {
     if is_transit(link) {
         network_link(stub_router, link)
     } else {
         subnet_link(link)
     }
-}
-
-fn is_dr(state: IfaceState) -> bool
-    ensures { result ≡ is_dr_state state }
-{
-    matches!(state, IfaceState::Dr)
 }
 
 // Whether some neighbour is fully adjacent.
@@ -280,7 +276,8 @@ fn is_transit(link: &AreaLink) -> bool
 
 // Whether the neighbour of an address is fully adjacent.
 fn full_at(address: u32, neighbours: &[Neighbour]) -> bool
-    ensures { result ≡ list_any (is_full_at address) neighbours.now }
+    ensures { result
+        ≡ list_any (λ (n : NeighbourValue). is_full n && (n.address.0 == address)) neighbours.now }
 {
     neighbours
         .iter()

@@ -25,7 +25,7 @@ use Rattle.ospf_lsa.specs.Value.{IsMade}
 use Rattle.ospf_lsa.specs.declared.fault.LsaFault.TheVariants as fault
 use Rattle.ospf_lsdb.specs.Database.{Held, entry_from}
 use Rattle.ospf_originate.specs.Numbers.{issued}
-use Rattle.ospf_originate.specs.Steps.{and_issues}
+use Rattle.ospf_originate.proofs.Words.{and_issues}
 use Rattle.ospf_router.specs.Starts.{IsAreaOf, area_of, iface_of}
 use Rattle.ospf_update.specs.Aging.{turned_area}
 use Rattle.ospf_update.specs.Meets.{store_updates}

@@ -24,7 +24,8 @@ use Rattle.ospf_neighbour.specs.Neighbours.{AreNeighboursRising}
 use Rattle.ospf_originate.proofs.DueLemmas.{no_candidate}
 use Rattle.ospf_originate.specs.Actions.{own_action}
 use Rattle.ospf_originate.specs.Sound.{AreNumbered}
-use Rattle.ospf_originate.specs.Steps.{ActsInTurn, IsDue, OwnLsas, action_of, wants}
+use Rattle.ospf_originate.specs.Steps.{IsDue, OwnLsas, action_of, wants}
+use Rattle.ospf_originate.proofs.Words.{ActsInTurn}
 use Rattle.ospf_originate.specs.declared.action.DueAction.{DueAction}
 use Rattle.ospf_originate.specs.declared.action.OwnAction.TheVariants.{Issue}
 use Rattle.ospf_packet.proofs.RoundTrip.{read_again}
@@ -110,7 +111,7 @@ ends_tick = record {
   issued_out = issuing_out;
   own = own_lsas;
   issued_database = issued_database;
-  removes = record { all = (refl, refl) };
+  removes = record { state = refl; outputs = refl };
   read = λ k d within. absurd (omega arith);
 }
 
@@ -181,7 +182,7 @@ ends_up = record {
     answered = refl;
   };
   issued_database = issued_database;
-  removes = record { all = (refl, refl) };
+  removes = record { state = refl; outputs = refl };
   read = hello_read;
 }
 

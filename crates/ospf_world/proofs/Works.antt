@@ -12,7 +12,8 @@ use Rattle.ospf_headline.specs.World.{HasItsTable, Running, router_at, run_of}
 use Rattle.ospf_headline.specs.declared.logs.Datagram.{Datagram}
 use Rattle.ospf_headline.specs.declared.logs.Run.{Run}
 use Rattle.ospf_headline.specs.declared.event.WorldEvent.TheVariants.{Start, Tick, LinkUp}
-use Rattle.ospf_adjacency.specs.Links.{own_hello, up}
+use Rattle.ospf_adjacency.specs.Links.{up}
+use Rattle.ospf_adjacency.proofs.Words.{own_hello}
 use Rattle.ospf_step.specs.Counts.{none_dropped_on}
 use Rattle.ospf_step.specs.Step.{Event}
 use Rattle.ospf_step.specs.declared.counts.DropCounts.{DropCounts}

@@ -1,7 +1,7 @@
 use Rattle.std.proofs.Common.{◌∙◌, ap, set, sym}
 use Rattle.std.proofs.lemmas.List.Edits.{map_over_more}
 use Rattle.ospf_neighbour.specs.Neighbour.{NeighbourValue}
-use Rattle.ospf_adjacency.specs.Links.{inactivity_ticked}
+use Rattle.ospf_adjacency.proofs.Words.{inactivity_ticked}
 use Rattle.ospf_adjacency.proofs.links.count.Goals as goal
 
 pub loop-neighbour-preserved : goal.loop-neighbour-preserved

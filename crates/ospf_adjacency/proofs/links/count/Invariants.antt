@@ -1,5 +1,5 @@
 use Rattle.std.proofs.Common.{◌≡◌, ◌++◌, map, take, drop}
-use Rattle.ospf_adjacency.specs.Links.{inactivity_ticked}
+use Rattle.ospf_adjacency.proofs.Words.{inactivity_ticked}
 use Rattle.ospf_adjacency.proofs.links.count.Given as goal
 
 abbrev pub invariant-loop-neighbour : goal.invariant-loop-neighbour

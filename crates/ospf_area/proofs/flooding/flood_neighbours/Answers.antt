@@ -57,7 +57,7 @@ loop-neighbour-preserved c =
         | then-branch w ↦ w.listed-is ∙ or_set (some_listed key h c.args.here (take i xs)) (test (get_or xs i x)) (sym goes ∙ w.if-branch.true) ∙ sym more
         | else-branch w ↦ w.listed-is ∙ c.loop-neighbour.invariant.listed ∙ or_left (some_listed key h c.args.here (take i xs)) (test (get_or xs i x)) (sym goes ∙ w.if-branch.false) ∙ sym more
       ];
-      still = routers-set c.loop-neighbour.neighbours i x c.flood_to.new.neighbour c.neighbour-item.is (ap (λ (n : NeighbourValue). n.router) is_new ∙ flooded-router _ _ _ _ x) ∙ c.loop-neighbour.invariant.still;
+      still = routers-set c.loop-neighbour.neighbours i x c.flood_to.new.neighbour c.neighbour-item.is (ap (λ (n : NeighbourValue). n.router) is_new ∙ flooded-router key h (came_from c.args.here x) c.args.tick x) ∙ c.loop-neighbour.invariant.still;
     }
 
 pub returns-clause-still : goal.returns-clause-still

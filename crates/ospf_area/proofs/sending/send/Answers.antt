@@ -4,7 +4,8 @@ use Rattle.ospf_base.specs.Constants.{largest_packet}
 use Rattle.ospf_packet.specs.Meaning.{packet_bytes}
 use Rattle.ospf_packet.specs.Packet.{meaning_of}
 use Rattle.ospf_packet.specs.Said.{meant}
-use Rattle.ospf_area.specs.Outputs.{AreReadAsSent, IsReadAsSent}
+use Rattle.ospf_area.specs.Outputs.{AreReadAsSent}
+use Rattle.ospf_area.proofs.Words.{IsReadAsSent}
 use Rattle.ospf_area.proofs.SendingLemmas.{datagrams_long, datagrams_read, sends_none, packet_said, read_again}
 use Rattle.ospf_area.proofs.sending.send.Goals as goal
 

@@ -4,7 +4,7 @@ use Rattle.ospf_neighbour.specs.Neighbour.{NeighbourValue}
 use Rattle.ospf_neighbour.specs.Neighbours.{neighbour_of}
 use Rattle.ospf_adjacency.specs.Heard.{neighbourhood, place_for}
 use Rattle.ospf_area.specs.Turns.{Turn, turn}
-use Rattle.ospf_links.specs.Parts.{description_by}
+use Rattle.ospf_links.proofs.Words.{description_by}
 use Rattle.ospf_links.proofs.WorkLemmas.{described_found, described_router, is_none}
 use Rattle.ospf_links.proofs.descriptions.describe_in.Goals as goal
 use Rattle.ospf_links.proofs.descriptions.describe_in.Goals.{Then-not-is_at, In_ok-elects}

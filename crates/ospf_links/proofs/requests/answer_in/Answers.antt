@@ -3,7 +3,7 @@ use Rattle.std.proofs.lemmas.Option.{get_or_from_slice_get}
 use Rattle.ospf_neighbour.specs.Neighbour.{NeighbourValue}
 use Rattle.ospf_neighbour.specs.Neighbours.{neighbour_of}
 use Rattle.ospf_adjacency.specs.Heard.{neighbourhood, place_for}
-use Rattle.ospf_links.specs.Parts.{answered_by, request_by}
+use Rattle.ospf_links.proofs.Words.{request_by, answered_by}
 use Rattle.ospf_links.proofs.RequestLemmas.{requested_found}
 use Rattle.ospf_links.proofs.WorkLemmas.{is_found, is_none}
 use Rattle.ospf_links.proofs.requests.answer_in.Goals as goal

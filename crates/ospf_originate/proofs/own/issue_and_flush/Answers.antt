@@ -5,6 +5,9 @@ use Rattle.ospf_wanted.specs.Own.{wanted_value}
 use Rattle.ospf_wanted.specs.Wanted.{WantedValue}
 use Rattle.ospf_wanted.specs.declared.wants.OwnLsa.{OwnLsa}
 use Rattle.ospf_wanted.proofs.MakeLemmas.{wanted_made}
+use Rattle.ospf_update.specs.Meets.{InTurn}
+use Rattle.ospf_originate.specs.Steps.{Acts, IsDue}
+use Rattle.ospf_originate.specs.declared.action.DueAction.{DueAction}
 use Rattle.ospf_originate.proofs.OwnLaws.{ends_sound}
 use Rattle.ospf_originate.proofs.own.issue_and_flush.Goals as goal
 
@@ -16,6 +19,19 @@ act_in_turn-requires-clause-made c =
     let s = c.args.area.now in
     subst (λ (ws : List WantedValue). AllByRecursion CanBeMade ws) (sym (ap (λ (xs : List OwnLsa). map wanted_value xs) c.deref-2.ensures.value ∙ c.in_ok-all.ensures))
     (wanted_made s.stub_router s.router s.links c.requires.links)
+
+pub returns-clause-own : goal.returns-clause-own
+returns-clause-own c =
+    let s = c.args.area.now in
+    let due = c.deref-3.result.now in
+    record {
+      due = due;
+      is_due = subst (λ (ds : List DueAction). IsDue s ds) (sym c.deref-3.ensures.value) c.in_ok-due.ensures.is;
+      mid = c.act_in_turn.new.area;
+      each = subst (λ (ws : List WantedValue). InTurn (λ (d : DueAction). Acts d.action ws d.key) due s c.args.out.now c.act_in_turn.new.out c.act_in_turn.new.area)
+          (ap (λ (xs : List OwnLsa). map wanted_value xs) c.deref-2.ensures.value ∙ c.in_ok-all.ensures) c.in_ok-act_in_turn.ensures;
+      answered = c.forget_heard.ensures;
+    }
 
 pub returns-clause-sound : goal.returns-clause-sound
 returns-clause-sound c =

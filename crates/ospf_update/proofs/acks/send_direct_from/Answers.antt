@@ -1,6 +1,6 @@
 use Rattle.std.proofs.Common.{◌≡◌, ◌∙◌, ap, sym, Option, None, slice_get, arith}
 use Rattle.std.proofs.lemmas.Option.{slice_get_past}
-use Rattle.ospf_update.specs.Acks.{direct_out_on}
+use Rattle.ospf_update.proofs.Words.{direct_out_on}
 use Rattle.ospf_area.specs.Sending.{and_sends}
 use Rattle.ospf_area.specs.State.{LinkValue}
 use Rattle.ospf_area.proofs.SendingLemmas.{sends_none}

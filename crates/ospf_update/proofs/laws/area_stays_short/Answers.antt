@@ -10,5 +10,5 @@ returns c = record {
   acknowledged = header_short;
   flushed = flush_short;
   aged = ages_short;
-  removed = λ before out out' after removes. removes_short (leaving before) before out out' after removes.all;
+  removed = λ before out out' after removes. removes_short (leaving before) before out out' after removes;
 }

@@ -9,5 +9,5 @@ returns c = record {
   acknowledged = header_numbers;
   flushed = flush_numbers;
   aged = ages_numbers;
-  removed = λ before out out' after removes. removes_numbers (leaving before) before out out' after removes.all;
+  removed = λ before out out' after removes. removes_numbers (leaving before) before out out' after removes;
 }

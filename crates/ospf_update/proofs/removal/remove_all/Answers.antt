@@ -1,7 +1,7 @@
 use Rattle.std.proofs.Common.{List, take, sym, subst}
 use Rattle.std.proofs.lemmas.List.{take_more}
 use Rattle.ospf_base.specs.declared.ids.LsaKey.{LsaKey}
-use Rattle.ospf_update.specs.Removal.{RemovesAll}
+use Rattle.ospf_update.proofs.Words.{RemovesAll}
 use Rattle.ospf_update.proofs.RemovalLemmas.{RemovesAll-more}
 use Rattle.ospf_update.proofs.removal.remove_all.Goals as goal
 

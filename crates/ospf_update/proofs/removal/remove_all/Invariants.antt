@@ -1,5 +1,5 @@
 use Rattle.std.proofs.Common.{take}
-use Rattle.ospf_update.specs.Removal.{RemovesAll}
+use Rattle.ospf_update.proofs.Words.{RemovesAll}
 use Rattle.ospf_update.proofs.removal.remove_all.Given as goal
 
 abbrev pub invariant-loop-key : goal.invariant-loop-key

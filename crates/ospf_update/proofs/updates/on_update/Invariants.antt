@@ -1,7 +1,8 @@
 use Rattle.std.proofs.Common.{◌≡◌, true}
 use Rattle.ospf_area.specs.Outputs.{OutputsValue}
 use Rattle.ospf_area.specs.State.{AreaValue}
-use Rattle.ospf_update.specs.Updates.{IsTurned, TakesSlices}
+use Rattle.ospf_update.specs.Updates.{IsTurned}
+use Rattle.ospf_update.proofs.Words.{TakesSlices}
 use Rattle.ospf_update.proofs.updates.on_update.Given as goal
 
 abbrev pub invariant-loop-bytes : goal.invariant-loop-bytes

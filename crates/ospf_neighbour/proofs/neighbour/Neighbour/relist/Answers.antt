@@ -1,6 +1,7 @@
 use Rattle.std.proofs.Common.{◌∙◌, [], ◌∷◌, ◌++◌, not, ap, sym}
 use Rattle.std.proofs.lemmas.Bool.{false≢true}
-use Rattle.ospf_neighbour.specs.Lists.{is_of_key, without_key}
+use Rattle.ospf_neighbour.specs.Lists.{without_key}
+use Rattle.ospf_neighbour.proofs.Words.{is_of_key}
 use Rattle.ospf_neighbour.specs.Machine.{is_exchanging}
 use Rattle.ospf_neighbour.specs.Neighbour.{NeighbourValue}
 use Rattle.ospf_neighbour.specs.OneAKey.{IsAloneOfKeys}

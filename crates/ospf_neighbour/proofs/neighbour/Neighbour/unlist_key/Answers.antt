@@ -1,5 +1,5 @@
 use Rattle.std.proofs.Common.{not}
-use Rattle.ospf_neighbour.specs.Lists.{is_of_key}
+use Rattle.ospf_neighbour.proofs.Words.{is_of_key}
 use Rattle.ospf_neighbour.specs.declared.neighbour.Listed.{Listed}
 use Rattle.ospf_neighbour.proofs.LawLemmas.{alone_kept}
 use Rattle.ospf_neighbour.proofs.ListLemmas.{length-filter_empty}

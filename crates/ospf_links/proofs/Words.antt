@@ -1,0 +1,55 @@
+-- Parts of definitions of specs/ by names of their own, for the proofs.
+use Rattle.std.specs.Prelude.{ℕ, List, Option, None, Some, set, false, ◌≡◌, []}
+use Rattle.ospf_area.specs.State.{LinkValue, AreaValue}
+use Rattle.ospf_adjacency.specs.Heard.{Neighbourhood, elects_by_change, put_back, turn_of}
+use Rattle.ospf_area.specs.Outputs.{OutputsValue}
+use Rattle.ospf_area.specs.Posting.{posted_all}
+use Rattle.ospf_base.specs.declared.ids.RouterId.{RouterId}
+use Rattle.ospf_iface.specs.declared.machine.Iface.{Iface}
+use Rattle.ospf_lsa.specs.declared.header.LsaHeader.{LsaHeader}
+use Rattle.ospf_lsdb.specs.Database.{Held}
+use Rattle.ospf_neighbour.specs.Neighbour.{NeighbourValue}
+use Rattle.ospf_packet.specs.declared.body.Description.{Description}
+use Rattle.ospf_exchange.specs.declared.rule.Local.{Local}
+use Rattle.ospf_adjacency.specs.Descriptions.{description_turn}
+use Rattle.ospf_packet.specs.declared.entry.RequestEntry.{RequestEntry}
+use Rattle.ospf_adjacency.specs.Answers.{answer_turn, answered_keys}
+use Rattle.ospf_base.specs.declared.ids.LsaKey.{LsaKey}
+use Rattle.ospf_area.specs.Packets.{Parcel}
+use Rattle.ospf_area.specs.Sending.{and_sends, own_of}
+use Rattle.ospf_links.specs.Elections.{ElectsIf}
+
+abbrev pub some_changed : Option LinkValue → (LinkValue → LinkValue) → ℕ → AreaValue → AreaValue
+some_changed o change l s = elim o [
+  | None ↦ s
+  | Some link ↦ record s { links = set s.links l (change link) }
+]
+
+-- a Database Description of a neighbour that may not be there; in Init it may bring an election about (10.6)
+abbrev pub description_by : Option NeighbourValue → Iface → Local → RouterId → Description → List LsaHeader → List Held → Neighbourhood → Neighbourhood
+description_by o i local q d headers db x = elim o [
+  | None ↦ x
+  | Some n ↦ put_back (elects_by_change i.state n (description_turn i local q d headers db (turn_of n x)).neighbour) (description_turn i local q d headers db (turn_of n x)) x
+]
+
+-- a Request of a neighbour that may not be there (10.7)
+abbrev pub request_by : Option NeighbourValue → Iface → Local → ℕ → List Held → List RequestEntry → Neighbourhood → Neighbourhood
+request_by o i local delay db entries x = elim o [
+  | None ↦ x
+  | Some n ↦ put_back false (answer_turn i local delay db entries (turn_of n x)) x
+]
+
+-- the keys whose copies answer a Request of a neighbour that may not be there, and of router f on a link that may not be
+-- there (10.7)
+abbrev pub answered_by : Option NeighbourValue → List Held → List RequestEntry → List LsaKey
+answered_by o db entries = elim o [
+  | None ↦ []
+  | Some n ↦ answered_keys db entries
+]
+
+-- that of link l, which may not be there
+abbrev pub ElectsThere : Option LinkValue → ℕ → AreaValue → OutputsValue → AreaValue → OutputsValue → Type 0
+ElectsThere o l before out after out' = elim o [
+  | None ↦ (after ≡ before) × (out' ≡ out)
+  | Some link ↦ (link' : LinkValue) × (next' : ℕ) × (sent : List Parcel) × ElectsIf link.elects (own_of before) before.next_dd link link' next' sent × (after ≡ record before { links = set before.links l link'; next_dd = next' }) × (out' ≡ and_sends out (posted_all (own_of before) l link.iface sent))
+]
