@@ -102,7 +102,9 @@ fn repeat_to_all(
         all.old.items)) }
     ensures marks { OnOk result
         (sent.new.keys
-        ≡ marked_all (flat_map (due_keys on.now.settings.retransmit on.now.own.tick database.now) all.old.items)
+        ≡ marked_all
+        (flat_map (due_keys on.now.settings.retransmit on.now.own.tick database.now)
+        all.old.items)
         sent.old.keys) }
 {
     repeat_to_each(all, on, database, sent, out, alloc)?;
@@ -129,7 +131,8 @@ fn repeat_to_each(
         all.old)) }
     ensures marks { OnOk result
         (sent.new.keys
-        ≡ marked_all (flat_map (due_keys on.now.settings.retransmit on.now.own.tick database.now) all.old)
+        ≡ marked_all
+        (flat_map (due_keys on.now.settings.retransmit on.now.own.tick database.now) all.old)
         sent.old.keys) }
 {
     for neighbour in all.iter_mut() {
@@ -157,7 +160,8 @@ fn repeat_to(
         neighbour.old)) }
     ensures marks { OnOk result
         (sent.new.keys
-        ≡ marked_all (due_keys on.now.settings.retransmit on.now.own.tick database.now neighbour.old)
+        ≡ marked_all
+        (due_keys on.now.settings.retransmit on.now.own.tick database.now neighbour.old)
         sent.old.keys) }
 {
     let at = OnLink {

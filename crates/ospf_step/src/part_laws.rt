@@ -104,5 +104,6 @@ pub fn own_steps_put_out()
 /// The removals that end a step are a part.
 pub fn removals_put_out()
     ensures { (s t : AreaValue) (out out' : OutputsValue) →
-        IsDatabase s.database → InTurn RemovesOne (leaving s) s out out' t → PutsOut (λ o. RemovalPart s o t) out out' }
+        IsDatabase s.database → InTurn RemovesOne (leaving s) s out out' t →
+        PutsOut (λ o. RemovalPart s o t) out out' }
 {}

@@ -121,7 +121,8 @@ pub(crate) fn subnet_link(link: &AreaLink) -> Link
 // The link of a broadcast interface.
 pub(crate) fn broadcast_link(stub_router: bool, link: &AreaLink) -> Link
     ensures { result
-        ≡ (if is_transit link.now then network_link stub_router link.now else subnet_link link.now) }
+        ≡ (if is_transit link.now then network_link stub_router link.now
+        else subnet_link link.now) }
 {
     if is_transit(link) {
         network_link(stub_router, link)

@@ -199,8 +199,8 @@ fn changes_at(
     ensures { IfOk result (λ changes. (adverts : List Advertisement) (root : RouterId) →
         AreOverLeft adverts root area.now outage.now paths.now →
         All (IsRoute adverts root) routes.now →
-        AreChangesTo (left_of_area adverts outage.now) root routes.now places.now (length routes.now)
-        changes.items) }
+        AreChangesTo (left_of_area adverts outage.now) root routes.now places.now
+        (length routes.now) changes.items) }
 {
     let mut changes = Vec::new(alloc);
     let mut next = 0;
@@ -227,7 +227,8 @@ fn add_change(
     requires ends { AreEndsInOrder area.now.ends.items }
     ensures { OnOk result ((adverts : List Advertisement) (root : RouterId) →
         AreOverLeft adverts root area.now outage.now paths.now → IsRoute adverts root route.now →
-        AddsLoss (left_of_area adverts outage.now) root route.now changes.old.items changes.new.items) }
+        AddsLoss (left_of_area adverts outage.now) root route.now changes.old.items
+        changes.new.items) }
 {
     let loss = loss_of(alloc, area, outage, paths, route)?;
     match loss {
@@ -324,7 +325,8 @@ fn tells(area: &AreaGraph, outage: &Outage, end: &End, prefix: Prefix) -> bool
 fn is_live(area: &AreaGraph, outage: &Outage, vertex: Vertex) -> bool
     requires { AreEdgesInOrder area.now.edges.items }
     ensures { (adverts : List Advertisement) → IsAreaGraph adverts area.now →
-        IsOutage adverts outage.now → IsTrue result ↔ IsLive (left_of_area adverts outage.now) vertex }
+        IsOutage adverts outage.now →
+        IsTrue result ↔ IsLive (left_of_area adverts outage.now) vertex }
 {
     match vertex {
         Vertex::Router(_) => true,
