@@ -73,6 +73,10 @@ impl Requests {
     pub(crate) fn is_requested(&self, key: &LsaKey) -> bool
         ensures { result ≡ is_requested key.now self.now }
     {
+        // Mostly nothing is requested: then the names, which lie elsewhere, are not looked at.
+        if self.entries.is_empty() {
+            return false;
+        }
         self.names.contains(&name_of_key(key))
     }
 
@@ -91,6 +95,9 @@ impl Requests {
     pub(crate) fn remove(&mut self, key: &LsaKey)
         ensures { self.new ≡ requests_without key.now self.old }
     {
+        if self.entries.is_empty() {
+            return;
+        }
         lists::remove_requests(key, &mut self.entries);
         self.names.remove(&name_of_key(key));
     }

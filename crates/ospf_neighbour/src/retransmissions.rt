@@ -60,6 +60,10 @@ impl Retransmissions {
     pub(crate) fn is_key_listed(&self, key: &LsaKey) -> bool
         ensures { result ≡ is_key_listed key.now self.now }
     {
+        // Where nothing is listed, the keys, which lie elsewhere, are not looked at.
+        if self.entries.is_empty() {
+            return false;
+        }
         if self.is_keyed {
             self.keys.contains(key)
         } else {
