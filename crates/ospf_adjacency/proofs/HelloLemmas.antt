@@ -11,12 +11,16 @@ use Rattle.ospf_packet.specs.declared.body.Hello.{Hello}
 use Rattle.ospf_exchange.specs.declared.rule.Local.{Local}
 use Rattle.ospf_area.specs.Turns.{Turn, turn}
 use Rattle.ospf_area.specs.Posting.{PostValue}
-use Rattle.ospf_adjacency.specs.Heard.{Neighbourhood, neighbourhood, turn_of, put_back, hello_by, hello_on, hello_turn, elects_by_hello, place_for, put, sender_of}
+use Rattle.ospf_adjacency.specs.Heard.{Neighbourhood, neighbourhood, turn_of, put_back, hello_on, hello_turn, elects_by_hello, place_for, put, sender_of}
 use Rattle.ospf_adjacency.proofs.PutLemmas.{found, not_found, put_found, put_new}
 
 -- a Hello makes no other neighbour of one
 pub same_router : (i : Iface) (local : Local) (h : Hello) (named : Bool) (t : Turn) → (hello_turn i local h named t).neighbour.router ≡ t.neighbour.router
 same_router i local h named t = first_of (search rules, grind (arith, common_steps))
+
+-- a Hello of this neighbour
+abbrev hello_by : Iface → Local → Hello → Bool → NeighbourValue → Neighbourhood → Neighbourhood
+hello_by i local h named n x = put_back (elects_by_hello i.state n (hello_turn i local h named (turn_of n x)).neighbour) (hello_turn i local h named (turn_of n x)) x
 
 -- the neighbours after its turn
 by_turn : (i : Iface) (local : Local) (h : Hello) (named : Bool) (x : Neighbourhood) (e : NeighbourValue) (t : Turn) (elects : Bool)

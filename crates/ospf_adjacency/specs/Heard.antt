@@ -122,8 +122,8 @@ abbrev pub put_back : Bool → Turn → Neighbourhood → Neighbourhood
 put_back elects t x = record { neighbours = put t.neighbour x.neighbours; elects = x.elects || elects; next = t.next; sent = t.sent }
 
 -- a Hello of router q from this address: it makes its neighbour, or finds it (10.5)
-abbrev pub hello_by : Iface → Local → Hello → Bool → NeighbourValue → Neighbourhood → Neighbourhood
-hello_by i local h named n x = put_back (elects_by_hello i.state n (hello_turn i local h named (turn_of n x)).neighbour) (hello_turn i local h named (turn_of n x)) x
-
 abbrev pub hello_on : Iface → Local → RouterId → Addr → Hello → Bool → Neighbourhood → Neighbourhood
-hello_on i local q source h named x = hello_by i local h named (sender_of x.neighbours q source) x
+hello_on i local q source h named x =
+    let n = sender_of x.neighbours q source in
+    let t = hello_turn i local h named (turn_of n x) in
+    put_back (elects_by_hello i.state n t.neighbour) t x

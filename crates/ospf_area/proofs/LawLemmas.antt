@@ -1,4 +1,5 @@
 -- What is read of each neighbour after changes of all links.
+use Rattle.ospf_area.proofs.Words.{neighbours_in}
 use Rattle.std.proofs.Common.{◌≡◌, ◌==◌, ◌+◌, ◌++◌, ℕ, zero, suc, Bool, true, false, if◌then◌else◌, Option, None, Some, List, [], ◌∷◌, map, refl, ap, ◌∙◌, arith}
 use Rattle.std.specs.List.{find, slice_get}
 use Rattle.std.specs.Option.{option_map}
@@ -15,7 +16,6 @@ use Rattle.ospf_area.specs.Flooding.{flooded_link, flooded_links, flooded_neighb
 use Rattle.ospf_area.specs.Laws.{changed_there, turned_there}
 use Rattle.ospf_area.specs.Places.{map_from}
 use Rattle.ospf_area.specs.State.{LinkValue, neighbour_at}
-use Rattle.ospf_area.proofs.Words.{neighbours_in}
 use Rattle.ospf_area.specs.declared.changes.AdjacencyChange.{AdjacencyChange}
 use Rattle.ospf_area.specs.declared.flooding.Origin.{Origin}
 use Rattle.ospf_area.specs.declared.sending.Own.{Own}

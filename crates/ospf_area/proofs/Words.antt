@@ -1,9 +1,9 @@
 -- Parts of definitions of specs/ by names of their own, for the proofs.
 use Rattle.std.specs.Prelude.{List, Option, None, Some, ℕ, ℤ, ◌≡◌, if◌then◌else◌, []}
 use Rattle.ospf_neighbour.specs.Neighbour.{NeighbourValue}
-use Rattle.ospf_area.specs.State.{LinkValue}
+use Rattle.ospf_base.specs.declared.ids.RouterId.{RouterId}
+use Rattle.ospf_area.specs.State.{AreaValue, LinkValue, neighbour, state_in}
 use Rattle.ospf_neighbour.specs.declared.machine.NeighbourState.{NeighbourState}
-use Rattle.ospf_neighbour.specs.declared.machine.NeighbourState.TheVariants.{Down}
 use Rattle.ospf_lsdb.specs.Database.{Entry, lsa_of}
 use Rattle.ospf_area.specs.declared.state.Numbering.{Numbering}
 use Rattle.ospf_packet.specs.PacketOf as packets
@@ -20,10 +20,9 @@ abbrev pub neighbours_in : Option LinkValue → List NeighbourValue
 neighbours_in None = []
 neighbours_in (Some link) = link.neighbours
 
--- the state of a neighbour: one that is not there is Down (10.1)
-abbrev pub state_in : Option NeighbourValue → NeighbourState
-state_in None = Down
-state_in (Some n) = n.state
+-- the state of router q on link l
+abbrev pub state_of : AreaValue → ℕ → RouterId → NeighbourState
+state_of s l q = state_in (neighbour s l q)
 
 -- its bytes, at the present age
 abbrev pub copy_in : Option Entry → Option (List ℕ)

@@ -11,9 +11,8 @@ use Rattle.ospf_lsa.specs.declared.header.LsaHeader.{LsaHeader}
 use Rattle.ospf_neighbour.specs.Lists.{is_listed, request_of}
 use Rattle.ospf_neighbour.specs.Machine.{is_exchanging}
 use Rattle.ospf_neighbour.specs.Neighbour.{NeighbourValue}
-use Rattle.ospf_neighbour.specs.declared.machine.NeighbourState.TheVariants.{Down}
 use Rattle.ospf_area.specs.Changes.{delayed_at}
-use Rattle.ospf_area.specs.State.{AreaValue, LinkValue, neighbour_at}
+use Rattle.ospf_area.specs.State.{AreaValue, LinkValue, neighbour_at, state_in}
 use Rattle.ospf_area.specs.declared.flooding.Origin.{Origin}
 
 -- ---- the neighbour
@@ -24,7 +23,7 @@ origin_neighbour links f = neighbour_at links f.link f.router
 
 -- it is in Exchange or above
 abbrev pub is_taken_in : Option NeighbourValue → Bool
-is_taken_in n = is_exchanging (elim n [ None ↦ Down | Some n ↦ n.state ])
+is_taken_in o = is_exchanging (state_in o)
 
 -- the key is on its request list
 abbrev pub is_requested_of : LsaKey → Option NeighbourValue → Bool

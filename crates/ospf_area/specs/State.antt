@@ -60,9 +60,10 @@ neighbour_at links l q = neighbour_of (elim (slice_get links l) [ None ↦ [] | 
 abbrev pub neighbour : AreaValue → ℕ → RouterId → Option NeighbourValue
 neighbour s l q = neighbour_at s.links l q
 
--- the state of router q on link l: Down where it is no neighbour there (10.1)
-abbrev pub state_of : AreaValue → ℕ → RouterId → NeighbourState
-state_of s l q = elim (neighbour s l q) [ None ↦ Down | Some n ↦ n.state ]
+-- the state of a neighbour that may not be there: then it is Down (10.1)
+abbrev pub state_in : Option NeighbourValue → NeighbourState
+state_in None = Down
+state_in (Some n) = n.state
 
 -- the instance waits for the acknowledgement of a neighbour that may not be there
 abbrev pub WaitsIn : Option NeighbourValue → Instance → Type 0

@@ -1,4 +1,5 @@
 use Rattle.std.proofs.Common.{◌≡◌, ◌≢◌, ◌⊎◌, ◌<◌, ◌≤◌, ◌++◌, ℕ, ℤ, false, List, [], ◌∷◌, length, Option, None, Some, refl, sym, ap, subst, inl, inr, arith, ◌∙◌, append-nil, append_assoc, Bool}
+use Rattle.ospf_area.proofs.Words.{state_of}
 use Rattle.std.specs.Prelude.{◌<ℤ◌, ◌≤ℤ◌}
 use Rattle.std.specs.List.{Contains, slice_get}
 use Rattle.std.specs.Option.{option_map}
@@ -15,7 +16,7 @@ use Rattle.ospf_packet.specs.Meaning.{Meaning}
 use Rattle.ospf_packet.specs.PacketOf.{packet_of}
 use Rattle.ospf_neighbour.specs.Machine.{is_exchanging}
 use Rattle.ospf_area.specs.Outputs.{OutputsValue}
-use Rattle.ospf_area.specs.State.{AreaValue, Awaits, state_of, kept_number}
+use Rattle.ospf_area.specs.State.{AreaValue, Awaits, kept_number}
 use Rattle.ospf_step.specs.Words.{CanName, HasCopy, Asks, IsSoundState}
 use Rattle.ospf_step.specs.Accounts.{IsAcknowledged, HasWord, MayLeave, IsReplaced, WaitsOn}
 use Rattle.ospf_step.specs.Packets.{Received}

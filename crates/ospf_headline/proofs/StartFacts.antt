@@ -1,7 +1,7 @@
 -- A router that starts can name nothing and asks for nothing.
+use Rattle.ospf_area.proofs.Words.{neighbours_in}
 use Rattle.std.proofs.Common.{◌≡◌, ℕ, zero, suc, ℤ, List, [], ◌∷◌, length, refl, sym, ap, subst, Contains, slice_get}
 use Rattle.ospf_area.specs.State.{AreaValue, LinkValue, WaitsIn}
-use Rattle.ospf_area.proofs.Words.{neighbours_in}
 use Rattle.ospf_base.specs.declared.ids.Instance.{Instance}
 use Rattle.ospf_base.specs.declared.ids.RouterId.{RouterId}
 use Rattle.ospf_config.specs.declared.config.Config.{Config}

@@ -9,7 +9,7 @@ use Rattle.ospf_packet.specs.Meaning.{Meaning}
 use Rattle.ospf_packet.specs.PacketOf.{packet_of}
 use Rattle.ospf_neighbour.specs.Machine.{is_exchanging}
 use Rattle.ospf_area.specs.Outputs.{OutputsValue}
-use Rattle.ospf_area.specs.State.{AreaValue, Awaits, state_of}
+use Rattle.ospf_area.specs.State.{AreaValue, Awaits, neighbour, state_in}
 use Rattle.ospf_step.specs.Packets.{lsas_of}
 use Rattle.ospf_step.specs.Words.{HoldsInstance, HasCopy, Brings}
 use Rattle.ospf_flood.specs.Rules.{max_sequence_number}
@@ -107,8 +107,8 @@ pub record HasToldOf (w : World) (q : RouterId) (i : Instance) : Type 0 where
 -- for, and what it never waited for, the neighbour told of, unless a newer LSA took the place of what had waited, or the
 -- neighbour is below Exchange
 pub record IsSoundFor (after : World) (e : Event) (s : AreaValue) (out : OutputsValue) (s' : AreaValue) : Type 0 where
-  pub left : (l : ℕ) (q : RouterId) (i : Instance) → Awaits s l q i → Awaits s' l q i ⊎ (HasToldOf after q i ⊎ (IsReplaced (heard_in e) s out i ⊎ (is_exchanging (state_of s' l q) ≡ false)))
-  pub listed : (l : ℕ) (q : RouterId) (i : Instance) → Brings out i → HoldsInstance s' i → is_exchanging (state_of s' l q) ≡ true → Awaits s' l q i ⊎ HasToldOf after q i
+  pub left : (l : ℕ) (q : RouterId) (i : Instance) → Awaits s l q i → Awaits s' l q i ⊎ (HasToldOf after q i ⊎ (IsReplaced (heard_in e) s out i ⊎ (is_exchanging (state_in (neighbour s' l q)) ≡ false)))
+  pub listed : (l : ℕ) (q : RouterId) (i : Instance) → Brings out i → HoldsInstance s' i → is_exchanging (state_in (neighbour s' l q)) ≡ true → Awaits s' l q i ⊎ HasToldOf after q i
 
 -- nothing was done; or the event steps another router than r, or none, and r, running as x before, runs on so; or it
 -- stepped r, which runs as x' after, and r's acknowledgements are sound for the outputs by which the logs grew

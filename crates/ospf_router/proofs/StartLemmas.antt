@@ -24,7 +24,7 @@ use Rattle.ospf_base.specs.Masks.{IsMask}
 use Rattle.ospf_base.specs.declared.ids.RouterId.{RouterId}
 use Rattle.ospf_config.specs.declared.interface.Interface.{Interface}
 use Rattle.ospf_area.specs.State.{AreaValue, LinkValue, WaitsIn}
-use Rattle.ospf_area.proofs.Words.{neighbours_in, copy_in}
+use Rattle.ospf_area.proofs.Words.{copy_in, neighbours_in}
 use Rattle.ospf_iface.specs.declared.machine.Iface.{Iface}
 use Rattle.ospf_neighbour.specs.Neighbour.{NeighbourValue}
 use Rattle.ospf_step.specs.Words.{IsSoundState}

@@ -50,8 +50,8 @@ listing_of (Some s) = listed s.database
 
 -- the neighbours of a link, in rising Router ID
 abbrev pub neighbours_on : Option AreaValue → ℕ → List NeighbourValue
-neighbours_on None link = []
-neighbours_on (Some s) link = elim (slice_get s.links link) [ None ↦ [] | Some link ↦ link.neighbours ]
+neighbours_on None l = []
+neighbours_on (Some s) l = elim (slice_get s.links l) [ None ↦ [] | Some link ↦ link.neighbours ]
 
 -- an instance is on the retransmission list of a neighbour that may not be there (13.6)
 abbrev pub awaits_in : Option AreaValue → ℕ → RouterId → Instance → Bool

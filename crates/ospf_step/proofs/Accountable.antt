@@ -3,8 +3,8 @@ use Rattle.std.proofs.Common.{◌≡◌, ◌++◌, List, [], Option, get_or, sym
 use Rattle.std.proofs.lemmas.Option.{same_Some}
 use Rattle.ospf_packet.specs.Meaning.{Meaning}
 use Rattle.ospf_area.specs.Outputs.{OutputsValue, SentValue, no_outputs, then_outputs, AreReadAsSent}
-use Rattle.ospf_area.proofs.Words.{IsReadAsSent}
-use Rattle.ospf_area.specs.State.{AreaValue, state_of}
+use Rattle.ospf_area.proofs.Words.{IsReadAsSent, state_of}
+use Rattle.ospf_area.specs.State.{AreaValue}
 use Rattle.ospf_base.specs.declared.ids.Instance.{Instance}
 use Rattle.ospf_base.specs.declared.ids.LsaKey.{LsaKey}
 use Rattle.ospf_update.specs.Meets.{Becomes}

@@ -1,4 +1,5 @@
 use Rattle.std.proofs.Common.{◌≡◌, ◌⊎◌, ◌+◌, ◌-◌, ◌<◌, ◌≤◌, ◌++◌, ℕ, true, false, List, [], length, get_or, Option, None, refl, sym, ap, subst, inl, inr, arith, ◌∙◌, length-append}
+use Rattle.ospf_area.proofs.Words.{state_of}
 use Rattle.std.specs.Prelude.{◌<ℤ◌, ◌≤ℤ◌}
 use Rattle.std.specs.List.{Contains, AllPairs}
 use Rattle.std.proofs.lemmas.Bool.{false≢true, cases_Bool, cases_lt}
@@ -19,7 +20,7 @@ use Rattle.ospf_lsa.specs.declared.recency.Recency.TheVariants.{Newer}
 use Rattle.ospf_packet.specs.Meaning.{Meaning}
 use Rattle.ospf_neighbour.specs.Machine.{is_exchanging}
 use Rattle.ospf_area.specs.Outputs.{OutputsValue, then_outputs}
-use Rattle.ospf_area.specs.State.{AreaValue, state_of, kept_number, Awaits}
+use Rattle.ospf_area.specs.State.{AreaValue, kept_number, Awaits}
 use Rattle.ospf_step.specs.Packets.{Received}
 use Rattle.ospf_step.specs.Words.{CanName, HoldsInstance, Asks, Brings}
 use Rattle.ospf_lsdb.specs.Moments.{among}

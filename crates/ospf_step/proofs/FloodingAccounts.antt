@@ -25,8 +25,8 @@ use Rattle.ospf_neighbour.specs.Laws.{Waits}
 use Rattle.ospf_neighbour.specs.Machine.{is_exchanging}
 use Rattle.ospf_neighbour.specs.Neighbour.{NeighbourValue}
 use Rattle.ospf_area.specs.Outputs.{OutputsValue}
-use Rattle.ospf_area.specs.State.{AreaValue, LinkValue, neighbour, state_of, database_entry, copy_of, kept_number, Awaits, WaitsIn}
-use Rattle.ospf_area.proofs.Words.{state_in, copy_in}
+use Rattle.ospf_area.specs.State.{AreaValue, LinkValue, neighbour, database_entry, copy_of, kept_number, Awaits, WaitsIn, state_in}
+use Rattle.ospf_area.proofs.Words.{copy_in, state_of}
 use Rattle.ospf_step.specs.Headers.{IsOfInstance, Lists}
 use Rattle.ospf_step.specs.Packets.{Received, lsas_of, headers_in_body}
 use Rattle.ospf_area.specs.Places.{map_from}

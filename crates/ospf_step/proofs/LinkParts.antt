@@ -1,4 +1,5 @@
 -- What is done on links, and what it is to the area.
+use Rattle.ospf_area.proofs.Words.{neighbours_in}
 use Rattle.std.proofs.Common.{◌≡◌, inl, ℕ, zero, suc, List, [], ◌∷◌, map, Option, None, Some, set, slice_get, refl, sym, subst}
 use Rattle.std.specs.List.{Contains}
 use Rattle.std.proofs.lemmas.Option.{none-some, same_Some}
@@ -9,7 +10,6 @@ use Rattle.ospf_neighbour.specs.Neighbour.{NeighbourValue}
 use Rattle.ospf_neighbour.specs.Neighbours.{neighbour_of}
 use Rattle.ospf_area.specs.Outputs.{AreReadAsSent, OutputsValue, SentValue, sends}
 use Rattle.ospf_area.specs.State.{AreaValue, LinkValue}
-use Rattle.ospf_area.proofs.Words.{neighbours_in}
 use Rattle.ospf_step.specs.Packets.{Received}
 use Rattle.ospf_step.proofs.StateFacts.{delayed_in}
 use Rattle.ospf_step.specs.Neighbours.{NeighbourGoes, NeighboursGo, Quiet, told_by}

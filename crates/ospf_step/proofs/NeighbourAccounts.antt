@@ -10,8 +10,8 @@ use Rattle.ospf_neighbour.specs.Laws.{instances}
 use Rattle.ospf_neighbour.specs.Machine.{is_exchanging}
 use Rattle.ospf_neighbour.specs.Neighbour.{NeighbourValue}
 use Rattle.ospf_area.specs.Outputs.{OutputsValue}
-use Rattle.ospf_area.specs.State.{AreaValue, neighbour, WaitsIn}
-use Rattle.ospf_area.proofs.Words.{state_in, copy_in}
+use Rattle.ospf_area.specs.State.{AreaValue, neighbour, WaitsIn, state_in}
+use Rattle.ospf_area.proofs.Words.{copy_in}
 use Rattle.ospf_step.specs.Headers.{IsOfInstance, Lists}
 use Rattle.ospf_step.specs.Packets.{Received}
 use Rattle.ospf_step.specs.Words.{CanName, HoldsInstance, HasCopy}

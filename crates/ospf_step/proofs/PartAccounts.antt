@@ -32,8 +32,8 @@ use Rattle.ospf_update.specs.Acks.{direct_out}
 use Rattle.ospf_area.specs.Flooding.{flooded_link}
 use Rattle.ospf_area.specs.Sending.{own_of}
 use Rattle.ospf_area.specs.Outputs.{OutputsValue, SentValue, no_outputs, sends, AreReadAsSent}
-use Rattle.ospf_area.specs.State.{AreaValue, LinkValue, neighbour, database_entry, copy_of, kept_number, some_link_loading, Awaits, WaitsIn}
-use Rattle.ospf_area.proofs.Words.{neighbours_in, state_in, copy_in}
+use Rattle.ospf_area.specs.State.{AreaValue, LinkValue, neighbour, database_entry, copy_of, kept_number, some_link_loading, Awaits, WaitsIn, state_in}
+use Rattle.ospf_area.proofs.Words.{copy_in, neighbours_in}
 use Rattle.ospf_area.specs.declared.flooding.Origin.{Origin}
 use Rattle.ospf_update.specs.Meets.{Becomes}
 use Rattle.ospf_step.specs.Headers.{IsOfInstance, Lists}

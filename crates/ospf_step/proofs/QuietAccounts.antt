@@ -19,8 +19,8 @@ use Rattle.ospf_neighbour.specs.Laws.{Waits}
 use Rattle.ospf_neighbour.specs.Machine.{is_exchanging}
 use Rattle.ospf_neighbour.specs.Neighbour.{NeighbourValue}
 use Rattle.ospf_area.specs.Outputs.{OutputsValue, no_outputs}
-use Rattle.ospf_area.specs.State.{AreaValue, LinkValue, neighbour, state_of, database_entry, kept_number, Awaits, WaitsIn}
-use Rattle.ospf_area.proofs.Words.{state_in, copy_in}
+use Rattle.ospf_area.specs.State.{AreaValue, LinkValue, neighbour, database_entry, kept_number, Awaits, WaitsIn, state_in}
+use Rattle.ospf_area.proofs.Words.{copy_in, state_of}
 use Rattle.ospf_update.specs.Meets.{Becomes}
 use Rattle.ospf_step.specs.Headers.{IsOfInstance, Lists}
 use Rattle.ospf_step.specs.Packets.{Received, lsas_of, headers_in_body, dd_headers_of, acknowledging_headers_of}

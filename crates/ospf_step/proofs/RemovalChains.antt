@@ -12,8 +12,8 @@ use Rattle.ospf_base.specs.Keys.{same_key}
 use Rattle.ospf_base.proofs.SameKeys.{same_key-eq}
 use Rattle.ospf_area.specs.Numbers.{is_numbering_of, is_own}
 use Rattle.ospf_area.specs.Outputs.{OutputsValue, no_outputs}
-use Rattle.ospf_update.specs.Removal.{is_leaving, key_of_entry, leaving, is_last, ends_run, reset_one, reset, and_ends, RemovesOne, some_awaits, lowest_number}
-use Rattle.ospf_update.proofs.Words.{RemovesAll, Removes}
+use Rattle.ospf_update.specs.Removal.{is_leaving, leaving, is_last, ends_run, reset_one, reset, and_ends, RemovesOne, some_awaits, lowest_number}
+use Rattle.ospf_update.proofs.Words.{RemovesAll, Removes, key_of_entry}
 use Rattle.ospf_area.specs.State.{AreaValue, database_entry, kept_number, numbering_of, some_link_loading}
 use Rattle.ospf_area.proofs.Words.{kept_in}
 use Rattle.ospf_area.specs.declared.state.Numbering.{Numbering}

@@ -19,8 +19,8 @@ use Rattle.ospf_area.specs.declared.sending.Way.{Way}
 use Rattle.ospf_step.proofs.StateFacts.{Contains-nil}
 use Rattle.std.proofs.lemmas.List.{take-append-drop}
 use Rattle.ospf_lsa.specs.declared.header.LsaHeader.{LsaHeader}
-use Rattle.ospf_update.specs.Acks.{header_precedes, put_in_order, put_all_in_order, in_order, cut, packets, ack_room, ack_out, acks_out}
-use Rattle.ospf_update.proofs.Words.{direct_out_on}
+use Rattle.ospf_update.specs.Acks.{header_precedes, put_in_order, in_order, cut, packets, ack_room, ack_out, acks_out}
+use Rattle.ospf_update.proofs.Words.{direct_out_on, put_all_in_order}
 
 -- What the datagrams of an Update say.
 one_of : {X : Type 0} (x y : X) → Contains (x ∷ []) y → y ≡ x

@@ -20,8 +20,7 @@ use Rattle.ospf_neighbour.proofs.LawLemmas.{takes_one, resend_keeps}
 use Rattle.ospf_area.specs.Changes.{neighbour_changed, changed_if, changed_link, changed_on, delayed_on}
 use Rattle.ospf_area.specs.Outputs.{OutputsValue}
 use Rattle.ospf_area.specs.Places.{map_from}
-use Rattle.ospf_area.specs.State.{AreaValue, LinkValue, neighbour, database_entry, kept_number}
-use Rattle.ospf_area.proofs.Words.{state_in}
+use Rattle.ospf_area.specs.State.{AreaValue, LinkValue, neighbour, database_entry, kept_number, state_in}
 use Rattle.ospf_area.specs.declared.changes.AdjacencyChange.{AdjacencyChange}
 use Rattle.ospf_area.specs.declared.changes.AdjacencyChange.TheVariants.{Acknowledges, IsSent, Restarts}
 use Rattle.ospf_area.specs.declared.flooding.Origin.{Origin}

@@ -27,7 +27,7 @@ use Rattle.ospf_base.proofs.SameKeys.{same_key-eq}
 use Rattle.ospf_neighbour.specs.Neighbour.{NeighbourValue}
 use Rattle.ospf_neighbour.specs.Neighbours.{neighbour_of}
 use Rattle.ospf_area.specs.State.{AreaValue, LinkValue, neighbour, database_entry, copy_of}
-use Rattle.ospf_area.proofs.Words.{neighbours_in, copy_in}
+use Rattle.ospf_area.proofs.Words.{copy_in, neighbours_in}
 use Rattle.ospf_area.specs.Places.{map_from}
 use Rattle.ospf_step.specs.Words.{HasCopy, HoldsInstance}
 use Rattle.ospf_step.specs.Parts.{at_max_age, leaves_if}

@@ -18,8 +18,8 @@ use Rattle.ospf_area.specs.Asking.{loaded, turned_to_next, turned_link, request_
 use Rattle.ospf_area.specs.Sending.{own_of, datagrams, packet_of, to_address, way_out}
 use Rattle.ospf_area.specs.Outputs.{SentValue, no_outputs, sends, AreReadAsSent}
 use Rattle.ospf_area.specs.Places.{flat_from}
-use Rattle.ospf_area.specs.State.{AreaValue, LinkValue, neighbour}
-use Rattle.ospf_area.proofs.Words.{neighbours_in, state_in, turn_request}
+use Rattle.ospf_area.specs.State.{AreaValue, LinkValue, neighbour, state_in}
+use Rattle.ospf_area.proofs.Words.{turn_request, neighbours_in}
 use Rattle.ospf_area.specs.declared.sending.Own.{Own}
 use Rattle.ospf_area.specs.declared.sending.Way.{Way}
 use Rattle.ospf_step.specs.Neighbours.{NeighbourGoes, NeighbourGoesOn, Quiet}

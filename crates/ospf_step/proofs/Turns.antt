@@ -31,7 +31,7 @@ use Rattle.ospf_adjacency.proofs.QuietLemmas.{answers_are_quiet, repeats_are_qui
 use Rattle.ospf_area.specs.Outputs.{AreReadAsSent, OutputsValue, SentValue, sends}
 use Rattle.ospf_area.specs.Sending.{and_sends, own_of}
 use Rattle.ospf_area.specs.State.{AreaValue, LinkValue, neighbour}
-use Rattle.ospf_area.proofs.Words.{neighbours_in, copy_in}
+use Rattle.ospf_area.proofs.Words.{copy_in, neighbours_in}
 use Rattle.ospf_area.specs.declared.flooding.Origin.{Origin}
 use Rattle.ospf_step.specs.Accounts.{WasHeld}
 use Rattle.ospf_step.specs.Headers.{IsOfInstance}

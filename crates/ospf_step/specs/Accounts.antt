@@ -15,7 +15,7 @@ use Rattle.ospf_packet.specs.Meaning.{BodyMeaning, Meaning}
 use Rattle.ospf_packet.specs.PacketOf.{packet_of}
 use Rattle.ospf_neighbour.specs.Machine.{is_exchanging}
 use Rattle.ospf_area.specs.Outputs.{OutputsValue, SentValue}
-use Rattle.ospf_area.specs.State.{AreaValue, Awaits, state_of, copy_of, kept_number}
+use Rattle.ospf_area.specs.State.{AreaValue, Awaits, copy_of, kept_number, neighbour, state_in}
 use Rattle.ospf_step.specs.Headers.{Lists}
 use Rattle.ospf_step.specs.Packets.{Received, lsas_of, headers_in_body, dd_headers_of, acknowledging_headers_of}
 use Rattle.ospf_step.specs.Words.{HasCopy, HoldsInstance, Asks, CanName, Brings, ListsAreHeld}
@@ -79,7 +79,7 @@ pub record IsReplaced (heard : Option Received) (before : AreaValue) (out : Outp
 pub data MayLeave (heard : Option Received) (before : AreaValue) (out : OutputsValue) (after : AreaValue) (l : ℕ) (q : RouterId) (i : Instance) : Type 0 where
   Acknowledged : IsAcknowledged heard l q i → MayLeave heard before out after l q i
   Replaced : IsReplaced heard before out i → (HoldsInstance after i → Brings out i) → MayLeave heard before out after l q i
-  Fell : is_exchanging (state_of after l q) ≡ false → MayLeave heard before out after l q i
+  Fell : is_exchanging (state_in (neighbour after l q)) ≡ false → MayLeave heard before out after l q i
 
 -- a copy that was held before, at this age, or at another where no packet was heard or it has come to MaxAge
 pub record WasKept (heard : Option Received) (before : AreaValue) (lsa : List ℕ) : Type 0 where
@@ -123,12 +123,12 @@ pub record Accounts (heard : Option Received) (before : AreaValue) (out : Output
   -- what it asks of q, q told in a DD packet
   pub asks : (l : ℕ) (q : RouterId) (i : Instance) → Asks after l q i → Asks before l q i ⊎ IsDescribed heard l q i
   pub leaves : (l : ℕ) (q : RouterId) (i : Instance) → Awaits before l q i → WaitsOn heard before after l q i ⊎ MayLeave heard before out after l q i
-  pub listed : (l : ℕ) (q : RouterId) (i : Instance) → Brings out i → HoldsInstance after i → is_exchanging (state_of after l q) ≡ true → Awaits after l q i ⊎ HasWord heard before l q i
+  pub listed : (l : ℕ) (q : RouterId) (i : Instance) → Brings out i → HoldsInstance after i → is_exchanging (state_in (neighbour after l q)) ≡ true → Awaits after l q i ⊎ HasWord heard before l q i
   pub numbers : Numbers heard before out after
 
 -- no neighbour enters Exchange
 abbrev pub NoneEntersExchange : AreaValue → AreaValue → Type 0
-NoneEntersExchange before after = (l : ℕ) (q : RouterId) → is_exchanging (state_of after l q) ≡ true → is_exchanging (state_of before l q) ≡ true
+NoneEntersExchange before after = (l : ℕ) (q : RouterId) → is_exchanging (state_in (neighbour after l q)) ≡ true → is_exchanging (state_in (neighbour before l q)) ≡ true
 
 -- an LSA that was held, at another age
 pub record WasHeld (before : AreaValue) (content : List ℕ) : Type 0 where
@@ -146,7 +146,7 @@ pub record Adjusts (heard : Option Received) (before : AreaValue) (out : Outputs
   pub names : (i : Instance) → CanName after i → CanName before i ⊎ Brings out i
   pub named : (p : Meaning) (i : Instance) → Sends out p → Lists (headers_in_body p.body) i → CanName before i
   pub asks : (l : ℕ) (q : RouterId) (i : Instance) → Asks after l q i → Asks before l q i ⊎ IsDescribed heard l q i
-  pub leaves : (l : ℕ) (q : RouterId) (i : Instance) → Awaits before l q i → Awaits after l q i ⊎ (IsAcknowledged heard l q i ⊎ (is_exchanging (state_of after l q) ≡ false))
+  pub leaves : (l : ℕ) (q : RouterId) (i : Instance) → Awaits before l q i → Awaits after l q i ⊎ (IsAcknowledged heard l q i ⊎ (is_exchanging (state_in (neighbour after l q)) ≡ false))
   pub lists : ListsAreHeld before → ListsAreHeld after
   pub unheld : (i : Instance) → Brings out i → HoldsInstance after i → ⊥
   pub issues_none : out.issued ≡ []

@@ -7,10 +7,9 @@ use Rattle.ospf_lsa.specs.declared.header.LsaHeader.{LsaHeader}
 use Rattle.ospf_packet.specs.Meaning.{Meaning}
 use Rattle.ospf_neighbour.specs.Machine.{is_exchanging}
 use Rattle.ospf_neighbour.specs.Neighbour.{NeighbourValue}
-use Rattle.ospf_neighbour.specs.declared.machine.NeighbourState.TheVariants.{Down}
 use Rattle.ospf_neighbour.specs.Neighbours.{neighbour_of}
 use Rattle.ospf_area.specs.Outputs.{AreReadAsSent, OutputsValue, SentValue, sends}
-use Rattle.ospf_area.specs.State.{AreaValue, LinkValue}
+use Rattle.ospf_area.specs.State.{AreaValue, LinkValue, state_in}
 use Rattle.ospf_step.specs.Headers.{Lists}
 use Rattle.ospf_step.specs.Packets.{Received, lsas_of, headers_in_body}
 use Rattle.ospf_step.specs.Words.{CanName}
@@ -43,9 +42,7 @@ AreKnown s ds = (d : SentValue) → Contains ds d → IsKnownPacket s d.packet
 
 -- a neighbour that may not be there does not come into Exchange
 abbrev pub EntersNot : Option NeighbourValue → Option NeighbourValue → Type 0
-EntersNot o o' =
-    is_exchanging (elim o' [ None ↦ Down | Some n ↦ n.state ]) ≡ true
-    → is_exchanging (elim o [ None ↦ Down | Some n ↦ n.state ]) ≡ true
+EntersNot o o' = is_exchanging (state_in o') ≡ true → is_exchanging (state_in o) ≡ true
 
 -- neighbours of a link go on, come and leave, by what is told of them, and no acknowledgement is delayed
 pub record LinkGoes (s : AreaValue) (told : RouterId → List LsaHeader) (b a : LinkValue) : Type 0 where

@@ -1,6 +1,5 @@
 -- What an event does to the router before the step ends (RFC 2328, sections 9.3, 10.5 to 10.9, 13, 13.5 to 13.7 and 14).
 use Rattle.std.specs.Prelude.{◌≡◌, ℕ, List, [], Option, None, Some, slice_get, map}
-use Rattle.ospf_area.specs.Places.{flat_from}
 use Rattle.std.specs.List.{flat_map}
 use Rattle.ospf_base.specs.declared.ids.Addr.{Addr}
 use Rattle.ospf_area.specs.Outputs.{OutputsValue, SentValue}
@@ -13,7 +12,7 @@ use Rattle.ospf_step.specs.Puts.{headers_met}
 use Rattle.ospf_step.specs.Step.{Event}
 use Rattle.ospf_step.specs.Step.Event.{Datagram, Tick, LinkUp, LinkDown}
 use Rattle.ospf_links.specs.Parts.{answered_on, description_part, hello_part, link_down, link_up, request_part}
-use Rattle.ospf_links.specs.Repeats.{keys_out, link_repeats_out, link_repeated, marked_all}
+use Rattle.ospf_links.specs.Repeats.{keys_out, link_repeated, marked_all}
 use Rattle.ospf_links.specs.Works.{link_changed, up_out_on, work_sent, worked}
 use Rattle.ospf_packet.specs.Meaning.{BodyMeaning, Meaning, hello, description, request, update, acknowledgment}
 use Rattle.ospf_packet.specs.PacketOf.{packet_of}
@@ -53,9 +52,6 @@ TakesDatagram link source (Some m) s out out' after = TakesBody m.body (origin_o
 -- what is sent again
 abbrev pub repeated : AreaValue → AreaValue
 repeated s = record s { links = map (link_repeated (own_of s) s.database) s.links; sent = marked_all (flat_map (keys_out (own_of s) s.database) s.links) s.sent }
-
-abbrev pub repeats_out : AreaValue → List SentValue
-repeats_out s = flat_from (link_repeats_out (own_of s) s.database) 0 s.links
 
 -- a tick: ages, timers, Hellos, acknowledgements and repeats, in this order
 pub record TakesTick (s : AreaValue) (out out' : OutputsValue) (after : AreaValue) : Type 0 where

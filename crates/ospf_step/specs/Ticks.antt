@@ -31,7 +31,11 @@ acknowledgements_out s = flat_from (delayed_out_on (own_of s)) 0 s.links
 abbrev pub ticked_area : AreaValue → AreaValue
 ticked_area s = acknowledged_area (helloed_area (timed_area s))
 
+-- what is sent again
+abbrev pub repeats_out : AreaValue → List SentValue
+repeats_out s = flat_from (link_repeats_out (own_of s) s.database) 0 s.links
+
 -- what goes out behind these outputs, with what is sent again
 abbrev pub tick_out : AreaValue → OutputsValue → OutputsValue
 tick_out s out =
-    and_sends (and_sends (and_sends out (hellos_out (timed_area s))) (acknowledgements_out (helloed_area (timed_area s)))) (flat_from (link_repeats_out (own_of s) s.database) 0 (ticked_area s).links)
+    and_sends (and_sends (and_sends out (hellos_out (timed_area s))) (acknowledgements_out (helloed_area (timed_area s)))) (repeats_out (ticked_area s))

@@ -3,8 +3,8 @@
 ghost use Rattle.std.specs.Prelude.{◌≡◌, OnOk};
 ghost use Rattle.ospf_area.specs.Sending.{and_sends};
 ghost use Rattle.ospf_step.specs.Fit.{IsFitRouter};
-ghost use Rattle.ospf_step.specs.Ticks.{acknowledged_area, acknowledgements_out, helloed_area, hellos_out, timed_area};
-ghost use Rattle.ospf_step.specs.Takes.{TakesTick, repeated, repeats_out};
+ghost use Rattle.ospf_step.specs.Ticks.{acknowledged_area, acknowledgements_out, helloed_area, hellos_out, repeats_out, timed_area};
+ghost use Rattle.ospf_step.specs.Takes.{TakesTick, repeated};
 
 use ospf_adjacency::{elections_come_about, neighbours_stay_of_link, repeats_are_quiet};
 use ospf_area::{Area, Outputs, own_of};

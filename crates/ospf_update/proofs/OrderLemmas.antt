@@ -1,4 +1,5 @@
 -- A list that a stable sort made is what the insertion sort makes.
+use Rattle.ospf_update.proofs.Words.{put_all_in_order}
 use Rattle.std.proofs.Common.{◌≡◌, ◌<◌, ◌≤◌, ◌⊎◌, ℕ, zero, suc, Bool, true, false, cond, not, ◌&&◌, ◌||◌, nat_lt, ◌==◌, if◌then◌else◌, List, [], ◌∷◌, ◌++◌, length, drop, get_or, filter, refl, sym, ap, ap₂, subst, ◌∙◌, arith, append_assoc, append-nil, inl, inr, nat_cmp, is_lt, Ordering, Less, Equal, Greater, true≢false, add-one}
 use Rattle.std.specs.Cmp.{IsStrictWeakOrder, IsTotalOrder}
 use Rattle.std.specs.List.{AllByRecursion}
@@ -9,7 +10,7 @@ use Rattle.std.proofs.lemmas.Cmp.{nat_cmp_total, on_total, then_total}
 use Rattle.std.proofs.lemmas.List.Elements.{filter-append}
 use Rattle.std.proofs.lemmas.List.Sorted.{ranks_by, sorted_far}
 use Rattle.ospf_lsa.specs.declared.header.LsaHeader.{LsaHeader}
-use Rattle.ospf_update.specs.Acks.{header_precedes, in_order, put_all_in_order, put_in_order}
+use Rattle.ospf_update.specs.Acks.{header_precedes, in_order, put_in_order}
 
 -- ---- what a filter keeps of a first element
 

@@ -7,8 +7,8 @@ use Rattle.ospf_base.specs.Keys.{Precedes, same_key}
 use Rattle.ospf_lsdb.specs.Database.{AreKeysRising, Held, IsDatabase, entries, held_of, is_expired, is_some_and, key_at, removed}
 use Rattle.ospf_lsdb.specs.Moments.{among}
 use Rattle.ospf_area.specs.Outputs.{OutputsValue}
-use Rattle.ospf_update.specs.Removal.{RemovesOne, is_leaving, key_of_entry, leaving}
-use Rattle.ospf_update.proofs.Words.{RemovesAll}
+use Rattle.ospf_update.specs.Removal.{RemovesOne, is_leaving, leaving}
+use Rattle.ospf_update.proofs.Words.{RemovesAll, key_of_entry}
 use Rattle.ospf_area.specs.State.{AreaValue, LinkValue, some_link_loading}
 
 -- one more

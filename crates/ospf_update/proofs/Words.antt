@@ -1,7 +1,7 @@
 -- Parts of definitions of specs/ by names of their own, for the proofs.
 use Rattle.std.specs.Prelude.{ℕ, Bool, Option, None, Some, List, if◌then◌else◌, slice_get, []}
 use Rattle.ospf_flood.specs.Rules.{is_sent_back}
-use Rattle.ospf_lsdb.specs.Database.{Entry, lsa_of}
+use Rattle.ospf_lsdb.specs.Database.{Entry, key_in, lsa_of}
 use Rattle.ospf_area.specs.Outputs.{SentValue, OutputsValue}
 use Rattle.ospf_area.specs.Sending.{own_of, to_address, way_out}
 use Rattle.ospf_area.specs.State.{AreaValue, LinkValue}
@@ -22,7 +22,8 @@ use Rattle.ospf_update.specs.Removal.{RemovesOne, leaving}
 use Rattle.ospf_update.specs.Updates.{TakesSlice}
 use Rattle.ospf_lsa.specs.declared.header.LsaHeader.{LsaHeader}
 use Rattle.ospf_area.specs.declared.sending.Own.{Own}
-use Rattle.ospf_update.specs.Acks.{acks_out}
+use Rattle.ospf_update.specs.Acks.{acks_out, put_in_order}
+use Rattle.std.specs.List.{fold}
 
 -- the copy that goes back: there is none where it was sent in an Update in this tick, or is about to leave (13, step 8)
 abbrev pub reply_of : Option Entry → Bool → Option (List ℕ)
@@ -75,3 +76,10 @@ TakesSlices f slices before out out' after = InTurn (TakesSlice f) slices before
 abbrev pub direct_out_on : Own → Origin → List LsaHeader → Option LinkValue → List SentValue
 direct_out_on own f hs None = []
 direct_out_on own f hs (Some link) = acks_out own (way_out f.link link.iface (to_address link.iface f.address)) link.settings.mtu hs
+
+-- headers among those that are in order
+abbrev pub put_all_in_order : List LsaHeader → List LsaHeader → List LsaHeader
+put_all_in_order hs sorted = fold (λ sorted h. put_in_order h sorted) sorted hs
+
+abbrev pub key_of_entry : Entry → LsaKey
+key_of_entry e = key_in e.contents

@@ -1,6 +1,6 @@
 -- How acknowledgements are sent (RFC 2328, section 13.5): in order of key, as many in a packet as fit.
 use Rattle.std.specs.Prelude.{◌==◌, ◌&&◌, ◌||◌, ◌+◌, ◌-◌, ◌/◌, ℕ, zero, suc, min, Bool, List, [], ◌∷◌, drop, length, map, nat_lt, slice_get, take, if◌then◌else◌, None, Some}
-use Rattle.std.specs.List.{flat_map}
+use Rattle.std.specs.List.{flat_map, fold}
 use Rattle.ospf_base.specs.Constants.{ip_header, lsa_header, packet_header}
 use Rattle.ospf_base.specs.declared.ids.Addr.{Addr}
 use Rattle.ospf_flood.specs.Links.{flooding_address}
@@ -25,13 +25,9 @@ abbrev pub put_in_order : LsaHeader → List LsaHeader → List LsaHeader
 put_in_order h [] = h ∷ []
 put_in_order h (x ∷ xs) = if header_precedes h x then h ∷ x ∷ xs else x ∷ put_in_order h xs
 
--- headers among those that are in order
-abbrev pub put_all_in_order : List LsaHeader → List LsaHeader → List LsaHeader
-put_all_in_order [] sorted = sorted
-put_all_in_order (h ∷ hs) sorted = put_all_in_order hs (put_in_order h sorted)
-
+-- one after the other
 abbrev pub in_order : List LsaHeader → List LsaHeader
-in_order hs = put_all_in_order hs []
+in_order hs = fold (λ sorted h. put_in_order h sorted) [] hs
 
 -- ---- as many in a packet as fit
 

@@ -24,12 +24,9 @@ some_awaits i links = list_any (λ (link : LinkValue). list_any (λ (n : Neighbo
 abbrev pub is_leaving : List LinkValue → Entry → Bool
 is_leaving links e = (e.age == max_age) && not (some_awaits (instance_at e) links)
 
-abbrev pub key_of_entry : Entry → LsaKey
-key_of_entry e = key_in e.contents
-
 -- the keys of those that leave, in order: none while some neighbour is in Exchange or Loading
 abbrev pub leaving : AreaValue → List LsaKey
-leaving s = if some_link_loading s.links then [] else map key_of_entry (filter (is_leaving s.links) (entries s.database))
+leaving s = if some_link_loading s.links then [] else map (λ e. key_in e.contents) (filter (is_leaving s.links) (entries s.database))
 
 -- ---- numbering runs that end
 

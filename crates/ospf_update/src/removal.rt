@@ -2,11 +2,11 @@
 
 ghost use Rattle.std.specs.Prelude.{◌≡◌, IfOk, OnOk, map, filter, if◌then◌else◌};
 ghost use Rattle.std.specs.List.{list_any};
-ghost use Rattle.ospf_lsdb.specs.Database.{entries, held_of, is_some_and};
+ghost use Rattle.ospf_lsdb.specs.Database.{entries, held_of, is_some_and, key_in};
 ghost use Rattle.ospf_update.specs.Meets.{InTurn};
 ghost use Rattle.ospf_neighbour.specs.Lists.{is_listed};
 ghost use Rattle.ospf_neighbour.specs.Neighbour.{NeighbourValue};
-ghost use Rattle.ospf_update.specs.Removal.{some_awaits, is_leaving, key_of_entry, leaving, is_last, ends_run, reset_one, reset, and_ends, RemovesOne};
+ghost use Rattle.ospf_update.specs.Removal.{some_awaits, is_leaving, leaving, is_last, ends_run, reset_one, reset, and_ends, RemovesOne};
 
 use ospf_area::{Area, AreaLink, Numbering, Outputs, is_numbered, is_own, some_link_loading};
 use ospf_base::{Instance, LsaKey, MAX_AGE};
@@ -61,7 +61,8 @@ fn leaving(area: &Area, alloc: Global) -> Result<Vec<LsaKey>, AllocError>
 // Only the keys at `MAX_AGE` are gone through: each step ends with this, and a walk over all entries would take too long.
 fn leaving_of(links: &[AreaLink], database: &Lsdb, alloc: Global) -> Result<Vec<LsaKey>, AllocError>
     ensures { IfOk result (λ keys. keys.items
-        ≡ map key_of_entry (filter (is_leaving links.now) (entries database.now))) }
+        ≡ map (λ e. key_in e.contents)
+        (filter (is_leaving links.now) (entries database.now))) }
 {
     let mut keys = Vec::new(alloc);
     for key in database.expired_keys() {
