@@ -222,9 +222,29 @@ fn follow(
     Ok(())
 }
 
+// Whether what is kept was listed anew: else the LSAs that stayed have the ages of when they came.
+fn is_listed_anew(kept: &KeptRoutes, database: &Lsdb) -> bool {
+    let Some(listing) = kept.listing() else {
+        return false;
+    };
+    for lsa in listing.lsas() {
+        let view = lsa.view();
+        let age = view.header().age.ticks();
+        let Some(entry) = database.get(&view.key()) else {
+            return false;
+        };
+        if entry.age().ticks() != age {
+            return false;
+        }
+    }
+    true
+}
+
 #[test]
 fn kept_tables_are_those_of_all_lsas(rt: HostRuntime) -> Result<(), Fail> {
     let alloc = rt.alloc();
+    let mut went_on = 0;
+    let mut listed_anew = 0;
     for seed in 0..8 {
         let mut chance = Pcg32::new(seed, 5);
         let mut area = empty_area(alloc)?;
@@ -232,10 +252,26 @@ fn kept_tables_are_those_of_all_lsas(rt: HostRuntime) -> Result<(), Fail> {
         let mut kept = nothing_kept(alloc);
         for _ in 0..STEPS {
             stepped.out = Outputs::new(alloc);
+            // So that the ages tell what was listed when.
+            let _looks = stepped.database.tick();
+            let before = stepped.database.fresh();
             change(&mut area, &mut stepped, &mut chance, alloc)?;
             follow(&mut kept, &stepped, alloc, &rt)?;
+            let is_anew = is_listed_anew(&kept.followed, &stepped.database);
+            let leaves = stepped.database.fresh() < before;
+            assert!(rt; is_anew || !leaves);
+            let brings = !stepped.out.taken.is_empty() || !stepped.out.issued.is_empty();
+            if is_anew {
+                listed_anew += 1;
+            } else if brings {
+                went_on += 1;
+            }
         }
     }
+    // Both ways are taken: of 3,200 steps seven in eight bring LSAs, and the others take one out, if
+    // it is there.
+    assert!(rt; went_on >= 2700);
+    assert!(rt; listed_anew >= 150);
     Ok(())
 }
 
@@ -309,5 +345,44 @@ fn a_stub_that_goes_takes_one_route(rt: HostRuntime) -> Result<(), Fail> {
     tell_router(&area, 1, &mut stepped, alloc)?;
     follow(&mut kept, &stepped, alloc, &rt)?;
     assert_eq!(rt; kept.followed.table().routes().len(), (ROUTERS * OWN_STUBS - 1) as usize);
+    Ok(())
+}
+
+#[test]
+fn of_two_network_lsas_that_of_the_larger_router_counts(rt: HostRuntime) -> Result<(), Fail> {
+    let alloc = rt.alloc();
+    let mut stepped = empty_step(alloc);
+    let mut kept = nothing_kept(alloc);
+    let mut area = empty_area(alloc)?;
+    area.links[0].push(link(LinkKind::Transit, network_of(0), 0x0a01_0001, 1))?;
+    area.members[0].push(ROOT)?;
+    tell_router(&area, 0, &mut stepped, alloc)?;
+    tell_network(&area, 0, RouterId(2), &mut stepped, alloc)?;
+    follow(&mut kept, &stepped, alloc, &rt)?;
+    assert_eq!(rt; kept.followed.table().routes().len(), OWN_STUBS as usize + 1);
+    // The second one does not name the root.
+    area.members[0].clear();
+    area.members[0].push(RouterId(3))?;
+    stepped.out = Outputs::new(alloc);
+    tell_network(&area, 0, RouterId(3), &mut stepped, alloc)?;
+    follow(&mut kept, &stepped, alloc, &rt)?;
+    assert_eq!(rt; kept.followed.table().routes().len(), OWN_STUBS as usize);
+    // One of a smaller router changes nothing.
+    stepped.out = Outputs::new(alloc);
+    tell_network(&area, 0, RouterId(2), &mut stepped, alloc)?;
+    follow(&mut kept, &stepped, alloc, &rt)?;
+    assert_eq!(rt; kept.followed.table().routes().len(), OWN_STUBS as usize);
+    // Without the second one the first counts again.
+    area.members[0].push(ROOT)?;
+    stepped.out = Outputs::new(alloc);
+    tell_network(&area, 0, RouterId(2), &mut stepped, alloc)?;
+    let second = LsaKey {
+        kind: Kind::Network,
+        id: network_of(0),
+        router: RouterId(3),
+    };
+    flush(&second, &mut stepped.database);
+    follow(&mut kept, &stepped, alloc, &rt)?;
+    assert_eq!(rt; kept.followed.table().routes().len(), OWN_STUBS as usize + 1);
     Ok(())
 }
