@@ -19,7 +19,7 @@ import sys
 import threading
 
 # The toolchain that these scripts were tried with, as `rt version` tells it.
-TRIED = "rattle-kit-13f logic dac8208d650f15bf"
+TRIED = "rattle-kit-13b logic dac8208d650f15bf"
 
 
 def end_without(what):
