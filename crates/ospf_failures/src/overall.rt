@@ -276,6 +276,7 @@ fn overall_in(
     requires outage { IsOutage (advertisements_of listing.now) outage.now }
     requires failure { outage.now.failure ≡ failure }
     requires tables { All (IsTableBefore (advertisements_of listing.now)) befores.now }
+    // What the failure does to each of these tables, added up.
     ensures failure { IfOk result (λ overall. overall.failure ≡ failure) }
     ensures seen { IfOk result (IsSoFar (without failure (advertisements_of listing.now))
         befores.now detail (map (λ b. b.root) befores.now)) }
@@ -344,6 +345,7 @@ impl Overall {
         requires outage { IsOutage (advertisements_of listing.now) outage.now }
         requires before { IsTableBefore (advertisements_of listing.now) before.now }
         requires room { HasSumRoom 1 self.old.sums }
+        // One table more is seen, and added to those before.
         ensures { OnOk result (Sees (without outage.now.failure (advertisements_of listing.now))
             before.now detail self.old self.new) }
     {

@@ -240,6 +240,7 @@ fn reports_of(
     requires graph { IsAreaGraph (advertisements_of listing.now) area.now }
     requires kept { IsKeptRoot (advertisements_of listing.now) kept.now }
     requires table { IsTable (advertisements_of listing.now) kept.now.root table.now }
+    // One report a failure, in their order, each with what that changes in the table.
     ensures failures { IfOk result (λ reports. map (λ r. r.0) reports.items ≡ failures.now) }
     ensures large { result ≡ Err WithoutFault.Links → HasLarge (advertisements_of listing.now) }
     ensures changed { IfOk result (λ reports. All (λ r. IsEffect (advertisements_of listing.now)

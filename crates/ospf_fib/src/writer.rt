@@ -69,6 +69,7 @@ impl<R: Wait + Drop> Writer<R> {
         requires in_order { AllPairs IsChangeBefore changes.now }
         requires have_hops { All PutsHops changes.now }
         ensures fib { self.new.fib ≡ self.old.fib }
+        // One table more, which is the last one with the changes, or none.
         ensures published { IfOk result (λ _. AddsEdited self.old.tables changes.now
             self.new.tables) }
         ensures told { IfOk result (λ told. told ≡ self.new) }

@@ -57,6 +57,7 @@ pub(crate) fn is_closed(
     requires places { HasPlaces found.now }
     requires near { AreNear found.now.reached.items }
     requires gone { AreVerticesInOrder gone.now }
+    // Where it holds the root stays, and these edges end at what goes where a least path has them.
     ensures root { IsTrue result → Contains gone.now root → ⊥ }
     ensures less { IsTrue result → All (LeadsTo gone.now found.now) less.now }
     ensures from { IsTrue result → (e : Edge) → Contains edges.now e → Contains gone.now e.from →
@@ -194,6 +195,7 @@ fn all_lead_to(gone: &[Vertex], found: &FoundPaths, edges: &[Edge]) -> bool
     requires places { HasPlaces found.now }
     requires near { AreNear found.now.reached.items }
     requires gone { AreVerticesInOrder gone.now }
+    // An edge out of what is gone ends there too, where it is the last one of a least path.
     ensures { IsTrue result → (e : Edge) → Contains edges.now e → Contains gone.now e.from →
         LeadsTo gone.now found.now e }
 {

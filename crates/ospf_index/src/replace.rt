@@ -95,6 +95,7 @@ impl Index {
         requires entries { length self.old.entries.items ≡ length self.old.starts.items }
         requires stand { AreSets self.old.sets }
         requires room { HasSetRoom (Change.Put route.now ∷ []) self.old.sets }
+        // The route stands where one to its prefix stood, and takes no room but that of its hops.
         ensures put { IsRoutePut self.old route.now self.new }
         ensures longer { AreSetsLonger self.old.sets route.now self.new.sets }
     {

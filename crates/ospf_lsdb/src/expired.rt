@@ -66,6 +66,7 @@ impl ExpiredKeys {
     pub(crate) fn put(&mut self, key: LsaKey)
         requires { length self.old.keys < self.old.room }
         ensures keys { SetsKey key true self.old.keys self.new.keys }
+        // The keys stay in order; there is at most one more, and no less room.
         ensures rising { KeysRise self.new.keys }
         ensures room { self.old.room ≤ self.new.room }
         ensures one_more { length self.new.keys ≤ length self.old.keys + 1 }

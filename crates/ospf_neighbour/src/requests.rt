@@ -155,6 +155,7 @@ fn put_request(
     ensures ok { OnOk result (all.new.items ≡ request_put header.now all.old.items) }
     ensures names { OnOk result (AreNamesOf (contains name_eq names.new) all.new.items) }
     ensures err { OnErr result (0 < spare names.old → vec_capacity all.old ≤ vec_len all.old) }
+    // One place more at most, of the list and of the names.
     ensures longer { vec_len all.new ≤ vec_len all.old + 1 }
     ensures capacity { vec_capacity all.old ≤ vec_capacity all.new }
     ensures spare { spare names.old ≤ spare names.new + 1 }

@@ -213,6 +213,7 @@ fn turned(
     requires { (old : List (List ℕ)) × IsTurn old listing root paths ends.items turn }
     ensures root { IfOk result (λ t. t.root ≡ root) }
     ensures listing { IfOk result (λ t. t.listing ≡ listing) }
+    // Routes to prefixes that are not touched are those of before.
     ensures spares { (old : List (List ℕ)) → IsTurn old listing root paths ends.items turn →
         OnOk result (SparesBut touched.new.items (advertisements_of old) (advertisements_of listing)
         root) }

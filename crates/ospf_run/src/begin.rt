@@ -31,6 +31,7 @@ pub(crate) fn begin_all<W: Wire + Drop, R: Wait + Copy + Drop>(
     requires floor { floor ≢ max_sequence_number }
     requires wires { length wires.items ≡ length configs.now }
     requires fresh { All (λ wire. W.failed wire + 1 < 2 ^ 64) wires.items }
+    // Each configuration has its job and its seat, in their order, over its own wire.
     ensures begins { IfOk result (λ begun. Pairs (λ config job. BeginsRun floor config job.0 job.2)
         configs.now begun.0.items) }
     ensures over { IfOk result (λ begun. map (λ job. job.1) begun.0.items ≡ wires.items) }

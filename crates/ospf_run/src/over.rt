@@ -44,6 +44,7 @@ pub(crate) fn run_over<
     requires wires { length wires.items ≡ length plan.now.configs.items }
     requires fresh { All (λ wire. W.failed wire + 1 < 2 ^ 64) wires.items }
     requires counted { All (λ wire. W.traffic wire ≡ Ticks 0 (span_of settings.now)) wires.items }
+    // What comes of each router, or what failed before anything was written.
     ensures outcomes { IfOk result (λ all. ComeOf settings.now plan.now files.now all.items) }
     ensures early { IfErr result (FailsPlan files.now) }
 {

@@ -126,6 +126,7 @@ fn plan_of<'a>(
     requires floor { HasFloor (option_map string_bytes floor.now) least }
     requires read { AreFilesRead files.now }
     requires are { AreConfigs files.now configs.items }
+    // A plan where nothing keeps the routers from running, else what does.
     ensures plan { IfOk result (IsPlanAt (option_map string_bytes floor.now) files.now) }
     ensures stop { IfErr result (IsStop (option_map string_bytes floor.now) files.now) }
 {

@@ -74,6 +74,7 @@ impl<C: Clock + Drop> Sockets<C> {
             ≡ self.old.ticks.taken + arrival_ticks arrival) }
         ensures over { IfOk result (λ arrival. arrival ≡ arrivals.End →
             MayEndAfter self.new.ticks.most (is_some self.new.ticks.ending) self.new.ticks.taken) }
+        // How many ticks there are at most, and whether the end was told, stays as it was.
         ensures most { self.new.ticks.most ≡ self.old.ticks.most }
         ensures ending { self.new.ticks.ending ≡ self.old.ticks.ending }
         ensures none { OnErr result (self.new.ticks.taken ≡ self.old.ticks.taken) }
@@ -128,6 +129,7 @@ impl<C: Clock + Drop> Sockets<C> {
             ≡ self.old.ticks.taken + tick_next next) }
         ensures over { IfOk result (λ next. next ≡ Some arrivals.End →
             MayEndAfter self.new.ticks.most (is_some self.new.ticks.ending) self.new.ticks.taken) }
+        // How many ticks there are at most, and whether the end was told, stays as it was.
         ensures most { self.new.ticks.most ≡ self.old.ticks.most }
         ensures ending { self.new.ticks.ending ≡ self.old.ticks.ending }
         ensures none { OnErr result (self.new.ticks.taken ≡ self.old.ticks.taken) }

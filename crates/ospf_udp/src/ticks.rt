@@ -53,6 +53,7 @@ impl<C: Clock + Drop> Ticks<C> {
         ensures taken { self.new.taken ≡ self.old.taken }
         ensures most { self.new.most ≡ self.old.most }
         ensures ending { self.new.ending ≡ self.old.ending }
+        // A tick is due only while one is left, and all is over only where it may be.
         ensures due { IfOk result (λ beat. beat ≡ beats.Due →
             HasMore self.new.most self.new.taken) }
         ensures over { IfOk result (λ beat. beat ≡ beats.Over →
@@ -74,6 +75,7 @@ impl<C: Clock + Drop> Ticks<C> {
     pub(crate) fn take(&mut self) -> io::Result<()>
         requires { HasMore self.old.most self.old.taken }
         ensures taken { OnOk result (self.new.taken ≡ self.old.taken + 1) }
+        // Nothing else changes, and after an error nothing at all.
         ensures most { self.new.most ≡ self.old.most }
         ensures ending { self.new.ending ≡ self.old.ending }
         ensures none { OnErr result (self.new.taken ≡ self.old.taken) }

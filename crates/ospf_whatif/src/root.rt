@@ -196,6 +196,7 @@ fn changes_at(
     requires routes { AllPairs IsRouteBefore routes.now }
     requires within { All (λ k. k < length routes.now) places.now }
     requires in_order { IsNonDecreasing places.now }
+    // Of any listing whose graph, ends and routes these are: what the outage does at these routes.
     ensures { IfOk result (λ changes. (adverts : List Advertisement) (root : RouterId) →
         AreOverLeft adverts root area.now outage.now paths.now →
         All (IsRoute adverts root) routes.now →

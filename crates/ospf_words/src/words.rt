@@ -181,6 +181,7 @@ fn without_job(
         ≡ unwrap_or (all_of (codes "without") (rows_of (found_of values.now))) [] }
     requires some { names.now ≢ [] }
     requires plain { IsFlag (one_of (codes "json") (rows_of (found_of values.now))) false }
+    // The job of `table` with these names, if there is a root; else which value is wrong.
     ensures ok { IfOk result (IsJobIfAny (Some (codes "table", rows_of (found_of values.now)))) }
     ensures fault { IfErr result (IsFaultOfValue
         (IsWrongValue (Some (codes "table", rows_of (found_of values.now))))) }
