@@ -1,4 +1,4 @@
-//! A capture that was written by hand from the formats (`tests/check-capture` reads it), and what is refused.
+//! A capture that was written by hand from the formats (`tests/simulations/check-capture` reads it), and what is refused.
 
 use super::written::{HELLO, UPDATE};
 use ospf_base::{ALL_SPF_ROUTERS, Addr};

@@ -1,7 +1,7 @@
 #!/usr/bin/env python3
 """The toolchain's command `rt`, which sums the sources of each crate once where it would do so for each path between two crates.
 
-usage: tests/kit.py WORD..        as rt WORD..
+usage: tests/gate/kit.py WORD..        as rt WORD..
 
 A crate's stamp is a sum of its sources and of the stamps of the crates that it stands on. `rt` makes each of those anew wherever it
 is asked for: for the program, over its fifty crates, those of 64,000 crates. Here a call remembers the stamps that

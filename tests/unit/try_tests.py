@@ -8,7 +8,9 @@ import os
 import shutil
 import sys
 
-from kit import library, look_for
+TOP = os.path.dirname(os.path.dirname(os.path.dirname(os.path.abspath(__file__))))
+sys.path.insert(0, os.path.join(TOP, "tests", "gate"))
+from kit import library, look_for  # noqa: E402
 
 folder, name, seconds, *part = sys.argv[1:]
 rtlib = library()

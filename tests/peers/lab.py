@@ -1,4 +1,4 @@
-"""Routers of `ospfd run`, FRR and BIRD that hear each other in network namespaces of this machine: what `tests/interop` and `tests/soak` share."""
+"""Routers of `ospfd run`, FRR and BIRD that hear each other in network namespaces of this machine: what `interop` and `soak` share."""
 import ctypes
 import glob
 import itertools
@@ -15,7 +15,7 @@ import time
 
 from injector import Reader
 
-TOP = os.path.dirname(os.path.dirname(os.path.abspath(__file__)))
+TOP = os.path.dirname(os.path.dirname(os.path.dirname(os.path.abspath(__file__))))
 HELLO, DEAD, MAX_AGE = 1, 4, 3600
 NETWORK_NAMESPACE, EVERYTHING = 0x40000000, 0x0003
 LOOK = 0.5
