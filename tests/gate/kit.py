@@ -18,8 +18,8 @@ import subprocess
 import sys
 import threading
 
-# The toolchain that these scripts were tried with, as `rt version` tells it.
-TRIED = "rattle-kit-13b logic dac8208d650f15bf"
+# The toolchains that these scripts were tried with, as `rt version` tells them.
+TRIED = "rattle-kit-13b and rattle-kit-13f, logic dac8208d650f15bf"
 
 
 def end_without(what):
