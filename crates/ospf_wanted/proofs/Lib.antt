@@ -2,4 +2,4 @@ mod MadeLemmas
 pub mod MakeLemmas
 pub mod SaidLemmas
 pub mod WantedLemmas
-mod Words
+pub mod Words

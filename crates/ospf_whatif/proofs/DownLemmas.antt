@@ -1,11 +1,10 @@
 -- Interfaces that change, and what their router wants then.
-use Rattle.std.proofs.Common.{◌≡◌, ◌≢◌, ◌++◌, ◌∷◌, [], ℕ, Bool, true, false, List, eqb, eq-eqb, map, refl, sym, ap, ◌∙◌, inl, inr, bit_and, if◌then◌else◌}
+use Rattle.std.proofs.Common.{◌≡◌, ◌≢◌, ◌++◌, ◌∷◌, [], ℕ, Bool, true, false, List, eqb, eq-eqb, map, refl, sym, ap, ◌∙◌, inl, inr, bit_and}
 use Rattle.std.specs.List.{AllByRecursion, filter}
 use Rattle.std.proofs.lemmas.List.Concat.{flat_map-append}
 use Rattle.std.proofs.lemmas.Bool.Decides.{eqb_tells}
 use Rattle.ospf_base.specs.Masks.{mask_of}
 use Rattle.ospf_base.specs.declared.ids.RouterId.{RouterId}
-use Rattle.ospf_base.specs.declared.interface.InterfaceKind.{InterfaceKind}
 use Rattle.ospf_base.specs.declared.interface.InterfaceKind.TheVariants as kind
 use Rattle.ospf_base.specs.declared.prefix.Prefix.{Prefix}
 use Rattle.ospf_lsa.specs.declared.link.Link.{Link}
@@ -13,6 +12,7 @@ use Rattle.ospf_area.specs.State.{LinkValue}
 use Rattle.ospf_iface.specs.Machine.{is_down}
 use Rattle.ospf_neighbour.specs.Neighbour.{NeighbourValue}
 use Rattle.ospf_graph.proofs.ListLemmas.{bool_cases}
+use Rattle.ospf_wanted.proofs.Words.{links_of_kind}
 use Rattle.ospf_wanted.specs.Wanted.{is_full, is_transit, links_at, network_link, router_link, subnet_link}
 use Rattle.ospf_whatif.specs.Failure.{kept_links, takes}
 use Rattle.ospf_whatif.specs.declared.failure.AreaFailure.{AreaFailure}
@@ -20,13 +20,6 @@ use Rattle.ospf_whatif.specs.declared.failure.AreaFailure.TheVariants as fails
 use Rattle.ospf_whatif.proofs.WithoutLemmas.{kept_links-append}
 use Rattle.ospf_whatif.specs.Wanted.{AreSpared, IsLeft, IsNetworkFailure, IsWireUp, wanted_links}
 use Rattle.ospf_wanted.proofs.SaidLemmas.{up_is}
-
--- the links of a link that is up, by its kind
-abbrev pub links_of_kind : InterfaceKind → Bool → LinkValue → List Link
-links_of_kind kind_of stub_router a = elim kind_of [
-  | kind.PointToPoint ↦ map (router_link stub_router a) (filter is_full a.neighbours) ++ subnet_link a ∷ []
-  | kind.Broadcast ↦ (if is_transit a then network_link stub_router a else subnet_link a) ∷ []
-]
 
 -- ---- links that are all kept, or all taken
 
