@@ -2,6 +2,7 @@ pub mod State
 pub mod Outputs
 pub mod Places
 pub mod Sending
+pub mod Acting
 pub mod Flooding
 pub mod Changes
 pub mod Asking

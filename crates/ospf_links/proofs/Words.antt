@@ -1,8 +1,10 @@
 -- Parts of definitions of specs/ by names of their own, for the proofs.
-use Rattle.std.specs.Prelude.{ℕ, List, Option, None, Some, set, false, ◌≡◌, []}
+use Rattle.std.specs.Prelude.{ℕ, List, Option, None, Some, set, slice_get, false, ◌≡◌, []}
 use Rattle.ospf_area.specs.State.{LinkValue, AreaValue}
 use Rattle.ospf_adjacency.specs.Heard.{Neighbourhood, elects_by_change, put_back, turn_of}
-use Rattle.ospf_area.specs.Outputs.{OutputsValue}
+use Rattle.ospf_area.specs.Outputs.{OutputsValue, SentValue}
+use Rattle.ospf_area.specs.declared.sending.Own.{Own}
+use Rattle.ospf_links.specs.Parts.{with_neighbourhood}
 use Rattle.ospf_area.specs.Posting.{posted_all}
 use Rattle.ospf_base.specs.declared.ids.RouterId.{RouterId}
 use Rattle.ospf_iface.specs.declared.machine.Iface.{Iface}
@@ -18,6 +20,26 @@ use Rattle.ospf_base.specs.declared.ids.LsaKey.{LsaKey}
 use Rattle.ospf_area.specs.Packets.{Parcel}
 use Rattle.ospf_area.specs.Sending.{and_sends, own_of}
 use Rattle.ospf_links.specs.Elections.{ElectsIf}
+
+-- the router after a part on a link that may not be there
+abbrev pub worked_by : Option LinkValue → (LinkValue → Neighbourhood) → ℕ → AreaValue → AreaValue
+worked_by o part l s = elim o [
+  | None ↦ s
+  | Some link ↦ record s { links = set s.links l (with_neighbourhood (part link) link); next_dd = (part link).next }
+]
+
+abbrev pub worked : (LinkValue → Neighbourhood) → ℕ → AreaValue → AreaValue
+worked part l s = worked_by (slice_get s.links l) part l s
+
+-- what goes out by it
+abbrev pub work_sent_on : Option LinkValue → (LinkValue → Neighbourhood) → Own → ℕ → List SentValue
+work_sent_on o part own l = elim o [
+  | None ↦ []
+  | Some link ↦ posted_all own l link.iface (part link).sent
+]
+
+abbrev pub work_sent : (LinkValue → Neighbourhood) → Own → ℕ → List LinkValue → List SentValue
+work_sent part own l links = work_sent_on (slice_get links l) part own l
 
 abbrev pub some_changed : Option LinkValue → (LinkValue → LinkValue) → ℕ → AreaValue → AreaValue
 some_changed o change l s = elim o [

@@ -12,7 +12,7 @@ use Rattle.ospf_packet.specs.declared.entry.RequestEntry.{RequestEntry}
 use Rattle.ospf_exchange.specs.declared.rule.Local.{Local}
 use Rattle.ospf_adjacency.specs.Descriptions.{description_turn}
 use Rattle.ospf_area.specs.Turns.{Turn, turn}
-use Rattle.ospf_area.specs.Posting.{PostValue, local_of}
+use Rattle.ospf_area.specs.Posting.{PostValue, local_of, posted_all}
 use Rattle.ospf_adjacency.proofs.SameLemmas.{description_keeps_router}
 use Rattle.ospf_adjacency.specs.Heard.{Neighbourhood, neighbourhood, turn_of, put_back, elects_by_change, hello_on, place_for, put}
 use Rattle.std.proofs.Common.{Option, inl, inr}
@@ -31,8 +31,10 @@ use Rattle.ospf_area.specs.declared.flooding.Origin.{Origin}
 use Rattle.ospf_area.specs.declared.sending.Own.{Own}
 use Rattle.ospf_exchange.specs.Laws.{KeepsRouter}
 use Rattle.ospf_links.specs.Parts.{description_comes, description_on, hello_comes, left_beside, request_at, request_on, with_neighbourhood}
-use Rattle.ospf_links.specs.Works.{work_sent, up_out_on, work_sent_on}
-use Rattle.ospf_links.proofs.Words.{description_by, request_by}
+use Rattle.ospf_links.specs.Works.{WorksOn, up_out_on}
+use Rattle.ospf_links.proofs.Words.{description_by, request_by, work_sent, work_sent_on, worked_by}
+use Rattle.ospf_area.specs.Sending.{own_of}
+use Rattle.ospf_area.specs.State.{AreaValue}
 
 -- nothing is sent
 pub none_sent : (out : OutputsValue) → out ≡ and_sends out []
@@ -50,8 +52,36 @@ is_past xs ys l r same none e =
 pub work_unsent : (links : List LinkValue) (l : ℕ) (part : LinkValue → Neighbourhood) (own : Own) (out : OutputsValue) → slice_get links l ≡ None → out ≡ and_sends out (work_sent part own l links)
 work_unsent links l part own out none = none_sent out ∙ ap (λ o. and_sends out (work_sent_on o part own l)) (sym none)
 
+-- where there is no such link, a part on it does nothing
+pub works_nowhere : (part : LinkValue → Neighbourhood) (l : ℕ) (s after : AreaValue) (out : OutputsValue) → slice_get s.links l ≡ None → after ≡ s → WorksOn part l s out out after
+works_nowhere part l s after out none same = record {
+  state = same ∙ ap (λ o. worked_by o part l s) (sym none);
+  outputs = work_unsent s.links l part (own_of s) out none;
+}
+
 pub up_unsent : (links : List LinkValue) (l : ℕ) (own : Own) (out : OutputsValue) → slice_get links l ≡ None → out ≡ and_sends out (up_out_on (slice_get links l) own l)
 up_unsent links l own out none = none_sent out ∙ ap (λ o. and_sends out (up_out_on o own l)) (sym none)
+
+-- where there is one, it does what is done to its link, and sends what is left beside it
+pub works_there : (part : LinkValue → Neighbourhood) (now before after : AreaValue) (out out' : OutputsValue) (l : ℕ) (link link' : LinkValue) (next : ℕ) (x : Neighbourhood) (own : Own) (i : Iface) (p : PostValue)
+    → before ≡ now → slice_get now.links l ≡ Some link → own ≡ own_of now → i ≡ link.iface → x ≡ part link
+    → link' ≡ with_neighbourhood x link → p ≡ left_beside x → next ≡ p.next
+    → after ≡ record before { links = set before.links l link'; next_dd = next } → out' ≡ and_sends out (posted_all own l i p.sent)
+    → WorksOn part l now out out' after
+works_there part now before after out out' l link link' next x own i p same there own_is i_is x_is link_is p_is next_is after_is out_is = record {
+  state =
+      after_is ∙ ap (λ (s : AreaValue). record s { links = set s.links l link'; next_dd = next }) same
+      ∙ ap (λ (a : LinkValue). record now { links = set now.links l a; next_dd = next }) link_is
+      ∙ ap (λ (n : ℕ). record now { links = set now.links l (with_neighbourhood x link); next_dd = n }) (next_is ∙ ap (λ (q : PostValue). q.next) p_is)
+      ∙ ap (λ (y : Neighbourhood). record now { links = set now.links l (with_neighbourhood y link); next_dd = y.next }) x_is
+      ∙ ap (λ (o : Option LinkValue). worked_by o part l now) (sym there);
+  outputs =
+      out_is ∙ ap (λ (w : Own). and_sends out (posted_all w l i p.sent)) own_is
+      ∙ ap (λ (j : Iface). and_sends out (posted_all (own_of now) l j p.sent)) i_is
+      ∙ ap (λ (q : PostValue). and_sends out (posted_all (own_of now) l link.iface q.sent)) p_is
+      ∙ ap (λ (y : Neighbourhood). and_sends out (posted_all (own_of now) l link.iface y.sent)) x_is
+      ∙ ap (λ (o : Option LinkValue). and_sends out (work_sent_on o part (own_of now) l)) (sym there);
+}
 
 -- the neighbour of q, once it has changed, is put where it stood
 pub is_put : (ns : List NeighbourValue) (k : ℕ) (q : RouterId) (e m : NeighbourValue) → k ≡ place_for ns q.0 → slice_get ns k ≡ Some e → e.router ≡ q → m.router ≡ e.router → set ns k m ≡ put m ns

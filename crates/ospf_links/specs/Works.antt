@@ -1,6 +1,8 @@
 -- What a part on one link makes of the router, and what goes out.
 use Rattle.std.specs.Prelude.{ℕ, List, [], Option, None, Some, set, slice_get}
-use Rattle.ospf_area.specs.Outputs.{SentValue}
+use Rattle.ospf_area.specs.Acting.{Becomes}
+use Rattle.ospf_area.specs.Outputs.{OutputsValue, SentValue}
+use Rattle.ospf_area.specs.Sending.{and_sends, own_of}
 use Rattle.ospf_area.specs.State.{AreaValue, LinkValue}
 use Rattle.ospf_area.specs.declared.sending.Own.{Own}
 use Rattle.ospf_adjacency.specs.Heard.{Neighbourhood}
@@ -10,28 +12,18 @@ use Rattle.ospf_area.specs.Posting.{posted_all}
 
 -- ---- parts on the neighbours of a link
 
--- the links after a part on one of them, which may not be there
-abbrev pub worked_links_on : Option LinkValue → (LinkValue → Neighbourhood) → ℕ → List LinkValue → List LinkValue
-worked_links_on None part l links = links
-worked_links_on (Some link) part l links = set links l (with_neighbourhood (part link) link)
-
--- the router's next DD number then
-abbrev pub work_next_on : Option LinkValue → (LinkValue → Neighbourhood) → ℕ → ℕ
-work_next_on None part next = next
-work_next_on (Some link) part next = (part link).next
-
-abbrev pub work_sent_on : Option LinkValue → (LinkValue → Neighbourhood) → Own → ℕ → List SentValue
-work_sent_on None part own l = []
-work_sent_on (Some link) part own l = posted_all own l link.iface (part link).sent
-
--- what goes out by it
-abbrev pub work_sent : (LinkValue → Neighbourhood) → Own → ℕ → List LinkValue → List SentValue
-work_sent part own l links = work_sent_on (slice_get links l) part own l
-
--- the router after it
-abbrev pub worked : (LinkValue → Neighbourhood) → ℕ → AreaValue → AreaValue
-worked part l s =
-    record s { links = worked_links_on (slice_get s.links l) part l s.links; next_dd = work_next_on (slice_get s.links l) part s.next_dd }
+-- the router and its link l as the part leaves them, and what goes out of the link. Where there is no such link nothing happens
+abbrev pub WorksOn : (LinkValue → Neighbourhood) → ℕ → AreaValue → OutputsValue → OutputsValue → AreaValue → Type 0
+WorksOn part l before out out' after =
+    Becomes
+    (elim (slice_get before.links l) [
+      | None ↦ before
+      | Some link ↦ record before { links = set before.links l (with_neighbourhood (part link) link); next_dd = (part link).next }
+    ])
+    (and_sends out (elim (slice_get before.links l) [
+      | None ↦ []
+      | Some link ↦ posted_all (own_of before) l link.iface (part link).sent
+    ])) out' after
 
 -- ---- changes of a link
 

@@ -2,12 +2,12 @@
 
 ghost use Rattle.std.specs.Prelude.{◌≡◌, false, IfOk, OnOk};
 ghost use Rattle.ospf_neighbour.specs.Neighbours.{AreNeighboursRising};
-ghost use Rattle.ospf_area.specs.Sending.{and_sends, own_of};
+ghost use Rattle.ospf_area.specs.Sending.{own_of};
 ghost use Rattle.ospf_adjacency.specs.Descriptions.{description_turn};
 ghost use Rattle.ospf_area.specs.Turns.{turn};
 ghost use Rattle.ospf_adjacency.specs.Heard.{elects_by_change, neighbourhood};
 ghost use Rattle.ospf_links.specs.Parts.{description_comes, description_on, description_part, left_beside, with_neighbourhood};
-ghost use Rattle.ospf_links.specs.Works.{work_sent, worked};
+ghost use Rattle.ospf_links.specs.Works.{WorksOn};
 
 use crate::link::{iface_of, is_due, put_back, take_out};
 use ospf_adjacency::{is_at, is_settled, place_for, take_description as describe_to};
@@ -29,19 +29,10 @@ pub fn take_description(
     out: &mut Outputs,
     alloc: Global,
 ) -> Result<(), AllocError>
-    ensures after { OnOk result
-        (area.new
-        ≡ worked
+    ensures { OnOk result (WorksOn
         (description_part (own_of area.old) from fields headers.entry area.old.database
         area.old.next_dd)
-        from.link area.old) }
-    ensures sent { OnOk result
-        (out.new
-        ≡ and_sends out.old
-        (work_sent
-        (description_part (own_of area.old) from fields headers.entry area.old.database
-        area.old.next_dd)
-        (own_of area.old) from.link area.old.links)) }
+        from.link area.old out.old out.new area.new) }
 {
     let own = own_of(area);
     match area.links.get_mut(from.link) {

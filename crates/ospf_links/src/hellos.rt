@@ -2,11 +2,11 @@
 
 ghost use Rattle.std.specs.Prelude.{◌≡◌, ◌<◌, None, Some, OnOk, length, slice_get};
 ghost use Rattle.ospf_neighbour.specs.Neighbours.{neighbour_of};
-ghost use Rattle.ospf_area.specs.Sending.{and_sends, own_of};
+ghost use Rattle.ospf_area.specs.Sending.{own_of};
 ghost use Rattle.ospf_area.specs.State.{LinkValue};
 ghost use Rattle.ospf_adjacency.specs.Heard.{names};
 ghost use Rattle.ospf_links.specs.Parts.{hello_comes, hello_part, left_beside, with_neighbourhood};
-ghost use Rattle.ospf_links.specs.Works.{work_sent, worked};
+ghost use Rattle.ospf_links.specs.Works.{WorksOn};
 
 use crate::link::{iface_of, is_due, put_back, take_out};
 use ospf_adjacency::{hello_on, is_named};
@@ -28,19 +28,10 @@ pub fn take_hello(
 ) -> Result<(), AllocError>
     requires room { (link : LinkValue) → slice_get area.old.links from.link ≡ Some link
         → neighbour_of link.neighbours from.router ≡ None → length link.neighbours < 255 }
-    ensures after { OnOk result
-        (area.new
-        ≡ worked
+    ensures { OnOk result (WorksOn
         (hello_part (own_of area.old) from hello.now (names neighbours.entry area.old.router)
         area.old.next_dd)
-        from.link area.old) }
-    ensures sent { OnOk result
-        (out.new
-        ≡ and_sends out.old
-        (work_sent
-        (hello_part (own_of area.old) from hello.now
-        (names neighbours.entry area.old.router) area.old.next_dd)
-        (own_of area.old) from.link area.old.links)) }
+        from.link area.old out.old out.new area.new) }
 {
     let own = own_of(area);
     let named = is_named(neighbours, area.router);

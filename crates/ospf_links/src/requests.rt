@@ -5,12 +5,12 @@ ghost use Rattle.ospf_adjacency.specs.Answers.{answered_keys};
 ghost use Rattle.ospf_neighbour.specs.Machine.{is_exchanging};
 ghost use Rattle.ospf_neighbour.specs.Neighbour.{NeighbourValue};
 ghost use Rattle.ospf_neighbour.specs.Neighbours.{AreNeighboursRising, neighbour_of};
-ghost use Rattle.ospf_area.specs.Sending.{and_sends, own_of};
+ghost use Rattle.ospf_area.specs.Sending.{own_of};
 ghost use Rattle.ospf_area.specs.State.{LinkValue};
 ghost use Rattle.ospf_adjacency.specs.Heard.{neighbourhood};
 ghost use Rattle.ospf_links.specs.Parts.{answered_on, left_beside, request_at, request_on, request_part, with_neighbourhood};
 ghost use Rattle.ospf_links.specs.Repeats.{marked_all};
-ghost use Rattle.ospf_links.specs.Works.{work_sent, worked};
+ghost use Rattle.ospf_links.specs.Works.{WorksOn};
 
 use crate::link::{iface_of, is_due, put_back, take_out};
 use crate::marks::mark_all;
@@ -37,25 +37,16 @@ pub fn take_request(
     requires { (link : LinkValue) → slice_get area.old.links from.link ≡ Some link
         → (n : NeighbourValue) → neighbour_of link.neighbours from.router ≡ Some n
         → is_exchanging n.state ≡ true }
-    ensures after { OnOk result
-        (area.new
-        ≡ record
-        (worked
-        (request_part (own_of area.old) from area.old.database requests.entry
-        area.old.next_dd)
-        from.link area.old) {
+    ensures { OnOk result (WorksOn
+        (request_part (own_of area.old) from area.old.database requests.entry area.old.next_dd)
+        from.link
+        (record area.old {
           sent = marked_all
               (answered_on (slice_get area.old.links from.link) from.router
               area.old.database requests.entry)
               area.old.sent;
-        }) }
-    ensures sent { OnOk result
-        (out.new
-        ≡ and_sends out.old
-        (work_sent
-        (request_part (own_of area.old) from area.old.database requests.entry
-        area.old.next_dd)
-        (own_of area.old) from.link area.old.links)) }
+        })
+        out.old out.new area.new) }
 {
     let own = own_of(area);
     match area.links.get_mut(from.link) {

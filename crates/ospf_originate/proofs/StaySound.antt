@@ -43,7 +43,8 @@ use Rattle.ospf_area.specs.declared.flooding.Origin.{Origin}
 use Rattle.ospf_area.specs.declared.sending.Own.{Own}
 use Rattle.ospf_area.specs.declared.state.Numbering.{Numbering}
 use Rattle.ospf_update.specs.Aging.{Flushes, TickAges, copies_sent, copy_flooded, copy_sent, noted, turned_area}
-use Rattle.ospf_update.specs.Meets.{Becomes, MeetsLsa, MeetsRule, Stores, restarted, flooded_area, header_met, heard_by, named_by, replied, reply_to, rule_met}
+use Rattle.ospf_area.specs.Acting.{Becomes}
+use Rattle.ospf_update.specs.Meets.{MeetsLsa, MeetsRule, Stores, restarted, flooded_area, header_met, heard_by, named_by, replied, reply_to, rule_met}
 use Rattle.ospf_update.proofs.Words.{taken_off, copy_flooded_by, TakesSlices}
 use Rattle.ospf_update.specs.Updates.{MeetsAndTurns, TakesSlice, TakesUpdate}
 use Rattle.ospf_update.specs.Updates.TakesSlice.{Met, PassedOver}

@@ -3,7 +3,7 @@ use Rattle.std.specs.Prelude.{◌++◌, ℕ, List, ◌∷◌, []}
 use Rattle.ospf_area.specs.Outputs.{OutputsValue, SentValue}
 use Rattle.ospf_originate.specs.Numbers.{issued}
 use Rattle.ospf_area.specs.State.{AreaValue}
-use Rattle.ospf_update.specs.Meets.{InTurn}
+use Rattle.ospf_area.specs.Acting.{InTurn}
 use Rattle.ospf_wanted.specs.Wanted.{WantedValue}
 use Rattle.ospf_originate.specs.declared.action.DueAction.{DueAction}
 use Rattle.ospf_originate.specs.Steps.{Acts}

@@ -24,7 +24,8 @@ use Rattle.ospf_area.specs.declared.sending.Own.{Own}
 use Rattle.ospf_flood.specs.declared.acknowledgement.Acknowledgement.{Acknowledgement}
 use Rattle.ospf_update.specs.Aging.{Flushes, TickAges, copy_sent, turned_area}
 use Rattle.ospf_update.specs.Laws.{IsShortLsa}
-use Rattle.ospf_update.specs.Meets.{Becomes, MeetsLsa, Stores, restarted, flooded_area, header_met, InTurn}
+use Rattle.ospf_area.specs.Acting.{Becomes, InTurn}
+use Rattle.ospf_update.specs.Meets.{MeetsLsa, Stores, restarted, flooded_area, header_met}
 use Rattle.ospf_update.specs.Removal.{RemovesOne, leaving}
 use Rattle.ospf_update.specs.Updates.{TakesUpdate}
 use Rattle.ospf_originate.specs.Numbers.{issued_at_in}

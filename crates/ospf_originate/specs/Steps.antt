@@ -12,7 +12,8 @@ use Rattle.ospf_area.specs.Sending.{and_sends}
 use Rattle.ospf_area.specs.State.{AreaValue, database_entry, kept_number}
 use Rattle.ospf_area.specs.declared.state.Numbering.{Numbering}
 use Rattle.ospf_update.specs.Aging.{Flushes, turn_out, turned_area}
-use Rattle.ospf_update.specs.Meets.{Becomes, Stores, store_updates, InTurn}
+use Rattle.ospf_area.specs.Acting.{Becomes, InTurn}
+use Rattle.ospf_update.specs.Meets.{Stores, store_updates}
 use Rattle.ospf_originate.specs.Actions.{IsUsed, own_action}
 use Rattle.ospf_wanted.specs.Made.{lsa_value}
 use Rattle.ospf_originate.specs.Numbers.{waits, issued}

@@ -13,7 +13,7 @@ ghost use Rattle.ospf_wanted.specs.Made.{CanBeMade, CanBeMadeIf, Needs};
 ghost use Rattle.ospf_originate.specs.Idle.{IsIdle};
 ghost use Rattle.ospf_wanted.specs.Own.{wanted_value};
 ghost use Rattle.ospf_originate.specs.Sound.{AreNumbered, IsSound};
-ghost use Rattle.ospf_update.specs.Meets.{InTurn};
+ghost use Rattle.ospf_area.specs.Acting.{InTurn};
 ghost use Rattle.ospf_originate.specs.Steps.{wants, action_of, Acts, FlushesAndTurns, HasUsedNumber, IssuesAndTurns, IssuesIf, due_as, due_of, candidates, IsDue, OwnLsas};
 ghost use Rattle.ospf_wanted.specs.Wanted.{wanted_of, wanted_key};
 

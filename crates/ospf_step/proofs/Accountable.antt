@@ -7,7 +7,7 @@ use Rattle.ospf_area.proofs.Words.{IsReadAsSent, state_of}
 use Rattle.ospf_area.specs.State.{AreaValue}
 use Rattle.ospf_base.specs.declared.ids.Instance.{Instance}
 use Rattle.ospf_base.specs.declared.ids.LsaKey.{LsaKey}
-use Rattle.ospf_update.specs.Meets.{Becomes}
+use Rattle.ospf_area.specs.Acting.{Becomes}
 use Rattle.ospf_step.specs.Packets.{Received}
 use Rattle.ospf_step.specs.Words.{IsSoundState}
 use Rattle.ospf_step.specs.Accounts.{Accounts, Adjusts, NoneEntersExchange, Sends}

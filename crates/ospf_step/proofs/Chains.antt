@@ -6,7 +6,7 @@ use Rattle.ospf_flood.specs.declared.rule.LsaRule.{LsaRule}
 use Rattle.ospf_flood.specs.declared.rule.LsaRule.TheVariants as rule
 use Rattle.ospf_update.specs.Acks.{direct_out}
 use Rattle.ospf_update.specs.Aging.{turned_area, turn_out}
-use Rattle.ospf_update.specs.Meets as meets
+use Rattle.ospf_area.specs.Acting.{Becomes}
 use Rattle.ospf_update.specs.Meets.{MeetsLsa, MeetsRule, rule_met}
 use Rattle.ospf_area.specs.Outputs.{OutputsValue, SentValue, no_outputs, sends, then_outputs, and_takes, AreReadAsSent}
 use Rattle.ospf_area.specs.Sending.{and_sends}
@@ -76,7 +76,7 @@ read_own R out out' read p = AreRead-right out p.own (subst (λ o. AreReadAsSent
 lsa_puts : (f : Origin) (lsa : List ℕ) (before : AreaValue) (out out' : OutputsValue) (after : AreaValue) → MeetsLsa f lsa before out out' after → PutsOut (λ o. MeetsLsa f lsa before no_outputs o after) out out'
 lsa_puts f lsa before out out' after m = by (rule_met before f lsa) m
   where
-    unchanged : meets.Becomes before out out' after → PutsOut (λ o. meets.Becomes before no_outputs o after) out out'
+    unchanged : Becomes before out out' after → PutsOut (λ o. Becomes before no_outputs o after) out out'
     unchanged u = record { own = no_outputs; is = record { state = u.state; outputs = refl }; behind = u.outputs ∙ sym (then_nothing out) }
 
     by : (r : Option LsaRule) → MeetsRule r f lsa before out out' after → PutsOut (λ o. MeetsRule r f lsa before no_outputs o after) out out'

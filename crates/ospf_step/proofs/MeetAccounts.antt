@@ -24,7 +24,8 @@ use Rattle.ospf_flood.specs.declared.rule.LsaRule.TheVariants as rule
 use Rattle.ospf_packet.specs.Meaning.{BodyMeaning, hello, description, request, update, acknowledgment, Meaning}
 use Rattle.ospf_neighbour.specs.Neighbour.{NeighbourValue}
 use Rattle.ospf_area.specs.Changes.{changed_on, delayed_on}
-use Rattle.ospf_update.specs.Meets.{Becomes, MeetsRule, MeetsLsa, Admits, duplicated, header_met, reply_to, reply_out, lsa_out_on, heard_by, first_dd_on, restarted, replied, named_by}
+use Rattle.ospf_area.specs.Acting.{Becomes}
+use Rattle.ospf_update.specs.Meets.{MeetsRule, MeetsLsa, Admits, duplicated, header_met, reply_to, reply_out, lsa_out_on, heard_by, first_dd_on, restarted, replied, named_by}
 use Rattle.ospf_update.proofs.Words.{reply_of, lsa_out, taken_off, first_dd, first_description}
 use Rattle.ospf_area.specs.Sending.{own_of, and_sends, packet_of, sent_lsa}
 use Rattle.ospf_area.specs.Numbers.{is_self_originated}

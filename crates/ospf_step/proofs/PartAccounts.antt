@@ -35,7 +35,7 @@ use Rattle.ospf_area.specs.Outputs.{OutputsValue, SentValue, no_outputs, sends, 
 use Rattle.ospf_area.specs.State.{AreaValue, LinkValue, neighbour, database_entry, copy_of, kept_number, some_link_loading, Awaits, WaitsIn, state_in}
 use Rattle.ospf_area.proofs.Words.{copy_in, neighbours_in}
 use Rattle.ospf_area.specs.declared.flooding.Origin.{Origin}
-use Rattle.ospf_update.specs.Meets.{Becomes}
+use Rattle.ospf_area.specs.Acting.{Becomes}
 use Rattle.ospf_step.specs.Headers.{IsOfInstance, Lists}
 use Rattle.ospf_step.specs.Packets.{Received, lsas_of, headers_in_body}
 use Rattle.ospf_step.specs.Parts.{IssuePart, ExpiryPart, AgesPart, RemovalPart, at_max_age, leaves_if}

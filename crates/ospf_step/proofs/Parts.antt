@@ -6,6 +6,7 @@ use Rattle.ospf_neighbour.specs.Neighbour.{NeighbourValue}
 use Rattle.ospf_neighbour.specs.Neighbours.{neighbour_of}
 use Rattle.ospf_packet.specs.declared.body.Hello.{Hello}
 use Rattle.ospf_exchange.specs.declared.rule.Local.{Local}
+use Rattle.ospf_area.specs.Acting.{OnEachLink}
 use Rattle.ospf_area.specs.Turns.{Turn}
 use Rattle.ospf_area.specs.Packets.{parcel_if}
 use Rattle.ospf_adjacency.specs.Heard.{heard, hello_turn, naming_event, sender_of, turn_of}
@@ -26,7 +27,7 @@ use Rattle.ospf_step.proofs.StateFacts.{Contains-nil}
 use Rattle.ospf_step.proofs.PutParts.{puts_sent}
 use Rattle.ospf_links.specs.Parts.{hello_out, hello_part, hello_sent, link_down, link_timed, link_up, neighbourhood_of, up_parcels, with_neighbourhood}
 use Rattle.ospf_area.specs.Posting.{local_of, posted_all}
-use Rattle.ospf_links.specs.Works.{link_changed, up_out_on, work_sent, worked}
+use Rattle.ospf_links.specs.Works.{WorksOn, link_changed, up_out_on}
 use Rattle.ospf_links.proofs.Words.{some_changed}
 use Rattle.ospf_step.specs.Invariants.{AreRising}
 use Rattle.ospf_step.proofs.Known.{AreBare, bare_if, bare_known, event_bare, link_quiet, same_goes, links_known, none_known}
@@ -40,9 +41,9 @@ hello_bare i local h named t none p c = elim (event_bare i local (naming_event i
   | inr bare ↦ bare
 ]
 
-pub hello_puts : (f : Origin) (h : Hello) (named : Bool) (s t : AreaValue) (out out' : OutputsValue) → AreReadAsSent out'.sent → t ≡ worked (hello_part (own_of s) f h named s.next_dd) f.link s → out' ≡ and_sends out (work_sent (hello_part (own_of s) f h named s.next_dd) (own_of s) f.link s.links) → PutsOut (λ o. Quiet s o t) out out'
-hello_puts f h named s t out out' read state outputs =
-    work_puts (λ o. Quiet s o t) (hello_part (own_of s) f h named s.next_dd) f.link s.sent s t out out' state outputs read (λ same. same_quiet s t same)
+pub hello_puts : (f : Origin) (h : Hello) (named : Bool) (s t : AreaValue) (out out' : OutputsValue) → AreReadAsSent out'.sent → WorksOn (hello_part (own_of s) f h named s.next_dd) f.link s out out' t → PutsOut (λ o. Quiet s o t) out out'
+hello_puts f h named s t out out' read is =
+    work_puts (λ o. Quiet s o t) (hello_part (own_of s) f h named s.next_dd) f.link s.sent s t out out' is read (λ same. same_quiet s t same)
     (λ link one.
     let local = local_of (own_of s) link in
     let start = neighbourhood_of link s.next_dd in
@@ -100,8 +101,8 @@ timers_put s t out rising state =
     silent_links_put link_timed s t out (ap (λ (a : AreaValue). a.links) state) (subst (λ a. ChangesLinks s a) (sym state) refl)
     (λ l link at. link_quiet s link (link_timed link) (λ q. timers_go link.neighbours q (rising l link at)) (λ a c. c))
 
-pub due_hellos_put : (s t : AreaValue) (out out' : OutputsValue) → AreReadAsSent out'.sent → t ≡ record s { links = map hello_sent s.links } → out' ≡ and_sends out (flat_from (hello_out (own_of s)) 0 s.links) → PutsOut (λ o. Quiet s o t) out out'
-due_hellos_put s t out out' read state outputs =
-    all_links_put hello_sent (flat_from (hello_out (own_of s)) 0 s.links) s t out out' (ap (λ (a : AreaValue). a.links) state) (subst (λ a. ChangesLinks s a) (sym state) refl) outputs read
+pub due_hellos_put : (s t : AreaValue) (out out' : OutputsValue) → AreReadAsSent out'.sent → OnEachLink hello_sent (hello_out (own_of s)) s out out' t → PutsOut (λ o. Quiet s o t) out out'
+due_hellos_put s t out out' read is =
+    all_links_put hello_sent (flat_from (hello_out (own_of s)) 0 s.links) s t out out' (ap (λ (a : AreaValue). a.links) is.state) (subst (λ a. ChangesLinks s a) (sym is.state) refl) is.outputs read
     (λ l link at. link_quiet s link (hello_sent link) (λ q. same_goes (neighbour_of link.neighbours q)) (λ h c. c))
     (links_known s (hello_out (own_of s)) (λ k link is_in. bare_known s k (hello_ticked link.iface) (parcel_if (is_hello_due link.iface) (hello_parcel link.iface link.neighbours)) (hello_if (is_hello_due link.iface) link.iface link.neighbours)))

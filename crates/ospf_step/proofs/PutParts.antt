@@ -8,6 +8,7 @@ use Rattle.ospf_base.specs.declared.ids.Instance.{Instance}
 use Rattle.ospf_base.specs.declared.ids.LsaKey.{LsaKey}
 use Rattle.ospf_lsa.specs.declared.header.LsaHeader.{LsaHeader}
 use Rattle.ospf_lsdb.specs.Database.{Entry, IsDatabase, reached_at}
+use Rattle.ospf_area.specs.Acting.{OnEachLink}
 use Rattle.ospf_area.specs.Outputs.{AreReadAsSent, OutputsValue, SentValue, no_outputs, sends, then_outputs}
 use Rattle.ospf_area.specs.Places.{flat_from}
 use Rattle.ospf_area.specs.Sending.{and_sends, own_of}
@@ -92,15 +93,15 @@ all_acks_known s k (link ∷ links) within d c = elim (Contains-append_cases (de
   | inr later ↦ all_acks_known s (suc k) links (λ l link at. within (suc l) link at) d later
 ]
 
-pub acknowledgements_put : (s t : AreaValue) (out out' : OutputsValue) → AreReadAsSent out'.sent → t ≡ record s { links = map undelayed_link s.links } → out' ≡ and_sends out (flat_from (delayed_out_on (own_of s)) 0 s.links) → PutsOut (λ o. Quiet s o t) out out'
-acknowledgements_put s t out out' read state outputs =
+pub acknowledgements_put : (s t : AreaValue) (out out' : OutputsValue) → AreReadAsSent out'.sent → OnEachLink undelayed_link (delayed_out_on (own_of s)) s out out' t → PutsOut (λ o. Quiet s o t) out out'
+acknowledgements_put s t out out' read is =
     let ds = flat_from (delayed_out_on (own_of s)) 0 s.links in
-    let links : t.links ≡ map undelayed_link s.links = ap (λ s. s.links) state in
-    let rest : ChangesLinks s t = subst (λ a. ChangesLinks s a) (sym state) refl in
+    let links : t.links ≡ map undelayed_link s.links = ap (λ s. s.links) is.state in
+    let rest : ChangesLinks s t = subst (λ a. ChangesLinks s a) (sym is.state) refl in
     puts_sent (λ o. Quiet s o t) out out' ds
-    (part_quiet s t (sends ds) ds rest refl (read_own out out' ds outputs read)
+    (part_quiet s t (sends ds) ds rest refl (read_own out out' ds is.outputs read)
     (subst (λ cs. AllEach (LinkQuiet s) s.links cs) (sym links) (map_each (LinkQuiet s) undelayed_link s.links (λ l link at. undelayed_quiet s link)))
-    (all_acks_known s 0 s.links (λ l link at. (l, at)))) outputs
+    (all_acks_known s 0 s.links (λ l link at. (l, at)))) is.outputs
 
 -- ---- what leaves the database
 

@@ -36,7 +36,7 @@ use Rattle.ospf_exchange.proofs.LawLemmas.{of_copy}
 use Rattle.ospf_lsa.specs.declared.fault.LsaFault.TheVariants as fault
 use Rattle.ospf_lsdb.specs.Database as lsdb
 use Rattle.ospf_area.specs.Outputs.{OutputsValue, no_outputs}
-use Rattle.ospf_update.specs.Meets.{Becomes}
+use Rattle.ospf_area.specs.Acting.{Becomes}
 use Rattle.ospf_base.specs.declared.ids.Addr.{Addr}
 use Rattle.ospf_packet.specs.Meaning.{Meaning}
 use Rattle.ospf_step.specs.Step.{Part, parts_of_packet}

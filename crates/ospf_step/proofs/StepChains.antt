@@ -1,12 +1,10 @@
 -- That a tick, an event and the end of a step are the chains of their parts.
-use Rattle.std.proofs.Common.{◌≡◌, ◌++◌, List, ◌∷◌, refl, subst, ℕ, Bool, true, false, Some, sym, ap, slice_get, ◌∙◌, [], map}
-use Rattle.ospf_links.specs.Repeats.{link_repeated}
+use Rattle.std.proofs.Common.{◌≡◌, ◌++◌, List, ◌∷◌, refl, subst, ℕ, Bool, true, false, Some, sym, ap, slice_get, ◌∙◌, []}
 use Rattle.ospf_base.specs.declared.ids.LsaKey.{LsaKey}
 use Rattle.ospf_lsdb.specs.Database.{IsDatabase}
-use Rattle.ospf_area.specs.Outputs.{AreReadAsSent, OutputsValue, SentValue}
+use Rattle.ospf_area.specs.Outputs.{AreReadAsSent, OutputsValue}
 use Rattle.ospf_area.specs.Sending.{and_sends, own_of}
 use Rattle.ospf_area.specs.State.{AreaValue}
-use Rattle.ospf_update.specs.Aging.{TickAges}
 use Rattle.ospf_step.specs.Begins.{BeginsChain, BeginsWork, IsArrival}
 use Rattle.ospf_step.specs.Puts.{PutsOut, headers_met}
 use Rattle.ospf_step.specs.Step.{Chain, Event, IsPart, Part, first_parts, parts_of_packet, last_parts}
@@ -16,7 +14,8 @@ use Rattle.ospf_step.proofs.Accountable.{AreRead-left}
 use Rattle.ospf_step.proofs.Chains.{puts_more, update_puts, puts_none}
 use Rattle.ospf_step.proofs.PutParts.{acknowledgements_put, ages_put, headers_put, removals_put}
 use Rattle.ospf_step.specs.Invariants.{AreRising, NoneWaitsBelow}
-use Rattle.ospf_step.specs.Ticks.{acknowledgements_out, helloed_area, hellos_out, tick_out, ticked_area, timed_area}
+use Rattle.ospf_step.specs.Ticks.{TakesTick}
+use Rattle.ospf_step.proofs.Works.{acknowledged_is}
 use Rattle.ospf_step.proofs.Parts.{due_hellos_put, timers_put, down_puts, hello_puts, up_puts}
 use Rattle.ospf_step.proofs.Turns.{repeats_put, description_told, request_puts}
 use Rattle.ospf_base.specs.declared.ids.Addr.{Addr}
@@ -30,7 +29,7 @@ use Rattle.ospf_packet.specs.declared.entry.RequestEntry.{RequestEntry}
 use Rattle.ospf_update.specs.Updates.{TakesUpdate}
 use Rattle.ospf_step.specs.Packets.{dd_headers_of}
 use Rattle.ospf_links.specs.Parts.{description_part, hello_part, link_down, link_up, request_part}
-use Rattle.ospf_links.specs.Works.{link_changed, up_out_on, work_sent, worked}
+use Rattle.ospf_links.specs.Works.{WorksOn, link_changed, up_out_on}
 use Rattle.ospf_step.specs.Takes.{origin_of}
 use Rattle.ospf_update.proofs.Words.{Removes}
 use Rattle.ospf_links.specs.Elections.{ElectsAll}
@@ -43,29 +42,31 @@ use Rattle.ospf_step.proofs.OwnParts.{own_put}
 pub read_before : (R : OutputsValue → Type 0) (out out' : OutputsValue) → PutsOut R out out' → AreReadAsSent out'.sent → AreReadAsSent out.sent
 read_before R out out' p read = AreRead-left out p.own (subst (λ o. AreReadAsSent o.sent) p.behind read)
 
-pub tick_puts : (rest : List Part) (marks : List LsaKey) (s aged t u : AreaValue) (expired : List SentValue) (out mid_out out' : OutputsValue) → AreRising aged.links → AreRising (ticked_area aged).links → IsDatabase aged.database → AreReadAsSent out'.sent → TickAges s expired aged
-    → t ≡ record (ticked_area aged) { links = map (link_repeated (own_of aged) aged.database) (ticked_area aged).links; sent = marks } → mid_out ≡ tick_out aged (and_sends out expired)
+pub tick_puts : (rest : List Part) (s t u : AreaValue) (out mid_out out' : OutputsValue) (is : TakesTick s out mid_out t) → IsDatabase is.aged.database → AreRising is.aged.links → AreRising is.acknowledged.links → AreReadAsSent out'.sent
     → PutsOut (λ o. Chain rest t o u) mid_out out' → PutsOut (λ o. Chain (first_parts Event.Tick ++ rest) s o u) out out'
-tick_puts rest marks s aged t u expired out mid_out out' aged_rise ticked_rise is read ages state outputs next =
-    let timed = timed_area aged in
-    let helloed = helloed_area timed in
-    let ticked = ticked_area aged in
-    let aged_out = and_sends out expired in
-    let helloed_out = and_sends aged_out (hellos_out timed) in
-    let ticked_out = and_sends helloed_out (acknowledgements_out helloed) in
+tick_puts rest s t u out mid_out out' is db aged_rise ticked_rise read next =
+    let aged = is.aged in
+    let timed = is.timed in
+    let helloed = is.helloed in
+    let ticked = is.acknowledged in
+    let aged_out = and_sends out is.expired_out in
+    let helloed_out = is.helloed_out in
+    let ticked_out = is.acknowledged_out in
+    let ticked_db : IsDatabase ticked.database = subst IsDatabase (sym (ap (λ (x : AreaValue). x.database) (acknowledged_is s out mid_out t is))) db in
     let repeats : PutsOut (λ o. IsPart Repeats ticked o t) ticked_out mid_out =
-    repeats_put ticked t marks ticked_out mid_out is ticked_rise (read_before (λ o. Chain rest t o u) mid_out out' next read) state outputs in
+    repeats_put ticked t _ ticked_out mid_out ticked_db ticked_rise (read_before (λ o. Chain rest t o u) mid_out out' next read) is.repeats in
     let from_repeats = puts_more Repeats rest ticked t u ticked_out mid_out out' repeats next in
     let read_ticked = read_before (λ o. Chain (Repeats ∷ rest) ticked o u) ticked_out out' from_repeats read in
-    let acknowledgements : PutsOut (λ o. IsPart Acknowledgements helloed o ticked) helloed_out ticked_out = acknowledgements_put helloed ticked helloed_out ticked_out read_ticked refl refl in
+    let acknowledgements : PutsOut (λ o. IsPart Acknowledgements helloed o ticked) helloed_out ticked_out =
+    acknowledgements_put helloed ticked helloed_out ticked_out read_ticked is.acknowledgements in
     let from_acknowledgements = puts_more Acknowledgements (Repeats ∷ rest) helloed ticked u helloed_out ticked_out out' acknowledgements from_repeats in
     let read_helloed = read_before (λ o. Chain (Acknowledgements ∷ Repeats ∷ rest) helloed o u) helloed_out out' from_acknowledgements read in
-    let hellos : PutsOut (λ o. IsPart Hellos timed o helloed) aged_out helloed_out = due_hellos_put timed helloed aged_out helloed_out read_helloed refl refl in
+    let hellos : PutsOut (λ o. IsPart Hellos timed o helloed) aged_out helloed_out = due_hellos_put timed helloed aged_out helloed_out read_helloed is.hellos in
     let from_hellos = puts_more Hellos (Acknowledgements ∷ Repeats ∷ rest) timed helloed u aged_out helloed_out out' hellos from_acknowledgements in
     let read_aged = read_before (λ o. Chain (Hellos ∷ Acknowledgements ∷ Repeats ∷ rest) timed o u) aged_out out' from_hellos read in
-    let timers : PutsOut (λ o. IsPart Timers aged o timed) aged_out aged_out = timers_put aged timed aged_out aged_rise refl in
+    let timers : PutsOut (λ o. IsPart Timers aged o timed) aged_out aged_out = timers_put aged timed aged_out aged_rise is.timers in
     let from_timers = puts_more Timers (Hellos ∷ Acknowledgements ∷ Repeats ∷ rest) aged timed u aged_out aged_out out' timers from_hellos in
-    puts_more Ages (Timers ∷ Hellos ∷ Acknowledgements ∷ Repeats ∷ rest) s aged u out aged_out out' (ages_put s aged out aged_out expired is read_aged ages refl) from_timers
+    puts_more Ages (Timers ∷ Hellos ∷ Acknowledgements ∷ Repeats ∷ rest) s aged u out aged_out out' (ages_put s aged out aged_out is.expired_out db read_aged is.ages refl) from_timers
 
 -- What an event brings is the chain of its parts, in front of what follows.
 -- ---- datagrams
@@ -81,18 +82,18 @@ module _ (link : ℕ) (source destination : Addr) (bytes : List ℕ) (p : Meanin
     read_mid : AreReadAsSent mid_out.sent
     read_mid = read_before (λ o. Chain rest t o u) mid_out out' next read
 
-    pub hello_chain : (h : Hello) (heard : List RouterId) (named : Bool) → p.body ≡ hello h heard → t ≡ worked (hello_part (own_of s) (origin_of link source p) h named s.next_dd) link s → mid_out ≡ and_sends out (work_sent (hello_part (own_of s) (origin_of link source p) h named s.next_dd) (own_of s) link s.links) → PutsOut (λ o. Chain (first_parts (Event.Datagram link source destination bytes) ++ rest) s o u) out out'
-    hello_chain h heard named says state outputs =
-        of_packet (hello h heard) says (puts_more (HelloComes (origin_of link source p) p) rest s t u out mid_out out' (hello_puts (origin_of link source p) h named s t out mid_out read_mid state outputs) next)
+    pub hello_chain : (h : Hello) (heard : List RouterId) (named : Bool) → p.body ≡ hello h heard → WorksOn (hello_part (own_of s) (origin_of link source p) h named s.next_dd) link s out mid_out t → PutsOut (λ o. Chain (first_parts (Event.Datagram link source destination bytes) ++ rest) s o u) out out'
+    hello_chain h heard named says works =
+        of_packet (hello h heard) says (puts_more (HelloComes (origin_of link source p) p) rest s t u out mid_out out' (hello_puts (origin_of link source p) h named s t out mid_out read_mid works) next)
 
-    pub description_chain : (d : Description) (headers : List LsaHeader) → IsDatabase s.database → NoneWaitsBelow s link p.router → p.body ≡ description d headers → t ≡ worked (description_part (own_of s) (origin_of link source p) d headers s.database s.next_dd) link s → mid_out ≡ and_sends out (work_sent (description_part (own_of s) (origin_of link source p) d headers s.database s.next_dd) (own_of s) link s.links) → PutsOut (λ o. Chain (first_parts (Event.Datagram link source destination bytes) ++ rest) s o u) out out'
-    description_chain d headers is below says state outputs =
+    pub description_chain : (d : Description) (headers : List LsaHeader) → IsDatabase s.database → NoneWaitsBelow s link p.router → p.body ≡ description d headers → WorksOn (description_part (own_of s) (origin_of link source p) d headers s.database s.next_dd) link s out mid_out t → PutsOut (λ o. Chain (first_parts (Event.Datagram link source destination bytes) ++ rest) s o u) out out'
+    description_chain d headers is below says works =
         of_packet (description d headers) says
-        (puts_more (DdComes (origin_of link source p) p) rest s t u out mid_out out' (description_told (origin_of link source p) p d headers s t out mid_out is below refl (sym (ap dd_headers_of says)) read_mid state outputs) next)
+        (puts_more (DdComes (origin_of link source p) p) rest s t u out mid_out out' (description_told (origin_of link source p) p d headers s t out mid_out is below refl (sym (ap dd_headers_of says)) read_mid works) next)
 
-    pub request_chain : (entries : List RequestEntry) (marks : List LsaKey) → IsDatabase s.database → p.body ≡ request entries → t ≡ record (worked (request_part (own_of s) (origin_of link source p) s.database entries s.next_dd) link s) { sent = marks } → mid_out ≡ and_sends out (work_sent (request_part (own_of s) (origin_of link source p) s.database entries s.next_dd) (own_of s) link s.links) → PutsOut (λ o. Chain (first_parts (Event.Datagram link source destination bytes) ++ rest) s o u) out out'
-    request_chain entries marks is says state outputs =
-        of_packet (request entries) says (puts_more (RequestComes (origin_of link source p) p) rest s t u out mid_out out' (request_puts (origin_of link source p) entries marks s t out mid_out is read_mid state outputs) next)
+    pub request_chain : (entries : List RequestEntry) (marks : List LsaKey) → IsDatabase s.database → p.body ≡ request entries → WorksOn (request_part (own_of s) (origin_of link source p) s.database entries s.next_dd) link (record s { sent = marks }) out mid_out t → PutsOut (λ o. Chain (first_parts (Event.Datagram link source destination bytes) ++ rest) s o u) out out'
+    request_chain entries marks is says works =
+        of_packet (request entries) says (puts_more (RequestComes (origin_of link source p) p) rest s t u out mid_out out' (request_puts (origin_of link source p) entries marks s t out mid_out is read_mid works) next)
 
     pub update_chain : (lsas : List (List ℕ)) → p.body ≡ update lsas → TakesUpdate (origin_of link source p) lsas s out mid_out t → PutsOut (λ o. Chain (first_parts (Event.Datagram link source destination bytes) ++ rest) s o u) out out'
     update_chain lsas says takes = of_packet (update lsas) says (update_puts (origin_of link source p) lsas rest s t u out mid_out out' read takes next)
@@ -111,20 +112,20 @@ module _ (e : Event) (link : ℕ) (source : Addr) (p : Meaning) (is : IsArrival 
 
   pub arrival_hello : (h : Hello) (heard : List RouterId) (named : Bool) → p.body ≡ hello h heard → (s : AreaValue) (out : OutputsValue)
       → BeginsWork e (hello_part (own_of s) (origin_of link source p) h named s.next_dd) link s out
-  arrival_hello h heard named says s out =
-      as_datagram s out _ _ (λ rest u out' read next. hello_chain link source is.0 is.1 p is.3 rest s _ u out _ out' read next h heard named says refl refl)
+  arrival_hello h heard named says s out t mid_out works =
+      as_datagram s out t mid_out (λ rest u out' read next. hello_chain link source is.0 is.1 p is.3 rest s t u out mid_out out' read next h heard named says works)
 
   pub arrival_description : (d : Description) (headers : List LsaHeader) → p.body ≡ description d headers → (s : AreaValue) (out : OutputsValue)
       → IsDatabase s.database → NoneWaitsBelow s link p.router
       → BeginsWork e (description_part (own_of s) (origin_of link source p) d headers s.database s.next_dd) link s out
-  arrival_description d headers says s out db below =
-      as_datagram s out _ _ (λ rest u out' read next. description_chain link source is.0 is.1 p is.3 rest s _ u out _ out' read next d headers db below says refl refl)
+  arrival_description d headers says s out db below t mid_out works =
+      as_datagram s out t mid_out (λ rest u out' read next. description_chain link source is.0 is.1 p is.3 rest s t u out mid_out out' read next d headers db below says works)
 
   pub arrival_request : (entries : List RequestEntry) (marks : List LsaKey) → p.body ≡ request entries → (s : AreaValue) (out : OutputsValue) → IsDatabase s.database
       → let part = request_part (own_of s) (origin_of link source p) s.database entries s.next_dd in
-      BeginsChain e s out (record (worked part link s) { sent = marks }) (and_sends out (work_sent part (own_of s) link s.links))
-  arrival_request entries marks says s out db =
-      as_datagram s out _ _ (λ rest u out' read next. request_chain link source is.0 is.1 p is.3 rest s _ u out _ out' read next entries marks db says refl refl)
+      (t : AreaValue) (mid_out : OutputsValue) → WorksOn part link (record s { sent = marks }) out mid_out t → BeginsChain e s out t mid_out
+  arrival_request entries marks says s out db t mid_out works =
+      as_datagram s out t mid_out (λ rest u out' read next. request_chain link source is.0 is.1 p is.3 rest s t u out mid_out out' read next entries marks db says works)
 
   pub arrival_update : (lsas : List (List ℕ)) → p.body ≡ update lsas → (s t : AreaValue) (out mid_out : OutputsValue) → TakesUpdate (origin_of link source p) lsas s out mid_out t
       → BeginsChain e s out t mid_out

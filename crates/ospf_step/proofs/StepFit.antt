@@ -15,8 +15,8 @@ use Rattle.ospf_area.specs.declared.flooding.Origin.{Origin}
 use Rattle.ospf_links.specs.Elections.{ElectsAll, ElectsAt, ElectsFrom}
 use Rattle.ospf_links.specs.Parts.{description_part, hello_part, hello_sent, link_down, link_timed, link_up, request_part, with_neighbourhood}
 use Rattle.ospf_links.specs.Repeats.{link_repeated}
-use Rattle.ospf_links.specs.Works.{link_changed, worked, worked_links_on, work_next_on}
-use Rattle.ospf_links.proofs.Words.{some_changed, ElectsThere}
+use Rattle.ospf_links.specs.Works.{link_changed}
+use Rattle.ospf_links.proofs.Words.{some_changed, worked, worked_by, ElectsThere}
 use Rattle.ospf_step.specs.Puts.{headers_met}
 use Rattle.ospf_packet.specs.Meaning.{BodyMeaning, hello, description, request, update, acknowledgment}
 use Rattle.ospf_update.specs.Acks.{undelayed_link}
@@ -27,8 +27,9 @@ use Rattle.ospf_originate.specs.Laws.{AreaStaysSound, OwnStaySound}
 use Rattle.ospf_originate.specs.Sound.{IsSetUp, IsSound}
 use Rattle.ospf_originate.specs.Steps.{OwnLsas}
 use Rattle.ospf_step.specs.Fit.{IsFitRouter, IsFitLink}
-use Rattle.ospf_step.specs.Ticks.{acknowledged_area, helloed_area, timed_area}
-use Rattle.ospf_step.specs.Takes.{TakesBody, TakesTick, repeated}
+use Rattle.ospf_step.proofs.Works.{acknowledged_area, helloed_area, repeated, tick_state, timed_area}
+use Rattle.ospf_step.specs.Takes.{TakesBody}
+use Rattle.ospf_step.specs.Ticks.{TakesTick}
 use Rattle.ospf_step.proofs.AreaFit.{age_for, headers_for, own_for, removes_for, update_for}
 use Rattle.ospf_step.proofs.FitLemmas.{AllFit, IsFor, Stays, all_at, map_fit, set_fit}
 use Rattle.ospf_step.proofs.LinkFit.{down_stays, elects_stays, hellos_fit, hellos_set_up, hellos_settings, repeats_fit, repeats_set_up, timers_fit, timers_set_up, undelayed_fit, undelayed_set_up, up_stays}
@@ -54,10 +55,10 @@ link_set_up s l a at fit = all_at IsSetUp s.links l a fit.sound.links.each at
 -- ---- a part on one link
 
 pub worked_fit : (part : LinkValue → Neighbourhood) (l : ℕ) (sent : List LsaKey) (s : AreaValue)
-    → ((a : LinkValue) → slice_get s.links l ≡ Some a → Stays s.router a (with_neighbourhood (part a) a)) → IsFitRouter s → IsFitRouter (record (worked part l s) { sent = sent })
+    → ((a : LinkValue) → slice_get s.links l ≡ Some a → Stays s.router a (with_neighbourhood (part a) a)) → IsFitRouter s → IsFitRouter (worked part l (record s { sent = sent }))
 worked_fit part l sent s stays fit = by_link (slice_get s.links l) refl
   where
-    by_link : (o : Option LinkValue) → slice_get s.links l ≡ o → IsFitRouter (record s { links = worked_links_on o part l s.links; next_dd = work_next_on o part s.next_dd; sent = sent })
+    by_link : (o : Option LinkValue) → slice_get s.links l ≡ o → IsFitRouter (worked_by o part l (record s { sent = sent }))
     by_link None at = record { links = fit.links; sound = record { links = fit.sound.links; numbered = fit.sound.numbered; counted = fit.sound.counted; greatest = fit.sound.greatest } }
     by_link (Some a) at = set_fit s l a (with_neighbourhood (part a) a) (part a).next sent at (stays a at) fit
 
@@ -118,7 +119,7 @@ module _ (stay : NeighboursStayOfLink) (come : ElectionsComeAbout) (repeats : Re
   tick_fit s out out' s' is fit =
       let k = acknowledged_area (helloed_area (timed_area is.aged)) in
       let told : IsFitRouter k = ticked_fit is.aged (aged_fit s is.expired_out is.aged is.ages fit) in
-      moved (repeated k) s' is.state (map_fit k (link_repeated (own_of k) k.database) _ (λ x. refl) (repeats_fit repeats (own_of k) k.database k.router) (repeats_set_up repeats (own_of k) k.database) told)
+      moved (repeated k) s' (tick_state s out out' s' is) (map_fit k (link_repeated (own_of k) k.database) _ (λ x. refl) (repeats_fit repeats (own_of k) k.database k.router) (repeats_set_up repeats (own_of k) k.database) told)
 
 -- ---- links
 

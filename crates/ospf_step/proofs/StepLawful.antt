@@ -28,8 +28,9 @@ use Rattle.ospf_step.specs.Drops.{is_dropped}
 use Rattle.ospf_step.specs.Fit.{IsFitRouter, IsFitLink}
 use Rattle.ospf_step.specs.Ready.{IsReadyFor, IsSenderReady}
 use Rattle.ospf_step.specs.Steps.{StepsArea, Takes}
-use Rattle.ospf_step.specs.Ticks.{acknowledged_area, helloed_area, timed_area}
-use Rattle.ospf_step.specs.Takes.{TakesBody, TakesDatagram, TakesEvent, TakesTick, origin_of}
+use Rattle.ospf_step.specs.Ticks.{TakesTick}
+use Rattle.ospf_step.proofs.Works.{acknowledged_is, tick_state}
+use Rattle.ospf_step.specs.Takes.{TakesBody, TakesDatagram, TakesEvent, origin_of}
 use Rattle.ospf_step.specs.declared.steps.StepResult.{StepResult}
 use Rattle.ospf_step.proofs.FitLemmas.{all_at}
 use Rattle.ospf_step.proofs.StepFit.{aged_fit, ticked_fit}
@@ -50,19 +51,19 @@ module _ (stay : NeighboursStayOfLink) (come : ElectionsComeAbout) (repeats : Re
   datagram_puts link source destination bytes (Some m) at ready is = by_body m.body refl is
     where
       by_body : (b : BodyMeaning) → m.body ≡ b → TakesBody b (origin_of link source m) s out mid_out t → PutsOut (λ o. Chain (first_parts (Datagram link source destination bytes) ++ rest) s o u) out out'
-      by_body (hello fields heard) says is = hello_chain link source destination bytes m at rest s t u out mid_out out' read next fields heard (names heard s.router) says is.state is.outputs
-      by_body (description fields headers) says is = description_chain link source destination bytes m at rest s t u out mid_out out' read next fields headers ready.0 ready.1 says is.state is.outputs
-      by_body (request entries) says is = request_chain link source destination bytes m at rest s t u out mid_out out' read next entries _ ready.0 says is.state is.outputs
+      by_body (hello fields heard) says is = hello_chain link source destination bytes m at rest s t u out mid_out out' read next fields heard (names heard s.router) says is
+      by_body (description fields headers) says is = description_chain link source destination bytes m at rest s t u out mid_out out' read next fields headers ready.0 ready.1 says is
+      by_body (request entries) says is = request_chain link source destination bytes m at rest s t u out mid_out out' read next entries _ ready.0 says is
       by_body (update lsas) says is = update_chain link source destination bytes m at rest s t u out mid_out out' read next lsas says is
       by_body (acknowledgment headers) says is = acknowledgment_chain link source destination bytes m at rest s t u out mid_out out' read next headers says is.state (none_sent out mid_out is.outputs)
 
   -- a tick leaves the database as its ages leave it
   take_tick_puts : IsFitRouter s → IsDatabase t.database → TakesTick s out mid_out t → PutsOut (λ o. Chain (first_parts Tick ++ rest) s o u) out out'
   take_tick_puts fit after is =
-      let aged : IsDatabase is.aged.database = subst IsDatabase (ap (λ (x : AreaValue). x.database) is.state) after in
+      let aged : IsDatabase is.aged.database = subst IsDatabase (ap (λ (x : AreaValue). x.database) (tick_state s out mid_out t is)) after in
       let aged_fits : IsFitRouter is.aged = aged_fit stay come repeats area s is.expired_out is.aged is.ages fit in
-      let ticked = acknowledged_area (helloed_area (timed_area is.aged)) in
-      tick_puts rest _ s is.aged t u is.expired_out out mid_out out' (links_rise is.aged aged_fits) (links_rise ticked (ticked_fit stay come repeats area is.aged aged_fits)) aged read is.ages is.state is.outputs next
+      let ticked_fits : IsFitRouter is.acknowledged = subst IsFitRouter (sym (acknowledged_is s out mid_out t is)) (ticked_fit stay come repeats area is.aged aged_fits) in
+      tick_puts rest s t u out mid_out out' is aged (links_rise is.aged aged_fits) (links_rise is.acknowledged ticked_fits) read next
 
   event_puts : (e : Event) → IsFitRouter s → IsDatabase t.database → IsReadyFor e s → TakesEvent e s out mid_out t → PutsOut (λ o. Chain (first_parts e ++ rest) s o u) out out'
   event_puts (Datagram link source destination bytes) fit after ready is = datagram_puts link source destination bytes (packet_of bytes) refl ready is

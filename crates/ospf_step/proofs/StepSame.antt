@@ -13,8 +13,8 @@ use Rattle.ospf_step.specs.Step.Event.{Datagram, Tick, LinkUp, LinkDown}
 use Rattle.ospf_links.specs.Elections.{ElectsAt, ElectsFrom}
 use Rattle.ospf_links.specs.Parts.{description_part, hello_part, hello_sent, link_down, link_timed, link_up, request_part, with_neighbourhood}
 use Rattle.ospf_links.specs.Repeats.{link_repeated}
-use Rattle.ospf_links.specs.Works.{link_changed, worked, worked_links_on, work_next_on}
-use Rattle.ospf_links.proofs.Words.{some_changed, ElectsThere}
+use Rattle.ospf_links.specs.Works.{link_changed}
+use Rattle.ospf_links.proofs.Words.{some_changed, worked, worked_by, ElectsThere}
 use Rattle.ospf_packet.specs.Meaning.{BodyMeaning, Meaning, hello, description, request, update, acknowledgment}
 use Rattle.ospf_packet.specs.PacketOf.{packet_of}
 use Rattle.ospf_update.specs.Acks.{undelayed_link}
@@ -26,7 +26,9 @@ use Rattle.ospf_step.specs.Steps.{StepsArea, Takes}
 use Rattle.ospf_step.specs.declared.steps.StepResult.{StepResult}
 use Rattle.std.specs.declared.alloc.AllocError.{AllocError}
 use Rattle.std.proofs.lemmas.Option.{none-some}
-use Rattle.ospf_step.specs.Takes.{TakesBody, TakesDatagram, TakesEvent, TakesTick, origin_of}
+use Rattle.ospf_step.proofs.Works.{tick_state}
+use Rattle.ospf_step.specs.Takes.{TakesBody, TakesDatagram, TakesEvent, origin_of}
+use Rattle.ospf_step.specs.Ticks.{TakesTick}
 use Rattle.ospf_step.proofs.AreaSame.{IsAs, age_as, headers_as, own_as, removes_as, update_as}
 
 abbrev IsStill : AreaValue → AreaValue → Type 0
@@ -41,10 +43,10 @@ then s t u first next = record { own = next.own ∙ first.own; many = next.many 
 moved : (s t u : AreaValue) → u ≡ t → IsStill s t → IsStill s u
 moved s t u is as_was = subst (λ (x : AreaValue). IsStill s x) (sym is) as_was
 
-worked_as : (part : LinkValue → Neighbourhood) (l : ℕ) (sent : List LsaKey) (s : AreaValue) → IsStill s (record (worked part l s) { sent = sent })
+worked_as : (part : LinkValue → Neighbourhood) (l : ℕ) (sent : List LsaKey) (s : AreaValue) → IsStill s (worked part l (record s { sent = sent }))
 worked_as part l sent s = by_link (slice_get s.links l)
   where
-    by_link : (o : Option LinkValue) → IsStill s (record s { links = worked_links_on o part l s.links; next_dd = work_next_on o part s.next_dd; sent = sent })
+    by_link : (o : Option LinkValue) → IsStill s (worked_by o part l (record s { sent = sent }))
     by_link None = record { own = refl; many = refl }
     by_link (Some a) = record { own = refl; many = length-set s.links l (with_neighbourhood (part a) a) }
 
@@ -66,7 +68,7 @@ tick_as : (s : AreaValue) (out out' : OutputsValue) (s' : AreaValue) → TakesTi
 tick_as s out out' s' is =
     let a = is.aged in
     let aged : IsStill s a = age_as s.router (length s.links) s is.expired_out a is.ages (itself s) in
-    moved s _ s' is.state (record {
+    moved s _ s' (tick_state s out out' s' is) (record {
       own = aged.own;
       many = length-map _ (link_repeated (own_of a) a.database) ∙ (length-map (map hello_sent (map link_timed a.links)) undelayed_link ∙ (length-map (map link_timed a.links) hello_sent ∙ (length-map a.links link_timed ∙ aged.many)));
     })

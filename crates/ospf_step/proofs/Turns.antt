@@ -3,6 +3,7 @@ use Rattle.std.proofs.Common.{◌≡◌, ◌⊎◌, inl, inr, ◌==◌, ◌&&◌
 use Rattle.std.specs.List.{AllByRecursion, Contains, flat_map}
 use Rattle.std.proofs.lemmas.Bool.{cases_Bool, cond-true, cond-false, eqb-true}
 use Rattle.std.proofs.lemmas.Option.{none-some, same_Some}
+use Rattle.ospf_area.specs.Acting.{OnEachLink}
 use Rattle.ospf_area.specs.Places.{flat_from}
 use Rattle.ospf_base.specs.Sums.{contents}
 use Rattle.ospf_base.specs.declared.ids.Instance.{Instance}
@@ -29,7 +30,7 @@ use Rattle.ospf_adjacency.specs.Answers.{answer_turn}
 use Rattle.ospf_adjacency.specs.ResendLaws.{HasCopiesOnly, IsCopy, IsQuiet}
 use Rattle.ospf_adjacency.proofs.QuietLemmas.{answers_are_quiet, repeats_are_quiet}
 use Rattle.ospf_area.specs.Outputs.{AreReadAsSent, OutputsValue, SentValue, sends}
-use Rattle.ospf_area.specs.Sending.{and_sends, own_of}
+use Rattle.ospf_area.specs.Sending.{own_of}
 use Rattle.ospf_area.specs.State.{AreaValue, LinkValue, neighbour}
 use Rattle.ospf_area.proofs.Words.{copy_in, neighbours_in}
 use Rattle.ospf_area.specs.declared.flooding.Origin.{Origin}
@@ -46,7 +47,7 @@ use Rattle.ospf_links.specs.Parts.{description_part, neighbourhood_of, request_p
 use Rattle.ospf_links.proofs.Words.{description_by, request_by}
 use Rattle.ospf_area.specs.Posting.{local_by, local_of, posted_all}
 use Rattle.ospf_links.specs.Repeats.{link_repeated, neighbour_repeated, repeats_for, link_repeats_out, repeats_to}
-use Rattle.ospf_links.specs.Works.{work_sent, worked}
+use Rattle.ospf_links.specs.Works.{WorksOn}
 use Rattle.ospf_step.specs.Invariants.{AreRising, NoneWaitsBelow}
 use Rattle.ospf_step.proofs.Known.{goes_on, SaysKnown, both_known, links_known, none_known, posted_known, says_known, says_nothing}
 use Rattle.ospf_step.proofs.Works.{all_links_put, marks_quiet, same_go, work_puts}
@@ -107,17 +108,16 @@ module _ (f : Origin) (p : Meaning) (d : Description) (s t : AreaValue) (is : Is
       says q (inl none) at = absurd (Contains-nil q none)
       says q (inr only) at = says_known s f.link f.router n at is q.body only
 
-pub description_puts : (f : Origin) (p : Meaning) (d : Description) (s t : AreaValue) (out out' : OutputsValue) → IsDatabase s.database → NoneWaitsBelow s f.link f.router → p.router ≡ f.router → AreReadAsSent out'.sent → t ≡ worked (description_part (own_of s) f d (dd_headers_of p.body) s.database s.next_dd) f.link s → out' ≡ and_sends out (work_sent (description_part (own_of s) f d (dd_headers_of p.body) s.database s.next_dd) (own_of s) f.link s.links) → PutsOut (λ o. NeighboursGo (Some (record { link = f.link; packet = p })) s o t) out out'
+pub description_puts : (f : Origin) (p : Meaning) (d : Description) (s t : AreaValue) (out out' : OutputsValue) → IsDatabase s.database → NoneWaitsBelow s f.link f.router → p.router ≡ f.router → AreReadAsSent out'.sent → WorksOn (description_part (own_of s) f d (dd_headers_of p.body) s.database s.next_dd) f.link s out out' t → PutsOut (λ o. NeighboursGo (Some (record { link = f.link; packet = p })) s o t) out out'
 unfolding after
-description_puts f p d s t out out' is below sender read state outputs =
-    work_puts (λ o. NeighboursGo (Some (record { link = f.link; packet = p })) s o t) (description_part (own_of s) f d (dd_headers_of p.body) s.database s.next_dd) f.link s.sent s t out out' state outputs read (λ same. same_go (Some (record { link = f.link; packet = p })) s t same)
+description_puts f p d s t out out' is below sender read works =
+    work_puts (λ o. NeighboursGo (Some (record { link = f.link; packet = p })) s o t) (description_part (own_of s) f d (dd_headers_of p.body) s.database s.next_dd) f.link s.sent s t out out' works read (λ same. same_go (Some (record { link = f.link; packet = p })) s t same)
     (λ link one. described f p d s t is below sender link (neighbour_of link.neighbours f.router) refl one)
 
 -- of these headers, which the packet tells
-pub description_told : (f : Origin) (p : Meaning) (d : Description) (headers : List LsaHeader) (s t : AreaValue) (out out' : OutputsValue) → IsDatabase s.database → NoneWaitsBelow s f.link f.router → p.router ≡ f.router → headers ≡ dd_headers_of p.body → AreReadAsSent out'.sent → t ≡ worked (description_part (own_of s) f d headers s.database s.next_dd) f.link s → out' ≡ and_sends out (work_sent (description_part (own_of s) f d headers s.database s.next_dd) (own_of s) f.link s.links) → PutsOut (λ o. NeighboursGo (Some (record { link = f.link; packet = p })) s o t) out out'
-description_told f p d headers s t out out' is below sender told read state outputs =
-    description_puts f p d s t out out' is below sender read (state ∙ ap (λ hs. worked (description_part (own_of s) f d hs s.database s.next_dd) f.link s) told)
-    (outputs ∙ ap (λ hs. and_sends out (work_sent (description_part (own_of s) f d hs s.database s.next_dd) (own_of s) f.link s.links)) told)
+pub description_told : (f : Origin) (p : Meaning) (d : Description) (headers : List LsaHeader) (s t : AreaValue) (out out' : OutputsValue) → IsDatabase s.database → NoneWaitsBelow s f.link f.router → p.router ≡ f.router → headers ≡ dd_headers_of p.body → AreReadAsSent out'.sent → WorksOn (description_part (own_of s) f d headers s.database s.next_dd) f.link s out out' t → PutsOut (λ o. NeighboursGo (Some (record { link = f.link; packet = p })) s o t) out out'
+description_told f p d headers s t out out' is below sender told read works =
+    description_puts f p d s t out out' is below sender read (subst (λ hs. WorksOn (description_part (own_of s) f d hs s.database s.next_dd) f.link s out out' t) told works)
 
 -- ---- what goes out to one neighbour
 
@@ -175,10 +175,10 @@ module _ (f : Origin) (entries : List RequestEntry) (s t : AreaValue) (is : IsDa
       })
       (posted_known s f.link link.iface u.sent (turn_known s f.link f.router n delay s.next_dd u at is quiet))
 
-pub request_puts : (f : Origin) (entries : List RequestEntry) (keys : List LsaKey) (s t : AreaValue) (out out' : OutputsValue) → IsDatabase s.database → AreReadAsSent out'.sent → t ≡ record (worked (request_part (own_of s) f s.database entries s.next_dd) f.link s) { sent = keys } → out' ≡ and_sends out (work_sent (request_part (own_of s) f s.database entries s.next_dd) (own_of s) f.link s.links) → PutsOut (λ o. Quiet s o t) out out'
+pub request_puts : (f : Origin) (entries : List RequestEntry) (keys : List LsaKey) (s t : AreaValue) (out out' : OutputsValue) → IsDatabase s.database → AreReadAsSent out'.sent → WorksOn (request_part (own_of s) f s.database entries s.next_dd) f.link (record s { sent = keys }) out out' t → PutsOut (λ o. Quiet s o t) out out'
 unfolding answered
-request_puts f entries keys s t out out' is read state outputs =
-    work_puts (λ o. Quiet s o t) (request_part (own_of s) f s.database entries s.next_dd) f.link keys s t out out' state outputs read (λ same. marks_quiet s t keys same)
+request_puts f entries keys s t out out' is read works =
+    work_puts (λ o. Quiet s o t) (request_part (own_of s) f s.database entries s.next_dd) f.link keys s t out out' works read (λ same. marks_quiet s t keys same)
     (λ link one. answers f entries s t is link (neighbour_of link.neighbours f.router) refl one)
 
 -- ---- repeats
@@ -243,8 +243,8 @@ module _ (s : AreaValue) (is : IsDatabase s.database) (l k : ℕ) (link : LinkVa
 link_repeats : (s : AreaValue) → IsDatabase s.database → AreRising s.links → (l k : ℕ) (link : LinkValue) → slice_get s.links l ≡ Some link → RepeatsQuiet s link.neighbours (link_repeated (own_of s) s.database link).neighbours (link_repeats_out (own_of s) s.database k link)
 link_repeats s is rising l k link at = repeats_quiet s is l k link link.neighbours (λ j n there. of_area s l link n.router n at (stands link.neighbours (rising l link at) j n there))
 
-pub repeats_put : (s t : AreaValue) (keys : List LsaKey) (out out' : OutputsValue) → IsDatabase s.database → AreRising s.links → AreReadAsSent out'.sent → t ≡ record s { links = map (link_repeated (own_of s) s.database) s.links; sent = keys } → out' ≡ and_sends out (flat_from (link_repeats_out (own_of s) s.database) 0 s.links) → PutsOut (λ o. Quiet s o t) out out'
-repeats_put s t keys out out' is rising read state outputs =
-    all_links_put (link_repeated (own_of s) s.database) (flat_from (link_repeats_out (own_of s) s.database) 0 s.links) s t out out' (ap (λ (a : AreaValue). a.links) state) (subst (λ a. ChangesLinks s a) (sym state) refl) outputs read
+pub repeats_put : (s t : AreaValue) (keys : List LsaKey) (out out' : OutputsValue) → IsDatabase s.database → AreRising s.links → AreReadAsSent out'.sent → OnEachLink (link_repeated (own_of s) s.database) (link_repeats_out (own_of s) s.database) (record s { sent = keys }) out out' t → PutsOut (λ o. Quiet s o t) out out'
+repeats_put s t keys out out' is rising read repeats =
+    all_links_put (link_repeated (own_of s) s.database) (flat_from (link_repeats_out (own_of s) s.database) 0 s.links) s t out out' (ap (λ (a : AreaValue). a.links) repeats.state) (subst (λ a. ChangesLinks s a) (sym repeats.state) refl) repeats.outputs read
     (λ l link at. let quiet = (link_repeats s is rising l l link at).quiet in record { link = record { goes = quiet.goes; waiting = λ h c. c }; enters = quiet.enters })
     (links_known s (link_repeats_out (own_of s) s.database) (λ k link is_in. (link_repeats s is rising is_in.0 k link is_in.1).known))

@@ -4,7 +4,7 @@ use Rattle.std.proofs.lemmas.Option.{none-some}
 use Rattle.ospf_packet.specs.Meaning.{Meaning}
 use Rattle.ospf_area.specs.Outputs.{OutputsValue, no_outputs}
 use Rattle.ospf_area.specs.State.{AreaValue}
-use Rattle.ospf_update.specs.Meets.{Becomes}
+use Rattle.ospf_area.specs.Acting.{Becomes}
 use Rattle.ospf_step.specs.Accounts.{Sends}
 use Rattle.ospf_step.specs.Neighbours.{Quiet}
 use Rattle.ospf_step.specs.Parts.{AgesPart, RemovalPart}

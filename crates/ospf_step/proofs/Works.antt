@@ -14,9 +14,14 @@ use Rattle.ospf_step.proofs.Chains.{then_sends}
 use Rattle.ospf_step.proofs.LinkParts.{each_same, link_same, map_each, part_goes, part_quiet, quiet_same}
 use Rattle.ospf_step.proofs.StateFacts.{Contains-nil}
 use Rattle.ospf_step.proofs.PutParts.{puts_sent}
-use Rattle.ospf_links.specs.Parts.{with_neighbourhood}
+use Rattle.ospf_links.specs.Parts.{hello_sent, link_timed, with_neighbourhood}
+use Rattle.std.specs.List.{flat_map}
+use Rattle.ospf_links.specs.Repeats.{keys_out, link_repeated, marked_all}
+use Rattle.ospf_update.specs.Acks.{undelayed_link}
+use Rattle.ospf_step.specs.Ticks.{TakesTick}
 use Rattle.ospf_area.specs.Posting.{posted_all}
-use Rattle.ospf_links.specs.Works.{work_sent, worked, worked_links_on, work_next_on, work_sent_on}
+use Rattle.ospf_links.specs.Works.{WorksOn}
+use Rattle.ospf_links.proofs.Words.{worked_by, work_sent_on}
 use Rattle.ospf_step.proofs.Known.{none_known}
 
 -- what is sent behind the outputs so far is read where all is
@@ -61,13 +66,13 @@ one_link l link link' next keys ds s t at state read = record {
 
 -- what is so where the link is not there, and where it is, is so of a part on its neighbours
 pub work_puts : (R : OutputsValue → Type 0) (part : LinkValue → Neighbourhood) (l : ℕ) (keys : List LsaKey) (s t : AreaValue) (out out' : OutputsValue)
-    → t ≡ record (worked part l s) { sent = keys } → out' ≡ and_sends out (work_sent part (own_of s) l s.links) → AreReadAsSent out'.sent
+    → WorksOn part l (record s { sent = keys }) out out' t → AreReadAsSent out'.sent
     → (t ≡ record s { sent = keys } → R no_outputs)
     → ((link : LinkValue) → OnOneLink l link (with_neighbourhood (part link) link) (posted_all (own_of s) l link.iface (part link).sent) s (sends (posted_all (own_of s) l link.iface (part link).sent)) t → R (sends (posted_all (own_of s) l link.iface (part link).sent)))
     → PutsOut R out out'
-work_puts R part l keys s t out out' state outputs read none some = by (slice_get s.links l) refl state outputs
+work_puts R part l keys s t out out' is read none some = by (slice_get s.links l) refl is.state is.outputs
   where
-    by : (o : Option LinkValue) → slice_get s.links l ≡ o → t ≡ record s { links = worked_links_on o part l s.links; next_dd = work_next_on o part s.next_dd; sent = keys } → out' ≡ and_sends out (work_sent_on o part (own_of s) l) → PutsOut R out out'
+    by : (o : Option LinkValue) → slice_get s.links l ≡ o → t ≡ worked_by o part l (record s { sent = keys }) → out' ≡ and_sends out (work_sent_on o part (own_of s) l) → PutsOut R out out'
     by None at state outputs = puts_sent R out out' [] (none state) outputs
     by (Some link) at state outputs =
         let ds = posted_all (own_of s) l link.iface (part link).sent in
@@ -86,3 +91,32 @@ pub silent_links_put : (f : LinkValue → LinkValue) (s t : AreaValue) (out : Ou
 silent_links_put f s t out links rest quiet =
     puts_nothing (λ o. Quiet s o t) out
     (part_quiet s t no_outputs [] rest refl nothing_read (subst (λ cs. AllEach (LinkQuiet s) s.links cs) (sym links) (map_each (LinkQuiet s) f s.links quiet)) (none_known s))
+
+-- ---- a tick: its parts as functions of the state that they begin in
+
+-- the timers of all links were counted
+abbrev pub timed_area : AreaValue → AreaValue
+timed_area s = record s { links = map link_timed s.links }
+
+-- then the Hellos that were due went out
+abbrev pub helloed_area : AreaValue → AreaValue
+helloed_area s = record s { links = map hello_sent s.links }
+
+-- then the delayed acknowledgements
+abbrev pub acknowledged_area : AreaValue → AreaValue
+acknowledged_area s = record s { links = map undelayed_link s.links }
+
+-- up to what is sent again
+abbrev pub ticked_area : AreaValue → AreaValue
+ticked_area s = acknowledged_area (helloed_area (timed_area s))
+
+-- what is sent again
+abbrev pub repeated : AreaValue → AreaValue
+repeated s = record s { links = map (link_repeated (own_of s) s.database) s.links; sent = marked_all (flat_map (keys_out (own_of s) s.database) s.links) s.sent }
+
+module _ (s : AreaValue) (out out' : OutputsValue) (after : AreaValue) (is : TakesTick s out out' after) where
+  pub acknowledged_is : is.acknowledged ≡ ticked_area is.aged
+  acknowledged_is = is.acknowledgements.state ∙ ap acknowledged_area (is.hellos.state ∙ ap helloed_area is.timers)
+
+  pub tick_state : after ≡ repeated (ticked_area is.aged)
+  tick_state = is.repeats.state ∙ ap repeated acknowledged_is

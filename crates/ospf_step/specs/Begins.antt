@@ -4,10 +4,9 @@ use Rattle.ospf_base.specs.declared.ids.Addr.{Addr}
 use Rattle.ospf_packet.specs.Meaning.{Meaning}
 use Rattle.ospf_packet.specs.PacketOf.{packet_of}
 use Rattle.ospf_area.specs.Outputs.{AreReadAsSent, OutputsValue}
-use Rattle.ospf_area.specs.Sending.{and_sends, own_of}
 use Rattle.ospf_area.specs.State.{AreaValue, LinkValue}
 use Rattle.ospf_adjacency.specs.Heard.{Neighbourhood}
-use Rattle.ospf_links.specs.Works.{work_sent, worked}
+use Rattle.ospf_links.specs.Works.{WorksOn}
 use Rattle.ospf_step.specs.Puts.{PutsOut}
 use Rattle.ospf_step.specs.Step.{Chain, Event, Part, first_parts}
 use Rattle.ospf_step.specs.Step.Event.{Datagram}
@@ -24,7 +23,7 @@ BeginsChain e s out t mid_out =
     (rest : List Part) (u : AreaValue) (out' : OutputsValue) → AreReadAsSent out'.sent →
     PutsOut (λ o. Chain rest t o u) mid_out out' → PutsOut (λ o. Chain (first_parts e ++ rest) s o u) out out'
 
--- they are what a part of a link does
+-- they are what a part on a link does
 abbrev pub BeginsWork : Event → (LinkValue → Neighbourhood) → ℕ → AreaValue → OutputsValue → Type 0
 BeginsWork e part link s out =
-    BeginsChain e s out (worked part link s) (and_sends out (work_sent part (own_of s) link s.links))
+    (t : AreaValue) (mid_out : OutputsValue) → WorksOn part link s out mid_out t → BeginsChain e s out t mid_out

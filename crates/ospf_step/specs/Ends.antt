@@ -4,7 +4,7 @@ use Rattle.ospf_area.specs.State.{AreaValue}
 use Rattle.ospf_links.specs.Elections.{ElectsAll}
 use Rattle.ospf_lsdb.specs.Database.{IsDatabase}
 use Rattle.ospf_originate.specs.Steps.{OwnLsas}
-use Rattle.ospf_update.specs.Meets.{InTurn}
+use Rattle.ospf_area.specs.Acting.{InTurn}
 use Rattle.ospf_update.specs.Removal.{RemovesOne, leaving}
 
 pub record EndsStep (s : AreaValue) (out out' : OutputsValue) (after : AreaValue) : Type 0 where

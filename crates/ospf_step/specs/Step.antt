@@ -10,7 +10,8 @@ use Rattle.ospf_area.specs.Outputs.{OutputsValue, no_outputs, sends, then_output
 use Rattle.ospf_area.specs.State.{AreaValue}
 use Rattle.ospf_area.specs.declared.flooding.Origin.{Origin}
 use Rattle.ospf_update.specs.Acks.{direct_out}
-use Rattle.ospf_update.specs.Meets.{Becomes, header_met}
+use Rattle.ospf_area.specs.Acting.{Becomes}
+use Rattle.ospf_update.specs.Meets.{header_met}
 use Rattle.ospf_step.specs.Neighbours.{NeighboursGo, Quiet}
 use Rattle.ospf_step.specs.Packets.{Received}
 use Rattle.ospf_step.specs.Parts.{LsaPart, IssuePart, ExpiryPart, AgesPart, RemovalPart}

@@ -8,6 +8,7 @@ use Rattle.ospf_step.specs.Drops.{dropped_by}
 use Rattle.ospf_step.specs.Ends.{EndsStep}
 use Rattle.ospf_step.specs.Takes.{TakesEvent}
 
+-- the event is taken, and then the step ends
 pub record Takes (e : Event) (s : AreaValue) (out : OutputsValue) (after : AreaValue) : Type 0 where
   pub mid : AreaValue
   pub mid_out : OutputsValue

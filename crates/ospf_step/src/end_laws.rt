@@ -3,7 +3,7 @@
 ghost use Rattle.ospf_lsdb.specs.Database.{IsDatabase};
 ghost use Rattle.ospf_area.specs.Outputs.{AreReadAsSent, OutputsValue};
 ghost use Rattle.ospf_area.specs.State.{AreaValue};
-ghost use Rattle.ospf_update.specs.Meets.{InTurn};
+ghost use Rattle.ospf_area.specs.Acting.{InTurn};
 ghost use Rattle.ospf_update.specs.Removal.{RemovesOne, leaving};
 ghost use Rattle.ospf_links.specs.Elections.{ElectsAll};
 ghost use Rattle.ospf_originate.specs.Steps.{OwnLsas};

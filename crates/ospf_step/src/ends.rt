@@ -6,7 +6,7 @@ ghost use Rattle.ospf_lsdb.specs.Database.{IsDatabase};
 ghost use Rattle.ospf_originate.specs.Steps.{OwnLsas};
 ghost use Rattle.ospf_step.specs.Ends.{EndsStep};
 ghost use Rattle.ospf_step.specs.Fit.{IsFitRouter};
-ghost use Rattle.ospf_update.specs.Meets.{InTurn};
+ghost use Rattle.ospf_area.specs.Acting.{InTurn};
 ghost use Rattle.ospf_update.specs.Removal.{RemovesOne, leaving};
 
 use crate::outputs_laws::database_is_one;

@@ -16,7 +16,7 @@ ghost use Rattle.ospf_area.specs.Sending.{and_sends, own_of};
 ghost use Rattle.ospf_area.specs.State.{AreaValue};
 ghost use Rattle.ospf_update.specs.Updates.{TakesUpdate};
 ghost use Rattle.ospf_links.specs.Parts.{description_part, hello_part, link_down, link_up, request_part};
-ghost use Rattle.ospf_links.specs.Works.{link_changed, up_out_on, work_sent, worked};
+ghost use Rattle.ospf_links.specs.Works.{WorksOn, link_changed, up_out_on};
 ghost use Rattle.ospf_step.specs.Begins.{BeginsChain, BeginsWork, IsArrival};
 ghost use Rattle.ospf_step.specs.Puts.{PutsOut, headers_met};
 ghost use Rattle.ospf_step.specs.Step.{Chain, Event, Part, first_parts};
@@ -46,8 +46,9 @@ pub fn datagrams_are_chains()
         (entries : List RequestEntry) (marks : List LsaKey) → p.body ≡ request entries →
         (s : AreaValue) (out : OutputsValue) → IsDatabase s.database →
         let part = request_part (own_of s) (origin_of link source p) s.database entries s.next_dd in
-        BeginsChain e s out (record (worked part link s) { sent = marks })
-        (and_sends out (work_sent part (own_of s) link s.links)) }
+        (t : AreaValue) (mid_out : OutputsValue) →
+        WorksOn part link (record s { sent = marks }) out mid_out t →
+        BeginsChain e s out t mid_out }
     // An Update (13).
     ensures update { (e : Event) (link : ℕ) (source : Addr) (p : Meaning) →
         IsArrival e link source p →

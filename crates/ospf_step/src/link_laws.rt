@@ -13,7 +13,7 @@ ghost use Rattle.ospf_area.specs.Sending.{and_sends, own_of};
 ghost use Rattle.ospf_area.specs.State.{AreaValue};
 ghost use Rattle.ospf_area.specs.declared.flooding.Origin.{Origin};
 ghost use Rattle.ospf_links.specs.Parts.{description_part, hello_part, link_down, link_up, request_part};
-ghost use Rattle.ospf_links.specs.Works.{link_changed, up_out_on, work_sent, worked};
+ghost use Rattle.ospf_links.specs.Works.{WorksOn, link_changed, up_out_on};
 ghost use Rattle.ospf_step.specs.Packets.{dd_headers_of};
 ghost use Rattle.ospf_step.specs.Puts.{PutsOut};
 ghost use Rattle.ospf_step.specs.Step.{IsPart, Part};
@@ -23,9 +23,8 @@ ghost use Rattle.ospf_step.specs.Invariants.{NoneWaitsBelow};
 pub fn hellos_put_out()
     ensures { (f : Origin) (p : Meaning) (h : Hello) (named : Bool) (s t : AreaValue)
         (out out' : OutputsValue) →
-        AreReadAsSent out'.sent → t ≡ worked (hello_part (own_of s) f h named s.next_dd) f.link s →
-        out' ≡ and_sends out (work_sent (hello_part (own_of s) f h named s.next_dd) (own_of s)
-        f.link s.links) →
+        AreReadAsSent out'.sent →
+        WorksOn (hello_part (own_of s) f h named s.next_dd) f.link s out out' t →
         PutsOut (λ o. IsPart (Part.HelloComes f p) s o t) out out' }
 {}
 
@@ -35,9 +34,8 @@ pub fn descriptions_put_out()
         (s t : AreaValue) (out out' : OutputsValue) →
         IsDatabase s.database → NoneWaitsBelow s f.link f.router → p.router ≡ f.router → headers
         ≡ dd_headers_of p.body → AreReadAsSent out'.sent →
-        t ≡ worked (description_part (own_of s) f d headers s.database s.next_dd) f.link s →
-        out' ≡ and_sends out (work_sent (description_part (own_of s) f d headers s.database
-        s.next_dd) (own_of s) f.link s.links) →
+        WorksOn (description_part (own_of s) f d headers s.database s.next_dd) f.link s out out'
+        t →
         PutsOut (λ o. IsPart (Part.DdComes f p) s o t) out out' }
 {}
 
@@ -46,12 +44,8 @@ pub fn requests_put_out()
     ensures { (f : Origin) (p : Meaning) (entries : List RequestEntry) (marks : List LsaKey)
         (s t : AreaValue) (out out' : OutputsValue) →
         IsDatabase s.database → AreReadAsSent out'.sent →
-        t ≡ record (worked (request_part (own_of s) f s.database entries s.next_dd) f.link s) {
-          sent
-              = marks;
-        } →
-        out' ≡ and_sends out (work_sent (request_part (own_of s) f s.database entries s.next_dd)
-        (own_of s) f.link s.links) →
+        WorksOn (request_part (own_of s) f s.database entries s.next_dd) f.link
+        (record s { sent = marks }) out out' t →
         PutsOut (λ o. IsPart (Part.RequestComes f p) s o t) out out' }
 {}
 

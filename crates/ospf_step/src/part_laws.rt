@@ -2,7 +2,6 @@
 
 ghost use Rattle.std.specs.Prelude.{◌≡◌, ◌++◌, ◌∷◌, [], Bool, false, List, Some, map, suc, ℕ};
 ghost use Rattle.ospf_update.specs.Acks.{undelayed_link, delayed_out_on};
-ghost use Rattle.ospf_area.specs.Places.{flat_from};
 ghost use Rattle.ospf_base.specs.declared.ids.LsaKey.{LsaKey};
 ghost use Rattle.ospf_lsa.specs.declared.header.LsaHeader.{LsaHeader};
 ghost use Rattle.ospf_lsdb.specs.Database.{Entry, IsDatabase};
@@ -11,7 +10,7 @@ ghost use Rattle.ospf_area.specs.Sending.{and_sends, own_of};
 ghost use Rattle.ospf_area.specs.State.{AreaValue, database_entry};
 ghost use Rattle.ospf_area.specs.declared.flooding.Origin.{Origin};
 ghost use Rattle.ospf_update.specs.Aging.{Flushes, TickAges, turn_out, turned_area};
-ghost use Rattle.ospf_update.specs.Meets.{InTurn};
+ghost use Rattle.ospf_area.specs.Acting.{InTurn, OnEachLink};
 ghost use Rattle.ospf_update.specs.Removal.{RemovesOne, leaving};
 ghost use Rattle.ospf_update.specs.Updates.{TakesUpdate};
 ghost use Rattle.ospf_step.specs.Neighbours.{Quiet};
@@ -74,8 +73,8 @@ pub fn next_requests_put_out()
 /// The delayed acknowledgements of a tick are a part.
 pub fn acknowledgements_put_out()
     ensures { (s t : AreaValue) (out out' : OutputsValue) →
-        AreReadAsSent out'.sent → t ≡ record s { links = map undelayed_link s.links } → out'
-        ≡ and_sends out (flat_from (delayed_out_on (own_of s)) 0 s.links) →
+        AreReadAsSent out'.sent →
+        OnEachLink undelayed_link (delayed_out_on (own_of s)) s out out' t →
         PutsOut (λ o. Quiet s o t) out out' }
 {}
 

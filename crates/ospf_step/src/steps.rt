@@ -14,7 +14,7 @@ ghost use Rattle.ospf_step.specs.Ready.{IsReadyFor};
 ghost use Rattle.ospf_step.specs.Same.{IsSameRouter};
 ghost use Rattle.ospf_step.specs.Steps.{StepsArea};
 ghost use Rattle.ospf_step.specs.Takes.{TakesEvent};
-ghost use Rattle.ospf_update.specs.Meets.{Becomes};
+ghost use Rattle.ospf_area.specs.Acting.{Becomes};
 
 use crate::datagrams::take_datagram;
 use crate::dropped::Dropped;

@@ -4,17 +4,16 @@ ghost use Rattle.std.specs.Prelude.{◌≡◌, List, map};
 ghost use Rattle.ospf_links.specs.Repeats.{link_repeats_out, link_repeated};
 ghost use Rattle.ospf_base.specs.declared.ids.LsaKey.{LsaKey};
 ghost use Rattle.ospf_lsdb.specs.Database.{IsDatabase};
-ghost use Rattle.ospf_area.specs.Outputs.{AreReadAsSent, OutputsValue, SentValue};
-ghost use Rattle.ospf_area.specs.Places.{flat_from};
-ghost use Rattle.ospf_area.specs.Sending.{and_sends, own_of};
+ghost use Rattle.ospf_area.specs.Outputs.{AreReadAsSent, OutputsValue};
+ghost use Rattle.ospf_area.specs.Acting.{OnEachLink};
+ghost use Rattle.ospf_area.specs.Sending.{own_of};
 ghost use Rattle.ospf_area.specs.State.{AreaValue};
-ghost use Rattle.ospf_update.specs.Aging.{TickAges};
 ghost use Rattle.ospf_links.specs.Parts.{hello_out, hello_sent, link_timed};
 ghost use Rattle.ospf_step.specs.Begins.{BeginsChain};
 ghost use Rattle.ospf_step.specs.Puts.{PutsOut};
 ghost use Rattle.ospf_step.specs.Step.{Chain, Event, IsPart, Part};
 ghost use Rattle.ospf_step.specs.Invariants.{AreRising};
-ghost use Rattle.ospf_step.specs.Ticks.{tick_out, ticked_area};
+ghost use Rattle.ospf_step.specs.Ticks.{TakesTick};
 
 /// The wait timers and the inactivity timers.
 pub fn timers_put_out()
@@ -26,8 +25,7 @@ pub fn timers_put_out()
 /// The Hellos that are due.
 pub fn due_hellos_put_out()
     ensures { (s t : AreaValue) (out out' : OutputsValue) →
-        AreReadAsSent out'.sent → t ≡ record s { links = map hello_sent s.links } → out'
-        ≡ and_sends out (flat_from (hello_out (own_of s)) 0 s.links) →
+        AreReadAsSent out'.sent → OnEachLink hello_sent (hello_out (own_of s)) s out out' t →
         PutsOut (λ o. IsPart Part.Hellos s o t) out out' }
 {}
 
@@ -35,20 +33,16 @@ pub fn due_hellos_put_out()
 pub fn repeats_put_out()
     ensures { (marks : List LsaKey) (s t : AreaValue) (out out' : OutputsValue) →
         IsDatabase s.database → AreRising s.links → AreReadAsSent out'.sent →
-        t ≡ record s { links = map (link_repeated (own_of s) s.database) s.links; sent = marks } →
-        out' ≡ and_sends out (flat_from (link_repeats_out (own_of s) s.database) 0 s.links) →
+        OnEachLink (link_repeated (own_of s) s.database) (link_repeats_out (own_of s) s.database)
+        (record s { sent = marks }) out out' t →
         PutsOut (λ o. IsPart Part.Repeats s o t) out out' }
 {}
 
-/// All of a tick: only the ages and the last links and marks are not told by what was before.
+/// All of a tick.
 pub fn ticks_are_chains()
-    ensures { (marks : List LsaKey) (s aged : AreaValue) (expired : List SentValue)
-        (out : OutputsValue) → AreRising aged.links → AreRising (ticked_area aged).links →
-        IsDatabase aged.database → TickAges s expired aged →
-        let repeated = map (link_repeated (own_of aged) aged.database) (ticked_area aged).links in
-        BeginsChain Event.Tick s out
-        (record (ticked_area aged) { links = repeated; sent = marks })
-        (tick_out aged (and_sends out expired)) }
+    ensures { (s t : AreaValue) (out mid_out : OutputsValue) (is : TakesTick s out mid_out t) →
+        IsDatabase is.aged.database → AreRising is.aged.links → AreRising is.acknowledged.links →
+        BeginsChain Event.Tick s out t mid_out }
 {}
 
 /// What is read once a part was put out, was read before.

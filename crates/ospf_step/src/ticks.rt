@@ -1,10 +1,12 @@
 //! Ticks.
 
-ghost use Rattle.std.specs.Prelude.{◌≡◌, OnOk};
-ghost use Rattle.ospf_area.specs.Sending.{and_sends};
+ghost use Rattle.std.specs.Prelude.{◌≡◌, OnOk, map};
+ghost use Rattle.ospf_area.specs.Acting.{OnEachLink};
+ghost use Rattle.ospf_area.specs.Sending.{own_of};
+ghost use Rattle.ospf_links.specs.Parts.{hello_out, hello_sent, link_timed};
 ghost use Rattle.ospf_step.specs.Fit.{IsFitRouter};
-ghost use Rattle.ospf_step.specs.Ticks.{acknowledged_area, acknowledgements_out, helloed_area, hellos_out, repeats_out, timed_area};
-ghost use Rattle.ospf_step.specs.Takes.{TakesTick, repeated};
+ghost use Rattle.ospf_step.specs.Ticks.{RepeatsAll, TakesTick};
+ghost use Rattle.ospf_update.specs.Acks.{delayed_out_on, undelayed_link};
 
 use ospf_adjacency::{elections_come_about, neighbours_stay_of_link, repeats_are_quiet};
 use ospf_area::{Area, Outputs, own_of};
@@ -44,15 +46,15 @@ fn beat(area: &mut Area, out: &mut Outputs, alloc: Global) -> Result<(), AllocEr
 
 // As `ospf_links::count_timers`, over the links of an area.
 fn count_timers(area: &mut Area, alloc: Global)
-    ensures { area.new ≡ timed_area area.old }
+    ensures { area.new ≡ record area.old { links = map link_timed area.old.links } }
 {
     ospf_links::count_timers(&mut area.links, alloc);
 }
 
 // As `ospf_links::send_hellos`, over the links of an area.
 fn send_hellos(area: &mut Area, out: &mut Outputs, alloc: Global) -> Result<(), AllocError>
-    ensures after { OnOk result (area.new ≡ helloed_area area.old) }
-    ensures sent { OnOk result (out.new ≡ and_sends out.old (hellos_out area.old)) }
+    ensures { OnOk result (OnEachLink hello_sent (hello_out (own_of area.old))
+        area.old out.old out.new area.new) }
 {
     let own = own_of(area);
     ospf_links::send_hellos(&mut area.links, own, out, alloc)
@@ -60,8 +62,8 @@ fn send_hellos(area: &mut Area, out: &mut Outputs, alloc: Global) -> Result<(), 
 
 // As `ospf_update::send_delayed`, over the links of an area.
 fn send_delayed(area: &mut Area, out: &mut Outputs, alloc: Global) -> Result<(), AllocError>
-    ensures after { OnOk result (area.new ≡ acknowledged_area area.old) }
-    ensures sent { OnOk result (out.new ≡ and_sends out.old (acknowledgements_out area.old)) }
+    ensures { OnOk result (OnEachLink undelayed_link (delayed_out_on (own_of area.old))
+        area.old out.old out.new area.new) }
 {
     let own = own_of(area);
     ospf_update::send_delayed(&mut area.links, own, out, alloc)
@@ -69,8 +71,7 @@ fn send_delayed(area: &mut Area, out: &mut Outputs, alloc: Global) -> Result<(),
 
 // As `ospf_links::repeat_all`, over the links of an area.
 fn repeat_all(area: &mut Area, out: &mut Outputs, alloc: Global) -> Result<(), AllocError>
-    ensures after { OnOk result (area.new ≡ repeated area.old) }
-    ensures sent { OnOk result (out.new ≡ and_sends out.old (repeats_out area.old)) }
+    ensures { OnOk result (RepeatsAll area.old out.old out.new area.new) }
 {
     let own = own_of(area);
     ospf_links::repeat_all(

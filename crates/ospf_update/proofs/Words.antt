@@ -6,7 +6,8 @@ use Rattle.ospf_area.specs.Outputs.{SentValue, OutputsValue}
 use Rattle.ospf_area.specs.Sending.{own_of, to_address, way_out}
 use Rattle.ospf_area.specs.State.{AreaValue, LinkValue}
 use Rattle.ospf_area.specs.declared.flooding.Origin.{Origin}
-use Rattle.ospf_update.specs.Meets.{lsa_out_on, first_dd_on, flooded_area, InTurn}
+use Rattle.ospf_area.specs.Acting.{InTurn}
+use Rattle.ospf_update.specs.Meets.{lsa_out_on, first_dd_on, flooded_area}
 use Rattle.ospf_base.specs.declared.ids.Instance.{Instance}
 use Rattle.ospf_area.specs.Changes.{changed_at}
 use Rattle.ospf_area.specs.declared.changes.AdjacencyChange.TheVariants.{Acknowledges}

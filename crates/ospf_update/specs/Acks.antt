@@ -25,7 +25,7 @@ abbrev pub put_in_order : LsaHeader → List LsaHeader → List LsaHeader
 put_in_order h [] = h ∷ []
 put_in_order h (x ∷ xs) = if header_precedes h x then h ∷ x ∷ xs else x ∷ put_in_order h xs
 
--- one after the other
+-- headers in order, each put behind those that it does not precede
 abbrev pub in_order : List LsaHeader → List LsaHeader
 in_order hs = fold (λ sorted h. put_in_order h sorted) [] hs
 

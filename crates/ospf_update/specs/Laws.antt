@@ -24,7 +24,8 @@ use Rattle.ospf_lsa.specs.declared.header.LsaHeader.{LsaHeader}
 use Rattle.ospf_packet.specs.Meaning.{Meaning, update}
 use Rattle.ospf_packet.specs.PacketOf.{packet_of}
 use Rattle.ospf_update.specs.Aging.{Flushes, TickAges}
-use Rattle.ospf_update.specs.Meets.{MeetsLsa, Stores, header_met, rule_met, InTurn}
+use Rattle.ospf_area.specs.Acting.{InTurn}
+use Rattle.ospf_update.specs.Meets.{MeetsLsa, Stores, header_met, rule_met}
 use Rattle.ospf_update.specs.Updates.{TakesUpdate}
 use Rattle.ospf_area.specs.Numbers.{is_own}
 use Rattle.ospf_area.specs.Outputs.{OutputsValue, SentValue}

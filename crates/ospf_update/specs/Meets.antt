@@ -20,6 +20,7 @@ use Rattle.ospf_lsa.specs.declared.recency.Recency.TheVariants.{Same}
 use Rattle.ospf_lsdb.specs.Database as lsdb
 use Rattle.ospf_lsdb.specs.Database.{Entry, entry_from, lsa_of}
 use Rattle.ospf_packet.specs.Meaning as meaning
+use Rattle.ospf_area.specs.Acting.{Becomes}
 use Rattle.ospf_area.specs.Changes.{changed_at}
 use Rattle.ospf_area.specs.Flooding.{flooded_back, flooded_links, flooding_updates, goes_anywhere, released}
 use Rattle.ospf_area.specs.Numbers.{counts, greatest_after, is_self_originated, marked}
@@ -67,17 +68,6 @@ rule_met s f lsa =
     if is_taken_in (origin_neighbour s.links f)
     then Some (lsa_rule (header_of lsa) (database_entry s (key_of lsa)) (some_link_loading s.links) (is_requested_of (key_of lsa) (origin_neighbour s.links f)) s.tick)
     else None
-
--- the router becomes this, and all that it has put out becomes that
-pub record Becomes (made : AreaValue) (puts out' : OutputsValue) (after : AreaValue) : Type 0 where
-  pub state : after ≡ made
-  pub outputs : out' ≡ puts
-
--- what each of these does, one after the other
-abbrev pub InTurn : {X : Type 0} → (X → AreaValue → OutputsValue → OutputsValue → AreaValue → Type 0) → List X → AreaValue → OutputsValue → OutputsValue → AreaValue → Type 0
-InTurn Does [] before out out' after = Becomes before out out' after
-InTurn Does (x ∷ xs) before out out' after =
-    (mid : AreaValue) × (so_far : OutputsValue) × Does x before out so_far mid × InTurn Does xs mid so_far out' after
 
 -- a self-originated LSA is to be answered at the end of the step (13.4)
 abbrev pub heard_by : LsaKey → AreaValue → AreaValue

@@ -12,7 +12,8 @@ use Rattle.ospf_lsa.specs.Header.{header_of}
 use Rattle.ospf_lsa.specs.Lsa.{IsLsa, type_of}
 use Rattle.ospf_update.specs.Acks.{direct_out}
 use Rattle.ospf_update.specs.Aging.{turned_area, turn_out}
-use Rattle.ospf_update.specs.Meets.{MeetsLsa, InTurn}
+use Rattle.ospf_area.specs.Acting.{InTurn}
+use Rattle.ospf_update.specs.Meets.{MeetsLsa}
 use Rattle.ospf_area.specs.Outputs.{OutputsValue}
 use Rattle.ospf_area.specs.Sending.{and_sends, own_of}
 use Rattle.ospf_area.specs.Standing.{is_taken_in, origin_neighbour}

@@ -3,7 +3,7 @@
 ghost use Rattle.std.specs.Prelude.{◌≡◌, IfOk, OnOk, map, filter, if◌then◌else◌};
 ghost use Rattle.std.specs.List.{list_any};
 ghost use Rattle.ospf_lsdb.specs.Database.{entries, held_of, is_some_and, key_in};
-ghost use Rattle.ospf_update.specs.Meets.{InTurn};
+ghost use Rattle.ospf_area.specs.Acting.{InTurn};
 ghost use Rattle.ospf_neighbour.specs.Lists.{is_listed};
 ghost use Rattle.ospf_neighbour.specs.Neighbour.{NeighbourValue};
 ghost use Rattle.ospf_update.specs.Removal.{some_awaits, is_leaving, leaving, is_last, ends_run, reset_one, reset, and_ends, RemovesOne};

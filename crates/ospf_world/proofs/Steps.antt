@@ -34,7 +34,7 @@ use Rattle.ospf_router.specs.Steps.{IsLawful}
 use Rattle.ospf_step.specs.Drops.{is_dropped}
 use Rattle.ospf_step.specs.Ends.{EndsStep}
 use Rattle.ospf_step.specs.Steps.{StepsArea}
-use Rattle.ospf_step.specs.Takes.{TakesTick}
+use Rattle.ospf_step.specs.Ticks.{TakesTick}
 use Rattle.ospf_update.specs.Acks.{cut}
 use Rattle.ospf_wanted.specs.Made.{says}
 use Rattle.ospf_wanted.specs.Wanted.{links_at, networks_at, wanted}
@@ -48,8 +48,15 @@ takes_tick = record {
   aged = ticked;
   expired_out = [];
   ages = record { mid = ticked; rise = record { database = λ k. refl; rest = refl }; state = refl; sends = refl };
-  state = refl;
-  outputs = refl;
+  timed = ticked;
+  timers = refl;
+  helloed = ticked;
+  helloed_out = no_outputs;
+  hellos = record { state = refl; outputs = refl };
+  acknowledged = ticked;
+  acknowledged_out = no_outputs;
+  acknowledgements = record { state = refl; outputs = refl };
+  repeats = record { state = refl; outputs = refl };
 }
 
 none_elects : ElectsAll ticked no_outputs ticked no_outputs
@@ -210,8 +217,8 @@ tick_laws =
     let read : AreReadAsSent issuing_out.sent = λ k d within. absurd (omega arith) in
     let end = ends_tick in
     step_from_chain is_dropped Event.Tick begun issuing_out has_issued refl read
-    (tick_puts last_parts _ begun ticked ticked has_issued [] no_outputs no_outputs issuing_out
-    (rising_links ticked down_link refl refl) (rising_links ticked down_link refl refl) end.database read takes_tick.ages takes_tick.state takes_tick.outputs
+    (tick_puts last_parts begun ticked has_issued no_outputs no_outputs issuing_out takes_tick end.database
+    (rising_links ticked down_link refl refl) (rising_links ticked down_link refl refl) read
     (ends_put ticked ticked has_issued has_issued no_outputs no_outputs issuing_out issuing_out end.database end.issued_database read end.elects end.own end.removes))
 
 up_laws : StepLaws is_dropped (Event.LinkUp 0) has_issued linked_out linked

@@ -5,7 +5,7 @@ use Rattle.ospf_wanted.specs.Own.{wanted_value}
 use Rattle.ospf_wanted.specs.Wanted.{WantedValue}
 use Rattle.ospf_wanted.specs.declared.wants.OwnLsa.{OwnLsa}
 use Rattle.ospf_wanted.proofs.MakeLemmas.{wanted_made}
-use Rattle.ospf_update.specs.Meets.{InTurn}
+use Rattle.ospf_area.specs.Acting.{InTurn}
 use Rattle.ospf_originate.specs.Steps.{Acts, IsDue}
 use Rattle.ospf_originate.specs.declared.action.DueAction.{DueAction}
 use Rattle.ospf_originate.proofs.OwnLaws.{ends_sound}
