@@ -5,6 +5,14 @@ use Rattle.ospf_files.specs.declared.status.Failure.{Failure}
 use Rattle.ospf_files.specs.declared.status.Failure.TheVariants as failure
 use Rattle.ospf_files.specs.declared.streams.FailedStreams.{FailedStreams}
 
+-- what stands written on standard output and on standard error, where that is known
+pub record Written : Type 0 where
+  pub out : Option (List ℕ)
+  pub err : Option (List ℕ)
+
+abbrev pub written_on : Option (List ℕ) → Option (List ℕ) → Written
+written_on out err = record { out = out; err = err }
+
 -- a beginning of the text was written, or all of it
 pub record IsBegun (old new : Option (List ℕ)) (text : List ℕ) : Type 0 where
   pub part : List ℕ
