@@ -9,7 +9,7 @@ use Rattle.ospf_files.proofs.Written.{both_written, nothing_written}
 use Rattle.ospf_config.specs.declared.config.Config.{Config}
 use Rattle.ospf_config.specs.declared.fault.ConfigFault.{ConfigFault}
 use Rattle.ospf_files.specs.Files.{IsConfigIn, IsRefusedFor, bytes_of, refused_line}
-use Rattle.ospf_files.specs.Streams.{IsBegun, with_error, with_output}
+use Rattle.ospf_files.specs.Streams.{IsBegun, Written, with_error, with_output, written_on}
 use Rattle.ospf_files.specs.declared.status.Failure.{Failure}
 use Rattle.ospf_files.specs.declared.status.Failure.TheVariants as failure
 use Rattle.std.specs.Io.KnownBytes.{Appends}
@@ -34,21 +34,21 @@ more_told how _ _ _ _ file accepted out err no_file is = rw (sym (append-nil out
 more_told how _ _ _ _ file accepted out err (one_file {accepted = a} {all = all} {out = o} {outs = outs} {err = e} {errs = errs} first rest) is =
     rw (and_assoc a all accepted, append_assoc o outs out, append_assoc e errs err) (one_file first (more_told how _ all outs errs file accepted out err rest is))
 
-pub no_files : (how : Telling) (out err : Option (List ℕ)) → IsWritten how [] true out out err err
-no_files how out err = record { out = []; err = []; told = no_file; out_written = nothing_written out; err_written = nothing_written err }
+pub no_files : (how : Telling) (now : Written) → IsWritten how [] true now now
+no_files how now = record { out = []; err = []; told = no_file; out_written = nothing_written now.out; err_written = nothing_written now.err }
 
-pub file_written : (how : Telling) (a b c x y z : Option (List ℕ)) (files : List NamedFile) (i : ℕ) (file : NamedFile) (all accepted : Bool) → i < length files
-    → file ≡ get_or files i file → IsWritten how (take i files) all a b x y → IsWrittenOf how file accepted b c y z
-    → IsWritten how (take (i + 1) files) (all && accepted) a c x z
-file_written how a b c x y z files i file all accepted within at so_far next =
+pub file_written : (how : Telling) (old between new : Written) (files : List NamedFile) (i : ℕ) (file : NamedFile) (all accepted : Bool) → i < length files
+    → file ≡ get_or files i file → IsWritten how (take i files) all old between → IsWrittenOf how file accepted between new
+    → IsWritten how (take (i + 1) files) (all && accepted) old new
+file_written how old between new files i file all accepted within at so_far next =
     let more = ap (λ last. take i files ++ last ∷ []) at ∙ sym (take_more files i file within) in
     record {
       out = so_far.out ++ next.out;
       err = so_far.err ++ next.err;
       told = subst (λ front. AreTold how front (all && accepted) (so_far.out ++ next.out) (so_far.err ++ next.err)) more
           (more_told how (take i files) all so_far.out so_far.err file accepted next.out next.err so_far.told next.told);
-      out_written = both_written a b c so_far.out next.out so_far.out_written next.out_written;
-      err_written = both_written x y z so_far.err next.err so_far.err_written next.err_written;
+      out_written = both_written old.out between.out new.out so_far.out next.out so_far.out_written next.out_written;
+      err_written = both_written old.err between.err new.err so_far.err next.err so_far.err_written next.err_written;
     }
 
 -- the line of one place more
@@ -59,21 +59,16 @@ lines_more places i place line so_far lines within is shown front all =
     ∙ flat_map_more place_line [] (take i places) (get_or places i place) ∙ ap (flat_map place_line) (sym (take_more places i place within))
 
 -- a check that ended in a file, behind files that were told
-pub cut_in : (how : Telling) (a b c x y z : Option (List ℕ)) (files : List NamedFile) (i : ℕ) (file : NamedFile) (all : Bool) (failed : FailedStreams) (cause : CheckFault) → i < length files
-    → file ≡ get_or files i file → IsWritten how (take i files) all a b x y → EndsIn how file failed b c y z cause → IsCutIn how files failed a c x z cause
-cut_in how a b c x y z files i file all failed cause within at so_far ends = record {
+pub cut_in : (how : Telling) (old between new : Written) (files : List NamedFile) (i : ℕ) (file : NamedFile) (all : Bool) (failed : FailedStreams) (cause : CheckFault) → i < length files
+    → file ≡ get_or files i file → IsWritten how (take i files) all old between → EndsIn how file failed between new cause → IsCutIn how files failed old new cause
+cut_in how old between new files i file all failed cause within at so_far ends = record {
   before = take i files;
   file = file;
   after = drop (suc i) files;
   files_are = files_split files i file within at;
   all = all;
-  out = so_far.out;
-  err = so_far.err;
-  told = so_far.told;
-  out_then = b;
-  err_then = y;
-  out_written = so_far.out_written;
-  err_written = so_far.err_written;
+  between = between;
+  told = so_far;
   ends = ends;
 }
 
@@ -97,25 +92,30 @@ refused_verdict how file bytes fault lines more held is because text = subst (λ
 -- standard output failed at the line of an accepted file
 pub output_ends : (how : Telling) (file : NamedFile) (before failed : FailedStreams) (a b x : Option (List ℕ)) (f : Failure) (line text : List ℕ)
     → IsFileTold how file true line [] → text ≡ line → (f ≡ failure.Memory) ⊎ (f ≡ failure.Output) → failed ≡ with_output before → IsBegun a b text
-    → EndsIn how file failed a b x x (fault.Failure f)
+    → EndsIn how file failed (written_on a x) (written_on b x) (fault.Failure f)
 output_ends how file before failed a b x f line text told is why failed_is begun =
     no_output f line why (ap (λ (s : FailedStreams). s.output) failed_is) told (subst (IsBegun a b) is begun) refl
 
 -- standard error failed at the lines of a refused file
 pub error_ends : (how : Telling) (file : NamedFile) (before failed : FailedStreams) (a x y : Option (List ℕ)) (f : Failure) (lines text : List ℕ)
     → IsFileTold how file false [] lines → text ≡ lines → (f ≡ failure.Memory) ⊎ (f ≡ failure.Error) → failed ≡ with_error before → IsBegun x y text
-    → EndsIn how file failed a a x y (fault.Failure f)
+    → EndsIn how file failed (written_on a x) (written_on a y) (fault.Failure f)
 error_ends how file before failed a x y f lines text told is why failed_is begun =
     no_error f lines why (ap (λ (s : FailedStreams). s.error) failed_is) (inl told) refl (subst (IsBegun x y) is begun)
 
 -- the line of an accepted file is written
 pub accepted_written : (how : Telling) (file : NamedFile) (a b x : Option (List ℕ)) (line text : List ℕ) → IsFileTold how file true line [] → text ≡ line
-    → Appends a b text → IsWrittenOf how file true a b x x
+    → Appends a b text → IsWrittenOf how file true (written_on a x) (written_on b x)
 accepted_written how file a b x line text told is written =
     record { out = line; err = []; told = told; out_written = subst (Appends a b) is written; err_written = nothing_written x }
 
 -- the lines of a refused file are written
 pub refused_written : (how : Telling) (file : NamedFile) (a x y : Option (List ℕ)) (lines text : List ℕ) → IsFileTold how file false [] lines → text ≡ lines
-    → Appends x y text → IsWrittenOf how file false a a x y
+    → Appends x y text → IsWrittenOf how file false (written_on a x) (written_on a y)
 refused_written how file a x y lines text told is written =
     record { out = []; err = lines; told = told; out_written = nothing_written a; err_written = subst (Appends x y) is written }
+
+-- standard error is as it was when the files were told
+pub told_then : (how : Telling) (files : List NamedFile) (old between : Written) (err : Option (List ℕ)) → IsWritten how files true old between → err ≡ between.err
+    → IsWritten how files true old (record between { err = err })
+told_then how files old between err told same = subst (λ e. IsWritten how files true old (record between { err = e })) (sym same) told

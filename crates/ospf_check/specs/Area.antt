@@ -5,7 +5,7 @@ use Rattle.std.specs.Io.KnownBytes.{Appends}
 use Rattle.ospf_config.specs.declared.config.Config.{Config}
 use Rattle.ospf_files.specs.Listed.{AreConfigs}
 use Rattle.ospf_files.specs.Status.{failure_line, failure_status}
-use Rattle.ospf_files.specs.Streams.{IsBegun, IsErrorFailed, IsOutputFailed, IsTold as IsFailureTold}
+use Rattle.ospf_files.specs.Streams.{IsBegun, IsErrorFailed, IsOutputFailed, IsTold as IsFailureTold, Written}
 use Rattle.ospf_files.specs.declared.files.NamedFile.{NamedFile}
 use Rattle.ospf_files.specs.declared.status.Failure.{Failure}
 use Rattle.ospf_files.specs.declared.status.Failure.TheVariants as failure
@@ -46,63 +46,61 @@ is_fault f = not (is_note f.fault)
 -- ---- what is told of all
 
 -- the findings are told in order, and whether all are notes
-pub record IsFindingsWritten (explain : Bool) (files : List NamedFile) (findings : List Finding) (sound : Bool) (out_old out_new err_old err_new : Option (List ℕ)) : Type 0 where
+pub record IsFindingsWritten (explain : Bool) (files : List NamedFile) (findings : List Finding) (sound : Bool) (old new : Written) : Type 0 where
   pub sound_is : sound ≡ not (list_any is_fault findings)
-  pub out_written : Appends out_old out_new (flat_map (note_lines explain files) findings)
-  pub err_written : Appends err_old err_new (flat_map (fault_lines explain files) findings)
+  pub out_written : Appends old.out new.out (flat_map (note_lines explain files) findings)
+  pub err_written : Appends old.err new.err (flat_map (fault_lines explain files) findings)
 
 -- the files hold configurations, and what is wrong between these is told, and whether nothing is but notes
-pub record IsAreaTold (explain : Bool) (files : List NamedFile) (sound : Bool) (out_old out_new err_old err_new : Option (List ℕ)) : Type 0 where
+pub record IsAreaTold (explain : Bool) (files : List NamedFile) (sound : Bool) (old new : Written) : Type 0 where
   pub configs : List Config
   pub are : AreConfigs files configs
   pub findings : List Finding
   pub are_findings : AreFindings configs findings
-  pub told : IsFindingsWritten explain files findings sound out_old out_new err_old err_new
+  pub told : IsFindingsWritten explain files findings sound old new
 
 -- the files are told of one by one, and where all are accepted what is wrong between them
-pub data IsChecked (how : Telling) (files : List NamedFile) : Bool → (out_old out_new err_old err_new : Option (List ℕ)) → Type 0 where
-  one_by_one : {a b x y : Option (List ℕ)} → IsWritten how files false a b x y → IsChecked how files false a b x y
-  together : {sound : Bool} {a b c x y z : Option (List ℕ)} → IsWritten how files true a b x y → IsAreaTold (explains how) files sound b c y z → IsChecked how files sound a c x z
+pub data IsChecked (how : Telling) (files : List NamedFile) : Bool → (old new : Written) → Type 0 where
+  one_by_one : {old new : Written} → IsWritten how files false old new → IsChecked how files false old new
+  together : {sound : Bool} {old between new : Written} → IsWritten how files true old between → IsAreaTold (explains how) files sound between new → IsChecked how files sound old new
 
 -- ---- where it ends early
 
 -- the telling ended at a finding: what of it was written until then, and which stream failed
-pub data EndsAtFinding (explain : Bool) (files : List NamedFile) (failed : FailedStreams) (f : Finding) (out_old out_new err_old err_new : Option (List ℕ)) : Failure → Type 0 where
-  at_memory : out_new ≡ out_old → err_new ≡ err_old → EndsAtFinding explain files failed f out_old out_new err_old err_new failure.Memory
-  at_output : (x : Failure) → (x ≡ failure.Memory) ⊎ (x ≡ failure.Output) → IsOutputFailed failed → IsBegun out_old out_new (note_lines explain files f) → err_new ≡ err_old
-      → EndsAtFinding explain files failed f out_old out_new err_old err_new x
-  at_error : (x : Failure) → (x ≡ failure.Memory) ⊎ (x ≡ failure.Error) → IsErrorFailed failed → out_new ≡ out_old → IsBegun err_old err_new (fault_lines explain files f)
-      → EndsAtFinding explain files failed f out_old out_new err_old err_new x
+pub data EndsAtFinding (explain : Bool) (files : List NamedFile) (failed : FailedStreams) (f : Finding) (old new : Written) : Failure → Type 0 where
+  at_memory : new.out ≡ old.out → new.err ≡ old.err → EndsAtFinding explain files failed f old new failure.Memory
+  at_output : (x : Failure) → (x ≡ failure.Memory) ⊎ (x ≡ failure.Output) → IsOutputFailed failed → IsBegun old.out new.out (note_lines explain files f) → new.err ≡ old.err
+      → EndsAtFinding explain files failed f old new x
+  at_error : (x : Failure) → (x ≡ failure.Memory) ⊎ (x ≡ failure.Error) → IsErrorFailed failed → new.out ≡ old.out → IsBegun old.err new.err (fault_lines explain files f)
+      → EndsAtFinding explain files failed f old new x
 
 -- it ended at one of the findings; of those before it all was told
-pub record IsCutAtFinding (explain : Bool) (files : List NamedFile) (findings : List Finding) (failed : FailedStreams) (out_old out_new err_old err_new : Option (List ℕ)) (x : Failure) : Type 0 where
+pub record IsCutAtFinding (explain : Bool) (files : List NamedFile) (findings : List Finding) (failed : FailedStreams) (old new : Written) (x : Failure) : Type 0 where
   pub before : List Finding
   pub finding : Finding
   pub after : List Finding
   pub findings_are : findings ≡ before ++ finding ∷ after
   pub sound : Bool
-  pub out_then : Option (List ℕ)
-  pub err_then : Option (List ℕ)
-  pub told : IsFindingsWritten explain files before sound out_old out_then err_old err_then
-  pub ends : EndsAtFinding explain files failed finding out_then out_new err_then err_new x
+  pub between : Written
+  pub told : IsFindingsWritten explain files before sound old between
+  pub ends : EndsAtFinding explain files failed finding between new x
 
 -- memory ran out before anything was told of the configurations, or it ended at a finding
-pub data IsAreaCut (explain : Bool) (files : List NamedFile) (configs : List Config) (failed : FailedStreams) (out_old out_new err_old err_new : Option (List ℕ)) : Failure → Type 0 where
-  at_none : out_new ≡ out_old → err_new ≡ err_old → IsAreaCut explain files configs failed out_old out_new err_old err_new failure.Memory
-  at_one : {x : Failure} (findings : List Finding) → AreFindings configs findings → IsCutAtFinding explain files findings failed out_old out_new err_old err_new x
-      → IsAreaCut explain files configs failed out_old out_new err_old err_new x
+pub data IsAreaCut (explain : Bool) (files : List NamedFile) (configs : List Config) (failed : FailedStreams) (old new : Written) : Failure → Type 0 where
+  at_none : new.out ≡ old.out → new.err ≡ old.err → IsAreaCut explain files configs failed old new failure.Memory
+  at_one : {x : Failure} (findings : List Finding) → AreFindings configs findings → IsCutAtFinding explain files findings failed old new x → IsAreaCut explain files configs failed old new x
 
 -- all files were told of, and the telling of what is between them ended; and last what failed, as far as that could be told
-pub record IsAreaCutShort (explain : Bool) (files : List NamedFile) (configs : List Config) (failed : FailedStreams) (out_old out_new err_old err_new : Option (List ℕ)) (status : Status) : Type 0 where
+pub record IsAreaCutShort (explain : Bool) (files : List NamedFile) (configs : List Config) (failed : FailedStreams) (old new : Written) (status : Status) : Type 0 where
   pub cause : Failure
   pub failed_then : FailedStreams
   pub err_then : Option (List ℕ)
-  pub cut : IsAreaCut explain files configs failed_then out_old out_new err_old err_then cause
-  pub last : IsFailureTold failed_then failed err_then err_new (failure_line cause)
+  pub cut : IsAreaCut explain files configs failed_then old (record new { err = err_then }) cause
+  pub last : IsFailureTold failed_then failed err_then new.err (failure_line cause)
   pub status_is : status ≡ failure_status cause
 
 -- the check ended in one of the files, or behind them
-pub data IsCheckCut (how : Telling) (files : List NamedFile) (failed : FailedStreams) : (out_old out_new err_old err_new : Option (List ℕ)) → Status → Type 0 where
-  in_a_file : {a b x y : Option (List ℕ)} {status : Status} → IsCheckCutShort how files failed a b x y status → IsCheckCut how files failed a b x y status
-  behind_them : {a b c x y z : Option (List ℕ)} {status : Status} (configs : List Config) → IsWritten how files true a b x y → AreConfigs files configs
-      → IsAreaCutShort (explains how) files configs failed b c y z status → IsCheckCut how files failed a c x z status
+pub data IsCheckCut (how : Telling) (files : List NamedFile) (failed : FailedStreams) : (old new : Written) → Status → Type 0 where
+  in_a_file : {old new : Written} {status : Status} → IsCheckCutShort how files failed old new status → IsCheckCut how files failed old new status
+  behind_them : {old between new : Written} {status : Status} (configs : List Config) → IsWritten how files true old between → AreConfigs files configs
+      → IsAreaCutShort (explains how) files configs failed between new status → IsCheckCut how files failed old new status

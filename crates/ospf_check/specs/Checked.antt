@@ -17,7 +17,7 @@ use Rattle.ospf_files.specs.Files.{IsConfigIn, IsRefusedFor, bytes_of, refused_l
 use Rattle.ospf_files.specs.Listed.{AreConfigs}
 use Rattle.ospf_plan.specs.Ends.{is_slow}
 use Rattle.ospf_files.specs.Status.{failure_line, failure_status}
-use Rattle.ospf_files.specs.Streams.{IsBegun, IsErrorFailed, IsOutputFailed, IsTold as IsFailureTold}
+use Rattle.ospf_files.specs.Streams.{IsBegun, IsErrorFailed, IsOutputFailed, IsTold as IsFailureTold, Written}
 use Rattle.ospf_files.specs.declared.files.NamedFile.{NamedFile}
 use Rattle.ospf_files.specs.declared.status.Failure.{Failure}
 use Rattle.ospf_files.specs.declared.status.Failure.TheVariants as failure
@@ -127,12 +127,12 @@ pub data IsFileTold (how : Telling) : NamedFile → Bool → List ℕ → List �
       → IsExplanation how bytes fault more → IsFileTold how file false [] (refused_line file fault ++ more)
 
 -- what is told of a file is what was written
-pub record IsWrittenOf (how : Telling) (file : NamedFile) (accepted : Bool) (out_old out_new err_old err_new : Option (List ℕ)) : Type 0 where
+pub record IsWrittenOf (how : Telling) (file : NamedFile) (accepted : Bool) (old new : Written) : Type 0 where
   pub out : List ℕ
   pub err : List ℕ
   pub told : IsFileTold how file accepted out err
-  pub out_written : Appends out_old out_new out
-  pub err_written : Appends err_old err_new err
+  pub out_written : Appends old.out new.out out
+  pub err_written : Appends old.err new.err err
 
 -- the files in order, whether all are accepted, and what is told of them
 pub data AreTold (how : Telling) : List NamedFile → Bool → List ℕ → List ℕ → Type 0 where
@@ -141,12 +141,12 @@ pub data AreTold (how : Telling) : List NamedFile → Bool → List ℕ → List
       → AreTold how files all outs errs → AreTold how (file ∷ files) (accepted && all) (out ++ outs) (err ++ errs)
 
 -- what is told of the files is what was written
-pub record IsWritten (how : Telling) (files : List NamedFile) (all : Bool) (out_old out_new err_old err_new : Option (List ℕ)) : Type 0 where
+pub record IsWritten (how : Telling) (files : List NamedFile) (all : Bool) (old new : Written) : Type 0 where
   pub out : List ℕ
   pub err : List ℕ
   pub told : AreTold how files all out err
-  pub out_written : Appends out_old out_new out
-  pub err_written : Appends err_old err_new err
+  pub out_written : Appends old.out new.out out
+  pub err_written : Appends old.err new.err err
 
 -- the text that a verdict has is what is told of the file
 abbrev pub IsVerdict : Telling → NamedFile → Verdict → Type 0
@@ -181,29 +181,24 @@ abbrev pub IsToldOnError : Telling → NamedFile → List ℕ → Type 0
 IsToldOnError how file text = IsFileTold how file false [] text ⊎ ((bytes_of file ≡ None) × (text ≡ unread_line file))
 
 -- a check ended in a file: what of it was written until then, and which stream failed
-pub data EndsIn (how : Telling) (file : NamedFile) (failed : FailedStreams) (out_old out_new err_old err_new : Option (List ℕ)) : CheckFault → Type 0 where
-  not_read : bytes_of file ≡ None → out_new ≡ out_old → Appends err_old err_new (unread_line file) → EndsIn how file failed out_old out_new err_old err_new fault.NotRead
-  no_memory : out_new ≡ out_old → err_new ≡ err_old → EndsIn how file failed out_old out_new err_old err_new (fault.Failure failure.Memory)
-  no_output : (f : Failure) (text : List ℕ) → (f ≡ failure.Memory) ⊎ (f ≡ failure.Output) → IsOutputFailed failed → IsFileTold how file true text [] → IsBegun out_old out_new text → err_new ≡ err_old
-      → EndsIn how file failed out_old out_new err_old err_new (fault.Failure f)
-  no_error : (f : Failure) (text : List ℕ) → (f ≡ failure.Memory) ⊎ (f ≡ failure.Error) → IsErrorFailed failed → IsToldOnError how file text → out_new ≡ out_old → IsBegun err_old err_new text
-      → EndsIn how file failed out_old out_new err_old err_new (fault.Failure f)
+pub data EndsIn (how : Telling) (file : NamedFile) (failed : FailedStreams) (old new : Written) : CheckFault → Type 0 where
+  not_read : bytes_of file ≡ None → new.out ≡ old.out → Appends old.err new.err (unread_line file) → EndsIn how file failed old new fault.NotRead
+  no_memory : new.out ≡ old.out → new.err ≡ old.err → EndsIn how file failed old new (fault.Failure failure.Memory)
+  no_output : (f : Failure) (text : List ℕ) → (f ≡ failure.Memory) ⊎ (f ≡ failure.Output) → IsOutputFailed failed → IsFileTold how file true text [] → IsBegun old.out new.out text → new.err ≡ old.err
+      → EndsIn how file failed old new (fault.Failure f)
+  no_error : (f : Failure) (text : List ℕ) → (f ≡ failure.Memory) ⊎ (f ≡ failure.Error) → IsErrorFailed failed → IsToldOnError how file text → new.out ≡ old.out → IsBegun old.err new.err text
+      → EndsIn how file failed old new (fault.Failure f)
 
 -- a check ended in one of the files, for this cause; of those before it all was told
-pub record IsCutIn (how : Telling) (files : List NamedFile) (failed : FailedStreams) (out_old out_new err_old err_new : Option (List ℕ)) (cause : CheckFault) : Type 0 where
+pub record IsCutIn (how : Telling) (files : List NamedFile) (failed : FailedStreams) (old new : Written) (cause : CheckFault) : Type 0 where
   pub before : List NamedFile
   pub file : NamedFile
   pub after : List NamedFile
   pub files_are : files ≡ before ++ file ∷ after
   pub all : Bool
-  pub out : List ℕ
-  pub err : List ℕ
-  pub told : AreTold how before all out err
-  pub out_then : Option (List ℕ)
-  pub err_then : Option (List ℕ)
-  pub out_written : Appends out_old out_then out
-  pub err_written : Appends err_old err_then err
-  pub ends : EndsIn how file failed out_then out_new err_then err_new cause
+  pub between : Written
+  pub told : IsWritten how before all old between
+  pub ends : EndsIn how file failed between new cause
 
 -- the status that a check ends with in a file
 abbrev pub status_of : CheckFault → Status
@@ -216,10 +211,10 @@ IsLastTold before after old new fault.NotRead = (after ≡ before) × (new ≡ o
 IsLastTold before after old new (fault.Failure f) = IsFailureTold before after old new (failure_line f)
 
 -- a check ended in one of the files: of those before it all was told, of that one a beginning, and then what failed, as far as that could be told
-pub record IsCheckCutShort (how : Telling) (files : List NamedFile) (failed : FailedStreams) (out_old out_new err_old err_new : Option (List ℕ)) (status : Status) : Type 0 where
+pub record IsCheckCutShort (how : Telling) (files : List NamedFile) (failed : FailedStreams) (old new : Written) (status : Status) : Type 0 where
   pub cause : CheckFault
   pub failed_then : FailedStreams
   pub err_then : Option (List ℕ)
-  pub cut : IsCutIn how files failed_then out_old out_new err_old err_then cause
-  pub last : IsLastTold failed_then failed err_then err_new cause
+  pub cut : IsCutIn how files failed_then old (record new { err = err_then }) cause
+  pub last : IsLastTold failed_then failed err_then new.err cause
   pub status_is : status ≡ status_of cause

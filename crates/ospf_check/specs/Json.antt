@@ -11,7 +11,7 @@ use Rattle.ospf_config.specs.declared.config.Config.{Config}
 use Rattle.ospf_config.specs.declared.interface.Port.{Port}
 use Rattle.ospf_files.specs.Listed.{AreConfigs}
 use Rattle.ospf_files.specs.Status.{failure_line, failure_status}
-use Rattle.ospf_files.specs.Streams.{IsBegun, IsOutputCut, IsTold as IsFailureTold}
+use Rattle.ospf_files.specs.Streams.{IsBegun, IsOutputCut, IsTold as IsFailureTold, Written, written_on}
 use Rattle.ospf_files.specs.declared.files.NamedFile.{NamedFile}
 use Rattle.ospf_files.specs.declared.status.Failure.{Failure}
 use Rattle.ospf_files.specs.declared.status.Status.{Status}
@@ -123,9 +123,10 @@ pub record IsAreaPrinted (files : List NamedFile) (sound : Bool) (out_old out_ne
 
 -- files that are refused are told of on standard error; where all are accepted it is printed what is wrong between them. What is said
 -- of those that are accepted goes to another stream
-pub data IsJson (files : List NamedFile) : Bool → (out_old out_new err_old err_new : Option (List ℕ)) → Type 0 where
-  one_by_one : {a x y b c : Option (List ℕ)} → IsWritten telling.Verdict files false b c x y → IsJson files false a a x y
-  together : {sound : Bool} {a z x y w b c : Option (List ℕ)} → IsWritten telling.Verdict files true b c x y → IsAreaPrinted files sound a z → w ≡ y → IsJson files sound a z x w
+pub data IsJson (files : List NamedFile) : Bool → (old new : Written) → Type 0 where
+  one_by_one : {b c : Option (List ℕ)} {old new : Written} → IsWritten telling.Verdict files false (record old { out = b }) (record new { out = c }) → new.out ≡ old.out → IsJson files false old new
+  together : {sound : Bool} {b c : Option (List ℕ)} {old new : Written} → IsWritten telling.Verdict files true (record old { out = b }) (record new { out = c })
+      → IsAreaPrinted files sound old.out new.out → IsJson files sound old new
 
 -- ---- where it ends early
 
@@ -136,15 +137,17 @@ pub data IsPrintCut (files : List NamedFile) (configs : List Config) (failed : F
       → IsPrintCut files configs failed out_old out_new x
 
 -- and last what failed, as far as that could be told
-pub record IsPrintCutShort (files : List NamedFile) (configs : List Config) (failed : FailedStreams) (out_old out_new err_old err_new : Option (List ℕ)) (status : Status) : Type 0 where
+pub record IsPrintCutShort (files : List NamedFile) (configs : List Config) (failed : FailedStreams) (old new : Written) (status : Status) : Type 0 where
   pub cause : Failure
   pub failed_then : FailedStreams
-  pub cut : IsPrintCut files configs failed_then out_old out_new cause
-  pub last : IsFailureTold failed_then failed err_old err_new (failure_line cause)
+  pub cut : IsPrintCut files configs failed_then old.out new.out cause
+  pub last : IsFailureTold failed_then failed old.err new.err (failure_line cause)
   pub status_is : status ≡ failure_status cause
 
 -- it ended in one of the files, or behind them
-pub data IsJsonCut (files : List NamedFile) (failed : FailedStreams) : (out_old out_new err_old err_new : Option (List ℕ)) → Status → Type 0 where
-  in_a_file : {a x y b c : Option (List ℕ)} {status : Status} → IsCheckCutShort telling.Verdict files failed b c x y status → IsJsonCut files failed a a x y status
-  behind_them : {a z x y w b c : Option (List ℕ)} {status : Status} (configs : List Config) → IsWritten telling.Verdict files true b c x y → AreConfigs files configs
-      → IsPrintCutShort files configs failed a z y w status → IsJsonCut files failed a z x w status
+pub data IsJsonCut (files : List NamedFile) (failed : FailedStreams) : (old new : Written) → Status → Type 0 where
+  in_a_file : {b c : Option (List ℕ)} {old new : Written} {status : Status} → IsCheckCutShort telling.Verdict files failed (record old { out = b }) (record new { out = c }) status
+      → new.out ≡ old.out → IsJsonCut files failed old new status
+  behind_them : {b c err_then : Option (List ℕ)} {old new : Written} {status : Status} (configs : List Config)
+      → IsWritten telling.Verdict files true (record old { out = b }) (written_on c err_then) → AreConfigs files configs
+      → IsPrintCutShort files configs failed (record old { err = err_then }) new status → IsJsonCut files failed old new status

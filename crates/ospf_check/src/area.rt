@@ -3,6 +3,7 @@
 ghost use Rattle.std.specs.Prelude.{◌≡◌, ◌≢◌, ◌⊎◌, true, false, IfOk, IfErr, OnOk, string_bytes};
 ghost use Rattle.std.specs.Io.KnownBytes.{Appends};
 ghost use Rattle.ospf_files.specs.Listed.{AreConfigs};
+ghost use Rattle.ospf_files.specs.Streams.{written_on};
 ghost use Rattle.ospf_files.specs.declared.status.Status.{Status};
 ghost use Rattle.ospf_files.specs.declared.streams.FailedStreams.{FailedStreams};
 ghost use Rattle.ospf_check.specs.Area.{EndsAtFinding, IsAreaCut, IsAreaCutShort, IsAreaTold, IsCheckCut, IsChecked, IsCutAtFinding, IsFindingsWritten, fault_lines, finding_lines, line_of, name_at, note_lines};
@@ -28,16 +29,16 @@ pub fn check_area_text<O: Write, E: Write>(
     out: &mut O,
     err: &mut E,
 ) -> Status
-    ensures done { result ≡ Status.Done →
-        IsChecked how files.now true (O.contents out.old) (O.contents out.new)
-        (E.contents err.old) (E.contents err.new) }
-    ensures refused { result ≡ Status.Refused →
-        IsChecked how files.now false (O.contents out.old) (O.contents out.new)
-        (E.contents err.old) (E.contents err.new) }
-    ensures cut { (result ≡ Status.Memory) ⊎ (result ≡ Status.Stream) →
-        (failed : FailedStreams)
-        × IsCheckCut how files.now failed (O.contents out.old) (O.contents out.new)
-        (E.contents err.old) (E.contents err.new) result }
+    ensures done { let old = written_on (O.contents out.old) (E.contents err.old) in
+        let new = written_on (O.contents out.new) (E.contents err.new) in
+        result ≡ Status.Done → IsChecked how files.now true old new }
+    ensures refused { let old = written_on (O.contents out.old) (E.contents err.old) in
+        let new = written_on (O.contents out.new) (E.contents err.new) in
+        result ≡ Status.Refused → IsChecked how files.now false old new }
+    ensures cut { let old = written_on (O.contents out.old) (E.contents err.old) in
+        let new = written_on (O.contents out.new) (E.contents err.new) in
+        (result ≡ Status.Memory) ⊎ (result ≡ Status.Stream) →
+        (failed : FailedStreams) × IsCheckCut how files.now failed old new result }
     ensures not_words { result ≢ Status.Words }
 {
     check_area_noted(alloc, files, how, out, err, &mut FailedStreams::none())
@@ -52,15 +53,16 @@ fn check_area_noted<O: Write, E: Write>(
     err: &mut E,
     streams: &mut FailedStreams,
 ) -> Status
-    ensures done { result ≡ Status.Done →
-        IsChecked how files.now true (O.contents out.old) (O.contents out.new)
-        (E.contents err.old) (E.contents err.new) }
-    ensures refused { result ≡ Status.Refused →
-        IsChecked how files.now false (O.contents out.old) (O.contents out.new)
-        (E.contents err.old) (E.contents err.new) }
-    ensures cut { (result ≡ Status.Memory) ⊎ (result ≡ Status.Stream) →
-        IsCheckCut how files.now streams.new (O.contents out.old) (O.contents out.new)
-        (E.contents err.old) (E.contents err.new) result }
+    ensures done { let old = written_on (O.contents out.old) (E.contents err.old) in
+        let new = written_on (O.contents out.new) (E.contents err.new) in
+        result ≡ Status.Done → IsChecked how files.now true old new }
+    ensures refused { let old = written_on (O.contents out.old) (E.contents err.old) in
+        let new = written_on (O.contents out.new) (E.contents err.new) in
+        result ≡ Status.Refused → IsChecked how files.now false old new }
+    ensures cut { let old = written_on (O.contents out.old) (E.contents err.old) in
+        let new = written_on (O.contents out.new) (E.contents err.new) in
+        (result ≡ Status.Memory) ⊎ (result ≡ Status.Stream) →
+        IsCheckCut how files.now streams.new old new result }
     ensures not_words { result ≢ Status.Words }
 {
     match check_files(alloc, files, how, out, err, streams) {
@@ -88,15 +90,18 @@ fn check_together<O: Write, E: Write>(
     err: &mut E,
     streams: &mut FailedStreams,
 ) -> Status
-    ensures done { AreConfigs files.now configs.now → result ≡ Status.Done →
-        IsAreaTold explain files.now true (O.contents out.old) (O.contents out.new)
-        (E.contents err.old) (E.contents err.new) }
-    ensures refused { AreConfigs files.now configs.now → result ≡ Status.Refused →
-        IsAreaTold explain files.now false (O.contents out.old) (O.contents out.new)
-        (E.contents err.old) (E.contents err.new) }
-    ensures cut { (result ≡ Status.Memory) ⊎ (result ≡ Status.Stream) →
-        IsAreaCutShort explain files.now configs.now streams.new (O.contents out.old)
-        (O.contents out.new) (E.contents err.old) (E.contents err.new) result }
+    ensures done { let old = written_on (O.contents out.old) (E.contents err.old) in
+        let new = written_on (O.contents out.new) (E.contents err.new) in
+        AreConfigs files.now configs.now → result ≡ Status.Done →
+        IsAreaTold explain files.now true old new }
+    ensures refused { let old = written_on (O.contents out.old) (E.contents err.old) in
+        let new = written_on (O.contents out.new) (E.contents err.new) in
+        AreConfigs files.now configs.now → result ≡ Status.Refused →
+        IsAreaTold explain files.now false old new }
+    ensures cut { let old = written_on (O.contents out.old) (E.contents err.old) in
+        let new = written_on (O.contents out.new) (E.contents err.new) in
+        (result ≡ Status.Memory) ⊎ (result ≡ Status.Stream) →
+        IsAreaCutShort explain files.now configs.now streams.new old new result }
     ensures not_words { result ≢ Status.Words }
 {
     match tell_area(alloc, files, configs, explain, out, err, streams) {
@@ -116,11 +121,13 @@ fn tell_area<O: Write, E: Write>(
     err: &mut E,
     streams: &mut FailedStreams,
 ) -> Result<bool, Failure>
-    ensures told { AreConfigs files.now configs.now →
-        IfOk result (λ sound. IsAreaTold explain files.now sound (O.contents out.old)
-        (O.contents out.new) (E.contents err.old) (E.contents err.new)) }
-    ensures cut { IfErr result (IsAreaCut explain files.now configs.now streams.new
-        (O.contents out.old) (O.contents out.new) (E.contents err.old) (E.contents err.new)) }
+    ensures told { let old = written_on (O.contents out.old) (E.contents err.old) in
+        let new = written_on (O.contents out.new) (E.contents err.new) in
+        AreConfigs files.now configs.now →
+        IfOk result (λ sound. IsAreaTold explain files.now sound old new) }
+    ensures cut { let old = written_on (O.contents out.old) (E.contents err.old) in
+        let new = written_on (O.contents out.new) (E.contents err.new) in
+        IfErr result (IsAreaCut explain files.now configs.now streams.new old new) }
 {
     match findings(alloc, configs) {
         Ok(found) => tell_findings(alloc, files, &found, explain, out, err, streams),
@@ -138,10 +145,12 @@ fn tell_findings<O: Write, E: Write>(
     err: &mut E,
     streams: &mut FailedStreams,
 ) -> Result<bool, Failure>
-    ensures told { IfOk result (λ sound. IsFindingsWritten explain files.now findings.now sound
-        (O.contents out.old) (O.contents out.new) (E.contents err.old) (E.contents err.new)) }
-    ensures cut { IfErr result (IsCutAtFinding explain files.now findings.now streams.new
-        (O.contents out.old) (O.contents out.new) (E.contents err.old) (E.contents err.new)) }
+    ensures told { let old = written_on (O.contents out.old) (E.contents err.old) in
+        let new = written_on (O.contents out.new) (E.contents err.new) in
+        IfOk result (λ sound. IsFindingsWritten explain files.now findings.now sound old new) }
+    ensures cut { let old = written_on (O.contents out.old) (E.contents err.old) in
+        let new = written_on (O.contents out.new) (E.contents err.new) in
+        IfErr result (IsCutAtFinding explain files.now findings.now streams.new old new) }
 {
     let mut sound = true;
     for finding in findings {
@@ -168,8 +177,9 @@ fn tell_finding<O: Write, E: Write>(
         (note_lines explain files.now finding.now)) }
     ensures err { OnOk result (Appends (E.contents err.old) (E.contents err.new)
         (fault_lines explain files.now finding.now)) }
-    ensures ended { IfErr result (EndsAtFinding explain files.now streams.new finding.now
-        (O.contents out.old) (O.contents out.new) (E.contents err.old) (E.contents err.new)) }
+    ensures ended { let old = written_on (O.contents out.old) (E.contents err.old) in
+        let new = written_on (O.contents out.new) (E.contents err.new) in
+        IfErr result (EndsAtFinding explain files.now streams.new finding.now old new) }
 {
     let is_note = finding.fault.is_note();
     if is_note && !explain {

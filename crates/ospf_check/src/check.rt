@@ -3,6 +3,7 @@
 ghost use Rattle.std.specs.Prelude.{◌≡◌, ◌≢◌, ◌⊎◌, ◌++◌, ℕ, List, Option, Bool, Some, None, true, false, flat_map, is_some, option_map, IfOk, IfErr, OnOk, string_bytes};
 ghost use Rattle.ospf_config.specs.declared.fault.ConfigFault.{ConfigFault};
 ghost use Rattle.ospf_files.specs.Files.{IsRefusedFor, bytes_of, refused_line};
+ghost use Rattle.ospf_files.specs.Streams.{written_on};
 ghost use Rattle.ospf_files.specs.declared.streams.FailedStreams.{FailedStreams};
 ghost use Rattle.ospf_files.specs.declared.telling.Telling.{Telling};
 ghost use Rattle.ospf_check.specs.Checked.{AreFaultsSaid, EndsIn, HoldConfigs, IsCutIn, IsCheckCutShort, IsExplanation, IsLastTold, IsFaultSaid, IsVerdict, IsWritten, IsWrittenOf, KeepsBy, KeepsIf, accepted_line, can_lead, delay_line, fault_told, faulty_place_line, leaf_line, place_line, status_of, warning_line, warnings};
@@ -40,16 +41,16 @@ pub fn check_text<O: Write, E: Write>(
     out: &mut O,
     err: &mut E,
 ) -> Status
-    ensures done { result ≡ Status.Done →
-        IsWritten how files.now true (O.contents out.old) (O.contents out.new)
-        (E.contents err.old) (E.contents err.new) }
-    ensures refused { result ≡ Status.Refused →
-        IsWritten how files.now false (O.contents out.old) (O.contents out.new)
-        (E.contents err.old) (E.contents err.new) }
-    ensures cut { (result ≡ Status.Memory) ⊎ (result ≡ Status.Stream) →
-        (failed : FailedStreams)
-        × IsCheckCutShort how files.now failed (O.contents out.old) (O.contents out.new)
-        (E.contents err.old) (E.contents err.new) result }
+    ensures done { let old = written_on (O.contents out.old) (E.contents err.old) in
+        let new = written_on (O.contents out.new) (E.contents err.new) in
+        result ≡ Status.Done → IsWritten how files.now true old new }
+    ensures refused { let old = written_on (O.contents out.old) (E.contents err.old) in
+        let new = written_on (O.contents out.new) (E.contents err.new) in
+        result ≡ Status.Refused → IsWritten how files.now false old new }
+    ensures cut { let old = written_on (O.contents out.old) (E.contents err.old) in
+        let new = written_on (O.contents out.new) (E.contents err.new) in
+        (result ≡ Status.Memory) ⊎ (result ≡ Status.Stream) →
+        (failed : FailedStreams) × IsCheckCutShort how files.now failed old new result }
     ensures not_words { result ≢ Status.Words }
 {
     check_noted(alloc, files, how, out, err, &mut FailedStreams::none())
@@ -64,12 +65,14 @@ pub(crate) fn check_files<O: Write, E: Write>(
     err: &mut E,
     streams: &mut FailedStreams,
 ) -> Result<Option<Vec<Config>>, CheckFault>
-    ensures told { IfOk result (λ found. IsWritten how files.now (is_some found)
-        (O.contents out.old) (O.contents out.new) (E.contents err.old) (E.contents err.new)) }
+    ensures told { let old = written_on (O.contents out.old) (E.contents err.old) in
+        let new = written_on (O.contents out.new) (E.contents err.new) in
+        IfOk result (λ found. IsWritten how files.now (is_some found) old new) }
     ensures configs { IfOk result (λ found. HoldConfigs files.now
         (option_map (λ configs. configs.items) found)) }
-    ensures cut { IfErr result (IsCutIn how files.now streams.new (O.contents out.old)
-        (O.contents out.new) (E.contents err.old) (E.contents err.new)) }
+    ensures cut { let old = written_on (O.contents out.old) (E.contents err.old) in
+        let new = written_on (O.contents out.new) (E.contents err.new) in
+        IfErr result (IsCutIn how files.now streams.new old new) }
 {
     let mut configs = Vec::new(alloc);
     let mut all = true;
@@ -114,15 +117,16 @@ fn check_noted<O: Write, E: Write>(
     err: &mut E,
     streams: &mut FailedStreams,
 ) -> Status
-    ensures done { result ≡ Status.Done →
-        IsWritten how files.now true (O.contents out.old) (O.contents out.new)
-        (E.contents err.old) (E.contents err.new) }
-    ensures refused { result ≡ Status.Refused →
-        IsWritten how files.now false (O.contents out.old) (O.contents out.new)
-        (E.contents err.old) (E.contents err.new) }
-    ensures cut { (result ≡ Status.Memory) ⊎ (result ≡ Status.Stream) →
-        IsCheckCutShort how files.now streams.new (O.contents out.old) (O.contents out.new)
-        (E.contents err.old) (E.contents err.new) result }
+    ensures done { let old = written_on (O.contents out.old) (E.contents err.old) in
+        let new = written_on (O.contents out.new) (E.contents err.new) in
+        result ≡ Status.Done → IsWritten how files.now true old new }
+    ensures refused { let old = written_on (O.contents out.old) (E.contents err.old) in
+        let new = written_on (O.contents out.new) (E.contents err.new) in
+        result ≡ Status.Refused → IsWritten how files.now false old new }
+    ensures cut { let old = written_on (O.contents out.old) (E.contents err.old) in
+        let new = written_on (O.contents out.new) (E.contents err.new) in
+        (result ≡ Status.Memory) ⊎ (result ≡ Status.Stream) →
+        IsCheckCutShort how files.now streams.new old new result }
     ensures not_words { result ≢ Status.Words }
 {
     match check_files(alloc, files, how, out, err, streams) {
@@ -142,13 +146,15 @@ fn check_file<O: Write, E: Write>(
     err: &mut E,
     streams: &mut FailedStreams,
 ) -> Result<bool, CheckFault>
-    ensures told { IfOk result (λ accepted. (streams.new ≡ streams.old)
-        × IsWrittenOf how file.now accepted (O.contents out.old) (O.contents out.new)
-        (E.contents err.old) (E.contents err.new)) }
+    ensures told { let old = written_on (O.contents out.old) (E.contents err.old) in
+        let new = written_on (O.contents out.new) (E.contents err.new) in
+        IfOk result (λ accepted. (streams.new ≡ streams.old)
+        × IsWrittenOf how file.now accepted old new) }
     ensures kept { IfOk result (λ accepted. KeepsIf accepted file.now configs.old.items
         configs.new.items) }
-    ensures ended { IfErr result (EndsIn how file.now streams.new (O.contents out.old)
-        (O.contents out.new) (E.contents err.old) (E.contents err.new)) }
+    ensures ended { let old = written_on (O.contents out.old) (E.contents err.old) in
+        let new = written_on (O.contents out.new) (E.contents err.new) in
+        IfErr result (EndsIn how file.now streams.new old new) }
 {
     let Some(bytes) = &file.bytes else {
         return Err(tell_unread(alloc, file, err, streams));
@@ -174,8 +180,8 @@ fn tell_unread<E: Write>(
     streams: &mut FailedStreams,
 ) -> CheckFault
     ensures { (how : Telling) (out : Option (List ℕ)) → bytes_of file.now ≡ None →
-        EndsIn how file.now streams.new out out (E.contents err.old) (E.contents err.new)
-        result }
+        EndsIn how file.now streams.new (written_on out (E.contents err.old))
+        (written_on out (E.contents err.new)) result }
 {
     let Ok(line) = format!(in alloc; "{}: not read\n", file.name) else {
         return CheckFault::Failure(Failure::Memory);

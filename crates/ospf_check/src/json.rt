@@ -9,7 +9,7 @@ ghost use Rattle.serde_json.specs.Written.{compact_text, has_float};
 ghost use Rattle.ospf_base.specs.Text.{number_text};
 ghost use Rattle.ospf_config.specs.Texts.{kind_text};
 ghost use Rattle.ospf_files.specs.Listed.{AreConfigs};
-ghost use Rattle.ospf_files.specs.Streams.{IsBegun, IsOutputCut};
+ghost use Rattle.ospf_files.specs.Streams.{IsBegun, IsOutputCut, written_on};
 ghost use Rattle.ospf_files.specs.declared.status.Status.{Status};
 ghost use Rattle.ospf_files.specs.declared.streams.FailedStreams.{FailedStreams};
 ghost use Rattle.ospf_check.specs.Area.{is_fault};
@@ -37,15 +37,16 @@ pub fn check_area_json<O: Write, E: Write>(
     out: &mut O,
     err: &mut E,
 ) -> Status
-    ensures done { result ≡ Status.Done →
-        IsJson files.now true (O.contents out.old) (O.contents out.new)
-        (E.contents err.old) (E.contents err.new) }
-    ensures refused { result ≡ Status.Refused →
-        IsJson files.now false (O.contents out.old) (O.contents out.new)
-        (E.contents err.old) (E.contents err.new) }
-    ensures cut { (result ≡ Status.Memory) ⊎ (result ≡ Status.Stream) →
-        (failed : FailedStreams) × IsJsonCut files.now failed (O.contents out.old)
-        (O.contents out.new) (E.contents err.old) (E.contents err.new) result }
+    ensures done { let old = written_on (O.contents out.old) (E.contents err.old) in
+        let new = written_on (O.contents out.new) (E.contents err.new) in
+        result ≡ Status.Done → IsJson files.now true old new }
+    ensures refused { let old = written_on (O.contents out.old) (E.contents err.old) in
+        let new = written_on (O.contents out.new) (E.contents err.new) in
+        result ≡ Status.Refused → IsJson files.now false old new }
+    ensures cut { let old = written_on (O.contents out.old) (E.contents err.old) in
+        let new = written_on (O.contents out.new) (E.contents err.new) in
+        (result ≡ Status.Memory) ⊎ (result ≡ Status.Stream) →
+        (failed : FailedStreams) × IsJsonCut files.now failed old new result }
     ensures not_words { result ≢ Status.Words }
 {
     check_json_noted(alloc, files, out, err, &mut FailedStreams::none())
@@ -59,15 +60,16 @@ fn check_json_noted<O: Write, E: Write>(
     err: &mut E,
     streams: &mut FailedStreams,
 ) -> Status
-    ensures done { result ≡ Status.Done →
-        IsJson files.now true (O.contents out.old) (O.contents out.new)
-        (E.contents err.old) (E.contents err.new) }
-    ensures refused { result ≡ Status.Refused →
-        IsJson files.now false (O.contents out.old) (O.contents out.new)
-        (E.contents err.old) (E.contents err.new) }
-    ensures cut { (result ≡ Status.Memory) ⊎ (result ≡ Status.Stream) →
-        IsJsonCut files.now streams.new (O.contents out.old) (O.contents out.new)
-        (E.contents err.old) (E.contents err.new) result }
+    ensures done { let old = written_on (O.contents out.old) (E.contents err.old) in
+        let new = written_on (O.contents out.new) (E.contents err.new) in
+        result ≡ Status.Done → IsJson files.now true old new }
+    ensures refused { let old = written_on (O.contents out.old) (E.contents err.old) in
+        let new = written_on (O.contents out.new) (E.contents err.new) in
+        result ≡ Status.Refused → IsJson files.now false old new }
+    ensures cut { let old = written_on (O.contents out.old) (E.contents err.old) in
+        let new = written_on (O.contents out.new) (E.contents err.new) in
+        (result ≡ Status.Memory) ⊎ (result ≡ Status.Stream) →
+        IsJsonCut files.now streams.new old new result }
     ensures not_words { result ≢ Status.Words }
 {
     match check_files(
@@ -99,9 +101,10 @@ fn print_together<O: Write, E: Write>(
     ensures refused { AreConfigs files.now configs.now → result ≡ Status.Refused →
         IsAreaPrinted files.now false (O.contents out.old) (O.contents out.new)
         × (E.contents err.new ≡ E.contents err.old) }
-    ensures cut { (result ≡ Status.Memory) ⊎ (result ≡ Status.Stream) →
-        IsPrintCutShort files.now configs.now streams.new (O.contents out.old)
-        (O.contents out.new) (E.contents err.old) (E.contents err.new) result }
+    ensures cut { let old = written_on (O.contents out.old) (E.contents err.old) in
+        let new = written_on (O.contents out.new) (E.contents err.new) in
+        (result ≡ Status.Memory) ⊎ (result ≡ Status.Stream) →
+        IsPrintCutShort files.now configs.now streams.new old new result }
     ensures not_words { result ≢ Status.Words }
 {
     match print_area(alloc, files, configs, out, streams) {
