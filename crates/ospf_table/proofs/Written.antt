@@ -10,7 +10,7 @@ use Rattle.ospf_spf.specs.Listed.{advertisements_of}
 use Rattle.ospf_table.specs.Line.{Reads}
 use Rattle.ospf_files.specs.Shown.{routes_text}
 use Rattle.ospf_files.proofs.Written.{both_written, front_begun, kept_written, nothing_written, rest_begun, whole_begun}
-use Rattle.ospf_files.specs.Streams.{IsBegun}
+use Rattle.ospf_files.specs.Streams.{IsBegun, Written}
 use Rattle.ospf_table.specs.Cut.{AreLookupsBegun, IsOutputBegun, IsWarned}
 use Rattle.ospf_table.specs.Output.{IsLookupLine, AreLookups, IsTableAnswered, IsOutput, IsWarning, no_more, one_more}
 
@@ -119,10 +119,10 @@ output_written a b c d table routes addresses same h lookups flushed =
     (routes_text table ++ lookups.0, output, kept_written a c d _ (both_written a b c _ _ routes_written lookups.2) flushed)
 
 -- the answer, and the warning of the root
-pub answered : (a b x y : Option (List ℕ)) (input : List ℕ) (listing : List (List ℕ)) (root : RouterId) (table : List Route) (addresses : List Addr)
-    → Reads input [] listing → ((warning : List ℕ) × IsWarning listing root warning × Appends x y warning) → IsTable (advertisements_of listing) root table
-    → ((text : List ℕ) × IsOutput table addresses text × Appends a b text) → IsTableAnswered input root addresses a b x y
-answered a b x y input listing root table addresses reads warned is_table written = record {
+pub answered : (old new : Written) (input : List ℕ) (listing : List (List ℕ)) (root : RouterId) (table : List Route) (addresses : List Addr)
+    → Reads input [] listing → ((warning : List ℕ) × IsWarning listing root warning × Appends old.err new.err warning) → IsTable (advertisements_of listing) root table
+    → ((text : List ℕ) × IsOutput table addresses text × Appends old.out new.out text) → IsTableAnswered input root addresses old new
+answered old new input listing root table addresses reads warned is_table written = record {
   text = written.0;
   warning = warned.0;
   is = record { listing = listing; reads = reads; warned = warned.1; table = table; is_table = is_table; output = written.1 };

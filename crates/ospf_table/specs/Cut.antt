@@ -4,7 +4,7 @@ use Rattle.std.specs.Io.KnownBytes.{Appends}
 use Rattle.ospf_base.specs.declared.ids.Addr.{Addr}
 use Rattle.ospf_base.specs.declared.ids.RouterId.{RouterId}
 use Rattle.ospf_files.specs.Status.{failure_line, failure_status}
-use Rattle.ospf_files.specs.Streams.{IsBegun, IsErrorCut, IsOfInput, IsOutputCut, IsTold}
+use Rattle.ospf_files.specs.Streams.{IsBegun, IsErrorCut, IsOfInput, IsOutputCut, IsTold, Written}
 use Rattle.ospf_files.specs.declared.status.Failure.{Failure}
 use Rattle.ospf_files.specs.declared.status.Failure.TheVariants as failure
 use Rattle.ospf_files.specs.declared.status.Status.{Status}
@@ -39,10 +39,6 @@ pub record IsOutputBegun (table : List Route) (addresses : List Addr) (old new :
 abbrev pub IsLookupCut : FailedStreams → Failure → Type 0
 IsLookupCut failed f = IsOutputCut failed f ⊎ (f ≡ failure.Closed)
 
--- the input makes this listing
-abbrev pub Makes : Option (List ℕ) → List (List ℕ) → Type 0
-Makes input listing = IfSome input (λ bytes. Reads bytes [] listing)
-
 -- a line of the input is refused, and a beginning of what is told of it was written
 pub record IsLineRefusalBegun (input old new : Option (List ℕ)) : Type 0 where
   pub number : ℕ
@@ -63,28 +59,26 @@ pub record IsWarned (listing : List (List ℕ)) (root : RouterId) (old new : Opt
   pub written : Appends old new warning
 
 -- the table of a listing is cut: its warning, or it is want of memory before the output begins, or the output
-pub data IsTableCut (listing : List (List ℕ)) (root : RouterId) (addresses : List Addr) (failed : FailedStreams) (out_old out_new err_old err_new : Option (List ℕ)) : Failure → Type 0 where
-  in_warning : {f : Failure} → IsErrorCut failed f → IsTableWarningBegun listing root err_old err_new → out_new ≡ out_old
-      → IsTableCut listing root addresses failed out_old out_new err_old err_new f
-  no_table : IsWarned listing root err_old err_new → out_new ≡ out_old
-      → IsTableCut listing root addresses failed out_old out_new err_old err_new failure.Memory
-  in_output : {f : Failure} (table : List Route) → IsLookupCut failed f → IsWarned listing root err_old err_new
-      → IsTable (advertisements_of listing) root table → IsOutputBegun table addresses out_old out_new
-      → IsTableCut listing root addresses failed out_old out_new err_old err_new f
+pub data IsTableCut (listing : List (List ℕ)) (root : RouterId) (addresses : List Addr) (failed : FailedStreams) (old new : Written) : Failure → Type 0 where
+  in_warning : {f : Failure} → IsErrorCut failed f → IsTableWarningBegun listing root old.err new.err → new.out ≡ old.out
+      → IsTableCut listing root addresses failed old new f
+  no_table : IsWarned listing root old.err new.err → new.out ≡ old.out → IsTableCut listing root addresses failed old new failure.Memory
+  in_output : {f : Failure} (table : List Route) → IsLookupCut failed f → IsWarned listing root old.err new.err
+      → IsTable (advertisements_of listing) root table → IsOutputBegun table addresses old.out new.out
+      → IsTableCut listing root addresses failed old new f
 
 -- the answer is cut: the input was not read, or what is told of a line that is refused, or the table
-pub data IsTableAnswerCut (input : Option (List ℕ)) (root : RouterId) (addresses : List Addr) (failed : FailedStreams) (out_old out_new err_old err_new : Option (List ℕ)) (f : Failure) : Type 0 where
-  in_input : IsOfInput f → out_new ≡ out_old → err_new ≡ err_old → IsTableAnswerCut input root addresses failed out_old out_new err_old err_new f
-  in_refusal : IsErrorCut failed f → IsLineRefusalBegun input err_old err_new → out_new ≡ out_old
-      → IsTableAnswerCut input root addresses failed out_old out_new err_old err_new f
-  in_table : (listing : List (List ℕ)) → Makes input listing → IsTableCut listing root addresses failed out_old out_new err_old err_new f
-      → IsTableAnswerCut input root addresses failed out_old out_new err_old err_new f
+pub data IsTableAnswerCut (input : Option (List ℕ)) (root : RouterId) (addresses : List Addr) (failed : FailedStreams) (old new : Written) (f : Failure) : Type 0 where
+  in_input : IsOfInput f → new.out ≡ old.out → new.err ≡ old.err → IsTableAnswerCut input root addresses failed old new f
+  in_refusal : IsErrorCut failed f → IsLineRefusalBegun input old.err new.err → new.out ≡ old.out → IsTableAnswerCut input root addresses failed old new f
+  in_table : (listing : List (List ℕ)) → IfSome input (λ bytes. Reads bytes [] listing) → IsTableCut listing root addresses failed old new f
+      → IsTableAnswerCut input root addresses failed old new f
 
 -- the answer was cut by a failure, which was told last, as far as it could be, and of which the status is
-pub record IsTableCutShort (input : Option (List ℕ)) (root : RouterId) (addresses : List Addr) (failed : FailedStreams) (out_old out_new err_old err_new : Option (List ℕ)) (status : Status) : Type 0 where
+pub record IsTableCutShort (input : Option (List ℕ)) (root : RouterId) (addresses : List Addr) (failed : FailedStreams) (old new : Written) (status : Status) : Type 0 where
   pub cause : Failure
   pub failed_then : FailedStreams
   pub err_then : Option (List ℕ)
-  pub cut : IsTableAnswerCut input root addresses failed_then out_old out_new err_old err_then cause
-  pub last : IsTold failed_then failed err_then err_new (failure_line cause)
+  pub cut : IsTableAnswerCut input root addresses failed_then old (record new { err = err_then }) cause
+  pub last : IsTold failed_then failed err_then new.err (failure_line cause)
   pub status_is : status ≡ failure_status cause

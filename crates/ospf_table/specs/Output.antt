@@ -1,5 +1,5 @@
 -- What the program prints of a routing table, and of the addresses that are looked up in it.
-use Rattle.std.specs.Prelude.{◌≡◌, ◌≢◌, ◌⊎◌, ℕ, List, [], ◌∷◌, ◌++◌, Contains, Option, codes}
+use Rattle.std.specs.Prelude.{◌≡◌, ◌≢◌, ◌⊎◌, ℕ, List, [], ◌∷◌, ◌++◌, Contains, codes}
 use Rattle.ospf_base.specs.Prefixes.{Holds}
 use Rattle.ospf_base.specs.Text.{number_text}
 use Rattle.ospf_base.specs.declared.ids.Addr.{Addr}
@@ -10,10 +10,10 @@ use Rattle.ospf_graph.specs.declared.hop.NextHop.{NextHop}
 use Rattle.ospf_graph.specs.declared.route.Route.{Route}
 use Rattle.ospf_fib.specs.Found.{found_text}
 use Rattle.ospf_files.specs.Shown.{lookup_none_line, routes_text}
+use Rattle.ospf_files.specs.Streams.{Written}
 use Rattle.ospf_spf.specs.Listed.{advertisements_of}
 use Rattle.ospf_table.specs.Line.{Reads}
 use Rattle.ospf_base.specs.declared.ids.Kind.TheVariants.{Router}
-use Rattle.ospf_base.specs.declared.ids.LsaKey.{LsaKey}
 use Rattle.ospf_lsa.specs.Listing.{HasKey}
 use Rattle.std.specs.Io.KnownBytes.{Appends}
 
@@ -47,17 +47,13 @@ pub record IsOutput (table : List Route) (addresses : List Addr) (text : List �
   pub are_lookups : AreLookups table addresses lookups
   pub text_is : text ≡ routes_text table ++ lookups
 
--- the key of a router's own router-LSA (RFC 2328, section 12.4.1)
-abbrev pub router_key : RouterId → LsaKey
-router_key router = record { kind = Router; id = router.0; router = router }
-
 -- what is said of a root without a router-LSA
 abbrev pub unlisted_line : RouterId → List ℕ
 unlisted_line root = number_text root.0 ++ codes ": no router-LSA of this router\n"
 
--- LSAs are listed, and none is the root's router-LSA
+-- LSAs are listed, and none is the root's router-LSA (RFC 2328, section 12.4.1)
 abbrev pub IsUnlisted : List (List ℕ) → RouterId → Type 0
-IsUnlisted listing root = (listing ≢ []) × (HasKey listing (router_key root) → ⊥)
+IsUnlisted listing root = (listing ≢ []) × (HasKey listing (record { kind = Router; id = root.0; router = root }) → ⊥)
 
 -- what is said on standard error of the root: that its router-LSA is not listed, where others are
 abbrev pub IsWarning : List (List ℕ) → RouterId → List ℕ → Type 0
@@ -74,9 +70,9 @@ pub record IsTableAnswer (input : List ℕ) (root : RouterId) (addresses : List 
   pub output : IsOutput table addresses text
 
 -- the answer for an input stands on standard output, and its warning on standard error
-pub record IsTableAnswered (input : List ℕ) (root : RouterId) (addresses : List Addr) (out_old out_new err_old err_new : Option (List ℕ)) : Type 0 where
+pub record IsTableAnswered (input : List ℕ) (root : RouterId) (addresses : List Addr) (old new : Written) : Type 0 where
   pub text : List ℕ
   pub warning : List ℕ
   pub is : IsTableAnswer input root addresses text warning
-  pub out : Appends out_old out_new text
-  pub err : Appends err_old err_new warning
+  pub out : Appends old.out new.out text
+  pub err : Appends old.err new.err warning

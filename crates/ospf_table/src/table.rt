@@ -2,7 +2,7 @@
 
 ghost use Rattle.std.specs.Prelude.{◌≡◌, ◌≢◌, ◌⊎◌, ◌↔◌, ◌++◌, ◌∷◌, ℕ, List, [], Err, Ok, IfOk, IfErr, IfSome, IsTrue, OnOk, OnErr};
 ghost use Rattle.std.specs.Io.KnownBytes.{Appends};
-ghost use Rattle.ospf_files.specs.Streams.{IsBegun, IsErrorCut, IsOfInput};
+ghost use Rattle.ospf_files.specs.Streams.{IsBegun, IsErrorCut, IsOfInput, written_on};
 ghost use Rattle.ospf_files.specs.declared.status.Failure.{Failure};
 ghost use Rattle.ospf_files.specs.declared.streams.FailedStreams.{FailedStreams};
 ghost use Rattle.ospf_index.specs.Known.{opening};
@@ -167,19 +167,20 @@ pub fn table_text<W: Wait + Drop, R: BufRead + Drop, O: Write, E: Write>(
     err: &mut E,
 ) -> Status
     // All is printed; or the line that is refused is told, and nothing is printed.
-    ensures done { result ≡ Status.Done →
-        IfSome (R.remaining input)
-        (λ bytes. IsTableAnswered bytes job.now.root job.now.addresses.items (O.contents out.old)
-        (O.contents out.new) (E.contents err.old) (E.contents err.new)) }
+    ensures done { let old = written_on (O.contents out.old) (E.contents err.old) in
+        let new = written_on (O.contents out.new) (E.contents err.new) in
+        result ≡ Status.Done → IfSome (R.remaining input)
+        (λ bytes. IsTableAnswered bytes job.now.root job.now.addresses.items old new) }
     ensures refused { result ≡ Status.Refused →
         IfSome (R.remaining input)
         (λ bytes. IsLineRefusalTold bytes (E.contents err.old) (E.contents err.new)) }
     ensures unwritten { result ≡ Status.Refused → O.contents out.new ≡ O.contents out.old }
     // Or a failure cuts it short, and is told last, as far as it can be; there is no other end.
-    ensures cut { (result ≡ Status.Memory) ⊎ (result ≡ Status.Stream) →
-        (failed : FailedStreams)
-        × IsTableCutShort (R.remaining input) job.now.root job.now.addresses.items failed
-        (O.contents out.old) (O.contents out.new) (E.contents err.old) (E.contents err.new) result }
+    ensures cut { let old = written_on (O.contents out.old) (E.contents err.old) in
+        let new = written_on (O.contents out.new) (E.contents err.new) in
+        (result ≡ Status.Memory) ⊎ (result ≡ Status.Stream) →
+        (failed : FailedStreams) × IsTableCutShort (R.remaining input) job.now.root
+        job.now.addresses.items failed old new result }
     ensures not_words { result ≢ Status.Words }
 {
     table_noted(alloc, rt, job, input, out, err, &mut FailedStreams::none())
@@ -242,18 +243,19 @@ fn table_noted<W: Wait + Drop, R: BufRead + Drop, O: Write, E: Write>(
     streams: &mut FailedStreams,
 ) -> Status
     // All is printed; or the line that is refused is told, and nothing is printed.
-    ensures done { result ≡ Status.Done →
-        IfSome (R.remaining input)
-        (λ bytes. IsTableAnswered bytes job.now.root job.now.addresses.items (O.contents out.old)
-        (O.contents out.new) (E.contents err.old) (E.contents err.new)) }
+    ensures done { let old = written_on (O.contents out.old) (E.contents err.old) in
+        let new = written_on (O.contents out.new) (E.contents err.new) in
+        result ≡ Status.Done → IfSome (R.remaining input)
+        (λ bytes. IsTableAnswered bytes job.now.root job.now.addresses.items old new) }
     ensures refused { result ≡ Status.Refused →
         IfSome (R.remaining input)
         (λ bytes. IsLineRefusalTold bytes (E.contents err.old) (E.contents err.new)) }
     ensures unwritten { result ≡ Status.Refused → O.contents out.new ≡ O.contents out.old }
     // Or a failure cuts it short, and is told last, as far as it can be; there is no other end.
-    ensures cut { (result ≡ Status.Memory) ⊎ (result ≡ Status.Stream) →
-        IsTableCutShort (R.remaining input) job.now.root job.now.addresses.items streams.new
-        (O.contents out.old) (O.contents out.new) (E.contents err.old) (E.contents err.new) result }
+    ensures cut { let old = written_on (O.contents out.old) (E.contents err.old) in
+        let new = written_on (O.contents out.new) (E.contents err.new) in
+        (result ≡ Status.Memory) ⊎ (result ≡ Status.Stream) → IsTableCutShort
+        (R.remaining input) job.now.root job.now.addresses.items streams.new old new result }
     ensures not_words { result ≢ Status.Words }
 {
     match answer_or_refuse(alloc, rt, job, input, out, err, streams) {
@@ -273,10 +275,10 @@ fn answer_or_refuse<W: Wait + Drop, R: BufRead + Drop, O: Write, E: Write>(
     streams: &mut FailedStreams,
 ) -> Result<Status, Failure>
     // All is printed; or the line that is refused is told, and nothing is printed.
-    ensures done { result ≡ Ok Status.Done →
-        IfSome (R.remaining input)
-        (λ bytes. IsTableAnswered bytes job.now.root job.now.addresses.items (O.contents out.old)
-        (O.contents out.new) (E.contents err.old) (E.contents err.new)) }
+    ensures done { let old = written_on (O.contents out.old) (E.contents err.old) in
+        let new = written_on (O.contents out.new) (E.contents err.new) in
+        result ≡ Ok Status.Done → IfSome (R.remaining input)
+        (λ bytes. IsTableAnswered bytes job.now.root job.now.addresses.items old new) }
     ensures refused { result ≡ Ok Status.Refused →
         IfSome (R.remaining input)
         (λ bytes. IsLineRefusalTold bytes (E.contents err.old) (E.contents err.new)) }
@@ -284,9 +286,8 @@ fn answer_or_refuse<W: Wait + Drop, R: BufRead + Drop, O: Write, E: Write>(
     // There is no other status, and a failure cuts short what is printed or told.
     ensures ended { IfOk result (λ status. (status ≡ Status.Done) ⊎ (status ≡ Status.Refused)) }
     ensures cut { IfErr result (IsTableAnswerCut (R.remaining input) job.now.root
-        job.now.addresses.items
-        streams.new (O.contents out.old) (O.contents out.new) (E.contents err.old)
-        (E.contents err.new)) }
+        job.now.addresses.items streams.new (written_on (O.contents out.old) (E.contents err.old))
+        (written_on (O.contents out.new) (E.contents err.new))) }
 {
     match answer(alloc, rt, job, input, out, err, streams) {
         Ok(()) => Ok(Status::Done),
@@ -309,9 +310,10 @@ fn answer<W: Wait + Drop, R: BufRead + Drop, O: Write, E: Write>(
     streams: &mut FailedStreams,
 ) -> Result<(), TableFault>
     // All is printed; or it is known which line is refused, and nothing is printed or told.
-    ensures answer { OnOk result (IfSome (R.remaining input)
-        (λ bytes. IsTableAnswered bytes job.now.root job.now.addresses.items (O.contents out.old)
-        (O.contents out.new) (E.contents err.old) (E.contents err.new))) }
+    ensures answer { let old = written_on (O.contents out.old) (E.contents err.old) in
+        let new = written_on (O.contents out.new) (E.contents err.new) in
+        OnOk result (IfSome (R.remaining input)
+        (λ bytes. IsTableAnswered bytes job.now.root job.now.addresses.items old new)) }
     ensures refused { (n : ℕ) (f : EntryFault) → result ≡ Err (TableFault.Entry n f) →
         IfSome (R.remaining input) (λ bytes. Refuses bytes [] n f) }
     ensures unwritten { (n : ℕ) (f : EntryFault) → result ≡ Err (TableFault.Entry n f) →
@@ -321,7 +323,8 @@ fn answer<W: Wait + Drop, R: BufRead + Drop, O: Write, E: Write>(
     // Or a failure cuts short what is printed or told.
     ensures cut { (f : Failure) → result ≡ Err (TableFault.Failure f) →
         IsTableAnswerCut (R.remaining input) job.now.root job.now.addresses.items streams.new
-        (O.contents out.old) (O.contents out.new) (E.contents err.old) (E.contents err.new) f }
+        (written_on (O.contents out.old) (E.contents err.old))
+        (written_on (O.contents out.new) (E.contents err.new)) f }
 {
     let listing = read_listing(alloc, input)?;
     answer_of(alloc, rt, job, &listing, out, err, streams)?;
@@ -338,12 +341,13 @@ fn answer_of<W: Wait + Drop, O: Write, E: Write>(
     err: &mut E,
     streams: &mut FailedStreams,
 ) -> Result<(), Failure>
-    ensures answer { (bytes : List ℕ) → Reads bytes [] listing.now →
-        OnOk result (IsTableAnswered bytes job.now.root job.now.addresses.items (O.contents out.old)
-        (O.contents out.new) (E.contents err.old) (E.contents err.new)) }
+    ensures answer { let old = written_on (O.contents out.old) (E.contents err.old) in
+        let new = written_on (O.contents out.new) (E.contents err.new) in
+        (bytes : List ℕ) → Reads bytes [] listing.now →
+        OnOk result (IsTableAnswered bytes job.now.root job.now.addresses.items old new) }
     ensures cut { IfErr result (IsTableCut listing.now job.now.root job.now.addresses.items
-        streams.new (O.contents out.old) (O.contents out.new) (E.contents err.old)
-        (E.contents err.new)) }
+        streams.new (written_on (O.contents out.old) (E.contents err.old))
+        (written_on (O.contents out.new) (E.contents err.new))) }
 {
     warn(alloc, listing, job.root, err, streams)?;
     let table = RouteTable::of(alloc, listing, job.root)?;

@@ -1,5 +1,6 @@
 use Rattle.std.proofs.Common.{rules, ◌≡◌, refl, subst}
 use Rattle.ospf_files.specs.declared.status.Failure.{Failure as FailureOf}
+use Rattle.ospf_files.specs.Streams.{written_on}
 use Rattle.ospf_table.specs.Cut.{IsTableCut, in_input, in_table}
 use Rattle.ospf_table.specs.declared.table.TableFault.TheVariants.{Entry, Failure}
 use Rattle.ospf_table.proofs.Lines.{map_some}
@@ -19,7 +20,7 @@ pub returns-in_err-answer_of-clause-cut : goal.returns-in_err-answer_of-clause-c
 returns-in_err-answer_of-clause-cut g c = λ f e.
     let same : c.in_err-answer_of.field-0.0 ≡ f = search rules in
     in_table c.in_ok-listing.listing c.in_ok-listing.ensures.whole
-    (subst (λ (cause : FailureOf). IsTableCut c.in_ok-listing.listing c.args.job.now.root c.args.job.now.addresses.items c.answer_of.new.streams (g.O.Write.contents c.args.out.now) (g.O.Write.contents c.answer_of.new.out) (g.E.Write.contents c.args.err.now) (g.E.Write.contents c.answer_of.new.err) cause) same c.in_err-answer_of.ensures.cut)
+    (subst (λ (cause : FailureOf). IsTableCut c.in_ok-listing.listing c.args.job.now.root c.args.job.now.addresses.items c.answer_of.new.streams (written_on (g.O.Write.contents c.args.out.now) (g.E.Write.contents c.args.err.now)) (written_on (g.O.Write.contents c.answer_of.new.out) (g.E.Write.contents c.answer_of.new.err)) cause) same c.in_err-answer_of.ensures.cut)
 
 pub returns-clause-answer : goal.returns-clause-answer
 returns-clause-answer g c =

@@ -2,6 +2,7 @@ use Rattle.std.proofs.Common.{rules, ℕ, List, refl, subst}
 use Rattle.std.specs.Io.KnownBytes.{Appends}
 use Rattle.ospf_base.specs.declared.ids.Addr.{Addr}
 use Rattle.ospf_files.proofs.Cut.{cut_then, for_failure, for_memory, ok_then}
+use Rattle.ospf_files.specs.Streams.{written_on}
 use Rattle.ospf_table.specs.Cut.{IsLookupCut, IsOutputBegun, IsTableCut, in_output, in_warning, no_table}
 use Rattle.ospf_table.specs.Output.{IsOutput}
 use Rattle.ospf_table.proofs.Written.{answered, is_warned}
@@ -10,19 +11,19 @@ use Rattle.ospf_table.proofs.table.answer_of.Goals as goal
 pub returns-in_err-warn-clause-cut : goal.returns-in_err-warn-clause-cut
 returns-in_err-warn-clause-cut g c =
     for_failure c.from_residual.result c.in_err-warn.field-0.0
-    (IsTableCut c.args.listing.now c.args.job.now.root c.args.job.now.addresses.items c.warn.new.streams (g.O.Write.contents c.args.out.now) (g.O.Write.contents c.args.out.now) (g.E.Write.contents c.args.err.now) (g.E.Write.contents c.warn.new.err))
+    (IsTableCut c.args.listing.now c.args.job.now.root c.args.job.now.addresses.items c.warn.new.streams (written_on (g.O.Write.contents c.args.out.now) (g.E.Write.contents c.args.err.now)) (written_on (g.O.Write.contents c.args.out.now) (g.E.Write.contents c.warn.new.err)))
     c.from_residual.ensures.1 (in_warning c.in_err-warn.ensures.cut c.in_err-warn.ensures.begun refl)
 
 pub returns-in_err-table-clause-cut : goal.returns-in_err-table-clause-cut
 returns-in_err-table-clause-cut g c =
     for_memory c.from_residual-in_err-table.result
-    (IsTableCut c.args.listing.now c.args.job.now.root c.args.job.now.addresses.items c.warn.new.streams (g.O.Write.contents c.args.out.now) (g.O.Write.contents c.args.out.now) (g.E.Write.contents c.args.err.now) (g.E.Write.contents c.warn.new.err))
+    (IsTableCut c.args.listing.now c.args.job.now.root c.args.job.now.addresses.items c.warn.new.streams (written_on (g.O.Write.contents c.args.out.now) (g.E.Write.contents c.args.err.now)) (written_on (g.O.Write.contents c.args.out.now) (g.E.Write.contents c.warn.new.err)))
     c.from_residual-in_err-table.ensures.1 (no_table (is_warned _ _ c.args.listing.now c.args.job.now.root c.in_ok-warn.ensures.told) refl)
 
 pub returns-clause-answer : goal.returns-clause-answer
 returns-clause-answer g c = λ bytes reads.
     ok_then c.print_answer.result
-    (λ output. answered _ _ _ _ bytes c.args.listing.now c.args.job.now.root c.in_ok-table.table c.args.job.now.addresses.items reads
+    (λ output. answered _ _ bytes c.args.listing.now c.args.job.now.root c.in_ok-table.table c.args.job.now.addresses.items reads
     c.in_ok-warn.ensures.told (search (rules, c.in_ok-table.ensures))
     (subst (λ (addresses : List Addr). (text : List ℕ) × IsOutput c.in_ok-table.table addresses text × Appends (g.O.Write.contents c.args.out.now) (g.O.Write.contents c.print_answer.new.out) text)
     c.deref.ensures.value output))
@@ -31,7 +32,7 @@ returns-clause-answer g c = λ bytes reads.
 pub returns-clause-cut : goal.returns-clause-cut
 returns-clause-cut g c =
     cut_then c.print_answer.result (IsLookupCut c.print_answer.new.streams)
-    (IsTableCut c.args.listing.now c.args.job.now.root c.args.job.now.addresses.items c.print_answer.new.streams (g.O.Write.contents c.args.out.now) (g.O.Write.contents c.print_answer.new.out) (g.E.Write.contents c.args.err.now) (g.E.Write.contents c.warn.new.err))
+    (IsTableCut c.args.listing.now c.args.job.now.root c.args.job.now.addresses.items c.print_answer.new.streams (written_on (g.O.Write.contents c.args.out.now) (g.E.Write.contents c.args.err.now)) (written_on (g.O.Write.contents c.print_answer.new.out) (g.E.Write.contents c.warn.new.err)))
     (λ f begun cut. in_output c.in_ok-table.table cut (is_warned _ _ c.args.listing.now c.args.job.now.root c.in_ok-warn.ensures.told) (search (rules, c.in_ok-table.ensures))
     (subst (λ (addresses : List Addr). IsOutputBegun c.in_ok-table.table addresses (g.O.Write.contents c.args.out.now) (g.O.Write.contents c.print_answer.new.out)) c.deref.ensures.value begun))
     c.print_answer.ensures.begun c.print_answer.ensures.cut
