@@ -3,7 +3,7 @@ use Rattle.std.proofs.Common.{◌≡◌, ◌≢◌, ◌∙◌, ◌⊎◌, ◌++�
 use Rattle.std.specs.Io.KnownBytes.{Appends}
 use Rattle.ospf_edges.specs.Listed.{advertisements_of}
 use Rattle.ospf_files.specs.Status.{failure_line, failure_status}
-use Rattle.ospf_files.specs.Streams.{IsBegun, IsTold, with_error, with_output}
+use Rattle.ospf_files.specs.Streams.{IsBegun, IsTold, Written, with_error, with_output}
 use Rattle.ospf_files.specs.declared.status.Failure.{Failure}
 use Rattle.ospf_files.specs.declared.status.Failure.TheVariants as failure
 use Rattle.ospf_files.specs.declared.status.Status.{Status}
@@ -44,54 +44,57 @@ answer_made input job answer listing reads small warned says =
     (λ bytes read. record { listing = listing; reads = read; small = small; warned = warned; says = says }) reads
 
 module _ (input : Option (List ℕ)) (job : FailuresJob) (answer : FailuresAnswer) (is : IfSome input (IsFailuresAnswerOf job answer)) where
-  pub answer_said : (a b x y : Option (List ℕ)) (warning text : List ℕ) → IsAllPrinted answer.said.end → warning ≡ string_bytes answer.warning
-      → text ≡ string_bytes answer.said.text → Appends x y warning → Appends a b text → IsFailuresSaid input job a b x y answer.said.end
-  answer_said a b x y warning text whole warning_is text_is err out =
-      is_answered whole (map_some input (IsFailuresAnswerOf job answer) (IsFailuresAnswered job answer.said.end a b x y) (λ bytes of_it. record {
+  pub answer_said : (old new : Written) (warning text : List ℕ) → IsAllPrinted answer.said.end → warning ≡ string_bytes answer.warning
+      → text ≡ string_bytes answer.said.text → Appends old.err new.err warning → Appends old.out new.out text → IsFailuresSaid input job old new answer.said.end
+  answer_said old new warning text whole warning_is text_is err out =
+      is_answered whole (map_some input (IsFailuresAnswerOf job answer) (IsFailuresAnswered job answer.said.end old new) (λ bytes of_it. record {
         text = string_bytes answer.said.text;
         warning = string_bytes answer.warning;
         is = of_it;
-        out = subst (Appends a b) text_is out;
-        err = subst (Appends x y) warning_is err;
+        out = subst (Appends old.out new.out) text_is out;
+        err = subst (Appends old.err new.err) warning_is err;
       }) is)
 
-  pub warning_cut : (f : Failure) (before failed : FailedStreams) (a x y : Option (List ℕ)) (warning : List ℕ) → (f ≡ failure.Memory) ⊎ (f ≡ failure.Error)
-      → failed ≡ with_error before → warning ≡ string_bytes answer.warning → IsBegun x y warning → FailuresEndsBy input job failed a a x y f
-  warning_cut f before failed a x y warning why failed_is warning_is begun =
-      in_warning why (ap (λ (s : FailedStreams). s.error) failed_is) refl (map_some input (IsFailuresAnswerOf job answer) (IsFailuresWarningBegun job x y) (λ bytes of_it. record {
+  pub warning_cut : (f : Failure) (before failed : FailedStreams) (old : Written) (err : Option (List ℕ)) (warning : List ℕ) → (f ≡ failure.Memory) ⊎ (f ≡ failure.Error)
+      → failed ≡ with_error before → warning ≡ string_bytes answer.warning → IsBegun old.err err warning → FailuresEndsBy input job failed old (record old { err = err }) f
+  warning_cut f before failed old err warning why failed_is warning_is begun =
+      in_warning why (ap (λ (s : FailedStreams). s.error) failed_is) refl
+      (map_some input (IsFailuresAnswerOf job answer) (IsFailuresWarningBegun job old.err err) (λ bytes of_it. record {
         end = answer.said.end;
         text = string_bytes answer.said.text;
         warning = string_bytes answer.warning;
         is = of_it;
-        begun = subst (IsBegun x y) warning_is begun;
+        begun = subst (IsBegun old.err err) warning_is begun;
       }) is)
 
-  pub answer_cut : (f : Failure) (before failed : FailedStreams) (a b x y : Option (List ℕ)) (warning text : List ℕ) → (f ≡ failure.Memory) ⊎ (f ≡ failure.Output)
-      → failed ≡ with_output before → warning ≡ string_bytes answer.warning → text ≡ string_bytes answer.said.text → Appends x y warning → IsBegun a b text
-      → FailuresEndsBy input job failed a b x y f
-  answer_cut f before failed a b x y warning text why failed_is warning_is text_is err begun =
-      in_answer why (ap (λ (s : FailedStreams). s.output) failed_is) (map_some input (IsFailuresAnswerOf job answer) (IsFailuresAnswerBegun job a b x y) (λ bytes of_it. record {
+  pub answer_cut : (f : Failure) (before failed : FailedStreams) (old new : Written) (warning text : List ℕ) → (f ≡ failure.Memory) ⊎ (f ≡ failure.Output)
+      → failed ≡ with_output before → warning ≡ string_bytes answer.warning → text ≡ string_bytes answer.said.text → Appends old.err new.err warning
+      → IsBegun old.out new.out text → FailuresEndsBy input job failed old new f
+  answer_cut f before failed old new warning text why failed_is warning_is text_is err begun =
+      in_answer why (ap (λ (s : FailedStreams). s.output) failed_is) (map_some input (IsFailuresAnswerOf job answer) (IsFailuresAnswerBegun job old new) (λ bytes of_it. record {
         end = answer.said.end;
         text = string_bytes answer.said.text;
         warning = string_bytes answer.warning;
         is = of_it;
-        err = subst (Appends x y) warning_is err;
-        begun = subst (IsBegun a b) text_is begun;
+        err = subst (Appends old.err new.err) warning_is err;
+        begun = subst (IsBegun old.out new.out) text_is begun;
       }) is)
 
 -- ---- a refusal
 
-pub refusal_said : (input : Option (List ℕ)) (job : FailuresJob) (s : Status) (a x y : Option (List ℕ)) (text : List ℕ) → IsRefusalOf input job text s
-    → Appends x y text → IsFailuresSaid input job a a x y (Ended s)
-refusal_said input job status.Refused a x y text is told =
+pub refusal_said : (input : Option (List ℕ)) (job : FailuresJob) (s : Status) (old : Written) (err : Option (List ℕ)) (text : List ℕ) → IsRefusalOf input job text s
+    → Appends old.err err text → IsFailuresSaid input job old (record old { err = err }) (Ended s)
+refusal_said input job status.Refused old err text is told =
     is_refused (inl refl) (λ e. absurd (cc e)) refl
-    (map_some input (λ bytes. IsFailuresRefusal job bytes text status.Refused) (IsFailuresRefusalTold job status.Refused x y) (λ bytes refusal. record { text = text; is = refusal; told = told }) is)
-refusal_said input job status.Words a x y text is told =
+    (map_some input (λ bytes. IsFailuresRefusal job bytes text status.Refused) (IsFailuresRefusalTold job status.Refused old.err err)
+    (λ bytes refusal. record { text = text; is = refusal; told = told }) is)
+refusal_said input job status.Words old err text is told =
     is_refused (inr refl) (λ e. is.0) refl
-    (map_some input (λ bytes. IsFailuresRefusal job bytes text status.Words) (IsFailuresRefusalTold job status.Words x y) (λ bytes refusal. record { text = text; is = refusal; told = told }) is.1)
-refusal_said input job status.Done a x y text is told = absurd is
-refusal_said input job status.Memory a x y text is told = absurd is
-refusal_said input job status.Stream a x y text is told = absurd is
+    (map_some input (λ bytes. IsFailuresRefusal job bytes text status.Words) (IsFailuresRefusalTold job status.Words old.err err)
+    (λ bytes refusal. record { text = text; is = refusal; told = told }) is.1)
+refusal_said input job status.Done old err text is told = absurd is
+refusal_said input job status.Memory old err text is told = absurd is
+refusal_said input job status.Stream old err text is told = absurd is
 
 refused_begun : (input : Option (List ℕ)) (job : FailuresJob) (s : Status) (x y : Option (List ℕ)) (text : List ℕ) → IsRefusalOf input job text s → IsBegun x y text
     → IfSome input (IsFailuresRefusalBegun job x y)
@@ -105,10 +108,11 @@ refused_begun input job status.Done x y text is begun = absurd is
 refused_begun input job status.Memory x y text is begun = absurd is
 refused_begun input job status.Stream x y text is begun = absurd is
 
-pub refusal_cut : (input : Option (List ℕ)) (job : FailuresJob) (s : Status) (f : Failure) (before failed : FailedStreams) (a x y : Option (List ℕ)) (text : List ℕ)
-    → IsRefusalOf input job text s → (f ≡ failure.Memory) ⊎ (f ≡ failure.Error) → failed ≡ with_error before → IsBegun x y text → FailuresEndsBy input job failed a a x y f
-refusal_cut input job s f before failed a x y text is why failed_is begun =
-    in_refusal why (ap (λ (s : FailedStreams). s.error) failed_is) refl (refused_begun input job s x y text is begun)
+pub refusal_cut : (input : Option (List ℕ)) (job : FailuresJob) (s : Status) (f : Failure) (before failed : FailedStreams) (old : Written) (err : Option (List ℕ)) (text : List ℕ)
+    → IsRefusalOf input job text s → (f ≡ failure.Memory) ⊎ (f ≡ failure.Error) → failed ≡ with_error before → IsBegun old.err err text
+    → FailuresEndsBy input job failed old (record old { err = err }) f
+refusal_cut input job s f before failed old err text is why failed_is begun =
+    in_refusal why (ap (λ (s : FailedStreams). s.error) failed_is) refl (refused_begun input job s old.err err text is begun)
 
 -- some name is that of nothing
 some_name : {A : Type 0} (xs ys : List A) (x : A) → xs ++ x ∷ ys ≡ [] → ⊥
@@ -127,10 +131,11 @@ names_refused input job listing (fault.Failure f) reads small is = tt
 
 -- ---- the end
 
-pub ended_early : (input : Option (List ℕ)) (job : FailuresJob) (f : Failure) (failed_then failed : FailedStreams) (a b x y z : Option (List ℕ)) (s : Status)
-    → FailuresEndsBy input job failed_then a b x y f → IsTold failed_then failed y z (failure_line f) → s ≡ failure_status f → IsFailuresEnding input job failed a b x z (Ended s)
-ended_early input job f failed_then failed a b x y z s ends last is =
-    inr (record { cause = f; failed_then = failed_then; err_then = y; ends = ends; last = last; end_is = ap Ended is })
+pub ended_early : (input : Option (List ℕ)) (job : FailuresJob) (f : Failure) (failed_then failed : FailedStreams) (old new : Written) (err_then : Option (List ℕ)) (s : Status)
+    → FailuresEndsBy input job failed_then old (record new { err = err_then }) f → IsTold failed_then failed err_then new.err (failure_line f) → s ≡ failure_status f
+    → IsFailuresEnding input job failed old new (Ended s)
+ended_early input job f failed_then failed old new err_then s ends last is =
+    inr (record { cause = f; failed_then = failed_then; err_then = err_then; ends = ends; last = last; end_is = ap Ended is })
 
 early : (f : Failure) → (failure_status f ≡ status.Memory) ⊎ (failure_status f ≡ status.Stream)
 early failure.Memory = inl refl
@@ -152,15 +157,15 @@ not_stream : (s : Status) → IsUnserved s → s ≡ status.Stream → ⊥
 not_stream s (inl r) e = cc (r, e)
 not_stream s (inr w) e = cc (w, e)
 
-module _ (input : Option (List ℕ)) (job : FailuresJob) (failed : FailedStreams) (a b x y : Option (List ℕ)) where
+module _ (input : Option (List ℕ)) (job : FailuresJob) (failed : FailedStreams) (old new : Written) where
   -- ended early it is neither whole nor refused
-  not_early : (end : FailuresStatus) (s : Status) → IsFailuresCutShort input job failed a b x y end → end ≡ Ended s → (s ≡ status.Memory) ⊎ (s ≡ status.Stream)
+  not_early : (end : FailuresStatus) (s : Status) → IsFailuresCutShort input job failed old new end → end ≡ Ended s → (s ≡ status.Memory) ⊎ (s ≡ status.Stream)
   not_early end s cut is =
       let same : Ended s ≡ Ended (failure_status cut.cause) = sym is ∙ cut.end_is in
       let status_is : s ≡ failure_status cut.cause = cc in
       elim (early cut.cause) [ inl m ↦ inl (status_is ∙ m) | inr t ↦ inr (status_is ∙ t) ]
 
-  pub whole_answered : (end : FailuresStatus) → IsFailuresEnding input job failed a b x y end → IsAllPrinted end → IfSome input (IsFailuresAnswered job end a b x y)
+  pub whole_answered : (end : FailuresStatus) → IsFailuresEnding input job failed old new end → IsAllPrinted end → IfSome input (IsFailuresAnswered job end old new)
   whole_answered end (inl (is_answered w h)) whole = h
   whole_answered _ (inl (is_refused {s = s} unserved names same told)) (inl e) = let is : s ≡ status.Done = cc e in absurd (not_done s unserved is)
   whole_answered _ (inl (is_refused unserved names same told)) (inr e) = absurd (cc e)
@@ -172,22 +177,23 @@ module _ (input : Option (List ℕ)) (job : FailuresJob) (failed : FailedStreams
   whole_served end s (inl w) unserved e = let same : Ended s ≡ Ended status.Done = sym e ∙ w in let is : s ≡ status.Done = cc same in not_done s unserved is
   whole_served end s (inr w) unserved e = let same : Ended s ≡ CutOff = sym e ∙ w in cc same
 
-  early_served : (end : FailuresStatus) (s : Status) → IsFailuresCutShort input job failed a b x y end → IsUnserved s → end ≡ Ended s → ⊥
+  early_served : (end : FailuresStatus) (s : Status) → IsFailuresCutShort input job failed old new end → IsUnserved s → end ≡ Ended s → ⊥
   early_served end s cut unserved e = elim (not_early end s cut e) [ inl m ↦ not_memory s unserved m | inr t ↦ not_stream s unserved t ]
 
-  pub refused_told : (end : FailuresStatus) → IsFailuresEnding input job failed a b x y end → (s : Status) → IsUnserved s → end ≡ Ended s → IfSome input (IsFailuresRefusalTold job s x y)
+  pub refused_told : (end : FailuresStatus) → IsFailuresEnding input job failed old new end → (s : Status) → IsUnserved s → end ≡ Ended s
+      → IfSome input (IsFailuresRefusalTold job s old.err new.err)
   refused_told end (inl (is_answered w h)) s unserved e = absurd (whole_served end s w unserved e)
   refused_told _ (inl (is_refused {s = t} of_it names same told)) s unserved e =
-      let is : t ≡ s = cc e in subst (λ (u : Status). IfSome input (IsFailuresRefusalTold job u x y)) is told
+      let is : t ≡ s = cc e in subst (λ (u : Status). IfSome input (IsFailuresRefusalTold job u old.err new.err)) is told
   refused_told end (inr cut) s unserved e = absurd (early_served end s cut unserved e)
 
-  pub refused_unwritten : (end : FailuresStatus) → IsFailuresEnding input job failed a b x y end → (s : Status) → IsUnserved s → end ≡ Ended s → b ≡ a
+  pub refused_unwritten : (end : FailuresStatus) → IsFailuresEnding input job failed old new end → (s : Status) → IsUnserved s → end ≡ Ended s → new.out ≡ old.out
   refused_unwritten end (inl (is_answered w h)) s unserved e = absurd (whole_served end s w unserved e)
   refused_unwritten _ (inl (is_refused of_it names same told)) s unserved e = same
   refused_unwritten end (inr cut) s unserved e = absurd (early_served end s cut unserved e)
 
-  pub early_cut : (end : FailuresStatus) → IsFailuresEnding input job failed a b x y end → (end ≡ Ended status.Memory) ⊎ (end ≡ Ended status.Stream)
-      → IsFailuresCutShort input job failed a b x y end
+  pub early_cut : (end : FailuresStatus) → IsFailuresEnding input job failed old new end → (end ≡ Ended status.Memory) ⊎ (end ≡ Ended status.Stream)
+      → IsFailuresCutShort input job failed old new end
   early_cut end (inl (is_answered (inl w) h)) (inl e) = absurd (cc (w, e))
   early_cut end (inl (is_answered (inl w) h)) (inr e) = absurd (cc (w, e))
   early_cut end (inl (is_answered (inr w) h)) (inl e) = absurd (cc (w, e))
@@ -196,7 +202,7 @@ module _ (input : Option (List ℕ)) (job : FailuresJob) (failed : FailedStreams
   early_cut _ (inl (is_refused {s = s} unserved names same told)) (inr e) = let is : s ≡ status.Stream = cc e in absurd (not_stream s unserved is)
   early_cut end (inr cut) e = cut
 
-  pub not_words : (end : FailuresStatus) → IsFailuresEnding input job failed a b x y end → names_of job ≡ [] → end ≢ Ended status.Words
+  pub not_words : (end : FailuresStatus) → IsFailuresEnding input job failed old new end → names_of job ≡ [] → end ≢ Ended status.Words
   not_words end (inl (is_answered w h)) none e = whole_served end status.Words w (inr refl) e
   not_words _ (inl (is_refused {s = s} unserved names same told)) none e = let is : s ≡ status.Words = cc e in names is none
   not_words end (inr cut) none e = early_served end status.Words cut (inr refl) e

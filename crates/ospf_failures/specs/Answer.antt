@@ -10,7 +10,7 @@ use Rattle.ospf_graph.specs.Advertisements.{Advertisement}
 use Rattle.ospf_graph.specs.Routes.{IsTable}
 use Rattle.ospf_graph.specs.declared.route.Route.{Route}
 use Rattle.ospf_files.specs.Status.{code_of, failure_line, failure_status}
-use Rattle.ospf_files.specs.Streams.{IsBegun, IsErrorFailed, IsOutputFailed, IsTold}
+use Rattle.ospf_files.specs.Streams.{IsBegun, IsErrorFailed, IsOutputFailed, IsTold, Written}
 use Rattle.ospf_files.specs.declared.status.Failure.{Failure}
 use Rattle.ospf_files.specs.declared.status.Failure.TheVariants as failure
 use Rattle.ospf_files.specs.declared.status.Status.{Status}
@@ -157,12 +157,12 @@ pub record IsFailuresAnswer (job : FailuresJob) (end : FailuresStatus) (input te
   pub says : SaysOf job (advertisements_of listing) text end
 
 -- the answer stands on standard output, its warning on standard error, and the status is that of the answer
-pub record IsFailuresAnswered (job : FailuresJob) (end : FailuresStatus) (out_old out_new err_old err_new : Option (List ℕ)) (input : List ℕ) : Type 0 where
+pub record IsFailuresAnswered (job : FailuresJob) (end : FailuresStatus) (old new : Written) (input : List ℕ) : Type 0 where
   pub text : List ℕ
   pub warning : List ℕ
   pub is : IsFailuresAnswer job end input text warning
-  pub out : Appends out_old out_new text
-  pub err : Appends err_old err_new warning
+  pub out : Appends old.out new.out text
+  pub err : Appends old.err new.err warning
 
 -- the refusal stands on standard error
 pub record IsFailuresRefusalTold (job : FailuresJob) (s : Status) (err_old err_new : Option (List ℕ)) (input : List ℕ) : Type 0 where
@@ -188,31 +188,31 @@ pub record IsFailuresWarningBegun (job : FailuresJob) (err_old err_new : Option 
   pub begun : IsBegun err_old err_new warning
 
 -- the warning, and a beginning of the answer
-pub record IsFailuresAnswerBegun (job : FailuresJob) (out_old out_new err_old err_new : Option (List ℕ)) (input : List ℕ) : Type 0 where
+pub record IsFailuresAnswerBegun (job : FailuresJob) (old new : Written) (input : List ℕ) : Type 0 where
   pub end : FailuresStatus
   pub text : List ℕ
   pub warning : List ℕ
   pub is : IsFailuresAnswer job end input text warning
-  pub err : Appends err_old err_new warning
-  pub begun : IsBegun out_old out_new text
+  pub err : Appends old.err new.err warning
+  pub begun : IsBegun old.out new.out text
 
 -- it ended by a failure: before anything was written; at the refusal; at the warning; or at the answer
-pub data FailuresEndsBy (input : Option (List ℕ)) (job : FailuresJob) (failed : FailedStreams) (out_old out_new err_old err_new : Option (List ℕ)) : Failure → Type 0 where
-  unwritten : {f : Failure} → out_new ≡ out_old → err_new ≡ err_old → FailuresEndsBy input job failed out_old out_new err_old err_new f
-  in_refusal : {f : Failure} → (f ≡ failure.Memory) ⊎ (f ≡ failure.Error) → IsErrorFailed failed → out_new ≡ out_old → IfSome input (IsFailuresRefusalBegun job err_old err_new)
-      → FailuresEndsBy input job failed out_old out_new err_old err_new f
-  in_warning : {f : Failure} → (f ≡ failure.Memory) ⊎ (f ≡ failure.Error) → IsErrorFailed failed → out_new ≡ out_old → IfSome input (IsFailuresWarningBegun job err_old err_new)
-      → FailuresEndsBy input job failed out_old out_new err_old err_new f
-  in_answer : {f : Failure} → (f ≡ failure.Memory) ⊎ (f ≡ failure.Output) → IsOutputFailed failed → IfSome input (IsFailuresAnswerBegun job out_old out_new err_old err_new)
-      → FailuresEndsBy input job failed out_old out_new err_old err_new f
+pub data FailuresEndsBy (input : Option (List ℕ)) (job : FailuresJob) (failed : FailedStreams) (old new : Written) : Failure → Type 0 where
+  unwritten : {f : Failure} → new.out ≡ old.out → new.err ≡ old.err → FailuresEndsBy input job failed old new f
+  in_refusal : {f : Failure} → (f ≡ failure.Memory) ⊎ (f ≡ failure.Error) → IsErrorFailed failed → new.out ≡ old.out → IfSome input (IsFailuresRefusalBegun job old.err new.err)
+      → FailuresEndsBy input job failed old new f
+  in_warning : {f : Failure} → (f ≡ failure.Memory) ⊎ (f ≡ failure.Error) → IsErrorFailed failed → new.out ≡ old.out → IfSome input (IsFailuresWarningBegun job old.err new.err)
+      → FailuresEndsBy input job failed old new f
+  in_answer : {f : Failure} → (f ≡ failure.Memory) ⊎ (f ≡ failure.Output) → IsOutputFailed failed → IfSome input (IsFailuresAnswerBegun job old new)
+      → FailuresEndsBy input job failed old new f
 
 -- it ended by a failure, which was told last, as far as that could be written
-pub record IsFailuresCutShort (input : Option (List ℕ)) (job : FailuresJob) (failed : FailedStreams) (out_old out_new err_old err_new : Option (List ℕ)) (end : FailuresStatus) : Type 0 where
+pub record IsFailuresCutShort (input : Option (List ℕ)) (job : FailuresJob) (failed : FailedStreams) (old new : Written) (end : FailuresStatus) : Type 0 where
   pub cause : Failure
   pub failed_then : FailedStreams
   pub err_then : Option (List ℕ)
-  pub ends : FailuresEndsBy input job failed_then out_old out_new err_old err_then cause
-  pub last : IsTold failed_then failed err_then err_new (failure_line cause)
+  pub ends : FailuresEndsBy input job failed_then old (record new { err = err_then }) cause
+  pub last : IsTold failed_then failed err_then new.err (failure_line cause)
   pub end_is : end ≡ Ended (failure_status cause)
 
 -- ---- on the way
@@ -234,13 +234,11 @@ abbrev pub IsFailuresAnswerOf : FailuresJob → FailuresAnswer → List ℕ → 
 IsFailuresAnswerOf job answer input = IsFailuresAnswer job answer.said.end input (string_bytes answer.said.text) (string_bytes answer.warning)
 
 -- the answer is printed, or the refusal is told
-pub data IsFailuresSaid (input : Option (List ℕ)) (job : FailuresJob) (out_old out_new err_old err_new : Option (List ℕ)) : FailuresStatus → Type 0 where
-  is_answered : {end : FailuresStatus} → IsAllPrinted end → IfSome input (IsFailuresAnswered job end out_old out_new err_old err_new)
-      → IsFailuresSaid input job out_old out_new err_old err_new end
-  is_refused : {s : Status} → IsUnserved s → (s ≡ status.Words → names_of job ≢ []) → out_new ≡ out_old → IfSome input (IsFailuresRefusalTold job s err_old err_new)
-      → IsFailuresSaid input job out_old out_new err_old err_new (Ended s)
+pub data IsFailuresSaid (input : Option (List ℕ)) (job : FailuresJob) (old new : Written) : FailuresStatus → Type 0 where
+  is_answered : {end : FailuresStatus} → IsAllPrinted end → IfSome input (IsFailuresAnswered job end old new) → IsFailuresSaid input job old new end
+  is_refused : {s : Status} → IsUnserved s → (s ≡ status.Words → names_of job ≢ []) → new.out ≡ old.out → IfSome input (IsFailuresRefusalTold job s old.err new.err)
+      → IsFailuresSaid input job old new (Ended s)
 
 -- one of these, or it ended early
-abbrev pub IsFailuresEnding : Option (List ℕ) → FailuresJob → FailedStreams → Option (List ℕ) → Option (List ℕ) → Option (List ℕ) → Option (List ℕ) → FailuresStatus → Type 0
-IsFailuresEnding input job failed out_old out_new err_old err_new end =
-    IsFailuresSaid input job out_old out_new err_old err_new end ⊎ IsFailuresCutShort input job failed out_old out_new err_old err_new end
+abbrev pub IsFailuresEnding : Option (List ℕ) → FailuresJob → FailedStreams → Written → Written → FailuresStatus → Type 0
+IsFailuresEnding input job failed old new end = IsFailuresSaid input job old new end ⊎ IsFailuresCutShort input job failed old new end

@@ -2,6 +2,7 @@
 
 ghost use Rattle.std.specs.Prelude.{◌≡◌, ◌≢◌, ◌⊎◌, ◌↔◌, ◌<◌, List, [], Option, ℕ, length, IfNone, IfOk, IfErr, IfSome, IsTrue, string_bytes};
 ghost use Rattle.ospf_edges.specs.Listed.{advertisement_of, advertisements_of};
+ghost use Rattle.ospf_files.specs.Streams.{written_on};
 ghost use Rattle.ospf_files.specs.declared.status.Status.{Status};
 ghost use Rattle.ospf_files.specs.declared.streams.FailedStreams.{FailedStreams};
 ghost use Rattle.ospf_table.specs.Line.{Reads, Refuses};
@@ -168,22 +169,22 @@ pub fn failures_text<R: BufRead + Drop, O: Write, E: Write, P: Progress>(
     progress: &mut P,
 ) -> FailuresStatus
     // All is printed; or the refusal is told, and nothing is printed.
-    ensures answered { IsAllPrinted result → IfSome (R.remaining input)
-        (IsFailuresAnswered job.now result (O.contents out.old) (O.contents out.new) (E.contents
-        err.old)
-        (E.contents err.new)) }
+    ensures answered { let old = written_on (O.contents out.old) (E.contents err.old) in
+        let new = written_on (O.contents out.new) (E.contents err.new) in
+        IsAllPrinted result →
+        IfSome (R.remaining input) (IsFailuresAnswered job.now result old new) }
     ensures refused { (s : Status) → IsUnserved s → result ≡ FailuresStatus.Ended s →
         IfSome (R.remaining input)
         (IsFailuresRefusalTold job.now s (E.contents err.old) (E.contents err.new)) }
     ensures unwritten { (s : Status) → IsUnserved s → result ≡ FailuresStatus.Ended s →
         O.contents out.new ≡ O.contents out.old }
     // Or memory or a stream failed, which is told last, as far as it can be; there is no other end.
-    ensures cut { (result ≡ FailuresStatus.Ended Status.Memory)
+    ensures cut { let old = written_on (O.contents out.old) (E.contents err.old) in
+        let new = written_on (O.contents out.new) (E.contents err.new) in
+        (result ≡ FailuresStatus.Ended Status.Memory)
         ⊎ (result ≡ FailuresStatus.Ended Status.Stream) →
         (failed : FailedStreams)
-        × IsFailuresCutShort (R.remaining input) job.now failed (O.contents out.old) (O.contents
-        out.new)
-        (E.contents err.old) (E.contents err.new) result }
+        × IsFailuresCutShort (R.remaining input) job.now failed old new result }
     ensures not_words { names_of job.now ≡ [] → result ≢ FailuresStatus.Ended Status.Words }
 {
     let mut streams = FailedStreams::none();
@@ -214,8 +215,9 @@ fn failures_noted<R: BufRead + Drop, O: Write, E: Write, P: Progress>(
     streams: &mut FailedStreams,
     progress: &mut P,
 ) -> FailuresStatus
-    ensures { IsFailuresEnding (R.remaining input) job.now streams.new (O.contents out.old)
-        (O.contents out.new) (E.contents err.old) (E.contents err.new) result }
+    ensures { let old = written_on (O.contents out.old) (E.contents err.old) in
+        let new = written_on (O.contents out.new) (E.contents err.new) in
+        IsFailuresEnding (R.remaining input) job.now streams.new old new result }
 {
     match answer_or_refuse(rt, job, input, out, err, streams, progress) {
         Ok(status) => status,
@@ -233,11 +235,12 @@ fn answer_or_refuse<R: BufRead + Drop, O: Write, E: Write, P: Progress>(
     streams: &mut FailedStreams,
     progress: &mut P,
 ) -> Result<FailuresStatus, Failure>
-    ensures said { IfOk result (IsFailuresSaid (R.remaining input) job.now (O.contents out.old)
-        (O.contents out.new) (E.contents err.old) (E.contents err.new)) }
-    ensures cut { IfErr result (FailuresEndsBy (R.remaining input) job.now streams.new (O.contents
-        out.old)
-        (O.contents out.new) (E.contents err.old) (E.contents err.new)) }
+    ensures said { let old = written_on (O.contents out.old) (E.contents err.old) in
+        let new = written_on (O.contents out.new) (E.contents err.new) in
+        IfOk result (IsFailuresSaid (R.remaining input) job.now old new) }
+    ensures cut { let old = written_on (O.contents out.old) (E.contents err.old) in
+        let new = written_on (O.contents out.new) (E.contents err.new) in
+        IfErr result (FailuresEndsBy (R.remaining input) job.now streams.new old new) }
 {
     match answer_of(rt.alloc(), rt, job, input, progress) {
         Ok(answer) => print(&answer, out, err, streams),
@@ -553,14 +556,16 @@ fn print<O: Write, E: Write>(
     streams: &mut FailedStreams,
 ) -> Result<FailuresStatus, Failure>
     requires { IsAllPrinted answer.now.said.end }
-    ensures said { (input : Option (List ℕ)) (job : FailuresJob) →
+    ensures said { let old = written_on (O.contents out.old) (E.contents err.old) in
+        let new = written_on (O.contents out.new) (E.contents err.new) in
+        (input : Option (List ℕ)) (job : FailuresJob) →
         IfSome input (IsFailuresAnswerOf job answer.now) →
-        IfOk result (IsFailuresSaid input job (O.contents out.old) (O.contents out.new)
-        (E.contents err.old) (E.contents err.new)) }
-    ensures cut { (input : Option (List ℕ)) (job : FailuresJob) →
+        IfOk result (IsFailuresSaid input job old new) }
+    ensures cut { let old = written_on (O.contents out.old) (E.contents err.old) in
+        let new = written_on (O.contents out.new) (E.contents err.new) in
+        (input : Option (List ℕ)) (job : FailuresJob) →
         IfSome input (IsFailuresAnswerOf job answer.now) →
-        IfErr result (FailuresEndsBy input job streams.new (O.contents out.old) (O.contents out.new)
-        (E.contents err.old) (E.contents err.new)) }
+        IfErr result (FailuresEndsBy input job streams.new old new) }
 {
     match streams.tell(err, &answer.warning) {
         Ok(()) => {}
@@ -580,12 +585,11 @@ fn refuse<E: Write>(
     streams: &mut FailedStreams,
 ) -> Result<FailuresStatus, Failure>
     ensures said { (input : Option (List ℕ)) (job : FailuresJob) (out : Option (List ℕ)) →
-        IsRefusalOf input job text.now status →
-        IfOk result (IsFailuresSaid input job out out (E.contents err.old) (E.contents err.new)) }
+        IsRefusalOf input job text.now status → IfOk result (IsFailuresSaid input job
+        (written_on out (E.contents err.old)) (written_on out (E.contents err.new))) }
     ensures cut { (input : Option (List ℕ)) (job : FailuresJob) (out : Option (List ℕ)) →
-        IsRefusalOf input job text.now status →
-        IfErr result (FailuresEndsBy input job streams.new out out (E.contents err.old)
-        (E.contents err.new)) }
+        IsRefusalOf input job text.now status → IfErr result (FailuresEndsBy input job streams.new
+        (written_on out (E.contents err.old)) (written_on out (E.contents err.new))) }
 {
     match streams.tell(err, text) {
         Ok(()) => Ok(FailuresStatus::Ended(status)),
