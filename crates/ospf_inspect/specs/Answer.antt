@@ -3,7 +3,7 @@ use Rattle.std.specs.Prelude.{◌≡◌, ◌⊎◌, ℕ, List, [], IfSome, Optio
 use Rattle.std.specs.Io.KnownBytes.{Appends}
 use Rattle.ospf_edges.specs.Listed.{advertisements_of}
 use Rattle.ospf_files.specs.Status.{failure_line, failure_status}
-use Rattle.ospf_files.specs.Streams.{IsBegun, IsErrorFailed, IsOutputFailed, IsTold}
+use Rattle.ospf_files.specs.Streams.{IsBegun, IsErrorFailed, IsOutputFailed, IsTold, Written}
 use Rattle.ospf_files.specs.declared.status.Failure.{Failure}
 use Rattle.ospf_files.specs.declared.status.Failure.TheVariants as failure
 use Rattle.ospf_files.specs.declared.status.Status.{Status}
@@ -63,12 +63,12 @@ pub record IsInspectAnswer (job : InspectJob) (text warning input : List ℕ) : 
   pub says : Says job listing text
 
 -- the answer stands on standard output, and its warning on standard error
-pub record IsInspectAnswered (job : InspectJob) (out_old out_new err_old err_new : Option (List ℕ)) (input : List ℕ) : Type 0 where
+pub record IsInspectAnswered (job : InspectJob) (old new : Written) (input : List ℕ) : Type 0 where
   pub text : List ℕ
   pub warning : List ℕ
   pub is : IsInspectAnswer job text warning input
-  pub out : Appends out_old out_new text
-  pub err : Appends err_old err_new warning
+  pub out : Appends old.out new.out text
+  pub err : Appends old.err new.err warning
 
 -- what is said of an input that is refused, of its first line that is
 pub record IsInspectRefusal (text input : List ℕ) : Type 0 where
@@ -99,30 +99,30 @@ pub record IsInspectWarningBegun (job : InspectJob) (err_old err_new : Option (L
   pub begun : IsBegun err_old err_new warning
 
 -- the warning, and a beginning of the answer
-pub record IsInspectAnswerBegun (job : InspectJob) (out_old out_new err_old err_new : Option (List ℕ)) (input : List ℕ) : Type 0 where
+pub record IsInspectAnswerBegun (job : InspectJob) (old new : Written) (input : List ℕ) : Type 0 where
   pub text : List ℕ
   pub warning : List ℕ
   pub is : IsInspectAnswer job text warning input
-  pub err : Appends err_old err_new warning
-  pub begun : IsBegun out_old out_new text
+  pub err : Appends old.err new.err warning
+  pub begun : IsBegun old.out new.out text
 
 -- it ended by a failure: before anything was written; at the refusal; at the warning; or at the answer
-pub data InspectEndsBy (input : Option (List ℕ)) (job : InspectJob) (failed : FailedStreams) (out_old out_new err_old err_new : Option (List ℕ)) : Failure → Type 0 where
-  unwritten : {f : Failure} → out_new ≡ out_old → err_new ≡ err_old → InspectEndsBy input job failed out_old out_new err_old err_new f
-  in_refusal : {f : Failure} → (f ≡ failure.Memory) ⊎ (f ≡ failure.Error) → IsErrorFailed failed → out_new ≡ out_old → IfSome input (IsInspectRefusalBegun err_old err_new)
-      → InspectEndsBy input job failed out_old out_new err_old err_new f
-  in_warning : {f : Failure} → (f ≡ failure.Memory) ⊎ (f ≡ failure.Error) → IsErrorFailed failed → out_new ≡ out_old → IfSome input (IsInspectWarningBegun job err_old err_new)
-      → InspectEndsBy input job failed out_old out_new err_old err_new f
-  in_answer : {f : Failure} → (f ≡ failure.Memory) ⊎ (f ≡ failure.Output) → IsOutputFailed failed → IfSome input (IsInspectAnswerBegun job out_old out_new err_old err_new)
-      → InspectEndsBy input job failed out_old out_new err_old err_new f
+pub data InspectEndsBy (input : Option (List ℕ)) (job : InspectJob) (failed : FailedStreams) (old new : Written) : Failure → Type 0 where
+  unwritten : {f : Failure} → new.out ≡ old.out → new.err ≡ old.err → InspectEndsBy input job failed old new f
+  in_refusal : {f : Failure} → (f ≡ failure.Memory) ⊎ (f ≡ failure.Error) → IsErrorFailed failed → new.out ≡ old.out → IfSome input (IsInspectRefusalBegun old.err new.err)
+      → InspectEndsBy input job failed old new f
+  in_warning : {f : Failure} → (f ≡ failure.Memory) ⊎ (f ≡ failure.Error) → IsErrorFailed failed → new.out ≡ old.out → IfSome input (IsInspectWarningBegun job old.err new.err)
+      → InspectEndsBy input job failed old new f
+  in_answer : {f : Failure} → (f ≡ failure.Memory) ⊎ (f ≡ failure.Output) → IsOutputFailed failed → IfSome input (IsInspectAnswerBegun job old new)
+      → InspectEndsBy input job failed old new f
 
 -- it ended by a failure, which was told last, as far as that could be written
-pub record IsInspectCutShort (input : Option (List ℕ)) (job : InspectJob) (failed : FailedStreams) (out_old out_new err_old err_new : Option (List ℕ)) (end : Status) : Type 0 where
+pub record IsInspectCutShort (input : Option (List ℕ)) (job : InspectJob) (failed : FailedStreams) (old new : Written) (end : Status) : Type 0 where
   pub cause : Failure
   pub failed_then : FailedStreams
   pub err_then : Option (List ℕ)
-  pub ends : InspectEndsBy input job failed_then out_old out_new err_old err_then cause
-  pub last : IsTold failed_then failed err_then err_new (failure_line cause)
+  pub ends : InspectEndsBy input job failed_then old (record new { err = err_then }) cause
+  pub last : IsTold failed_then failed err_then new.err (failure_line cause)
   pub end_is : end ≡ failure_status cause
 
 -- ---- on the way
@@ -137,11 +137,10 @@ abbrev pub IsInspectAnswerOf : InspectJob → InspectAnswer → List ℕ → Typ
 IsInspectAnswerOf job answer input = IsInspectAnswer job (string_bytes answer.text) (string_bytes answer.warning) input
 
 -- the answer is printed, or the refusal is told
-pub data IsInspectSaid (input : Option (List ℕ)) (job : InspectJob) (out_old out_new err_old err_new : Option (List ℕ)) : Status → Type 0 where
-  is_answered : IfSome input (IsInspectAnswered job out_old out_new err_old err_new) → IsInspectSaid input job out_old out_new err_old err_new status.Done
-  is_refused : out_new ≡ out_old → IfSome input (IsInspectRefusalTold err_old err_new) → IsInspectSaid input job out_old out_new err_old err_new status.Refused
+pub data IsInspectSaid (input : Option (List ℕ)) (job : InspectJob) (old new : Written) : Status → Type 0 where
+  is_answered : IfSome input (IsInspectAnswered job old new) → IsInspectSaid input job old new status.Done
+  is_refused : new.out ≡ old.out → IfSome input (IsInspectRefusalTold old.err new.err) → IsInspectSaid input job old new status.Refused
 
 -- one of these, or it ended early
-abbrev pub IsInspectEnding : Option (List ℕ) → InspectJob → FailedStreams → Option (List ℕ) → Option (List ℕ) → Option (List ℕ) → Option (List ℕ) → Status → Type 0
-IsInspectEnding input job failed out_old out_new err_old err_new end =
-    IsInspectSaid input job out_old out_new err_old err_new end ⊎ IsInspectCutShort input job failed out_old out_new err_old err_new end
+abbrev pub IsInspectEnding : Option (List ℕ) → InspectJob → FailedStreams → Written → Written → Status → Type 0
+IsInspectEnding input job failed old new end = IsInspectSaid input job old new end ⊎ IsInspectCutShort input job failed old new end

@@ -1,6 +1,7 @@
 //! What the LSAs of an area say, for LSAs that are read as lines of text.
 
 ghost use Rattle.std.specs.Prelude.{◌≡◌, ◌≢◌, ◌⊎◌, List, [], Option, ℕ, IfErr, IfOk, IfSome, string_bytes};
+ghost use Rattle.ospf_files.specs.Streams.{written_on};
 ghost use Rattle.ospf_files.specs.declared.streams.FailedStreams.{FailedStreams};
 ghost use Rattle.ospf_records.specs.Graph.{graph_text};
 ghost use Rattle.ospf_table.specs.Line.{Reads, Refuses};
@@ -82,18 +83,19 @@ pub fn inspect_text<R: BufRead + Drop, O: Write, E: Write>(
     err: &mut E,
 ) -> Status
     // All is printed; or the refusal is told, and nothing is printed.
-    ensures answered { result ≡ Status.Done → IfSome (R.remaining input)
-        (IsInspectAnswered job.now (O.contents out.old) (O.contents out.new) (E.contents err.old)
-        (E.contents err.new)) }
+    ensures answered { let old = written_on (O.contents out.old) (E.contents err.old) in
+        let new = written_on (O.contents out.new) (E.contents err.new) in
+        result ≡ Status.Done → IfSome (R.remaining input) (IsInspectAnswered job.now old new) }
     ensures refused { result ≡ Status.Refused →
         IfSome (R.remaining input) (IsInspectRefusalTold (E.contents err.old)
         (E.contents err.new)) }
     ensures unwritten { result ≡ Status.Refused → O.contents out.new ≡ O.contents out.old }
     // Or memory or a stream failed, which is told last, as far as it can be; there is no other end.
-    ensures cut { (result ≡ Status.Memory) ⊎ (result ≡ Status.Stream) →
+    ensures cut { let old = written_on (O.contents out.old) (E.contents err.old) in
+        let new = written_on (O.contents out.new) (E.contents err.new) in
+        (result ≡ Status.Memory) ⊎ (result ≡ Status.Stream) →
         (failed : FailedStreams)
-        × IsInspectCutShort (R.remaining input) job.now failed (O.contents out.old)
-        (O.contents out.new) (E.contents err.old) (E.contents err.new) result }
+        × IsInspectCutShort (R.remaining input) job.now failed old new result }
     ensures not_words { result ≢ Status.Words }
 {
     inspect_noted(alloc, job, input, out, err, &mut FailedStreams::none())
@@ -115,8 +117,9 @@ fn inspect_noted<R: BufRead + Drop, O: Write, E: Write>(
     err: &mut E,
     streams: &mut FailedStreams,
 ) -> Status
-    ensures { IsInspectEnding (R.remaining input) job.now streams.new (O.contents out.old)
-        (O.contents out.new) (E.contents err.old) (E.contents err.new) result }
+    ensures { let old = written_on (O.contents out.old) (E.contents err.old) in
+        let new = written_on (O.contents out.new) (E.contents err.new) in
+        IsInspectEnding (R.remaining input) job.now streams.new old new result }
 {
     match answer_or_refuse(alloc, job, input, out, err, streams) {
         Ok(status) => status,
@@ -133,10 +136,12 @@ fn answer_or_refuse<R: BufRead + Drop, O: Write, E: Write>(
     err: &mut E,
     streams: &mut FailedStreams,
 ) -> Result<Status, Failure>
-    ensures said { IfOk result (IsInspectSaid (R.remaining input) job.now (O.contents out.old)
-        (O.contents out.new) (E.contents err.old) (E.contents err.new)) }
-    ensures cut { IfErr result (InspectEndsBy (R.remaining input) job.now streams.new
-        (O.contents out.old) (O.contents out.new) (E.contents err.old) (E.contents err.new)) }
+    ensures said { let old = written_on (O.contents out.old) (E.contents err.old) in
+        let new = written_on (O.contents out.new) (E.contents err.new) in
+        IfOk result (IsInspectSaid (R.remaining input) job.now old new) }
+    ensures cut { let old = written_on (O.contents out.old) (E.contents err.old) in
+        let new = written_on (O.contents out.new) (E.contents err.new) in
+        IfErr result (InspectEndsBy (R.remaining input) job.now streams.new old new) }
 {
     match answer_of(alloc, job, input) {
         Ok(answer) => print(job, &answer, out, err, streams),
@@ -247,12 +252,14 @@ fn print<O: Write, E: Write>(
     err: &mut E,
     streams: &mut FailedStreams,
 ) -> Result<Status, Failure>
-    ensures said { (input : Option (List ℕ)) → IfSome input (IsInspectAnswerOf job.now answer.now) →
-        IfOk result (IsInspectSaid input job.now (O.contents out.old) (O.contents out.new)
-        (E.contents err.old) (E.contents err.new)) }
-    ensures cut { (input : Option (List ℕ)) → IfSome input (IsInspectAnswerOf job.now answer.now) →
-        IfErr result (InspectEndsBy input job.now streams.new (O.contents out.old)
-        (O.contents out.new) (E.contents err.old) (E.contents err.new)) }
+    ensures said { let old = written_on (O.contents out.old) (E.contents err.old) in
+        let new = written_on (O.contents out.new) (E.contents err.new) in
+        (input : Option (List ℕ)) → IfSome input (IsInspectAnswerOf job.now answer.now) →
+        IfOk result (IsInspectSaid input job.now old new) }
+    ensures cut { let old = written_on (O.contents out.old) (E.contents err.old) in
+        let new = written_on (O.contents out.new) (E.contents err.new) in
+        (input : Option (List ℕ)) → IfSome input (IsInspectAnswerOf job.now answer.now) →
+        IfErr result (InspectEndsBy input job.now streams.new old new) }
 {
     match streams.tell(err, &answer.warning) {
         Ok(()) => {}
@@ -267,12 +274,11 @@ fn print<O: Write, E: Write>(
 // Tells a refusal.
 fn refuse<E: Write>(text: &str, err: &mut E, streams: &mut FailedStreams) -> Result<Status, Failure>
     ensures said { (input : Option (List ℕ)) (job : InspectJob) (out : Option (List ℕ)) →
-        IfSome input (IsInspectRefusal text.now) →
-        IfOk result (IsInspectSaid input job out out (E.contents err.old) (E.contents err.new)) }
+        IfSome input (IsInspectRefusal text.now) → IfOk result (IsInspectSaid input job
+        (written_on out (E.contents err.old)) (written_on out (E.contents err.new))) }
     ensures cut { (input : Option (List ℕ)) (job : InspectJob) (out : Option (List ℕ)) →
-        IfSome input (IsInspectRefusal text.now) →
-        IfErr result (InspectEndsBy input job streams.new out out (E.contents err.old)
-        (E.contents err.new)) }
+        IfSome input (IsInspectRefusal text.now) → IfErr result (InspectEndsBy input job streams.new
+        (written_on out (E.contents err.old)) (written_on out (E.contents err.new))) }
 {
     match streams.tell(err, text) {
         Ok(()) => Ok(Status::Refused),
