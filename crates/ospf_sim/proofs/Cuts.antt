@@ -6,7 +6,7 @@ use Rattle.ospf_files.proofs.Listed.{files_split}
 use Rattle.ospf_files.proofs.Written.{kept_written, nothing_written}
 use Rattle.ospf_files.specs.Files.{refused_line, text_in}
 use Rattle.ospf_files.specs.Listed.{AreConfigs, AreFilesRead, ConfigsCome}
-use Rattle.ospf_files.specs.Streams.{IsBegun}
+use Rattle.ospf_files.specs.Streams.{IsBegun, Written, written_on}
 use Rattle.ospf_files.specs.declared.files.NamedFile.{NamedFile}
 use Rattle.ospf_files.specs.declared.status.Failure.{Failure}
 use Rattle.ospf_files.specs.declared.streams.FailedStreams.{FailedStreams}
@@ -30,7 +30,7 @@ flushed a b kept = kept_written a a b [] (nothing_written a) kept
 
 -- a command that is done, and whose refusal is not told whole
 pub refusal_cut : (number : ℕ) (line : Text) (c : Command) (w w' : Simulation) (answer : Answer) (failed : FailedStreams) (a b z x y : Option (List ℕ)) (f : Failure) → SpellsCommand (line_words line) c
-    → IsDone c w answer w' a b → IsEventAnswerCut number answer failed b z x y f → IsLineCut number line w failed a z x y f
+    → IsDone c w answer w' a b → IsEventAnswerCut number answer failed (written_on b x) (written_on z y) f → IsLineCut number line w failed (written_on a x) (written_on z y) f
 refusal_cut number line c w w' answer failed a b z x y f spelled done cut =
     in_refusal (record {
       command = c;
@@ -45,10 +45,10 @@ refusal_cut number line c w w' answer failed a b z x y f spelled done cut =
     })
 
 -- a line is cut, and those before it have run
-pub line_cut : (lines : List Line) (i : ℕ) (d : Line) (w mid : Simulation) (failed : FailedStreams) (a b c x y z : Option (List ℕ)) (f : Failure) → i < length lines
-    → IsScriptRun (map numbered_line (take i lines)) w mid a b x y → IsLineCut (get_or lines i d).number (get_or lines i d).text.now mid failed b c y z f
-    → IsCutAtLine (map numbered_line lines) w failed a c x z f
-line_cut lines i d w mid failed a b c x y z f within so_far cut =
+pub line_cut : (lines : List Line) (i : ℕ) (d : Line) (w mid : Simulation) (failed : FailedStreams) (old between new : Written) (f : Failure) → i < length lines
+    → IsScriptRun (map numbered_line (take i lines)) w mid old between → IsLineCut (get_or lines i d).number (get_or lines i d).text.now mid failed between new f
+    → IsCutAtLine (map numbered_line lines) w failed old new f
+line_cut lines i d w mid failed old between new f within so_far cut =
     let line = get_or lines i d in
     record {
       before = map numbered_line (take i lines);
@@ -57,24 +57,22 @@ line_cut lines i d w mid failed a b c x y z f within so_far cut =
       after = map numbered_line (drop (suc i) lines);
       lines_are = entries_split lines i d within;
       mid = mid;
-      out_then = b;
-      err_then = y;
+      between = between;
       run = so_far;
       cut = cut;
     }
 
 -- of a line that cannot be read that is not told whole, and those before it have run
-pub early_cut : (lines : List Line) (number : ℕ) (line script : Text) (w w' : Simulation) (failed : FailedStreams) (a b c x y z : Option (List ℕ)) (f : Failure) → map numbered_line lines ≡ numbered_from 1 script
-    → EndsAtLine (map numbered_line lines) number line w w' a b x y → IsTellingCut (unreadable_line number line) failed b c y z f → IsCutAtLine (numbered_from 1 script) w failed a c x z f
-early_cut lines number line script w w' failed a b c x y z f same ends cut = record {
+pub early_cut : (lines : List Line) (number : ℕ) (line script : Text) (w w' : Simulation) (failed : FailedStreams) (old between new : Written) (f : Failure) → map numbered_line lines ≡ numbered_from 1 script
+    → EndsAtLine (map numbered_line lines) number line w w' old between → IsTellingCut (unreadable_line number line) failed between new f → IsCutAtLine (numbered_from 1 script) w failed old new f
+early_cut lines number line script w w' failed old between new f same ends cut = record {
   before = ends.before;
   number = number;
   line = line;
   after = ends.after;
   lines_are = sym same ∙ ends.lines_are;
   mid = w';
-  out_then = b;
-  err_then = y;
+  between = between;
   run = ends.run;
   cut = in_unreadable ends.unreadable cut;
 }
@@ -103,10 +101,10 @@ opening_cut (Some cs) configs files failed x y z f is comes cut =
     opened_cut configs files failed x y z f (subst (AreConfigs files) one comes.0) comes.1 cut
 
 -- a script is cut, in a world of the configurations in files
-pub script_cut : (found : Option WorldValue) (start : WorldValue) (script : NamedFile) (files : List NamedFile) (failed : FailedStreams) (a b x y z : Option (List ℕ)) (f : Failure)
-    → found ≡ Some start → WorldComes files found x y → AreFilesRead (script ∷ files) → IsScriptCut (text_in script) (begun_in start) failed a b y z f → IsSimulationCut script files failed a b x z f
-script_cut None start script files failed a b x y z f is comes read cut = absurd (cc is)
-script_cut (Some w) start script files failed a b x y z f is comes read cut =
+pub script_cut : (found : Option WorldValue) (start : WorldValue) (script : NamedFile) (files : List NamedFile) (failed : FailedStreams) (a x y : Option (List ℕ)) (new : Written) (f : Failure)
+    → found ≡ Some start → WorldComes files found x y → AreFilesRead (script ∷ files) → IsScriptCut (text_in script) (begun_in start) failed (written_on a y) new f → IsSimulationCut script files failed (written_on a x) new f
+script_cut None start script files failed a x y new f is comes read cut = absurd (cc is)
+script_cut (Some w) start script files failed a x y new f is comes read cut =
     let one : w ≡ start = cc is in
     let world = subst (λ v. WorldComes files (Some v) x y) one comes in
-    in_script start read world.0 (subst (λ (old : Option (List ℕ)). IsScriptCut (text_in script) (begun_in start) failed a b old z f) world.1 cut)
+    in_script start read world.0 (subst (λ (old : Option (List ℕ)). IsScriptCut (text_in script) (begun_in start) failed (written_on a old) new f) world.1 cut)

@@ -2,6 +2,7 @@
 use Rattle.std.proofs.Common.{◌≡◌, ◌≢◌, ◌⊎◌, inl, inr, ap, subst, ℕ, List, [], ◌∷◌, ◌++◌, Option, None, Some, IfSome, IfNone, Result, Ok, Err, IfOk, OnOk}
 use Rattle.std.specs.Io.KnownBytes.{Appends}
 use Rattle.ospf_files.specs.Files.{unread_line}
+use Rattle.ospf_files.specs.Streams.{Written, written_on}
 use Rattle.ospf_files.specs.declared.status.Failure.{Failure}
 use Rattle.ospf_files.specs.declared.status.Status.TheVariants as status
 use Rattle.ospf_files.specs.declared.streams.FailedStreams.{FailedStreams}
@@ -40,7 +41,7 @@ map_none (Some a) P Q f h = h
 -- the first file that could not be read is told
 pub unread_told : (script : NamedFile) (files : List NamedFile) (file : NamedFile) (result : Result Simulated Failure) (a b x y : Option (List ℕ))
     → IsFirstUnread file (script ∷ files) → b ≡ a → IfOk result (λ s. s.left ≡ None) → OnOk result (Appends x y (unread_line file))
-    → IfOk result (λ s. s.status ≡ status.Stream → IsScriptUnreadTold script files s.left a b x y)
+    → IfOk result (λ s. s.status ≡ status.Stream → IsScriptUnreadTold script files s.left (written_on a x) (written_on b y))
 unread_told script files file (Err failure) a b x y first same none told = tt
 unread_told script files file (Ok s) a b x y first same none told = λ _. record { file = file; first = first; told = told; none = none; same_out = same }
 
@@ -51,16 +52,16 @@ not_memory (Err failure) ended = tt
 not_memory (Ok s) (inl done) = λ is. absurd (cc (done, is))
 not_memory (Ok s) (inr refused) = λ is. absurd (cc (refused, is))
 
-pub ended_well : (script : NamedFile) (files : List NamedFile) (result : Result Simulated Failure) (a b x y : Option (List ℕ))
+pub ended_well : (script : NamedFile) (files : List NamedFile) (result : Result Simulated Failure) (old new : Written)
     → IfOk result (λ s. (s.status ≡ status.Done) ⊎ (s.status ≡ status.Refused))
-    → IfOk result (λ s. s.status ≡ status.Stream → IsScriptUnreadTold script files s.left a b x y)
-ended_well script files (Err failure) a b x y ended = tt
-ended_well script files (Ok s) a b x y (inl done) = λ is. absurd (cc (done, is))
-ended_well script files (Ok s) a b x y (inr refused) = λ is. absurd (cc (refused, is))
+    → IfOk result (λ s. s.status ≡ status.Stream → IsScriptUnreadTold script files s.left old new)
+ended_well script files (Err failure) old new ended = tt
+ended_well script files (Ok s) old new (inl done) = λ is. absurd (cc (done, is))
+ended_well script files (Ok s) old new (inr refused) = λ is. absurd (cc (refused, is))
 
 -- a simulation that ends with status Stream, and that no failure ended, ended for a file
-pub stopped_unread : (script : NamedFile) (files : List NamedFile) (s : Simulated) (failed : FailedStreams) (a b x y : Option (List ℕ))
-    → s.status ≢ status.Memory → (s.status ≡ status.Stream → IsScriptUnreadTold script files s.left a b x y)
-    → (s.status ≡ status.Memory) ⊎ (s.status ≡ status.Stream) → IsStopped script files s.left failed s.status a b x y
-stopped_unread script files s failed a b x y not told (inl memory) = absurd (not memory)
-stopped_unread script files s failed a b x y not told (inr stream) = is_unread stream (told stream)
+pub stopped_unread : (script : NamedFile) (files : List NamedFile) (s : Simulated) (failed : FailedStreams) (old new : Written)
+    → s.status ≢ status.Memory → (s.status ≡ status.Stream → IsScriptUnreadTold script files s.left old new)
+    → (s.status ≡ status.Memory) ⊎ (s.status ≡ status.Stream) → IsStopped script files s.left failed s.status old new
+stopped_unread script files s failed old new not told (inl memory) = absurd (not memory)
+stopped_unread script files s failed old new not told (inr stream) = is_unread stream (told stream)

@@ -4,6 +4,7 @@ use Rattle.std.proofs.lemmas.List.{take_all, take_more, take-append-drop, map-ap
 use Rattle.std.proofs.Math.Seq.{drop-cons}
 use Rattle.std.specs.Io.KnownBytes.{Appends, Keeps}
 use Rattle.ospf_files.specs.Lines.{numbered_line, numbered_from}
+use Rattle.ospf_files.specs.Streams.{Written, written_on}
 use Rattle.ospf_script.specs.Commands.{SpellsCommand}
 use Rattle.ospf_script.specs.Words.{Text, line_words}
 use Rattle.ospf_script.specs.declared.command.Command.{Command}
@@ -21,19 +22,19 @@ more_lines _ number line w mid w' _ out _ err no_line last = rw (sym (append-nil
 more_lines _ number line w mid w' _ out _ err (one_line {lines = lines} {mid = first} {out = o} {outs = outs} {err = e} {errs = errs} head rest) last =
     rw (append_assoc o outs out, append_assoc e errs err) (one_line head (more_lines lines number line first mid w' outs out errs err rest last))
 
-pub no_lines : (w : Simulation) (out err : Option (List ℕ)) → IsScriptRun [] w w out out err err
-no_lines w out err = record { out = []; err = []; runs = no_line; out_written = nothing_written out; err_written = nothing_written err }
+pub no_lines : (w : Simulation) (old : Written) → IsScriptRun [] w w old old
+no_lines w old = record { out = []; err = []; runs = no_line; out_written = nothing_written old.out; err_written = nothing_written old.err }
 
 -- the entries of one line more
 entries_more : (lines : List Line) (i : ℕ) (d : Line) → i < length lines
     → map numbered_line (take (i + 1) lines) ≡ map numbered_line (take i lines) ++ numbered_line (get_or lines i d) ∷ []
 entries_more lines i d within = ap (map numbered_line) (take_more lines i d within) ∙ map-append numbered_line (take i lines) (get_or lines i d ∷ [])
 
-pub line_run : (lines : List Line) (i : ℕ) (d : Line) (w mid w' : Simulation) (a b c x y z : Option (List ℕ)) (read : Bool) → i < length lines → read ≡ true
-    → IsScriptRun (map numbered_line (take i lines)) w mid a b x y → LineComes read (get_or lines i d) mid w' b c y z
-    → IsScriptRun (map numbered_line (take (i + 1) lines)) w w' a c x z
-line_run lines i d w mid w' a b c x y z false within is so_far next = absurd (cc is)
-line_run lines i d w mid w' a b c x y z true within is so_far next =
+pub line_run : (lines : List Line) (i : ℕ) (d : Line) (w mid w' : Simulation) (old between new : Written) (read : Bool) → i < length lines → read ≡ true
+    → IsScriptRun (map numbered_line (take i lines)) w mid old between → LineComes read (get_or lines i d) mid w' between new
+    → IsScriptRun (map numbered_line (take (i + 1) lines)) w w' old new
+line_run lines i d w mid w' old between new false within is so_far next = absurd (cc is)
+line_run lines i d w mid w' old between new true within is so_far next =
     let line = get_or lines i d in
     let entries = sym (entries_more lines i d within) in
     record {
@@ -41,8 +42,8 @@ line_run lines i d w mid w' a b c x y z true within is so_far next =
       err = so_far.err ++ next.err;
       runs = subst (λ front. RunsLines front w w' (so_far.out ++ next.out) (so_far.err ++ next.err)) entries
           (more_lines (map numbered_line (take i lines)) line.number line.text.now w mid w' so_far.out next.out so_far.err next.err so_far.runs next.runs);
-      out_written = both_written a b c so_far.out next.out so_far.out_written next.out_written;
-      err_written = both_written x y z so_far.err next.err so_far.err_written next.err_written;
+      out_written = both_written old.out between.out new.out so_far.out next.out so_far.out_written next.out_written;
+      err_written = both_written old.err between.err new.err so_far.err next.err so_far.err_written next.err_written;
     }
 
 -- the lines before one, that one, and those behind it
@@ -53,25 +54,24 @@ entries_split lines i d within =
     ap (λ rest. take i lines ++ rest) (sym (drop-cons lines i d within)) ∙ take-append-drop i lines in
     ap (map numbered_line) (sym split) ∙ map-append numbered_line (take i lines) (get_or lines i d ∷ drop (suc i) lines)
 
-pub line_ends : (lines : List Line) (i : ℕ) (d : Line) (w mid w' : Simulation) (a b c x y z : Option (List ℕ)) (read : Bool) → i < length lines → read ≡ false
-    → IsScriptRun (map numbered_line (take i lines)) w mid a b x y → LineComes read (get_or lines i d) mid w' b c y z
-    → EndsAtLine (map numbered_line lines) (get_or lines i d).number (get_or lines i d).text.now w w' a c x z
-line_ends lines i d w mid w' a b c x y z true within is so_far last = absurd (cc is)
-line_ends lines i d w mid w' a b c x y z false within is so_far last =
+pub line_ends : (lines : List Line) (i : ℕ) (d : Line) (w mid w' : Simulation) (old between new : Written) (read : Bool) → i < length lines → read ≡ false
+    → IsScriptRun (map numbered_line (take i lines)) w mid old between → LineComes read (get_or lines i d) mid w' between new
+    → EndsAtLine (map numbered_line lines) (get_or lines i d).number (get_or lines i d).text.now w w' old new
+line_ends lines i d w mid w' old between new true within is so_far last = absurd (cc is)
+line_ends lines i d w mid w' old between new false within is so_far last =
     let line = get_or lines i d in
     record {
       before = map numbered_line (take i lines);
       after = map numbered_line (drop (suc i) lines);
       lines_are = entries_split lines i d within;
       unreadable = last.unreadable;
-      run = subst (λ err. IsScriptRun (map numbered_line (take i lines)) w w' a c x err) (sym last.same_err)
-          (subst (λ out. IsScriptRun (map numbered_line (take i lines)) w w' a out x y) (sym last.same_out)
-          (subst (λ end. IsScriptRun (map numbered_line (take i lines)) w end a b x y) (sym last.same_world) so_far));
+      run = subst (λ written. IsScriptRun (map numbered_line (take i lines)) w w' old written) (sym last.same_written)
+          (subst (λ end. IsScriptRun (map numbered_line (take i lines)) w end old between) (sym last.same_world) so_far);
     }
 
 -- a command that is done, and told of
 pub line_taken : (number : ℕ) (line : Text) (c : Command) (w w' : Simulation) (answer : Answer) (a b z x y : Option (List ℕ)) → SpellsCommand (line_words line) c → IsDone c w answer w' a b
-    → Appends b z [] → Appends x y (told_of number answer) → IsRunLine number line w w' a z x y
+    → Appends b z [] → Appends x y (told_of number answer) → IsRunLine number line w w' (written_on a x) (written_on z y)
 line_taken number line c w w' answer a b z x y spelled done out err = record {
   out = done.text;
   err = told_of number answer;
@@ -81,22 +81,22 @@ line_taken number line c w w' answer a b z x y spelled done out err = record {
 }
 
 -- lines that have all run
-pub whole_at : (lines : List Line) (i : ℕ) (script : Text) (w w' : Simulation) (a b c x y : Option (List ℕ)) → length lines ≤ i → map numbered_line lines ≡ numbered_from 1 script
-    → IsScriptRun (map numbered_line (take i lines)) w w' a b x y → Keeps b c → IsScriptRun (numbered_from 1 script) w w' a c x y
-whole_at lines i script w w' a b c x y past same run kept =
-    let all : IsScriptRun (map numbered_line lines) w w' a b x y = subst (λ (ls : List Line). IsScriptRun (map numbered_line ls) w w' a b x y) (take_all i lines past) run in
+pub whole_at : (lines : List Line) (i : ℕ) (script : Text) (w w' : Simulation) (old : Written) (b c y : Option (List ℕ)) → length lines ≤ i → map numbered_line lines ≡ numbered_from 1 script
+    → IsScriptRun (map numbered_line (take i lines)) w w' old (written_on b y) → Keeps b c → IsScriptRun (numbered_from 1 script) w w' old (written_on c y)
+whole_at lines i script w w' old b c y past same run kept =
+    let all : IsScriptRun (map numbered_line lines) w w' old (written_on b y) = subst (λ (ls : List Line). IsScriptRun (map numbered_line ls) w w' old (written_on b y)) (take_all i lines past) run in
     record {
       out = all.out;
       err = all.err;
       runs = subst (λ entries. RunsLines entries w w' all.out all.err) same all.runs;
-      out_written = kept_written a b c all.out all.out_written kept;
+      out_written = kept_written old.out b c all.out all.out_written kept;
       err_written = all.err_written;
     }
 
 -- and those up to one that cannot be read, of which it is told
-pub early_at : (lines : List Line) (number : ℕ) (line script : Text) (w w' : Simulation) (a b c x y z : Option (List ℕ)) → map numbered_line lines ≡ numbered_from 1 script
-    → EndsAtLine (map numbered_line lines) number line w w' a b x y → Appends b c [] → Appends y z (unreadable_line number line) → EndsEarly script w w' a c x z
-early_at lines number line script w w' a b c x y z same ends kept told = record {
+pub early_at : (lines : List Line) (number : ℕ) (line script : Text) (w w' : Simulation) (old : Written) (b c y z : Option (List ℕ)) → map numbered_line lines ≡ numbered_from 1 script
+    → EndsAtLine (map numbered_line lines) number line w w' old (written_on b y) → Appends b c [] → Appends y z (unreadable_line number line) → EndsEarly script w w' old (written_on c z)
+early_at lines number line script w w' old b c y z same ends kept told = record {
   number = number;
   before = ends.before;
   line = line;
@@ -106,6 +106,6 @@ early_at lines number line script w w' a b c x y z same ends kept told = record 
   out = ends.run.out;
   err = ends.run.err;
   runs = ends.run.runs;
-  out_written = subst (Appends a c) (append-nil ends.run.out) (both_written a b c ends.run.out [] ends.run.out_written kept);
-  err_written = both_written x y z ends.run.err (unreadable_line number line) ends.run.err_written told;
+  out_written = subst (Appends old.out c) (append-nil ends.run.out) (both_written old.out b c ends.run.out [] ends.run.out_written kept);
+  err_written = both_written old.err y z ends.run.err (unreadable_line number line) ends.run.err_written told;
 }

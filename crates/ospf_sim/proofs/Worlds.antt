@@ -3,6 +3,7 @@ use Rattle.std.proofs.Common.{ap, suc, length, [], ◌≡◌, ◌∙◌, sym, su
 use Rattle.ospf_config.specs.declared.config.Config.{Config}
 use Rattle.ospf_files.specs.Files.{text_in}
 use Rattle.ospf_files.specs.Listed.{AreConfigs, AreFilesRead, ConfigsCome}
+use Rattle.ospf_files.specs.Streams.{Written, written_on}
 use Rattle.ospf_files.specs.declared.files.NamedFile.{NamedFile}
 use Rattle.ospf_files.specs.declared.status.Failure.{Failure}
 use Rattle.ospf_files.specs.declared.status.Status.{Status}
@@ -46,44 +47,44 @@ pub no_world_told : (found : Option WorldValue) (files : List NamedFile) (x y : 
 no_world_told None files x y is comes = comes
 no_world_told (Some w) files x y is comes = absurd (cc is)
 
-pub runs_to : (whole : Bool) (script : NamedFile) (text : Text) (w : WorldValue) (s end : Simulation) (simulated : Simulated) (a b x y : Option (List ℕ))
-    → simulated.status ≡ status_of_script whole → s ≡ begun_in w → text ≡ text_in script → simulated.left ≡ Some end → ScriptComes whole text s end a b x y
-    → ScriptRunsTo simulated.status script w simulated a b x y
-runs_to true script text w s end simulated a b x y is begins same left comes =
-    subst (λ status. ScriptRunsTo status script w simulated a b x y) (sym is)
-    (record { end = end; left = left; comes = subst (λ t. ScriptComes true t (begun_in w) end a b x y) same (subst (λ v. ScriptComes true text v end a b x y) begins comes) })
-runs_to false script text w s end simulated a b x y is begins same left comes =
-    subst (λ status. ScriptRunsTo status script w simulated a b x y) (sym is)
-    (record { end = end; left = left; comes = subst (λ t. ScriptComes false t (begun_in w) end a b x y) same (subst (λ v. ScriptComes false text v end a b x y) begins comes) })
+pub runs_to : (whole : Bool) (script : NamedFile) (text : Text) (w : WorldValue) (s end : Simulation) (simulated : Simulated) (old new : Written)
+    → simulated.status ≡ status_of_script whole → s ≡ begun_in w → text ≡ text_in script → simulated.left ≡ Some end → ScriptComes whole text s end old new
+    → ScriptRunsTo simulated.status script w simulated old new
+runs_to true script text w s end simulated old new is begins same left comes =
+    subst (λ status. ScriptRunsTo status script w simulated old new) (sym is)
+    (record { end = end; left = left; comes = subst (λ t. ScriptComes true t (begun_in w) end old new) same (subst (λ v. ScriptComes true text v end old new) begins comes) })
+runs_to false script text w s end simulated old new is begins same left comes =
+    subst (λ status. ScriptRunsTo status script w simulated old new) (sym is)
+    (record { end = end; left = left; comes = subst (λ t. ScriptComes false t (begun_in w) end old new) same (subst (λ v. ScriptComes false text v end old new) begins comes) })
 
-run_comes : (status : Status) (start : WorldValue) (script : NamedFile) (files : List NamedFile) (simulated : Simulated) (a b x y z : Option (List ℕ))
-    → WorldComes files (Some start) x y → AreFilesRead (script ∷ files) → ScriptRunsTo status script start simulated a b y z → ComesOfScript status script files simulated a b x z
-run_comes Done start script files simulated a b x y z comes read run = record {
+run_comes : (status : Status) (start : WorldValue) (script : NamedFile) (files : List NamedFile) (simulated : Simulated) (a x y : Option (List ℕ)) (new : Written)
+    → WorldComes files (Some start) x y → AreFilesRead (script ∷ files) → ScriptRunsTo status script start simulated (written_on a y) new → ComesOfScript status script files simulated (written_on a x) new
+run_comes Done start script files simulated a x y new comes read run = record {
   read = read;
   start = start;
   end = run.end;
   starts = comes.0;
   left = run.left;
-  run = subst (λ old. ScriptComes true (text_in script) (begun_in start) run.end a b old z) comes.1 run.comes;
+  run = subst (λ old. ScriptComes true (text_in script) (begun_in start) run.end (written_on a old) new) comes.1 run.comes;
 }
-run_comes Refused start script files simulated a b x y z comes read run = inr (record {
+run_comes Refused start script files simulated a x y new comes read run = inr (record {
   read = read;
   start = start;
   end = run.end;
   starts = comes.0;
   left = run.left;
-  early = subst (λ old. ScriptComes false (text_in script) (begun_in start) run.end a b old z) comes.1 run.comes;
+  early = subst (λ old. ScriptComes false (text_in script) (begun_in start) run.end (written_on a old) new) comes.1 run.comes;
 })
-run_comes Words start script files simulated a b x y z comes read run = tt
-run_comes Memory start script files simulated a b x y z comes read run = tt
-run_comes Stream start script files simulated a b x y z comes read run = tt
+run_comes Words start script files simulated a x y new comes read run = tt
+run_comes Memory start script files simulated a x y new comes read run = tt
+run_comes Stream start script files simulated a x y new comes read run = tt
 
-pub found_runs : (found : Option WorldValue) (start : WorldValue) (status : Status) (script : NamedFile) (files : List NamedFile) (simulated : Simulated) (a b x y z : Option (List ℕ))
-    → found ≡ Some start → WorldComes files found x y → AreFilesRead (script ∷ files) → ScriptRunsTo status script start simulated a b y z → ComesOfScript status script files simulated a b x z
-found_runs None start status script files simulated a b x y z is comes read run = absurd (cc is)
-found_runs (Some w) start status script files simulated a b x y z is comes read run =
+pub found_runs : (found : Option WorldValue) (start : WorldValue) (status : Status) (script : NamedFile) (files : List NamedFile) (simulated : Simulated) (a x y : Option (List ℕ)) (new : Written)
+    → found ≡ Some start → WorldComes files found x y → AreFilesRead (script ∷ files) → ScriptRunsTo status script start simulated (written_on a y) new → ComesOfScript status script files simulated (written_on a x) new
+found_runs None start status script files simulated a x y new is comes read run = absurd (cc is)
+found_runs (Some w) start status script files simulated a x y new is comes read run =
     let one : w ≡ start = cc is in
-    run_comes status start script files simulated a b x y z (subst (λ v. WorldComes files (Some v) x y) one comes) read run
+    run_comes status start script files simulated a x y new (subst (λ v. WorldComes files (Some v) x y) one comes) read run
 
 same_world : (w v : WorldValue) → (a : Result WorldValue WorldFault) → a ≡ Ok w → a ≡ Ok v → w ≡ v
 same_world w v a one other = cc

@@ -5,7 +5,7 @@ use Rattle.ospf_config.specs.declared.config.Config.{Config}
 use Rattle.ospf_config.specs.declared.fault.ConfigFault.{ConfigFault}
 use Rattle.ospf_files.specs.Files.{IsRefusedFor, refused_line, text_in, unread_line}
 use Rattle.ospf_files.specs.Listed.{AreConfigs, AreFilesRead, IsFirstRefused, IsFirstUnread}
-use Rattle.ospf_files.specs.Streams.{IsBegun, IsErrorCut, IsOutputCut}
+use Rattle.ospf_files.specs.Streams.{IsBegun, IsErrorCut, IsOutputCut, Written}
 use Rattle.ospf_files.specs.declared.files.NamedFile.{NamedFile}
 use Rattle.ospf_files.specs.declared.status.Failure.{Failure}
 use Rattle.ospf_files.specs.declared.status.Failure.TheVariants as failure
@@ -33,20 +33,20 @@ pub record IsPrintBegun (line : Text) (w : Simulation) (out_old out_new : Option
   pub done : IsDoneBegun command w end out_old out_new
 
 -- a text is not told whole: what was printed before it was not flushed, and it is not begun, or a beginning of it was written
-pub data IsTellingCut (text : Text) (failed : FailedStreams) (out_old out_new err_old err_new : Option (List ℕ)) : Failure → Type 0 where
-  not_flushed : {f : Failure} → IsOutputCut failed f → Appends out_old out_new [] → err_new ≡ err_old
-      → IsTellingCut text failed out_old out_new err_old err_new f
-  in_telling : {f : Failure} → IsErrorCut failed f → Appends out_old out_new [] → IsBegun err_old err_new text
-      → IsTellingCut text failed out_old out_new err_old err_new f
+pub data IsTellingCut (text : Text) (failed : FailedStreams) (old new : Written) : Failure → Type 0 where
+  not_flushed : {f : Failure} → IsOutputCut failed f → Appends old.out new.out [] → new.err ≡ old.err
+      → IsTellingCut text failed old new f
+  in_telling : {f : Failure} → IsErrorCut failed f → Appends old.out new.out [] → IsBegun old.err new.err text
+      → IsTellingCut text failed old new f
 
 -- an answer is a refusal, and that is not told whole
-pub record IsEventAnswerCut (number : ℕ) (answer : Answer) (failed : FailedStreams) (out_old out_new err_old err_new : Option (List ℕ)) (f : Failure) : Type 0 where
+pub record IsEventAnswerCut (number : ℕ) (answer : Answer) (failed : FailedStreams) (old new : Written) (f : Failure) : Type 0 where
   pub fault : WorldFault
   pub refused : answer ≡ Err fault
-  pub told : IsTellingCut (world_refusal_line number fault) failed out_old out_new err_old err_new f
+  pub told : IsTellingCut (world_refusal_line number fault) failed old new f
 
 -- a line is refused, what it prints was written, and its refusal is not told whole
-pub record IsRefusalCut (number : ℕ) (line : Text) (w : Simulation) (failed : FailedStreams) (out_old out_new err_old err_new : Option (List ℕ)) (f : Failure) : Type 0 where
+pub record IsRefusalCut (number : ℕ) (line : Text) (w : Simulation) (failed : FailedStreams) (old new : Written) (f : Failure) : Type 0 where
   pub command : Command
   pub end : Simulation
   pub spelled : SpellsCommand (line_words line) command
@@ -54,43 +54,39 @@ pub record IsRefusalCut (number : ℕ) (line : Text) (w : Simulation) (failed : 
   pub text : Text
   pub does : DoesCommand command w (Err fault) text end
   pub out_then : Option (List ℕ)
-  pub printed : Appends out_old out_then text
-  pub told : IsTellingCut (world_refusal_line number fault) failed out_then out_new err_old err_new f
+  pub printed : Appends old.out out_then text
+  pub told : IsTellingCut (world_refusal_line number fault) failed (record old { out = out_then }) new f
 
 -- a line is cut: before it does anything, where there is no room for the choices of a walk or for a text; in what it prints; in its refusal;
 -- or where it cannot be read, and that is not told whole
-pub data IsLineCut (number : ℕ) (line : Text) (w : Simulation) (failed : FailedStreams) (out_old out_new err_old err_new : Option (List ℕ)) : Failure → Type 0 where
-  no_room_for : NeedsRoom (line_words line) → out_new ≡ out_old → err_new ≡ err_old
-      → IsLineCut number line w failed out_old out_new err_old err_new failure.Memory
-  in_print : {f : Failure} → IsOutputCut failed f → IsPrintBegun line w out_old out_new → err_new ≡ err_old
-      → IsLineCut number line w failed out_old out_new err_old err_new f
-  in_refusal : {f : Failure} → IsRefusalCut number line w failed out_old out_new err_old err_new f
-      → IsLineCut number line w failed out_old out_new err_old err_new f
-  in_unreadable : {f : Failure} → IsUnreadable line → IsTellingCut (unreadable_line number line) failed out_old out_new err_old err_new f
-      → IsLineCut number line w failed out_old out_new err_old err_new f
+pub data IsLineCut (number : ℕ) (line : Text) (w : Simulation) (failed : FailedStreams) (old new : Written) : Failure → Type 0 where
+  no_room_for : NeedsRoom (line_words line) → new ≡ old → IsLineCut number line w failed old new failure.Memory
+  in_print : {f : Failure} → IsOutputCut failed f → IsPrintBegun line w old.out new.out → new.err ≡ old.err
+      → IsLineCut number line w failed old new f
+  in_refusal : {f : Failure} → IsRefusalCut number line w failed old new f → IsLineCut number line w failed old new f
+  in_unreadable : {f : Failure} → IsUnreadable line → IsTellingCut (unreadable_line number line) failed old new f
+      → IsLineCut number line w failed old new f
 
 -- ---- a script
 
 -- a line is cut, and those before it have run: what they write was written
-pub record IsCutAtLine (lines : List (ℕ × Text)) (w : Simulation) (failed : FailedStreams) (out_old out_new err_old err_new : Option (List ℕ)) (f : Failure) : Type 0 where
+pub record IsCutAtLine (lines : List (ℕ × Text)) (w : Simulation) (failed : FailedStreams) (old new : Written) (f : Failure) : Type 0 where
   pub before : List (ℕ × Text)
   pub number : ℕ
   pub line : Text
   pub after : List (ℕ × Text)
   pub lines_are : lines ≡ before ++ (number, line) ∷ after
   pub mid : Simulation
-  pub out_then : Option (List ℕ)
-  pub err_then : Option (List ℕ)
-  pub run : IsScriptRun before w mid out_old out_then err_old err_then
-  pub cut : IsLineCut number line mid failed out_then out_new err_then err_new f
+  pub between : Written
+  pub run : IsScriptRun before w mid old between
+  pub cut : IsLineCut number line mid failed between new f
 
 -- a script is cut: before its first line, for want of memory; at a line; or behind its last, where what it printed is not flushed
-pub data IsScriptCut (script : Text) (w : Simulation) (failed : FailedStreams) (out_old out_new err_old err_new : Option (List ℕ)) : Failure → Type 0 where
-  no_lines : out_new ≡ out_old → err_new ≡ err_old → IsScriptCut script w failed out_old out_new err_old err_new failure.Memory
-  in_line : {f : Failure} → IsCutAtLine (numbered_from 1 script) w failed out_old out_new err_old err_new f
-      → IsScriptCut script w failed out_old out_new err_old err_new f
-  behind_lines : {f : Failure} (end : Simulation) → IsOutputCut failed f → IsScriptRun (numbered_from 1 script) w end out_old out_new err_old err_new
-      → IsScriptCut script w failed out_old out_new err_old err_new f
+pub data IsScriptCut (script : Text) (w : Simulation) (failed : FailedStreams) (old new : Written) : Failure → Type 0 where
+  no_lines : new ≡ old → IsScriptCut script w failed old new failure.Memory
+  in_line : {f : Failure} → IsCutAtLine (numbered_from 1 script) w failed old new f → IsScriptCut script w failed old new f
+  behind_lines : {f : Failure} (end : Simulation) → IsOutputCut failed f → IsScriptRun (numbered_from 1 script) w end old new
+      → IsScriptCut script w failed old new f
 
 -- ---- a simulation
 
@@ -116,10 +112,10 @@ pub data IsWorldCut (files : List NamedFile) (failed : FailedStreams) (err_old e
       → IsBegun err_old err_new text → IsWorldCut files failed err_old err_new f
 
 -- a simulation is cut: at the first file that could not be read, before there is a world, or in its script
-pub data IsSimulationCut (script : NamedFile) (files : List NamedFile) (failed : FailedStreams) (out_old out_new err_old err_new : Option (List ℕ)) : Failure → Type 0 where
+pub data IsSimulationCut (script : NamedFile) (files : List NamedFile) (failed : FailedStreams) (old new : Written) : Failure → Type 0 where
   in_unread : {f : Failure} (file : NamedFile) → IsErrorCut failed f → IsFirstUnread file (script ∷ files)
-      → IsBegun err_old err_new (unread_line file) → out_new ≡ out_old → IsSimulationCut script files failed out_old out_new err_old err_new f
-  in_world : {f : Failure} → AreFilesRead (script ∷ files) → IsWorldCut files failed err_old err_new f → out_new ≡ out_old
-      → IsSimulationCut script files failed out_old out_new err_old err_new f
+      → IsBegun old.err new.err (unread_line file) → new.out ≡ old.out → IsSimulationCut script files failed old new f
+  in_world : {f : Failure} → AreFilesRead (script ∷ files) → IsWorldCut files failed old.err new.err f → new.out ≡ old.out
+      → IsSimulationCut script files failed old new f
   in_script : {f : Failure} (start : WorldValue) → AreFilesRead (script ∷ files) → IsWorldOf files start
-      → IsScriptCut (text_in script) (begun_in start) failed out_old out_new err_old err_new f → IsSimulationCut script files failed out_old out_new err_old err_new f
+      → IsScriptCut (text_in script) (begun_in start) failed old new f → IsSimulationCut script files failed old new f

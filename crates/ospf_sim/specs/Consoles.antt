@@ -6,7 +6,7 @@ use Rattle.std.specs.Io.KnownBytes.{Appends, Consumes, IsAtEnd}
 use Rattle.ospf_files.specs.Files.{unread_line}
 use Rattle.ospf_files.specs.Listed.{AreFilesRead, IsFirstUnread}
 use Rattle.ospf_files.specs.Status.{failure_line, failure_status}
-use Rattle.ospf_files.specs.Streams.{IsBegun, IsErrorCut, IsOfInput, IsOutputCut, IsTold}
+use Rattle.ospf_files.specs.Streams.{IsBegun, IsErrorCut, IsOfInput, IsOutputCut, IsTold, Written}
 use Rattle.ospf_files.specs.declared.files.NamedFile.{NamedFile}
 use Rattle.ospf_files.specs.declared.status.Failure.{Failure}
 use Rattle.ospf_files.specs.declared.status.Status.{Status}
@@ -38,20 +38,20 @@ pub data AnswersLines (prompt : Text) : List (ℕ × Text) → Simulation → Si
       → AnswersLines prompt ((number, line) ∷ lines) w w' (prompt ++ out ++ outs) (err ++ errs)
 
 -- what a line comes to is what was written
-pub record IsLineAnswered (number : ℕ) (line : Text) (w w' : Simulation) (out_old out_new err_old err_new : Option (List ℕ)) : Type 0 where
+pub record IsLineAnswered (number : ℕ) (line : Text) (w w' : Simulation) (old new : Written) : Type 0 where
   pub out : Text
   pub err : Text
   pub answers : AnswersLine number line w w' out err
-  pub out_written : Appends out_old out_new out
-  pub err_written : Appends err_old err_new err
+  pub out_written : Appends old.out new.out out
+  pub err_written : Appends old.err new.err err
 
 -- what lines come to is what was written
-pub record AreAnswered (prompt : Text) (lines : List (ℕ × Text)) (w w' : Simulation) (out_old out_new err_old err_new : Option (List ℕ)) : Type 0 where
+pub record AreAnswered (prompt : Text) (lines : List (ℕ × Text)) (w w' : Simulation) (old new : Written) : Type 0 where
   pub out : Text
   pub err : Text
   pub answers : AnswersLines prompt lines w w' out err
-  pub out_written : Appends out_old out_new out
-  pub err_written : Appends err_old err_new err
+  pub out_written : Appends old.out new.out out
+  pub err_written : Appends old.err new.err err
 
 -- ---- an input
 
@@ -67,107 +67,105 @@ IsPiece true piece old new = IsPieceRead piece old new
 IsPiece false piece old new = IsAtEnd old
 
 -- all lines of a text are answered, which is the whole input where that is known
-pub record IsAllAnswered (input : Option (List ℕ)) (prompt : Text) (w w' : Simulation) (out_old out_new err_old err_new : Option (List ℕ)) : Type 0 where
+pub record IsAllAnswered (input : Option (List ℕ)) (prompt : Text) (w w' : Simulation) (old new : Written) : Type 0 where
   pub text : Text
   pub whole : IfSome input (λ bytes. bytes ≡ text)
-  pub answered : AreAnswered prompt (numbered_from 1 text) w w' out_old out_new err_old err_new
+  pub answered : AreAnswered prompt (numbered_from 1 text) w w' old new
 
 -- ---- an input that is cut
 
 -- a line is answered, and the prompt behind it is not written whole
-pub record IsPromptCut (prompt : Text) (number : ℕ) (line : Text) (w : Simulation) (failed : FailedStreams) (out_old out_new err_old err_new : Option (List ℕ)) (f : Failure) : Type 0 where
+pub record IsPromptCut (prompt : Text) (number : ℕ) (line : Text) (w : Simulation) (failed : FailedStreams) (old new : Written) (f : Failure) : Type 0 where
   pub end : Simulation
   pub out_then : Option (List ℕ)
-  pub answered : IsLineAnswered number line w end out_old out_then err_old err_new
-  pub begun : IsBegun out_then out_new prompt
+  pub answered : IsLineAnswered number line w end old (record new { out = out_then })
+  pub begun : IsBegun out_then new.out prompt
   pub cut : IsOutputCut failed f
 
 -- a line is cut, or the prompt behind it
-pub data IsTurnCut (prompt : Text) (number : ℕ) (line : Text) (w : Simulation) (failed : FailedStreams) (out_old out_new err_old err_new : Option (List ℕ)) (f : Failure) : Type 0 where
-  in_answer : IsLineCut number line w failed out_old out_new err_old err_new f → IsTurnCut prompt number line w failed out_old out_new err_old err_new f
-  in_prompt : IsPromptCut prompt number line w failed out_old out_new err_old err_new f → IsTurnCut prompt number line w failed out_old out_new err_old err_new f
+pub data IsTurnCut (prompt : Text) (number : ℕ) (line : Text) (w : Simulation) (failed : FailedStreams) (old new : Written) (f : Failure) : Type 0 where
+  in_answer : IsLineCut number line w failed old new f → IsTurnCut prompt number line w failed old new f
+  in_prompt : IsPromptCut prompt number line w failed old new f → IsTurnCut prompt number line w failed old new f
 
 -- the last of these lines is cut, and those before it are answered
-pub record IsLastCut (prompt : Text) (lines : List (ℕ × Text)) (w : Simulation) (failed : FailedStreams) (out_old out_new err_old err_new : Option (List ℕ)) (f : Failure) : Type 0 where
+pub record IsLastCut (prompt : Text) (lines : List (ℕ × Text)) (w : Simulation) (failed : FailedStreams) (old new : Written) (f : Failure) : Type 0 where
   pub before : List (ℕ × Text)
   pub number : ℕ
   pub line : Text
   pub lines_are : lines ≡ before ++ (number, line) ∷ []
   pub mid : Simulation
-  pub out_then : Option (List ℕ)
-  pub err_then : Option (List ℕ)
-  pub answered : AreAnswered prompt before w mid out_old out_then err_old err_then
-  pub cut : IsTurnCut prompt number line mid failed out_then out_new err_then err_new f
+  pub between : Written
+  pub answered : AreAnswered prompt before w mid old between
+  pub cut : IsTurnCut prompt number line mid failed between new f
 
 -- the text is a beginning of the input, where that is known
 abbrev pub IsReadOf : Option (List ℕ) → Text → Type 0
 IsReadOf input text = IfSome input (λ bytes. (rest : Text) × (bytes ≡ text ++ rest))
 
 -- the lines of an input are cut: before the first, in the prompt; where the next is not read; or at the last that was read
-pub data IsSessionCut (input : Option (List ℕ)) (prompt : Text) (w : Simulation) (failed : FailedStreams) (out_old out_new err_old err_new : Option (List ℕ)) : Failure → Type 0 where
-  in_first_prompt : {f : Failure} → IsOutputCut failed f → IsBegun out_old out_new prompt → err_new ≡ err_old
-      → IsSessionCut input prompt w failed out_old out_new err_old err_new f
+pub data IsSessionCut (input : Option (List ℕ)) (prompt : Text) (w : Simulation) (failed : FailedStreams) (old new : Written) : Failure → Type 0 where
+  in_first_prompt : {f : Failure} → IsOutputCut failed f → IsBegun old.out new.out prompt → new.err ≡ old.err
+      → IsSessionCut input prompt w failed old new f
   in_reading : {f : Failure} (text : Text) (end : Simulation) → IsOfInput f → IsReadOf input text
-      → AreAnswered prompt (numbered_from 1 text) w end out_old out_new err_old err_new
-      → IsSessionCut input prompt w failed out_old out_new err_old err_new f
+      → AreAnswered prompt (numbered_from 1 text) w end old new
+      → IsSessionCut input prompt w failed old new f
   in_line : {f : Failure} (text : Text) → IsReadOf input text
-      → IsLastCut prompt (numbered_from 1 text) w failed out_old out_new err_old err_new f
-      → IsSessionCut input prompt w failed out_old out_new err_old err_new f
+      → IsLastCut prompt (numbered_from 1 text) w failed old new f
+      → IsSessionCut input prompt w failed old new f
 
 -- ---- a console
 
 -- all lines of the input are answered, in a world of the configurations
-pub record IsConsoled (input : Option (List ℕ)) (prompt : Text) (files : List NamedFile) (simulated : Simulated) (out_old out_new err_old err_new : Option (List ℕ)) : Type 0 where
+pub record IsConsoled (input : Option (List ℕ)) (prompt : Text) (files : List NamedFile) (simulated : Simulated) (old new : Written) : Type 0 where
   pub read : AreFilesRead files
   pub start : WorldValue
   pub end : Simulation
   pub starts : IsWorldOf files start
   pub left : simulated.left ≡ Some end
-  pub all : IsAllAnswered input prompt (begun_in start) end out_old out_new err_old err_new
+  pub all : IsAllAnswered input prompt (begun_in start) end old new
 
 -- no line is answered, since there is no world of the configurations, of which it is told why
-pub record IsNoConsole (files : List NamedFile) (simulated : Simulated) (out_old out_new err_old err_new : Option (List ℕ)) : Type 0 where
+pub record IsNoConsole (files : List NamedFile) (simulated : Simulated) (old new : Written) : Type 0 where
   pub read : AreFilesRead files
-  pub no_world : IsNoWorld files err_old err_new
+  pub no_world : IsNoWorld files old.err new.err
   pub none : simulated.left ≡ None
-  pub same_out : out_new ≡ out_old
+  pub same_out : new.out ≡ old.out
 
 -- what comes of a console, by its status
-abbrev pub ConsoleComes : Status → Option (List ℕ) → Text → List NamedFile → Simulated → Option (List ℕ) → Option (List ℕ) → Option (List ℕ) → Option (List ℕ) → Type 0
+abbrev pub ConsoleComes : Status → Option (List ℕ) → Text → List NamedFile → Simulated → Written → Written → Type 0
 ConsoleComes status.Done input prompt files = IsConsoled input prompt files
 ConsoleComes status.Refused input prompt files = IsNoConsole files
-ConsoleComes _ input prompt files = λ simulated out_old out_new err_old err_new. ⊤
+ConsoleComes _ input prompt files = λ simulated old new. ⊤
 
 -- the first file that could not be read is told, and no line is answered
-pub record IsUnreadOf (files : List NamedFile) (left : Option Simulation) (out_old out_new err_old err_new : Option (List ℕ)) : Type 0 where
+pub record IsUnreadOf (files : List NamedFile) (left : Option Simulation) (old new : Written) : Type 0 where
   pub file : NamedFile
   pub first : IsFirstUnread file files
-  pub told : Appends err_old err_new (unread_line file)
+  pub told : Appends old.err new.err (unread_line file)
   pub none : left ≡ None
-  pub same_out : out_new ≡ out_old
+  pub same_out : new.out ≡ old.out
 
 -- a console is cut: at the first file that could not be read, before there is a world, or in the lines of its input
-pub data IsConsoleCut (input : Option (List ℕ)) (prompt : Text) (files : List NamedFile) (failed : FailedStreams) (out_old out_new err_old err_new : Option (List ℕ)) : Failure → Type 0 where
+pub data IsConsoleCut (input : Option (List ℕ)) (prompt : Text) (files : List NamedFile) (failed : FailedStreams) (old new : Written) : Failure → Type 0 where
   in_unread : {f : Failure} (file : NamedFile) → IsErrorCut failed f → IsFirstUnread file files
-      → IsBegun err_old err_new (unread_line file) → out_new ≡ out_old → IsConsoleCut input prompt files failed out_old out_new err_old err_new f
-  in_world : {f : Failure} → AreFilesRead files → IsWorldCut files failed err_old err_new f → out_new ≡ out_old
-      → IsConsoleCut input prompt files failed out_old out_new err_old err_new f
+      → IsBegun old.err new.err (unread_line file) → new.out ≡ old.out → IsConsoleCut input prompt files failed old new f
+  in_world : {f : Failure} → AreFilesRead files → IsWorldCut files failed old.err new.err f → new.out ≡ old.out
+      → IsConsoleCut input prompt files failed old new f
   in_session : {f : Failure} (start : WorldValue) → AreFilesRead files → IsWorldOf files start
-      → IsSessionCut input prompt (begun_in start) failed out_old out_new err_old err_new f
-      → IsConsoleCut input prompt files failed out_old out_new err_old err_new f
+      → IsSessionCut input prompt (begun_in start) failed old new f
+      → IsConsoleCut input prompt files failed old new f
 
 -- the console was cut by a failure, which was told last, as far as it could be, and of which the status is
-pub record IsConsoleFailed (input : Option (List ℕ)) (prompt : Text) (files : List NamedFile) (failed : FailedStreams) (end : Status) (out_old out_new err_old err_new : Option (List ℕ)) : Type 0 where
+pub record IsConsoleFailed (input : Option (List ℕ)) (prompt : Text) (files : List NamedFile) (failed : FailedStreams) (end : Status) (old new : Written) : Type 0 where
   pub cause : Failure
   pub failed_then : FailedStreams
   pub err_then : Option (List ℕ)
-  pub cut : IsConsoleCut input prompt files failed_then out_old out_new err_old err_then cause
-  pub last : IsTold failed_then failed err_then err_new (failure_line cause)
+  pub cut : IsConsoleCut input prompt files failed_then old (record new { err = err_then }) cause
+  pub last : IsTold failed_then failed err_then new.err (failure_line cause)
   pub status_is : end ≡ failure_status cause
 
 -- a file could not be read, or a failure cut the console
-pub data IsConsoleStopped (input : Option (List ℕ)) (prompt : Text) (files : List NamedFile) (left : Option Simulation) (failed : FailedStreams) (end : Status) (out_old out_new err_old err_new : Option (List ℕ)) : Type 0 where
-  is_unread : end ≡ status.Stream → IsUnreadOf files left out_old out_new err_old err_new
-      → IsConsoleStopped input prompt files left failed end out_old out_new err_old err_new
-  is_failure : left ≡ None → IsConsoleFailed input prompt files failed end out_old out_new err_old err_new
-      → IsConsoleStopped input prompt files left failed end out_old out_new err_old err_new
+pub data IsConsoleStopped (input : Option (List ℕ)) (prompt : Text) (files : List NamedFile) (left : Option Simulation) (failed : FailedStreams) (end : Status) (old new : Written) : Type 0 where
+  is_unread : end ≡ status.Stream → IsUnreadOf files left old new → IsConsoleStopped input prompt files left failed end old new
+  is_failure : left ≡ None → IsConsoleFailed input prompt files failed end old new
+      → IsConsoleStopped input prompt files left failed end old new

@@ -1,11 +1,12 @@
 -- What a script does: its lines one after another, up to one that cannot be read.
-use Rattle.std.specs.Prelude.{◌≡◌, ℕ, Bool, true, false, List, [], ◌∷◌, ◌++◌, Ok, Err, Option, codes, decimal}
+use Rattle.std.specs.Prelude.{◌≡◌, ℕ, Bool, true, false, List, [], ◌∷◌, ◌++◌, Ok, Err, codes, decimal}
 use Rattle.std.specs.Io.KnownBytes.{Appends}
 use Rattle.ospf_headline.specs.Text.{world_fault_text}
 use Rattle.ospf_headline.specs.declared.event.WorldFault.{WorldFault}
 use Rattle.ospf_script.specs.Commands.{IsUnreadable, SpellsCommand}
 use Rattle.ospf_script.specs.Hints.{hint_text}
 use Rattle.ospf_files.specs.Lines.{numbered_from}
+use Rattle.ospf_files.specs.Streams.{Written}
 use Rattle.ospf_base.specs.Text.{IsBlank}
 use Rattle.ospf_script.specs.Words.{Text, line_words}
 use Rattle.ospf_script.specs.declared.command.Command.{Command}
@@ -49,42 +50,41 @@ pub data RunsLines : List (ℕ × Text) → Simulation → Simulation → Text �
       → RunsLines ((number, line) ∷ lines) w w' (out ++ outs) (err ++ errs)
 
 -- what lines write is what was written
-pub record IsScriptRun (lines : List (ℕ × Text)) (w w' : Simulation) (out_old out_new err_old err_new : Option (List ℕ)) : Type 0 where
+pub record IsScriptRun (lines : List (ℕ × Text)) (w w' : Simulation) (old new : Written) : Type 0 where
   pub out : Text
   pub err : Text
   pub runs : RunsLines lines w w' out err
-  pub out_written : Appends out_old out_new out
-  pub err_written : Appends err_old err_new err
+  pub out_written : Appends old.out new.out out
+  pub err_written : Appends old.err new.err err
 
 -- the line of this number is the first that cannot be read, and those before it have run
-pub record EndsAtLine (lines : List (ℕ × Text)) (number : ℕ) (line : Text) (w w' : Simulation) (out_old out_new err_old err_new : Option (List ℕ)) : Type 0 where
+pub record EndsAtLine (lines : List (ℕ × Text)) (number : ℕ) (line : Text) (w w' : Simulation) (old new : Written) : Type 0 where
   pub before : List (ℕ × Text)
   pub after : List (ℕ × Text)
   pub lines_are : lines ≡ before ++ (number, line) ∷ after
   pub unreadable : IsUnreadable line
-  pub run : IsScriptRun before w w' out_old out_new err_old err_new
+  pub run : IsScriptRun before w w' old new
 
 -- what a line writes is what was written
-pub record IsRunLine (number : ℕ) (line : Text) (w w' : Simulation) (out_old out_new err_old err_new : Option (List ℕ)) : Type 0 where
+pub record IsRunLine (number : ℕ) (line : Text) (w w' : Simulation) (old new : Written) : Type 0 where
   pub out : Text
   pub err : Text
   pub runs : RunsLine number line w w' out err
-  pub out_written : Appends out_old out_new out
-  pub err_written : Appends err_old err_new err
+  pub out_written : Appends old.out new.out out
+  pub err_written : Appends old.err new.err err
 
 -- a line that cannot be read changes nothing
-pub record IsNotRead (line : Text) (w w' : Simulation) (out_old out_new err_old err_new : Option (List ℕ)) : Type 0 where
+pub record IsNotRead (line : Text) (w w' : Simulation) (old new : Written) : Type 0 where
   pub unreadable : IsUnreadable line
   pub same_world : w' ≡ w
-  pub same_out : out_new ≡ out_old
-  pub same_err : err_new ≡ err_old
+  pub same_written : new ≡ old
 
-abbrev pub LineComes : Bool → Line → Simulation → Simulation → Option (List ℕ) → Option (List ℕ) → Option (List ℕ) → Option (List ℕ) → Type 0
+abbrev pub LineComes : Bool → Line → Simulation → Simulation → Written → Written → Type 0
 LineComes true line = IsRunLine line.number line.text.now
 LineComes false line = IsNotRead line.text.now
 
 -- a script of which a line cannot be read: the lines before it have run, and of the first such line it is told that it is no command
-pub record EndsEarly (script : Text) (w w' : Simulation) (out_old out_new err_old err_new : Option (List ℕ)) : Type 0 where
+pub record EndsEarly (script : Text) (w w' : Simulation) (old new : Written) : Type 0 where
   pub number : ℕ
   pub before : List (ℕ × Text)
   pub line : Text
@@ -94,10 +94,10 @@ pub record EndsEarly (script : Text) (w w' : Simulation) (out_old out_new err_ol
   pub out : Text
   pub err : Text
   pub runs : RunsLines before w w' out err
-  pub out_written : Appends out_old out_new out
-  pub err_written : Appends err_old err_new (err ++ unreadable_line number line)
+  pub out_written : Appends old.out new.out out
+  pub err_written : Appends old.err new.err (err ++ unreadable_line number line)
 
 -- a whole script, or up to a line that cannot be read
-abbrev pub ScriptComes : Bool → Text → Simulation → Simulation → Option (List ℕ) → Option (List ℕ) → Option (List ℕ) → Option (List ℕ) → Type 0
+abbrev pub ScriptComes : Bool → Text → Simulation → Simulation → Written → Written → Type 0
 ScriptComes true script = IsScriptRun (numbered_from 1 script)
 ScriptComes false script = EndsEarly script

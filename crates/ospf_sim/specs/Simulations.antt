@@ -3,6 +3,7 @@ use Rattle.std.specs.Prelude.{◌≡◌, ◌⊎◌, ℕ, List, ◌∷◌, Option
 use Rattle.ospf_config.specs.declared.config.Config.{Config}
 use Rattle.ospf_files.specs.Files.{text_in}
 use Rattle.ospf_files.specs.Listed.{AreConfigs, AreFilesRead, IsRefusalTold}
+use Rattle.ospf_files.specs.Streams.{Written}
 use Rattle.ospf_files.specs.declared.files.NamedFile.{NamedFile}
 use Rattle.ospf_files.specs.declared.status.Status.{Status}
 use Rattle.ospf_files.specs.declared.status.Status.TheVariants as status
@@ -50,48 +51,48 @@ status_of_script true = status.Done
 status_of_script false = status.Refused
 
 -- a script runs from this world, whole or up to a line that cannot be read, as the status says
-pub record RunsWhole (script : NamedFile) (start : WorldValue) (simulated : Simulated) (whole : Bool) (out_old out_new err_old err_new : Option (List ℕ)) : Type 0 where
+pub record RunsWhole (script : NamedFile) (start : WorldValue) (simulated : Simulated) (whole : Bool) (old new : Written) : Type 0 where
   pub end : Simulation
   pub left : simulated.left ≡ Some end
-  pub comes : ScriptComes whole (text_in script) (begun_in start) end out_old out_new err_old err_new
+  pub comes : ScriptComes whole (text_in script) (begun_in start) end old new
 
-abbrev pub ScriptRunsTo : Status → NamedFile → WorldValue → Simulated → Option (List ℕ) → Option (List ℕ) → Option (List ℕ) → Option (List ℕ) → Type 0
+abbrev pub ScriptRunsTo : Status → NamedFile → WorldValue → Simulated → Written → Written → Type 0
 ScriptRunsTo status.Done script start simulated = RunsWhole script start simulated true
 ScriptRunsTo status.Refused script start simulated = RunsWhole script start simulated false
-ScriptRunsTo _ script start simulated = λ out_old out_new err_old err_new. ⊥
+ScriptRunsTo _ script start simulated = λ old new. ⊥
 
 -- the whole script has run, in a world of the configurations
-pub record IsSimulated (script : NamedFile) (files : List NamedFile) (simulated : Simulated) (out_old out_new err_old err_new : Option (List ℕ)) : Type 0 where
+pub record IsSimulated (script : NamedFile) (files : List NamedFile) (simulated : Simulated) (old new : Written) : Type 0 where
   pub read : AreFilesRead (script ∷ files)
   pub start : WorldValue
   pub end : Simulation
   pub starts : IsWorldOf files start
   pub left : simulated.left ≡ Some end
-  pub run : IsScriptRun (numbered_from 1 (text_in script)) (begun_in start) end out_old out_new err_old err_new
+  pub run : IsScriptRun (numbered_from 1 (text_in script)) (begun_in start) end old new
 
 -- the script has run up to a line that cannot be read, of which that is told
-pub record IsScriptCutShort (script : NamedFile) (files : List NamedFile) (simulated : Simulated) (out_old out_new err_old err_new : Option (List ℕ)) : Type 0 where
+pub record IsScriptCutShort (script : NamedFile) (files : List NamedFile) (simulated : Simulated) (old new : Written) : Type 0 where
   pub read : AreFilesRead (script ∷ files)
   pub start : WorldValue
   pub end : Simulation
   pub starts : IsWorldOf files start
   pub left : simulated.left ≡ Some end
-  pub early : EndsEarly (text_in script) (begun_in start) end out_old out_new err_old err_new
+  pub early : EndsEarly (text_in script) (begun_in start) end old new
 
 -- no line has run, since there is no world of the configurations, of which it is told why
-pub record IsNotBegun (script : NamedFile) (files : List NamedFile) (simulated : Simulated) (out_old out_new err_old err_new : Option (List ℕ)) : Type 0 where
+pub record IsNotBegun (script : NamedFile) (files : List NamedFile) (simulated : Simulated) (old new : Written) : Type 0 where
   pub read : AreFilesRead (script ∷ files)
-  pub no_world : IsNoWorld files err_old err_new
+  pub no_world : IsNoWorld files old.err new.err
   pub none : simulated.left ≡ None
-  pub same_out : out_new ≡ out_old
+  pub same_out : new.out ≡ old.out
 
 -- what is refused: the configurations, or a line
-abbrev pub IsScriptRefused : NamedFile → List NamedFile → Simulated → Option (List ℕ) → Option (List ℕ) → Option (List ℕ) → Option (List ℕ) → Type 0
-IsScriptRefused script files simulated out_old out_new err_old err_new =
-    IsNotBegun script files simulated out_old out_new err_old err_new ⊎ IsScriptCutShort script files simulated out_old out_new err_old err_new
+abbrev pub IsScriptRefused : NamedFile → List NamedFile → Simulated → Written → Written → Type 0
+IsScriptRefused script files simulated old new =
+    IsNotBegun script files simulated old new ⊎ IsScriptCutShort script files simulated old new
 
 -- what comes of a simulation, by its status
-abbrev pub ComesOfScript : Status → NamedFile → List NamedFile → Simulated → Option (List ℕ) → Option (List ℕ) → Option (List ℕ) → Option (List ℕ) → Type 0
+abbrev pub ComesOfScript : Status → NamedFile → List NamedFile → Simulated → Written → Written → Type 0
 ComesOfScript status.Done = IsSimulated
 ComesOfScript status.Refused = IsScriptRefused
-ComesOfScript _ = λ script files simulated out_old out_new err_old err_new. ⊤
+ComesOfScript _ = λ script files simulated old new. ⊤

@@ -4,7 +4,7 @@ use Rattle.std.specs.Io.KnownBytes.{Appends}
 use Rattle.ospf_files.specs.Files.{unread_line}
 use Rattle.ospf_files.specs.Listed.{IsFirstUnread}
 use Rattle.ospf_files.specs.Status.{failure_line, failure_status}
-use Rattle.ospf_files.specs.Streams.{IsTold}
+use Rattle.ospf_files.specs.Streams.{IsTold, Written}
 use Rattle.ospf_files.specs.declared.files.NamedFile.{NamedFile}
 use Rattle.ospf_files.specs.declared.status.Failure.{Failure}
 use Rattle.ospf_files.specs.declared.status.Status.{Status}
@@ -14,25 +14,23 @@ use Rattle.ospf_sim.specs.Begun.{IsSimulationCut}
 use Rattle.ospf_commands.specs.declared.simulation.Simulation.{Simulation}
 
 -- the first file that could not be read is told, the script's before the configurations', and no line has run
-pub record IsScriptUnreadTold (script : NamedFile) (files : List NamedFile) (left : Option Simulation) (out_old out_new err_old err_new : Option (List ℕ)) : Type 0 where
+pub record IsScriptUnreadTold (script : NamedFile) (files : List NamedFile) (left : Option Simulation) (old new : Written) : Type 0 where
   pub file : NamedFile
   pub first : IsFirstUnread file (script ∷ files)
-  pub told : Appends err_old err_new (unread_line file)
+  pub told : Appends old.err new.err (unread_line file)
   pub none : left ≡ None
-  pub same_out : out_new ≡ out_old
+  pub same_out : new.out ≡ old.out
 
 -- the simulation was cut by a failure, which was told last, as far as it could be, and of which the status is
-pub record IsFailureLast (script : NamedFile) (files : List NamedFile) (failed : FailedStreams) (end : Status) (out_old out_new err_old err_new : Option (List ℕ)) : Type 0 where
+pub record IsFailureLast (script : NamedFile) (files : List NamedFile) (failed : FailedStreams) (end : Status) (old new : Written) : Type 0 where
   pub cause : Failure
   pub failed_then : FailedStreams
   pub err_then : Option (List ℕ)
-  pub cut : IsSimulationCut script files failed_then out_old out_new err_old err_then cause
-  pub last : IsTold failed_then failed err_then err_new (failure_line cause)
+  pub cut : IsSimulationCut script files failed_then old (record new { err = err_then }) cause
+  pub last : IsTold failed_then failed err_then new.err (failure_line cause)
   pub status_is : end ≡ failure_status cause
 
 -- a file could not be read, or a failure cut the simulation
-pub data IsStopped (script : NamedFile) (files : List NamedFile) (left : Option Simulation) (failed : FailedStreams) (end : Status) (out_old out_new err_old err_new : Option (List ℕ)) : Type 0 where
-  is_unread : end ≡ status.Stream → IsScriptUnreadTold script files left out_old out_new err_old err_new
-      → IsStopped script files left failed end out_old out_new err_old err_new
-  is_failure : left ≡ None → IsFailureLast script files failed end out_old out_new err_old err_new
-      → IsStopped script files left failed end out_old out_new err_old err_new
+pub data IsStopped (script : NamedFile) (files : List NamedFile) (left : Option Simulation) (failed : FailedStreams) (end : Status) (old new : Written) : Type 0 where
+  is_unread : end ≡ status.Stream → IsScriptUnreadTold script files left old new → IsStopped script files left failed end old new
+  is_failure : left ≡ None → IsFailureLast script files failed end old new → IsStopped script files left failed end old new

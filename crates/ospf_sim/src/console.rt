@@ -1,11 +1,11 @@
 //! Lines that are answered one by one, as they are given.
 
-ghost use Rattle.std.specs.Prelude.{◌≡◌, ◌≢◌, ◌⊎◌, Bool, IfErr, IfOk, OnOk};
+ghost use Rattle.std.specs.Prelude.{◌≡◌, ◌≢◌, ◌⊎◌, IfErr, IfOk, OnOk};
 ghost use Rattle.std.specs.Io.BufRead.{ends_with_byte};
 ghost use Rattle.ospf_files.specs.declared.files.NamedFile.{NamedFile};
 ghost use Rattle.ospf_files.specs.declared.streams.FailedStreams.{FailedStreams};
 ghost use Rattle.ospf_files.specs.Listed.{IsFirstUnread};
-ghost use Rattle.ospf_files.specs.Streams.{IsOfInput};
+ghost use Rattle.ospf_files.specs.Streams.{IsOfInput, written_on};
 ghost use Rattle.ospf_sim.specs.Begun.{IsLineCut};
 ghost use Rattle.ospf_sim.specs.Consoles.{ConsoleComes, IsLineAnswered, IsConsoleCut, IsConsoleStopped, IsConsoled, IsNoConsole, IsPiece, IsAllAnswered, IsSessionCut, IsUnreadOf};
 
@@ -45,24 +45,24 @@ pub fn console_text<R: BufRead + Drop, O: Write, E: Write, V: Watch>(
     watch: &mut V,
 ) -> Simulated
     // All lines of the input are answered; or what is refused is told, and none is.
-    ensures done { result.status ≡ Status.Done →
-        IsConsoled (R.remaining console.entry.input) console.entry.prompt.now files.now result
-        (O.contents out.old) (O.contents out.new) (E.contents err.old) (E.contents err.new) }
-    ensures refused { result.status ≡ Status.Refused →
-        IsNoConsole files.now result (O.contents out.old) (O.contents out.new)
-        (E.contents err.old) (E.contents err.new) }
+    ensures done { let old = written_on (O.contents out.old) (E.contents err.old) in
+        let new = written_on (O.contents out.new) (E.contents err.new) in
+        result.status ≡ Status.Done → IsConsoled (R.remaining console.entry.input)
+        console.entry.prompt.now files.now result old new }
+    ensures refused { let old = written_on (O.contents out.old) (E.contents err.old) in
+        let new = written_on (O.contents out.new) (E.contents err.new) in
+        result.status ≡ Status.Refused → IsNoConsole files.now result old new }
     // Where a file could not be read, that or memory ends it, and nothing is printed.
     ensures unread { (file : NamedFile) → IsFirstUnread file files.now →
         (result.status ≡ Status.Stream) ⊎ (result.status ≡ Status.Memory) }
     ensures unwritten { (file : NamedFile) → IsFirstUnread file files.now →
         O.contents out.new ≡ O.contents out.old }
     // It stops at such a file or at a failure; there is no other end.
-    ensures stopped { (result.status ≡ Status.Memory) ⊎ (result.status ≡ Status.Stream) →
-        (failed : FailedStreams)
-        × IsConsoleStopped (R.remaining console.entry.input) console.entry.prompt.now files.now
-        result.left
-        failed result.status (O.contents out.old) (O.contents out.new) (E.contents err.old)
-        (E.contents err.new) }
+    ensures stopped { let old = written_on (O.contents out.old) (E.contents err.old) in
+        let new = written_on (O.contents out.new) (E.contents err.new) in
+        (result.status ≡ Status.Memory) ⊎ (result.status ≡ Status.Stream) →
+        (failed : FailedStreams) × IsConsoleStopped (R.remaining console.entry.input)
+        console.entry.prompt.now files.now result.left failed result.status old new }
     ensures not_words { result.status ≢ Status.Words }
 {
     let mut streams = FailedStreams::none();
@@ -83,23 +83,25 @@ fn converse<R: BufRead + Drop, O: Write, E: Write, V: Watch>(
     streams: &mut FailedStreams,
 ) -> Result<Simulated, Failure>
     // All lines are answered, or what is refused is told; no status says that memory ran out.
-    ensures comes { IfOk result (λ s. ConsoleComes s.status (R.remaining console.entry.input)
-        console.entry.prompt.now files.now s
-        (O.contents out.old) (O.contents out.new) (E.contents err.old) (E.contents err.new)) }
+    ensures comes { let old = written_on (O.contents out.old) (E.contents err.old) in
+        let new = written_on (O.contents out.new) (E.contents err.new) in
+        IfOk result (λ s. ConsoleComes s.status (R.remaining console.entry.input)
+        console.entry.prompt.now files.now s old new) }
     ensures not_words { IfOk result (λ s. s.status ≢ Status.Words) }
     ensures not_memory { IfOk result (λ s. s.status ≢ Status.Memory) }
     // Where a file could not be read, the first such is told, and nothing is printed.
-    ensures stream { IfOk result (λ s. s.status ≡ Status.Stream →
-        IsUnreadOf files.now s.left (O.contents out.old) (O.contents out.new)
-        (E.contents err.old) (E.contents err.new)) }
+    ensures stream { let old = written_on (O.contents out.old) (E.contents err.old) in
+        let new = written_on (O.contents out.new) (E.contents err.new) in
+        IfOk result (λ s. s.status ≡ Status.Stream → IsUnreadOf files.now s.left old new) }
     ensures unread { (file : NamedFile) → IsFirstUnread file files.now →
         IfOk result (λ s. s.status ≡ Status.Stream) }
     ensures unwritten { (file : NamedFile) → IsFirstUnread file files.now →
         O.contents out.new ≡ O.contents out.old }
     // A failure cuts it, and what is written is a beginning.
-    ensures cut { IfErr result (IsConsoleCut (R.remaining console.entry.input)
-        console.entry.prompt.now files.now streams.new
-        (O.contents out.old) (O.contents out.new) (E.contents err.old) (E.contents err.new)) }
+    ensures cut { let old = written_on (O.contents out.old) (E.contents err.old) in
+        let new = written_on (O.contents out.new) (E.contents err.new) in
+        IfErr result (IsConsoleCut (R.remaining console.entry.input)
+        console.entry.prompt.now files.now streams.new old new) }
 {
     if let Some(file) = first_unread(files) {
         return end_unread(alloc, file, err, streams);
@@ -124,12 +126,14 @@ fn answer_lines<R: BufRead + Drop, O: Write, E: Write, V: Watch>(
     watch: &mut V,
     streams: &mut FailedStreams,
 ) -> Result<(), Failure>
-    ensures answered { OnOk result (IsAllAnswered (R.remaining console.entry.input)
-        console.entry.prompt.now simulation.old simulation.new
-        (O.contents out.old) (O.contents out.new) (E.contents err.old) (E.contents err.new)) }
-    ensures cut { IfErr result (IsSessionCut (R.remaining console.entry.input)
-        console.entry.prompt.now simulation.old streams.new
-        (O.contents out.old) (O.contents out.new) (E.contents err.old) (E.contents err.new)) }
+    ensures answered { let old = written_on (O.contents out.old) (E.contents err.old) in
+        let new = written_on (O.contents out.new) (E.contents err.new) in
+        OnOk result (IsAllAnswered (R.remaining console.entry.input)
+        console.entry.prompt.now simulation.old simulation.new old new) }
+    ensures cut { let old = written_on (O.contents out.old) (E.contents err.old) in
+        let new = written_on (O.contents out.new) (E.contents err.new) in
+        IfErr result (IsSessionCut (R.remaining console.entry.input)
+        console.entry.prompt.now simulation.old streams.new old new) }
 {
     let Console { mut input, prompt } = console;
     let mut piece = Vec::new(alloc);
@@ -184,12 +188,14 @@ fn answer_line<O: Write, E: Write, V: Watch>(
     watch: &mut V,
     streams: &mut FailedStreams,
 ) -> Result<(), Failure>
-    ensures answered { OnOk result
-        (IsLineAnswered line.now.number line.now.text.now simulation.old simulation.new
-        (O.contents out.old) (O.contents out.new) (E.contents err.old) (E.contents err.new)) }
-    ensures cut { IfErr result (IsLineCut line.now.number line.now.text.now simulation.old
-        streams.new (O.contents out.old) (O.contents out.new) (E.contents err.old)
-        (E.contents err.new)) }
+    ensures answered { let old = written_on (O.contents out.old) (E.contents err.old) in
+        let new = written_on (O.contents out.new) (E.contents err.new) in
+        OnOk result (IsLineAnswered line.now.number line.now.text.now
+        simulation.old simulation.new old new) }
+    ensures cut { let old = written_on (O.contents out.old) (E.contents err.old) in
+        let new = written_on (O.contents out.new) (E.contents err.new) in
+        IfErr result (IsLineCut line.now.number line.now.text.now
+        simulation.old streams.new old new) }
 {
     if run_line(simulation, line, out, err, alloc, watch, streams)? {
         Ok(())

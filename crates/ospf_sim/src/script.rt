@@ -1,7 +1,8 @@
 //! Scripts that are run.
 
-ghost use Rattle.std.specs.Prelude.{◌≡◌, [], IfErr, IfOk, OnOk, map, string_bytes};
+ghost use Rattle.std.specs.Prelude.{◌≡◌, [], IfErr, IfOk, OnOk, string_bytes};
 ghost use Rattle.std.specs.Io.KnownBytes.{Appends};
+ghost use Rattle.ospf_files.specs.Streams.{written_on};
 ghost use Rattle.ospf_sim.specs.Begun.{IsEventAnswerCut, IsLineCut, IsScriptCut, IsTellingCut};
 ghost use Rattle.ospf_sim.specs.Scripts.{LineComes, ScriptComes, hint_line, not_a_command_line, world_refusal_line, told_of, unreadable_line};
 
@@ -24,10 +25,12 @@ pub(crate) fn run_script<O: Write, E: Write, V: Watch>(
     watch: &mut V,
     streams: &mut FailedStreams,
 ) -> Result<bool, Failure>
-    ensures comes { IfOk result (λ whole. ScriptComes whole script.now simulation.old simulation.new
-        (O.contents out.old) (O.contents out.new) (E.contents err.old) (E.contents err.new)) }
-    ensures cut { IfErr result (IsScriptCut script.now simulation.old streams.new
-        (O.contents out.old) (O.contents out.new) (E.contents err.old) (E.contents err.new)) }
+    ensures comes { let old = written_on (O.contents out.old) (E.contents err.old) in
+        let new = written_on (O.contents out.new) (E.contents err.new) in
+        IfOk result (λ whole. ScriptComes whole script.now simulation.old simulation.new old new) }
+    ensures cut { let old = written_on (O.contents out.old) (E.contents err.old) in
+        let new = written_on (O.contents out.new) (E.contents err.new) in
+        IfErr result (IsScriptCut script.now simulation.old streams.new old new) }
 {
     let lines = lines(alloc, script)?;
     for line in &lines {
@@ -52,11 +55,13 @@ pub(crate) fn run_line<O: Write, E: Write, V: Watch>(
     watch: &mut V,
     streams: &mut FailedStreams,
 ) -> Result<bool, Failure>
-    ensures comes { IfOk result (λ read. LineComes read line.now simulation.old simulation.new
-        (O.contents out.old) (O.contents out.new) (E.contents err.old) (E.contents err.new)) }
-    ensures cut { IfErr result (IsLineCut line.now.number line.now.text.now simulation.old
-        streams.new (O.contents out.old) (O.contents out.new) (E.contents err.old)
-        (E.contents err.new)) }
+    ensures comes { let old = written_on (O.contents out.old) (E.contents err.old) in
+        let new = written_on (O.contents out.new) (E.contents err.new) in
+        IfOk result (λ read. LineComes read line.now simulation.old simulation.new old new) }
+    ensures cut { let old = written_on (O.contents out.old) (E.contents err.old) in
+        let new = written_on (O.contents out.new) (E.contents err.new) in
+        IfErr result (IsLineCut line.now.number line.now.text.now
+        simulation.old streams.new old new) }
 {
     match Command::read(alloc, line.text) {
         Ok(None) => Ok(true),
@@ -83,8 +88,9 @@ fn tell_answer<O: Write, E: Write>(
     ensures out { OnOk result (Appends (O.contents out.old) (O.contents out.new) []) }
     ensures err { OnOk result (Appends (E.contents err.old) (E.contents err.new)
         (told_of number answer)) }
-    ensures cut { IfErr result (IsEventAnswerCut number answer streams.new
-        (O.contents out.old) (O.contents out.new) (E.contents err.old) (E.contents err.new)) }
+    ensures cut { let old = written_on (O.contents out.old) (E.contents err.old) in
+        let new = written_on (O.contents out.new) (E.contents err.new) in
+        IfErr result (IsEventAnswerCut number answer streams.new old new) }
 {
     match answer {
         Ok(()) => Ok(()),
@@ -104,8 +110,9 @@ fn tell_refusal<O: Write, E: Write>(
     ensures out { OnOk result (Appends (O.contents out.old) (O.contents out.new) []) }
     ensures err { OnOk result
         (Appends (E.contents err.old) (E.contents err.new) (world_refusal_line number fault)) }
-    ensures cut { IfErr result (IsTellingCut (world_refusal_line number fault) streams.new
-        (O.contents out.old) (O.contents out.new) (E.contents err.old) (E.contents err.new)) }
+    ensures cut { let old = written_on (O.contents out.old) (E.contents err.old) in
+        let new = written_on (O.contents out.new) (E.contents err.new) in
+        IfErr result (IsTellingCut (world_refusal_line number fault) streams.new old new) }
 {
     let line = refusal_line(alloc, number, fault)?;
     tell_behind(&line, out, err, streams)
@@ -131,8 +138,9 @@ fn tell_behind<O: Write, E: Write>(
 ) -> Result<(), Failure>
     ensures out { OnOk result (Appends (O.contents out.old) (O.contents out.new) []) }
     ensures err { OnOk result (Appends (E.contents err.old) (E.contents err.new) line.now) }
-    ensures cut { IfErr result (IsTellingCut line.now streams.new
-        (O.contents out.old) (O.contents out.new) (E.contents err.old) (E.contents err.new)) }
+    ensures cut { let old = written_on (O.contents out.old) (E.contents err.old) in
+        let new = written_on (O.contents out.new) (E.contents err.new) in
+        IfErr result (IsTellingCut line.now streams.new old new) }
 {
     streams.flush(out)?;
     streams.tell(err, line)
@@ -149,9 +157,10 @@ pub(crate) fn tell_unreadable<O: Write, E: Write>(
     ensures out { OnOk result (Appends (O.contents out.old) (O.contents out.new) []) }
     ensures err { OnOk result (Appends (E.contents err.old) (E.contents err.new)
         (unreadable_line line.now.number line.now.text.now)) }
-    ensures cut { IfErr result
-        (IsTellingCut (unreadable_line line.now.number line.now.text.now) streams.new
-        (O.contents out.old) (O.contents out.new) (E.contents err.old) (E.contents err.new)) }
+    ensures cut { let old = written_on (O.contents out.old) (E.contents err.old) in
+        let new = written_on (O.contents out.new) (E.contents err.new) in
+        IfErr result (IsTellingCut (unreadable_line line.now.number line.now.text.now)
+        streams.new old new) }
 {
     let told = unreadable_line(alloc, line.number, line.text)?;
     tell_behind(&told, out, err, streams)

@@ -7,7 +7,7 @@ ghost use Rattle.ospf_files.specs.declared.files.NamedFile.{NamedFile};
 ghost use Rattle.ospf_files.specs.declared.streams.FailedStreams.{FailedStreams};
 ghost use Rattle.ospf_files.specs.Listed.{AreFilesRead, IsFirstUnread};
 ghost use Rattle.ospf_files.specs.Status.{failure_line, failure_status};
-ghost use Rattle.ospf_files.specs.Streams.{IsBegun, IsErrorCut, IsTold};
+ghost use Rattle.ospf_files.specs.Streams.{IsBegun, IsErrorCut, IsTold, written_on};
 ghost use Rattle.ospf_sim.specs.Begun.{IsSimulationCut, IsOpeningCut, IsWorldCut};
 ghost use Rattle.ospf_sim.specs.Simulations.{ComesOfScript, IsScriptRefused, IsSimulated, OpensWorld, WorldComes, status_of_script};
 ghost use Rattle.ospf_sim.specs.Stopped.{IsStopped, IsScriptUnreadTold};
@@ -64,22 +64,23 @@ pub fn sim_text<O: Write, E: Write, V: Watch>(
     watch: &mut V,
 ) -> Simulated
     // The whole script has run; or what is refused is told.
-    ensures done { result.status ≡ Status.Done →
-        IsSimulated script.now files.now result (O.contents out.old) (O.contents out.new)
-        (E.contents err.old) (E.contents err.new) }
-    ensures refused { result.status ≡ Status.Refused →
-        IsScriptRefused script.now files.now result (O.contents out.old) (O.contents out.new)
-        (E.contents err.old) (E.contents err.new) }
+    ensures done { let old = written_on (O.contents out.old) (E.contents err.old) in
+        let new = written_on (O.contents out.new) (E.contents err.new) in
+        result.status ≡ Status.Done → IsSimulated script.now files.now result old new }
+    ensures refused { let old = written_on (O.contents out.old) (E.contents err.old) in
+        let new = written_on (O.contents out.new) (E.contents err.new) in
+        result.status ≡ Status.Refused → IsScriptRefused script.now files.now result old new }
     // Where a file could not be read, that or memory ends it, and nothing is printed.
     ensures unread { (file : NamedFile) → IsFirstUnread file (script.now ∷ files.now) →
         (result.status ≡ Status.Stream) ⊎ (result.status ≡ Status.Memory) }
     ensures unwritten { (file : NamedFile) → IsFirstUnread file (script.now ∷ files.now) →
         O.contents out.new ≡ O.contents out.old }
     // It stops at such a file or at a failure; there is no other end.
-    ensures stopped { (result.status ≡ Status.Memory) ⊎ (result.status ≡ Status.Stream) →
+    ensures stopped { let old = written_on (O.contents out.old) (E.contents err.old) in
+        let new = written_on (O.contents out.new) (E.contents err.new) in
+        (result.status ≡ Status.Memory) ⊎ (result.status ≡ Status.Stream) →
         (failed : FailedStreams)
-        × IsStopped script.now files.now result.left failed result.status (O.contents out.old)
-        (O.contents out.new) (E.contents err.old) (E.contents err.new) }
+        × IsStopped script.now files.now result.left failed result.status old new }
     ensures not_words { result.status ≢ Status.Words }
 {
     let mut streams = FailedStreams::none();
@@ -100,21 +101,24 @@ fn simulate<O: Write, E: Write, V: Watch>(
     streams: &mut FailedStreams,
 ) -> Result<Simulated, Failure>
     // The whole script has run, or what is refused is told; no status says that memory ran out.
-    ensures comes { IfOk result (λ s. ComesOfScript s.status script.now files.now s
-        (O.contents out.old) (O.contents out.new) (E.contents err.old) (E.contents err.new)) }
+    ensures comes { let old = written_on (O.contents out.old) (E.contents err.old) in
+        let new = written_on (O.contents out.new) (E.contents err.new) in
+        IfOk result (λ s. ComesOfScript s.status script.now files.now s old new) }
     ensures not_words { IfOk result (λ s. s.status ≢ Status.Words) }
     ensures not_memory { IfOk result (λ s. s.status ≢ Status.Memory) }
     // Where a file could not be read, the first such is told, and nothing is printed.
-    ensures stream { IfOk result (λ s. s.status ≡ Status.Stream →
-        IsScriptUnreadTold script.now files.now s.left (O.contents out.old) (O.contents out.new)
-        (E.contents err.old) (E.contents err.new)) }
+    ensures stream { let old = written_on (O.contents out.old) (E.contents err.old) in
+        let new = written_on (O.contents out.new) (E.contents err.new) in
+        IfOk result (λ s. s.status ≡ Status.Stream →
+        IsScriptUnreadTold script.now files.now s.left old new) }
     ensures unread { (file : NamedFile) → IsFirstUnread file (script.now ∷ files.now) →
         IfOk result (λ s. s.status ≡ Status.Stream) }
     ensures unwritten { (file : NamedFile) → IsFirstUnread file (script.now ∷ files.now) →
         O.contents out.new ≡ O.contents out.old }
     // A failure cuts it, and what is written is a beginning.
-    ensures cut { IfErr result (IsSimulationCut script.now files.now streams.new
-        (O.contents out.old) (O.contents out.new) (E.contents err.old) (E.contents err.new)) }
+    ensures cut { let old = written_on (O.contents out.old) (E.contents err.old) in
+        let new = written_on (O.contents out.new) (E.contents err.new) in
+        IfErr result (IsSimulationCut script.now files.now streams.new old new) }
 {
     if let Some(file) = unread_of(script, files) {
         return end_unread(alloc, file, err, streams);

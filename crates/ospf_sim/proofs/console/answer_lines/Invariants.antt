@@ -1,3 +1,4 @@
+use Rattle.ospf_files.specs.Streams.{written_on}
 use Rattle.ospf_sim.proofs.Sessions.{IsSoFar}
 use Rattle.ospf_sim.proofs.console.answer_lines.Given as goal
 
@@ -5,4 +6,4 @@ use Rattle.ospf_sim.proofs.console.answer_lines.Given as goal
 abbrev pub invariant-loop-number : goal.invariant-loop-number
 invariant-loop-number g l =
     IsSoFar l.prompt (g.R.Read.remaining l.fn.console.input) (g.R.Read.remaining l.input) l.number l.fn.simulation l.simulation
-    (g.O.Write.contents l.fn.out) (g.O.Write.contents l.out) (g.E.Write.contents l.fn.err) (g.E.Write.contents l.err)
+    (written_on (g.O.Write.contents l.fn.out) (g.E.Write.contents l.fn.err)) (written_on (g.O.Write.contents l.out) (g.E.Write.contents l.err))

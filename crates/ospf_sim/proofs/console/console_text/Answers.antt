@@ -1,17 +1,18 @@
 use Rattle.std.proofs.Common.{inl, subst}
 use Rattle.ospf_files.specs.declared.status.Status.{Status}
+use Rattle.ospf_files.specs.Streams.{written_on}
 use Rattle.ospf_sim.specs.Consoles.{ConsoleComes, is_failure}
 use Rattle.ospf_sim.proofs.Consoles.{console_unread}
 use Rattle.ospf_sim.proofs.console.console_text.Goals as goal
 
 pub returns-in-Ok-clause-done : goal.returns-in-Ok-clause-done
 returns-in-Ok-clause-done g c = λ is.
-    subst (λ (status : Status). ConsoleComes status (g.R.Read.remaining c.args.console.input) c.args.console.prompt.now c.args.files.now c.in-Ok.simulated (g.O.Write.contents c.args.out.now) (g.O.Write.contents c.converse.new.out) (g.E.Write.contents c.args.err.now) (g.E.Write.contents c.converse.new.err))
+    subst (λ (status : Status). ConsoleComes status (g.R.Read.remaining c.args.console.input) c.args.console.prompt.now c.args.files.now c.in-Ok.simulated (written_on (g.O.Write.contents c.args.out.now) (g.E.Write.contents c.args.err.now)) (written_on (g.O.Write.contents c.converse.new.out) (g.E.Write.contents c.converse.new.err)))
     is c.in-Ok.ensures.comes
 
 pub returns-in-Ok-clause-refused : goal.returns-in-Ok-clause-refused
 returns-in-Ok-clause-refused g c = λ is.
-    subst (λ (status : Status). ConsoleComes status (g.R.Read.remaining c.args.console.input) c.args.console.prompt.now c.args.files.now c.in-Ok.simulated (g.O.Write.contents c.args.out.now) (g.O.Write.contents c.converse.new.out) (g.E.Write.contents c.args.err.now) (g.E.Write.contents c.converse.new.err))
+    subst (λ (status : Status). ConsoleComes status (g.R.Read.remaining c.args.console.input) c.args.console.prompt.now c.args.files.now c.in-Ok.simulated (written_on (g.O.Write.contents c.args.out.now) (g.E.Write.contents c.args.err.now)) (written_on (g.O.Write.contents c.converse.new.out) (g.E.Write.contents c.converse.new.err)))
     is c.in-Ok.ensures.comes
 
 pub returns-in-Ok-clause-unread : goal.returns-in-Ok-clause-unread
@@ -19,7 +20,7 @@ returns-in-Ok-clause-unread g c = λ file first. inl (c.in-Ok.ensures.unread fil
 
 pub returns-in-Ok-clause-stopped : goal.returns-in-Ok-clause-stopped
 returns-in-Ok-clause-stopped g c = λ ended.
-    (c.converse.new.streams, console_unread _ _ _ c.in-Ok.simulated _ _ _ _ _ c.in-Ok.ensures.not_memory c.in-Ok.ensures.stream ended)
+    (c.converse.new.streams, console_unread _ _ _ c.in-Ok.simulated _ _ _ c.in-Ok.ensures.not_memory c.in-Ok.ensures.stream ended)
 
 pub returns-in-Err-clause-stopped : goal.returns-in-Err-clause-stopped
 returns-in-Err-clause-stopped g c = λ _. (

@@ -1,6 +1,6 @@
 use Rattle.std.proofs.Common.{refl, subst, sym}
 use Rattle.ospf_files.proofs.Cut.{cut_then, for_failure}
-use Rattle.ospf_files.specs.Streams.{IsErrorCut}
+use Rattle.ospf_files.specs.Streams.{IsErrorCut, written_on}
 use Rattle.ospf_files.specs.declared.status.Status.{Status}
 use Rattle.ospf_sim.specs.Consoles.{ConsoleComes, IsConsoleCut, IsNoConsole, in_unread, in_world}
 use Rattle.ospf_sim.proofs.Consoles.{consoled, session_cut, unread_of_told}
@@ -15,13 +15,13 @@ returns-in-Some-clause-stream g c =
 pub returns-in-Some-clause-cut : goal.returns-in-Some-clause-cut
 returns-in-Some-clause-cut g c =
     cut_then c.end_unread.result (IsErrorCut c.end_unread.new.streams)
-    (IsConsoleCut (g.R.Read.remaining c.args.console.input) c.args.console.prompt.now c.args.files.now c.end_unread.new.streams (g.O.Write.contents c.args.out.now) (g.O.Write.contents c.args.out.now) (g.E.Write.contents c.args.err.now) (g.E.Write.contents c.end_unread.new.err))
+    (IsConsoleCut (g.R.Read.remaining c.args.console.input) c.args.console.prompt.now c.args.files.now c.end_unread.new.streams (written_on (g.O.Write.contents c.args.out.now) (g.E.Write.contents c.args.err.now)) (written_on (g.O.Write.contents c.args.out.now) (g.E.Write.contents c.end_unread.new.err)))
     (λ f begun cut. in_unread c.in-Some.file.now cut c.in-Some.ensures.some begun refl) c.end_unread.ensures.begun c.end_unread.ensures.cut
 
 pub returns-in_err-world-clause-cut : goal.returns-in_err-world-clause-cut
 returns-in_err-world-clause-cut g c =
     for_failure c.from_residual.result c.in_err-world.field-0.0
-    (IsConsoleCut (g.R.Read.remaining c.args.console.input) c.args.console.prompt.now c.args.files.now c.new_world.new.streams (g.O.Write.contents c.args.out.now) (g.O.Write.contents c.args.out.now) (g.E.Write.contents c.args.err.now) (g.E.Write.contents c.new_world.new.err))
+    (IsConsoleCut (g.R.Read.remaining c.args.console.input) c.args.console.prompt.now c.args.files.now c.new_world.new.streams (written_on (g.O.Write.contents c.args.out.now) (g.E.Write.contents c.args.err.now)) (written_on (g.O.Write.contents c.args.out.now) (g.E.Write.contents c.new_world.new.err)))
     c.from_residual.ensures.1 (in_world c.in_default.ensures.none c.in_err-world.ensures.cut refl)
 
 pub returns-in_err-answer_lines-in-Some-2-clause-unwritten : goal.returns-in_err-answer_lines-in-Some-2-clause-unwritten
@@ -30,16 +30,16 @@ returns-in_err-answer_lines-in-Some-2-clause-unwritten g c = λ file first. absu
 pub returns-in_err-answer_lines-in-Some-2-clause-cut : goal.returns-in_err-answer_lines-in-Some-2-clause-cut
 returns-in_err-answer_lines-in-Some-2-clause-cut g c =
     for_failure c.from_residual-in_err-answer_lines-in-Some-2.result c.in_err-answer_lines-in-Some-2.field-0.0
-    (IsConsoleCut (g.R.Read.remaining c.args.console.input) c.args.console.prompt.now c.args.files.now c.answer_lines.new.streams (g.O.Write.contents c.args.out.now) (g.O.Write.contents c.answer_lines.new.out) (g.E.Write.contents c.args.err.now) (g.E.Write.contents c.answer_lines.new.err))
+    (IsConsoleCut (g.R.Read.remaining c.args.console.input) c.args.console.prompt.now c.args.files.now c.answer_lines.new.streams (written_on (g.O.Write.contents c.args.out.now) (g.E.Write.contents c.args.err.now)) (written_on (g.O.Write.contents c.answer_lines.new.out) (g.E.Write.contents c.answer_lines.new.err)))
     c.from_residual-in_err-answer_lines-in-Some-2.ensures.1
-    (session_cut c.in_ok-world.field-0 c.in-Some-2.world _ _ _ c.new-started.result _ _ _ _ _ _ _ c.in-Some-2.is c.in_ok-world.ensures.comes c.in_default.ensures.none c.new-started.ensures
+    (session_cut c.in_ok-world.field-0 c.in-Some-2.world _ _ _ c.new-started.result _ _ _ _ _ _ c.in-Some-2.is c.in_ok-world.ensures.comes c.in_default.ensures.none c.new-started.ensures
     c.in_err-answer_lines-in-Some-2.ensures.cut)
 
 pub returns-in_ok-answer_lines-in-Some-2-clause-comes : goal.returns-in_ok-answer_lines-in-Some-2-clause-comes
 returns-in_ok-answer_lines-in-Some-2-clause-comes g c =
     let all = consoled c.in_ok-world.field-0 c.in-Some-2.world (g.R.Read.remaining c.args.console.input) c.args.console.prompt.now c.args.files.now c.new-started.result c.answer_lines.new.simulation
-    c.left_of.result _ _ _ _ _ c.in-Some-2.is c.in_ok-world.ensures.comes c.in_default.ensures.none c.new-started.ensures c.left_of.ensures.left c.in_ok-answer_lines-in-Some-2.ensures.answered in
-    subst (λ (status : Status). ConsoleComes status (g.R.Read.remaining c.args.console.input) c.args.console.prompt.now c.args.files.now c.left_of.result (g.O.Write.contents c.args.out.now) (g.O.Write.contents c.answer_lines.new.out) (g.E.Write.contents c.args.err.now) (g.E.Write.contents c.answer_lines.new.err))
+    c.left_of.result _ _ _ _ c.in-Some-2.is c.in_ok-world.ensures.comes c.in_default.ensures.none c.new-started.ensures c.left_of.ensures.left c.in_ok-answer_lines-in-Some-2.ensures.answered in
+    subst (λ (status : Status). ConsoleComes status (g.R.Read.remaining c.args.console.input) c.args.console.prompt.now c.args.files.now c.left_of.result (written_on (g.O.Write.contents c.args.out.now) (g.E.Write.contents c.args.err.now)) (written_on (g.O.Write.contents c.answer_lines.new.out) (g.E.Write.contents c.answer_lines.new.err)))
     (sym c.left_of.ensures.status) all
 
 pub returns-in_ok-answer_lines-in-Some-2-clause-unread : goal.returns-in_ok-answer_lines-in-Some-2-clause-unread
@@ -50,13 +50,13 @@ returns-in_ok-answer_lines-in-Some-2-clause-unwritten g c = λ file first. absur
 
 pub returns-in-None-clause-comes : goal.returns-in-None-clause-comes
 returns-in-None-clause-comes g c =
-    let refused : IsNoConsole c.args.files.now c.without.result (g.O.Write.contents c.args.out.now) (g.O.Write.contents c.args.out.now) (g.E.Write.contents c.args.err.now) (g.E.Write.contents c.new_world.new.err) = record {
+    let refused : IsNoConsole c.args.files.now c.without.result (written_on (g.O.Write.contents c.args.out.now) (g.E.Write.contents c.args.err.now)) (written_on (g.O.Write.contents c.args.out.now) (g.E.Write.contents c.new_world.new.err)) = record {
       read = c.in_default.ensures.none;
       no_world = no_world_told c.in_ok-world.field-0 _ _ _ c.in-None.is c.in_ok-world.ensures.comes;
       none = c.without.ensures.left;
       same_out = refl;
     } in
-    subst (λ (status : Status). ConsoleComes status (g.R.Read.remaining c.args.console.input) c.args.console.prompt.now c.args.files.now c.without.result (g.O.Write.contents c.args.out.now) (g.O.Write.contents c.args.out.now) (g.E.Write.contents c.args.err.now) (g.E.Write.contents c.new_world.new.err))
+    subst (λ (status : Status). ConsoleComes status (g.R.Read.remaining c.args.console.input) c.args.console.prompt.now c.args.files.now c.without.result (written_on (g.O.Write.contents c.args.out.now) (g.E.Write.contents c.args.err.now)) (written_on (g.O.Write.contents c.args.out.now) (g.E.Write.contents c.new_world.new.err)))
     (sym c.without.ensures.status) refused
 
 pub returns-in-None-clause-unread : goal.returns-in-None-clause-unread

@@ -1,6 +1,7 @@
 use Rattle.std.proofs.Common.{[], refl}
 use Rattle.ospf_files.proofs.Cut.{for_failure}
 use Rattle.ospf_files.proofs.Written.{nothing_written}
+use Rattle.ospf_files.specs.Streams.{written_on}
 use Rattle.ospf_sim.specs.Begun.{IsLineCut, in_print, no_room_for}
 use Rattle.ospf_sim.specs.Scripts.{is_passed_over}
 use Rattle.ospf_sim.proofs.Cuts.{refusal_cut}
@@ -27,7 +28,7 @@ pub returns-in_err-answer-in-Ok-Some-clause-cut : goal.returns-in_err-answer-in-
 returns-in_err-answer-in-Ok-Some-clause-cut g c =
     let spelled = rw c.in-Ok-Some.field-0-is at c.in-Ok-Some.ensures.command in
     for_failure c.from_residual.result c.in_err-answer-in-Ok-Some.field-0.0
-    (IsLineCut c.args.line.now.number c.args.line.now.text.now c.args.simulation.now c.run_command.new.streams (g.O.Write.contents c.args.out.now) (g.O.Write.contents c.run_command.new.out) (g.E.Write.contents c.args.err.now) (g.E.Write.contents c.args.err.now))
+    (IsLineCut c.args.line.now.number c.args.line.now.text.now c.args.simulation.now c.run_command.new.streams (written_on (g.O.Write.contents c.args.out.now) (g.E.Write.contents c.args.err.now)) (written_on (g.O.Write.contents c.run_command.new.out) (g.E.Write.contents c.args.err.now)))
     c.from_residual.ensures.1
     (in_print c.in_err-answer-in-Ok-Some.ensures.cut
     (record { command = c.in-Ok-Some.command; end = c.run_command.new.simulation; spelled = spelled; done = c.in_err-answer-in-Ok-Some.ensures.begun }) refl)
@@ -36,9 +37,9 @@ pub returns-in_err-tell_answer-in-Ok-Some-clause-cut : goal.returns-in_err-tell_
 returns-in_err-tell_answer-in-Ok-Some-clause-cut g c =
     let spelled = rw c.in-Ok-Some.field-0-is at c.in-Ok-Some.ensures.command in
     for_failure c.from_residual-in_err-tell_answer-in-Ok-Some.result c.in_err-tell_answer-in-Ok-Some.field-0.0
-    (IsLineCut c.args.line.now.number c.args.line.now.text.now c.args.simulation.now c.tell_answer.new.streams (g.O.Write.contents c.args.out.now) (g.O.Write.contents c.tell_answer.new.out) (g.E.Write.contents c.args.err.now) (g.E.Write.contents c.tell_answer.new.err))
+    (IsLineCut c.args.line.now.number c.args.line.now.text.now c.args.simulation.now c.tell_answer.new.streams (written_on (g.O.Write.contents c.args.out.now) (g.E.Write.contents c.args.err.now)) (written_on (g.O.Write.contents c.tell_answer.new.out) (g.E.Write.contents c.tell_answer.new.err)))
     c.from_residual-in_err-tell_answer-in-Ok-Some.ensures.1
     (refusal_cut _ _ _ _ _ _ _ _ _ _ _ _ _ spelled c.in_ok-answer-in-Ok-Some.ensures.done c.in_err-tell_answer-in-Ok-Some.ensures.cut)
 
 pub returns-in-Err-Memory-clause-cut : goal.returns-in-Err-Memory-clause-cut
-returns-in-Err-Memory-clause-cut g c = no_room_for (c.in-Err-Memory.ensures.memory c.in-Err-Memory.field-0-is) refl refl
+returns-in-Err-Memory-clause-cut g c = no_room_for (c.in-Err-Memory.ensures.memory c.in-Err-Memory.field-0-is) refl

@@ -1,4 +1,5 @@
 use Rattle.std.proofs.Common.{inl, subst}
+use Rattle.ospf_files.specs.Streams.{written_on}
 use Rattle.ospf_sim.specs.Simulations.{ComesOfScript}
 use Rattle.ospf_sim.specs.Stopped.{is_failure}
 use Rattle.ospf_sim.proofs.Files.{stopped_unread}
@@ -6,14 +7,14 @@ use Rattle.ospf_sim.proofs.text.sim_text.Goals as goal
 
 pub returns-in-Ok-clause-done : goal.returns-in-Ok-clause-done
 returns-in-Ok-clause-done g c = λ is.
-    subst (λ status. ComesOfScript status c.args.script.now c.args.files.now c.in-Ok.simulated (g.O.Write.contents c.args.out.now) (g.O.Write.contents c.simulate.new.out) (g.E.Write.contents c.args.err.now) (g.E.Write.contents c.simulate.new.err))
+    subst (λ status. ComesOfScript status c.args.script.now c.args.files.now c.in-Ok.simulated (written_on (g.O.Write.contents c.args.out.now) (g.E.Write.contents c.args.err.now)) (written_on (g.O.Write.contents c.simulate.new.out) (g.E.Write.contents c.simulate.new.err)))
     is c.in-Ok.ensures.comes
 
 pub returns-in-Ok-clause-unread : goal.returns-in-Ok-clause-unread
 returns-in-Ok-clause-unread g c = λ file first. inl (c.in-Ok.ensures.unread file first)
 
 pub returns-in-Ok-clause-stopped : goal.returns-in-Ok-clause-stopped
-returns-in-Ok-clause-stopped g c = λ ended. (c.simulate.new.streams, stopped_unread _ _ c.in-Ok.simulated _ _ _ _ _ c.in-Ok.ensures.not_memory c.in-Ok.ensures.stream ended)
+returns-in-Ok-clause-stopped g c = λ ended. (c.simulate.new.streams, stopped_unread _ _ c.in-Ok.simulated _ _ _ c.in-Ok.ensures.not_memory c.in-Ok.ensures.stream ended)
 
 pub returns-in-Err-clause-stopped : goal.returns-in-Err-clause-stopped
 returns-in-Err-clause-stopped g c = λ _. (

@@ -1,6 +1,6 @@
 use Rattle.std.proofs.Common.{inl, refl, subst, sym}
 use Rattle.ospf_files.proofs.Cut.{cut_then, for_failure}
-use Rattle.ospf_files.specs.Streams.{IsErrorCut}
+use Rattle.ospf_files.specs.Streams.{IsErrorCut, written_on}
 use Rattle.ospf_files.specs.Files.{text_in}
 use Rattle.ospf_script.specs.Words.{Text}
 use Rattle.ospf_files.specs.declared.status.Status.{Status}
@@ -19,13 +19,13 @@ returns-in-Some-clause-stream g c =
 pub returns-in-Some-clause-cut : goal.returns-in-Some-clause-cut
 returns-in-Some-clause-cut g c =
     cut_then c.end_unread.result (IsErrorCut c.end_unread.new.streams)
-    (IsSimulationCut c.args.script.now c.args.files.now c.end_unread.new.streams (g.O.Write.contents c.args.out.now) (g.O.Write.contents c.args.out.now) (g.E.Write.contents c.args.err.now) (g.E.Write.contents c.end_unread.new.err))
+    (IsSimulationCut c.args.script.now c.args.files.now c.end_unread.new.streams (written_on (g.O.Write.contents c.args.out.now) (g.E.Write.contents c.args.err.now)) (written_on (g.O.Write.contents c.args.out.now) (g.E.Write.contents c.end_unread.new.err)))
     (λ f begun cut. in_unread c.in-Some.file.now cut c.in-Some.ensures.some begun refl) c.end_unread.ensures.begun c.end_unread.ensures.cut
 
 pub returns-in_err-world-clause-cut : goal.returns-in_err-world-clause-cut
 returns-in_err-world-clause-cut g c =
     for_failure c.from_residual.result c.in_err-world.field-0.0
-    (IsSimulationCut c.args.script.now c.args.files.now c.new_world.new.streams (g.O.Write.contents c.args.out.now) (g.O.Write.contents c.args.out.now) (g.E.Write.contents c.args.err.now) (g.E.Write.contents c.new_world.new.err))
+    (IsSimulationCut c.args.script.now c.args.files.now c.new_world.new.streams (written_on (g.O.Write.contents c.args.out.now) (g.E.Write.contents c.args.err.now)) (written_on (g.O.Write.contents c.args.out.now) (g.E.Write.contents c.new_world.new.err)))
     c.from_residual.ensures.1 (in_world c.in_default.ensures.none c.in_err-world.ensures.cut refl)
 
 pub returns-in_err-whole-in-Some-2-clause-unwritten : goal.returns-in_err-whole-in-Some-2-clause-unwritten
@@ -33,19 +33,19 @@ returns-in_err-whole-in-Some-2-clause-unwritten g c = λ file first. absurd (non
 
 pub returns-in_err-whole-in-Some-2-clause-cut : goal.returns-in_err-whole-in-Some-2-clause-cut
 returns-in_err-whole-in-Some-2-clause-cut g c =
-    let of_text = subst (λ (text : Text). IsScriptCut text c.new-started.result c.run_script.new.streams (g.O.Write.contents c.args.out.now) (g.O.Write.contents c.run_script.new.out) (g.E.Write.contents c.new_world.new.err) (g.E.Write.contents c.run_script.new.err) c.in_err-whole-in-Some-2.field-0.0)
+    let of_text = subst (λ (text : Text). IsScriptCut text c.new-started.result c.run_script.new.streams (written_on (g.O.Write.contents c.args.out.now) (g.E.Write.contents c.new_world.new.err)) (written_on (g.O.Write.contents c.run_script.new.out) (g.E.Write.contents c.run_script.new.err)) c.in_err-whole-in-Some-2.field-0.0)
     c.text.ensures c.in_err-whole-in-Some-2.ensures.cut in
-    let cut = subst (λ (begun : Simulation). IsScriptCut (text_in c.args.script.now) begun c.run_script.new.streams (g.O.Write.contents c.args.out.now) (g.O.Write.contents c.run_script.new.out) (g.E.Write.contents c.new_world.new.err) (g.E.Write.contents c.run_script.new.err) c.in_err-whole-in-Some-2.field-0.0)
+    let cut = subst (λ (begun : Simulation). IsScriptCut (text_in c.args.script.now) begun c.run_script.new.streams (written_on (g.O.Write.contents c.args.out.now) (g.E.Write.contents c.new_world.new.err)) (written_on (g.O.Write.contents c.run_script.new.out) (g.E.Write.contents c.run_script.new.err)) c.in_err-whole-in-Some-2.field-0.0)
     c.new-started.ensures of_text in
     for_failure c.from_residual-in_err-whole-in-Some-2.result c.in_err-whole-in-Some-2.field-0.0
-    (IsSimulationCut c.args.script.now c.args.files.now c.run_script.new.streams (g.O.Write.contents c.args.out.now) (g.O.Write.contents c.run_script.new.out) (g.E.Write.contents c.args.err.now) (g.E.Write.contents c.run_script.new.err))
+    (IsSimulationCut c.args.script.now c.args.files.now c.run_script.new.streams (written_on (g.O.Write.contents c.args.out.now) (g.E.Write.contents c.args.err.now)) (written_on (g.O.Write.contents c.run_script.new.out) (g.E.Write.contents c.run_script.new.err)))
     c.from_residual-in_err-whole-in-Some-2.ensures.1
-    (script_cut c.in_ok-world.field-0 c.in-Some-2.world c.args.script.now c.args.files.now _ _ _ _ _ _ _ c.in-Some-2.is c.in_ok-world.ensures.comes c.in_default.ensures.none cut)
+    (script_cut c.in_ok-world.field-0 c.in-Some-2.world c.args.script.now c.args.files.now _ _ _ _ _ _ c.in-Some-2.is c.in_ok-world.ensures.comes c.in_default.ensures.none cut)
 
 pub returns-in_ok-whole-in-Some-2-clause-comes : goal.returns-in_ok-whole-in-Some-2-clause-comes
 returns-in_ok-whole-in-Some-2-clause-comes g c =
-    found_runs c.in_ok-world.field-0 c.in-Some-2.world _ c.args.script.now c.args.files.now c.left_of.result _ _ _ _ _ c.in-Some-2.is c.in_ok-world.ensures.comes c.in_default.ensures.none
-    (runs_to c.in_ok-whole-in-Some-2.whole c.args.script.now _ _ _ _ c.left_of.result _ _ _ _ c.left_of.ensures.status c.new-started.ensures c.text.ensures c.left_of.ensures.left c.in_ok-whole-in-Some-2.ensures.comes)
+    found_runs c.in_ok-world.field-0 c.in-Some-2.world _ c.args.script.now c.args.files.now c.left_of.result _ _ _ _ c.in-Some-2.is c.in_ok-world.ensures.comes c.in_default.ensures.none
+    (runs_to c.in_ok-whole-in-Some-2.whole c.args.script.now _ _ _ _ c.left_of.result _ _ c.left_of.ensures.status c.new-started.ensures c.text.ensures c.left_of.ensures.left c.in_ok-whole-in-Some-2.ensures.comes)
 
 pub returns-in_ok-whole-in-Some-2-clause-unread : goal.returns-in_ok-whole-in-Some-2-clause-unread
 returns-in_ok-whole-in-Some-2-clause-unread g c = λ file first. absurd (none_unread _ file c.in_default.ensures.none first)
@@ -55,13 +55,13 @@ returns-in_ok-whole-in-Some-2-clause-unwritten g c = λ file first. absurd (none
 
 pub returns-in-None-clause-comes : goal.returns-in-None-clause-comes
 returns-in-None-clause-comes g c =
-    let refused : IsScriptRefused c.args.script.now c.args.files.now c.without.result (g.O.Write.contents c.args.out.now) (g.O.Write.contents c.args.out.now) (g.E.Write.contents c.args.err.now) (g.E.Write.contents c.new_world.new.err) = inl (record {
+    let refused : IsScriptRefused c.args.script.now c.args.files.now c.without.result (written_on (g.O.Write.contents c.args.out.now) (g.E.Write.contents c.args.err.now)) (written_on (g.O.Write.contents c.args.out.now) (g.E.Write.contents c.new_world.new.err)) = inl (record {
       read = c.in_default.ensures.none;
       no_world = no_world_told c.in_ok-world.field-0 _ _ _ c.in-None.is c.in_ok-world.ensures.comes;
       none = c.without.ensures.left;
       same_out = refl;
     }) in
-    subst (λ (status : Status). ComesOfScript status c.args.script.now c.args.files.now c.without.result (g.O.Write.contents c.args.out.now) (g.O.Write.contents c.args.out.now) (g.E.Write.contents c.args.err.now) (g.E.Write.contents c.new_world.new.err))
+    subst (λ (status : Status). ComesOfScript status c.args.script.now c.args.files.now c.without.result (written_on (g.O.Write.contents c.args.out.now) (g.E.Write.contents c.args.err.now)) (written_on (g.O.Write.contents c.args.out.now) (g.E.Write.contents c.new_world.new.err)))
     (sym c.without.ensures.status) refused
 
 pub returns-in-None-clause-unread : goal.returns-in-None-clause-unread
