@@ -3,7 +3,7 @@ use Rattle.std.proofs.Common.{◌≡◌, refl, sym, subst, ℕ, List, Option, Re
 use Rattle.std.specs.Result.{IsErrAnd}
 use Rattle.std.specs.Io.KnownBytes.{Appends}
 use Rattle.ospf_files.specs.Status.{failure_line}
-use Rattle.ospf_files.specs.Streams.{IsTold}
+use Rattle.ospf_files.specs.Streams.{IsTold, Written, written_on}
 use Rattle.ospf_files.specs.declared.files.NamedFile.{NamedFile}
 use Rattle.ospf_files.specs.declared.status.Failure.{Failure}
 use Rattle.ospf_files.specs.declared.status.Status.{Status}
@@ -21,7 +21,7 @@ use Rattle.ospf_udp.specs.declared.stop.Obstacle.TheVariants as obstacle
 
 -- what keeps the routers from running is told
 pub obstacle_comes : (asked : Asked) (files : List NamedFile) (o : Obstacle) (oo eo en : Option (List ℕ))
-    → Hinders asked.floor files o → Appends eo en (obstacle_line o) → ComesOfRun asked files (obstacle_status o) oo oo eo en
+    → Hinders asked.floor files o → Appends eo en (obstacle_line o) → ComesOfRun asked files (obstacle_status o) (written_on oo eo) (written_on oo en)
 obstacle_comes asked files obstacle.NoNumber oo eo en is told = refused refl (floor_refused (no_number is told)) refl
 obstacle_comes asked files obstacle.GreatestFloor oo eo en is told = refused refl (floor_refused (greatest is told)) refl
 obstacle_comes asked files (obstacle.Unread file) oo eo en is told =
@@ -37,9 +37,9 @@ obstacle_comes asked files (obstacle.NoSocket file none) oo eo en is told =
 
 -- what came of the routers is reported
 pub report_comes : (asked : Asked) (files : List NamedFile) (outcomes outcomes' : List Outcome) (extras : Extras) (s : Status)
-    (oo on eo en : Option (List ℕ)) → HaveRun asked files outcomes → AreExtras asked extras → outcomes' ≡ outcomes
-    → AreOutcomesReported extras outcomes' s oo on eo en → ComesOfRun asked files s oo on eo en
-report_comes asked files outcomes outcomes' extras s oo on eo en has wanted same reported =
+    (old new : Written) → HaveRun asked files outcomes → AreExtras asked extras → outcomes' ≡ outcomes
+    → AreOutcomesReported extras outcomes' s old new → ComesOfRun asked files s old new
+report_comes asked files outcomes outcomes' extras s old new has wanted same reported =
     ran (record {
       configs = has.configs;
       least = has.least;
@@ -49,37 +49,37 @@ report_comes asked files outcomes outcomes' extras s oo on eo en has wanted same
         extras = extras;
         are = has.are;
         wanted = wanted;
-        reported = subst (λ (os : List Outcome). AreOutcomesReported extras os s oo on eo en) same reported;
+        reported = subst (λ (os : List Outcome). AreOutcomesReported extras os s old new) same reported;
       };
     })
 
 -- and their report may be cut
 pub report_cut : (asked : Asked) (files : List NamedFile) (outcomes outcomes' : List Outcome) (extras : Extras) (failed : FailedStreams)
-    (f : Failure) (oo on eo en : Option (List ℕ)) → HaveRun asked files outcomes → AreExtras asked extras → outcomes' ≡ outcomes
-    → IsReportCut extras outcomes' failed oo on eo en f → IsRunCut asked files failed oo on eo en f
-report_cut asked files outcomes outcomes' extras failed f oo on eo en has wanted same cut =
-    in_report outcomes extras has wanted (subst (λ (os : List Outcome). IsReportCut extras os failed oo on eo en f) same cut)
+    (f : Failure) (old new : Written) → HaveRun asked files outcomes → AreExtras asked extras → outcomes' ≡ outcomes
+    → IsReportCut extras outcomes' failed old new f → IsRunCut asked files failed old new f
+report_cut asked files outcomes outcomes' extras failed f old new has wanted same cut =
+    in_report outcomes extras has wanted (subst (λ (os : List Outcome). IsReportCut extras os failed old new f) same cut)
 
 -- a status, or a failure
-pub ends_by : (settings : Settings) (files : List NamedFile) (failed : FailedStreams) (oo on eo en : Option (List ℕ)) (r : Result Status Failure)
-    → IfOk r (λ s. ComesOfRun (asked_of settings) files s oo on eo en)
-    → IfErr r (λ f. IsRunCut (asked_of settings) files failed oo on eo en f) → EndsBy settings files failed oo on eo en r
-ends_by settings files failed oo on eo en (Ok s) come cut = come
-ends_by settings files failed oo on eo en (Err f) come cut = cut
+pub ends_by : (settings : Settings) (files : List NamedFile) (failed : FailedStreams) (old new : Written) (r : Result Status Failure)
+    → IfOk r (λ s. ComesOfRun (asked_of settings) files s old new)
+    → IfErr r (λ f. IsRunCut (asked_of settings) files failed old new f) → EndsBy settings files failed old new r
+ends_by settings files failed old new (Ok s) come cut = come
+ends_by settings files failed old new (Err f) come cut = cut
 
 -- a failure that is passed on
-pub ends_by_failure : (settings : Settings) (files : List NamedFile) (failed : FailedStreams) (oo on eo en : Option (List ℕ)) (r : Result Status Failure) (f : Failure)
-    → IsErrAnd r (λ x. x ≡ f) → IsRunCut (asked_of settings) files failed oo on eo en f → EndsBy settings files failed oo on eo en r
-ends_by_failure settings files failed oo on eo en (Ok s) f is cut = absurd is
-ends_by_failure settings files failed oo on eo en (Err x) f is cut =
-    subst (λ (y : Failure). IsRunCut (asked_of settings) files failed oo on eo en y) (sym is) cut
+pub ends_by_failure : (settings : Settings) (files : List NamedFile) (failed : FailedStreams) (old new : Written) (r : Result Status Failure) (f : Failure)
+    → IsErrAnd r (λ x. x ≡ f) → IsRunCut (asked_of settings) files failed old new f → EndsBy settings files failed old new r
+ends_by_failure settings files failed old new (Ok s) f is cut = absurd is
+ends_by_failure settings files failed old new (Err x) f is cut =
+    subst (λ (y : Failure). IsRunCut (asked_of settings) files failed old new y) (sym is) cut
 
 -- the failure that cuts a run is told last
-pub all_ends : (settings : Settings) (files : List NamedFile) (said : Result Status Failure) (s : Status) (then last : FailedStreams) (oo on eo em en : Option (List ℕ))
-    → EndsBy settings files then oo on eo em said → s ≡ last_status said → OnOk said (en ≡ em) → IfErr said (λ f. IsTold then last em en (failure_line f))
-    → EndsRun (asked_of settings) files s oo on eo en
-all_ends settings files (Ok status) s then last oo on eo em en comes_so is same told =
-    comes (subst (λ (e : Option (List ℕ)). ComesOfRun (asked_of settings) files s oo on eo e) (sym same)
-    (subst (λ (t : Status). ComesOfRun (asked_of settings) files t oo on eo em) (sym is) comes_so))
-all_ends settings files (Err f) s then last oo on eo em en cut is same told =
+pub all_ends : (settings : Settings) (files : List NamedFile) (said : Result Status Failure) (s : Status) (then last : FailedStreams) (old : Written) (out em en : Option (List ℕ))
+    → EndsBy settings files then old (written_on out em) said → s ≡ last_status said → OnOk said (en ≡ em) → IfErr said (λ f. IsTold then last em en (failure_line f))
+    → EndsRun (asked_of settings) files s old (written_on out en)
+all_ends settings files (Ok status) s then last old out em en comes_so is same told =
+    comes (subst (λ (e : Option (List ℕ)). ComesOfRun (asked_of settings) files s old (written_on out e)) (sym same)
+    (subst (λ (t : Status). ComesOfRun (asked_of settings) files t old (written_on out em)) (sym is) comes_so))
+all_ends settings files (Err f) s then last old out em en cut is same told =
     cut_short last (record { cause = f; failed_then = then; err_then = em; cut = cut; last = told; status_is = is })

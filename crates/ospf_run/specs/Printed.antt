@@ -8,7 +8,7 @@ use Rattle.ospf_drive.specs.Faults.{drive_fault_text}
 use Rattle.ospf_drive.specs.declared.fault.DriveFault.{DriveFault}
 use Rattle.ospf_drive.specs.declared.fault.DriveFault.TheVariants as fault
 use Rattle.ospf_files.specs.declared.files.NamedFile.{NamedFile}
-use Rattle.ospf_files.specs.Streams.{IsBegun, IsErrorCut, IsOutputCut}
+use Rattle.ospf_files.specs.Streams.{IsBegun, IsErrorCut, IsOutputCut, Written}
 use Rattle.ospf_files.specs.declared.status.Failure.{Failure}
 use Rattle.ospf_files.specs.declared.status.Status.{Status}
 use Rattle.ospf_files.specs.declared.status.Status.TheVariants as status
@@ -139,14 +139,13 @@ status_for outcomes = cond (list_any is_failed outcomes) status.Stream (cond (li
 -- ---- all of it
 
 -- what came of routers is printed and told, in their order
-pub record AreOutcomesReported (extras : Extras) (outcomes : List Outcome) (status : Status) (out_old out_new err_old err_new : Option (List ℕ)) : Type 0 where
+pub record AreOutcomesReported (extras : Extras) (outcomes : List Outcome) (status : Status) (old new : Written) : Type 0 where
   pub status_is : status ≡ status_for outcomes
-  pub out : Appends out_old out_new (report_lines extras outcomes)
-  pub err : Appends err_old err_new (report_told outcomes)
+  pub out : Appends old.out new.out (report_lines extras outcomes)
+  pub err : Appends old.err new.err (report_told outcomes)
 
 -- their report is cut: what is printed of them; or, where that is whole, what is told of them
-pub data IsReportCut (extras : Extras) (outcomes : List Outcome) (failed : FailedStreams) (out_old out_new err_old err_new : Option (List ℕ)) (f : Failure) : Type 0 where
-  in_output : IsOutputCut failed f → IsBegun out_old out_new (report_lines extras outcomes) → err_new ≡ err_old
-      → IsReportCut extras outcomes failed out_old out_new err_old err_new f
-  in_errors : IsErrorCut failed f → Appends out_old out_new (report_lines extras outcomes) → IsBegun err_old err_new (report_told outcomes)
-      → IsReportCut extras outcomes failed out_old out_new err_old err_new f
+pub data IsReportCut (extras : Extras) (outcomes : List Outcome) (failed : FailedStreams) (old new : Written) (f : Failure) : Type 0 where
+  in_output : IsOutputCut failed f → IsBegun old.out new.out (report_lines extras outcomes) → new.err ≡ old.err → IsReportCut extras outcomes failed old new f
+  in_errors : IsErrorCut failed f → Appends old.out new.out (report_lines extras outcomes) → IsBegun old.err new.err (report_told outcomes)
+      → IsReportCut extras outcomes failed old new f

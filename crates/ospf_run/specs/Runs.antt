@@ -9,6 +9,7 @@ use Rattle.ospf_drive.specs.Traffic.Carried.{Ticks}
 use Rattle.ospf_drive.specs.declared.fault.DriveFault.{DriveFault}
 use Rattle.ospf_drive.specs.declared.span.Span.{Span}
 use Rattle.ospf_fib.specs.Answers.{IsAnswerOfLast}
+use Rattle.ospf_files.specs.Streams.{Written}
 use Rattle.ospf_files.specs.declared.status.Status.{Status}
 use Rattle.ospf_files.specs.declared.status.Status.TheVariants.{Refused, Stream}
 use Rattle.ospf_files.specs.declared.files.NamedFile.{NamedFile}
@@ -141,12 +142,12 @@ RoutersRan terms (config ∷ configs) (driven ∷ drivens) (router_seat ∷ rout
 RoutersRan terms _ _ _ = ⊥
 
 -- what came of the routers of a plan is printed and told, with what is asked for beside it
-pub record Reports (asked : Asked) (terms : Terms) (files : List NamedFile) (configs : List Config) (status : Status) (out_old out_new err_old err_new : Option (List ℕ)) : Type 0 where
+pub record Reports (asked : Asked) (terms : Terms) (files : List NamedFile) (configs : List Config) (status : Status) (old new : Written) : Type 0 where
   pub outcomes : List Outcome
   pub extras : Extras
   pub are : AreOutcomes asked.lookup terms files configs outcomes
   pub wanted : AreExtras asked extras
-  pub reported : AreOutcomesReported extras outcomes status out_old out_new err_old err_new
+  pub reported : AreOutcomesReported extras outcomes status old new
 
 -- ---- runs
 
@@ -158,19 +159,19 @@ pub record HaveRun (asked : Asked) (files : List NamedFile) (outcomes : List Out
   pub are : AreOutcomes asked.lookup (record { span = asked.span; floor = least }) files configs outcomes
 
 -- the plan of the files was run, with the span: what came of each router is printed and told
-pub record IsPlanRun (asked : Asked) (files : List NamedFile) (status : Status) (out_old out_new err_old err_new : Option (List ℕ)) : Type 0 where
+pub record IsPlanRun (asked : Asked) (files : List NamedFile) (status : Status) (old new : Written) : Type 0 where
   pub configs : List Config
   pub least : ℤ
   pub plan : IsPlan asked.floor files configs least
-  pub reports : Reports asked (record { span = asked.span; floor = least }) files configs status out_old out_new err_old err_new
+  pub reports : Reports asked (record { span = asked.span; floor = least }) files configs status old new
 
 -- how a run comes to its end: it is refused, a file could not be read, a socket could not be made, or it was run
-pub data ComesOfRun (asked : Asked) (files : List NamedFile) (status : Status) (out_old out_new err_old err_new : Option (List ℕ)) : Type 0 where
-  refused : status ≡ Refused → IsPlanRefused asked.floor files err_old err_new → out_new ≡ out_old → ComesOfRun asked files status out_old out_new err_old err_new
-  unread : status ≡ Stream → IsPlanUnreadTold asked.floor files err_old err_new → out_new ≡ out_old → ComesOfRun asked files status out_old out_new err_old err_new
-  no_socket : status ≡ Stream → (configs : List Config) (least : ℤ) → IsPlan asked.floor files configs least → IsSocketTold files configs err_old err_new
-      → out_new ≡ out_old → ComesOfRun asked files status out_old out_new err_old err_new
-  ran : IsPlanRun asked files status out_old out_new err_old err_new → ComesOfRun asked files status out_old out_new err_old err_new
+pub data ComesOfRun (asked : Asked) (files : List NamedFile) (status : Status) (old new : Written) : Type 0 where
+  refused : status ≡ Refused → IsPlanRefused asked.floor files old.err new.err → new.out ≡ old.out → ComesOfRun asked files status old new
+  unread : status ≡ Stream → IsPlanUnreadTold asked.floor files old.err new.err → new.out ≡ old.out → ComesOfRun asked files status old new
+  no_socket : status ≡ Stream → (configs : List Config) (least : ℤ) → IsPlan asked.floor files configs least → IsSocketTold files configs old.err new.err
+      → new.out ≡ old.out → ComesOfRun asked files status old new
+  ran : IsPlanRun asked files status old new → ComesOfRun asked files status old new
 
 -- the plan of the files was run as is asked for, and this came of its routers, with what is to be printed beside it
 abbrev pub RunsTo : Settings → List NamedFile → List Outcome → Extras → Type 0

@@ -2,7 +2,7 @@
 
 ghost use Rattle.std.specs.Prelude.{◌≡◌, IfErr, IfOk, OnErr, OnOk, string_bytes};
 ghost use Rattle.std.specs.Io.KnownBytes.{Appends};
-ghost use Rattle.ospf_files.specs.Streams.{IsBegun, IsErrorCut, IsOutputCut};
+ghost use Rattle.ospf_files.specs.Streams.{IsBegun, IsErrorCut, IsOutputCut, written_on};
 ghost use Rattle.ospf_run.specs.Printed.{IsReportCut, AreOutcomesReported, fault_line, looked_lines, outcome_lines, outcome_told, report_lines, report_told, router_id_line, router_lines, table_lines};
 
 use crate::extras::print_extras;
@@ -28,11 +28,12 @@ pub fn report<O: Write, E: Write>(
     err: &mut E,
     streams: &mut FailedStreams,
 ) -> Result<Status, Failure>
-    ensures reported { IfOk result (λ status. AreOutcomesReported extras.now outcomes.now status
-        (O.contents out.old) (O.contents out.new) (E.contents err.old) (E.contents err.new)) }
-    ensures cut { IfErr result
-        (IsReportCut extras.now outcomes.now streams.new (O.contents out.old) (O.contents out.new)
-        (E.contents err.old) (E.contents err.new)) }
+    ensures reported { let old = written_on (O.contents out.old) (E.contents err.old) in
+        let new = written_on (O.contents out.new) (E.contents err.new) in
+        IfOk result (λ status. AreOutcomesReported extras.now outcomes.now status old new) }
+    ensures cut { let old = written_on (O.contents out.old) (E.contents err.old) in
+        let new = written_on (O.contents out.new) (E.contents err.new) in
+        IfErr result (IsReportCut extras.now outcomes.now streams.new old new) }
 {
     print_outcomes(alloc, outcomes, extras, out, streams)?;
     streams.flush(out)?;

@@ -2,7 +2,7 @@
 
 ghost use Rattle.std.specs.Prelude.{◌≡◌, ◌≢◌, [], ℕ, List, Option, IfErr, IfOk, OnOk, false};
 ghost use Rattle.ospf_files.specs.Status.{failure_line};
-ghost use Rattle.ospf_files.specs.Streams.{IsTold};
+ghost use Rattle.ospf_files.specs.Streams.{IsTold, written_on};
 ghost use Rattle.ospf_run.specs.Cut.{EndsBy, EndsRun, last_status};
 ghost use Rattle.ospf_udp.specs.Obstacles.{IsStop};
 ghost use Rattle.ospf_udp.specs.Plans.{IsPlanAt, IsPlanRefused};
@@ -56,16 +56,17 @@ pub fn run_text<
     out: &mut O,
     err: &mut E,
 ) -> Status
-    ensures done { result ≡ Status.Done →
-        IsPlanRun (asked_of settings.now) files.now Status.Done (O.contents out.old)
-        (O.contents out.new) (E.contents err.old) (E.contents err.new) }
+    ensures done { let old = written_on (O.contents out.old) (E.contents err.old) in
+        let new = written_on (O.contents out.new) (E.contents err.new) in
+        result ≡ Status.Done → IsPlanRun (asked_of settings.now) files.now Status.Done old new }
     ensures refused { result ≡ Status.Refused →
         IsPlanRefused (floor_of settings.now) files.now (E.contents err.old) (E.contents err.new) }
     ensures unwritten { result ≡ Status.Refused → O.contents out.new ≡ O.contents out.old }
     // However it ends, the run has come to its end, or a failure has cut it short.
     ensures not_words { result ≢ Status.Words }
-    ensures ended { EndsRun (asked_of settings.now) files.now result (O.contents out.old)
-        (O.contents out.new) (E.contents err.old) (E.contents err.new) }
+    ensures ended { let old = written_on (O.contents out.old) (E.contents err.old) in
+        let new = written_on (O.contents out.new) (E.contents err.new) in
+        EndsRun (asked_of settings.now) files.now result old new }
 {
     let ran = run(rt, alloc, settings, files, tap);
     let mut streams = FailedStreams::none();
@@ -146,8 +147,9 @@ fn say<O: Write, E: Write>(
 ) -> Result<Status, Failure>
     requires ran { IfOk ran (λ all. RunsTo settings.now files.now all.0.items all.1) }
     requires stop { IfErr ran (IsStop (floor_of settings.now) files.now) }
-    ensures { EndsBy settings.now files.now streams.new (O.contents out.old) (O.contents out.new)
-        (E.contents err.old) (E.contents err.new) result }
+    ensures { let old = written_on (O.contents out.old) (E.contents err.old) in
+        let new = written_on (O.contents out.new) (E.contents err.new) in
+        EndsBy settings.now files.now streams.new old new result }
 {
     match ran {
         Ok((outcomes, extras)) => report(alloc, &outcomes, &extras, out, err, streams),
@@ -165,8 +167,9 @@ fn tell_stop<E: Write>(
     streams: &mut FailedStreams,
 ) -> Result<Status, Failure>
     requires { IsStop (floor_of settings.now) files.now stop }
-    ensures { (out : Option (List ℕ)) → EndsBy settings.now files.now streams.new out out
-        (E.contents err.old) (E.contents err.new) result }
+    ensures { (out : Option (List ℕ)) → let old = written_on out (E.contents err.old) in
+        let new = written_on out (E.contents err.new) in
+        EndsBy settings.now files.now streams.new old new result }
 {
     match stop {
         Stop::Obstacle(obstacle) => {

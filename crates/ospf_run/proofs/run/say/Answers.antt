@@ -9,11 +9,11 @@ pub returns-in-Ok : goal.returns-in-Ok
 returns-in-Ok g c =
     let settings = c.args.settings.now in
     let has = subst (λ r. IfOk r (λ all. RunsTo settings c.args.files.now all.0.items all.1)) c.in-Ok.is c.requires.ran in
-    ends_by settings c.args.files.now c.report.new.streams _ _ _ _ c.report.result
+    ends_by settings c.args.files.now c.report.new.streams _ _ c.report.result
     (IfOk-weaker c.report.result _ _ (λ status reported. report_comes (asked_of settings) c.args.files.now c.in-Ok.outcomes.items c.deref.result.now c.in-Ok.extras
-    status _ _ _ _ has.0 has.1 c.deref.ensures.value reported) c.report.ensures.reported)
+    status _ _ has.0 has.1 c.deref.ensures.value reported) c.report.ensures.reported)
     (IfErr-weaker c.report.result _ _ (λ failure cut. report_cut (asked_of settings) c.args.files.now c.in-Ok.outcomes.items c.deref.result.now c.in-Ok.extras
-    c.report.new.streams failure _ _ _ _ has.0 has.1 c.deref.ensures.value cut) c.report.ensures.cut)
+    c.report.new.streams failure _ _ has.0 has.1 c.deref.ensures.value cut) c.report.ensures.cut)
 
 pub returns-in-Err : goal.returns-in-Err
 returns-in-Err g c = c.tell_stop.ensures (g.O.Write.contents c.args.out.now)
