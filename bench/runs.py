@@ -14,6 +14,10 @@ import time
 
 import proved
 
+TOP = os.path.dirname(os.path.dirname(os.path.abspath(__file__)))
+sys.path.insert(0, os.path.join(TOP, "tests", "peers"))
+from networks import config, free_ports, interface  # noqa: E402
+
 IDLE_TICKS = 60
 NOISE = 200_000
 NOISE_LENGTH = 64
@@ -21,26 +25,15 @@ NOISE_LENGTH = 64
 NOISE_TICKS = 12
 
 
-def free_ports(count):
-    found = [socket.socket(socket.AF_INET, socket.SOCK_DGRAM) for _ in range(count)]
-    for one in found:
-        one.bind(("127.0.0.1", 0))
-    ports = [one.getsockname()[1] for one in found]
-    for one in found:
-        one.close()
-    return ports
-
-
 def two(place, ports):
     """The configurations of two routers on a line."""
     names = []
     for side in (0, 1):
-        router = ".".join(4 * [str(side + 1)])
+        towards = interface("point-to-point", f"10.0.0.{side + 1}/30", 10, ports[side], [ports[1 - side]])
+        behind = interface("broadcast", f"192.168.{side}.1/24", 5, ports[2 + side])
         names.append(os.path.join(place, f"{side}.toml"))
         with open(names[-1], "w", encoding="utf-8") as file:
-            file.write(f'router_id = "{router}"\narea = "0.0.0.0"\n[[interface]]\nkind = "point-to-point"\naddress = "10.0.0.{side + 1}/30"\n')
-            file.write(f"cost = 10\nport = {ports[side]}\npeers = [{ports[1 - side]}]\n")
-            file.write(f'[[interface]]\nkind = "broadcast"\naddress = "192.168.{side}.1/24"\ncost = 5\nport = {ports[2 + side]}\npeers = []\n')
+            file.write(config(".".join(4 * [str(side + 1)]), towards, behind))
     return names
 
 
