@@ -1,5 +1,5 @@
 -- Copies of the database that go to one neighbour, and Requests that they answer (RFC 2328, sections 10.7 and 13.6).
-use Rattle.std.specs.Prelude.{◌++◌, ℕ, List, [], ◌∷◌, filter, map, if◌then◌else◌, None, Some}
+use Rattle.std.specs.Prelude.{◌++◌, ℕ, List, [], filter, fold, map, if◌then◌else◌, None, Some}
 use Rattle.ospf_base.specs.declared.ids.LsaKey.{LsaKey}
 use Rattle.ospf_iface.specs.declared.machine.Iface.{Iface}
 use Rattle.ospf_lsdb.specs.Database.{Held, entry_of, instance_at, key_at}
@@ -18,8 +18,7 @@ use Rattle.ospf_adjacency.specs.Packing.{updates_of}
 
 -- copies that go to the neighbour count as sent to it, where they are on its retransmission list (13.6)
 abbrev pub resent_keys : List Held → ℕ → List LsaKey → NeighbourValue → NeighbourValue
-resent_keys db tick [] n = n
-resent_keys db tick (k ∷ ks) n = resent_keys db tick ks (elim (entry_of db k) [ None ↦ n | Some e ↦ resent (instance_at e) tick n ])
+resent_keys db tick keys n = fold (λ (n : NeighbourValue) key. (elim (entry_of db key) [ None ↦ n | Some e ↦ resent (instance_at e) tick n ])) n keys
 
 -- the copies of these keys go to the neighbour (10.7, 13.6)
 abbrev pub copies_turn : Iface → Local → ℕ → List Held → List LsaKey → Turn → Turn

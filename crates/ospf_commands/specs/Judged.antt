@@ -1,5 +1,6 @@
 -- Whether something is as it is expected to be, and what is printed where it is not.
 use Rattle.std.specs.Prelude.{◌≡◌, ◌&&◌, ◌==◌, ℕ, ⊤, Bool, true, false, not, List, [], ◌∷◌, ◌++◌, Ok, Err, Option, None, Some, codes}
+use Rattle.std.specs.List.{AllByRecursion}
 use Rattle.ospf_base.specs.Text.{number_text}
 use Rattle.ospf_base.specs.declared.ids.Addr.{Addr}
 use Rattle.ospf_base.specs.declared.ids.RouterId.{RouterId}
@@ -65,13 +66,11 @@ ListsIfRuns lsas s = (x : Running) → s.running ≡ Some x → area_listed (Som
 
 -- each of these does
 abbrev pub AllList : List ℕ → List SlotValue → Type 0
-AllList lsas [] = ⊤
-AllList lsas (s ∷ slots) = ListsIfRuns lsas s × AllList lsas slots
+AllList lsas slots = AllByRecursion (ListsIfRuns lsas) slots
 
 -- none of these runs
 abbrev pub NoneRuns : List SlotValue → Type 0
-NoneRuns [] = ⊤
-NoneRuns (s ∷ slots) = (s.running ≡ None) × NoneRuns slots
+NoneRuns slots = AllByRecursion (λ (s : SlotValue). s.running ≡ None) slots
 
 -- the first of these routers that runs and lists otherwise, if there is one
 pub data IsFirstOther (lsas : List ℕ) (slots : List SlotValue) : Option RouterId → Type 0 where

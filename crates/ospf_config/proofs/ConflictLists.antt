@@ -1,6 +1,7 @@
 -- Conflicts among addresses, and among the tables that they stand in.
 use Rattle.std.proofs.Common.{◌≡◌, ◌↔◌, ℕ, zero, suc, ◌<◌, List, [], ◌∷◌, ◌++◌, length, get_or, Option, Some, None, Ok, Err, decimal, codes, inl, inr, refl, sym, ap, ◌∙◌, subst, arith}
 use Rattle.std.specs.Prelude.{Any, AllPairs, slice_get}
+use Rattle.std.specs.List.{AllZip}
 use Rattle.ospf_config.specs.declared.address.InterfaceAddress.{InterfaceAddress}
 use Rattle.std.proofs.lemmas.Option.{same_Some}
 use Rattle.std.proofs.lemmas.Fmt.{decimal_injective}
@@ -9,7 +10,6 @@ use Rattle.ospf_base.specs.Text.{IsDottedNumber}
 use Rattle.ospf_config.specs.declared.fault.ConfigFault.{ConfigFault}
 use Rattle.ospf_config.specs.declared.fault.ConfigFault.TheVariants as fault
 use Rattle.ospf_config.specs.declared.interface.Interface.{Interface}
-use Rattle.ospf_config.specs.Pairs.{EachPair}
 use Rattle.ospf_config.specs.Reading.{ReadsValue, Required}
 use Rattle.ospf_config.specs.Texts.{IsAddressText}
 use Rattle.ospf_config.specs.Keys.{ReadsInterfaceAddress}
@@ -34,7 +34,7 @@ none_first all rest x xs parts same none = (
 abbrev Reads : Members → InterfaceAddress → Type 0
 Reads t a = ReadsInterfaceAddress t (Ok a)
 
-pub pair_at : {B : Type 0} (R : Members → B → Type 0) (ts : List Members) (xs : List B) (k : ℕ) (d : B) → EachPair R ts xs → k < length xs
+pub pair_at : {B : Type 0} (R : Members → B → Type 0) (ts : List Members) (xs : List B) (k : ℕ) (d : B) → AllZip R ts xs → k < length xs
     → (t : Members) × (slice_get ts k ≡ Some t) × R t (get_or xs k d)
 pair_at R [] [] k d h lt = absurd (omega arith)
 pair_at R [] (x ∷ xs) k d h lt = absurd h
@@ -42,7 +42,7 @@ pair_at R (t ∷ ts) [] k d h lt = absurd h
 pair_at R (t ∷ ts) (x ∷ xs) zero d h lt = (t, refl, h.0)
 pair_at R (t ∷ ts) (x ∷ xs) (suc k) d h lt = pair_at R ts xs k d h.1 (omega arith)
 
-pair_get : (ts : List Members) (xs : List InterfaceAddress) (k : ℕ) (t : Members) → EachPair Reads ts xs → slice_get ts k ≡ Some t
+pair_get : (ts : List Members) (xs : List InterfaceAddress) (k : ℕ) (t : Members) → AllZip Reads ts xs → slice_get ts k ≡ Some t
     → (a : InterfaceAddress) × (k < length xs) × (get_or xs k a ≡ a) × Reads t a
 pair_get [] xs k t h at = absurd (none_is_some t at)
 pair_get (u ∷ ts) [] k t h at = absurd h
@@ -50,7 +50,7 @@ pair_get (u ∷ ts) (x ∷ xs) zero t h at = (x, omega arith, refl, subst (λ v.
 pair_get (u ∷ ts) (x ∷ xs) (suc k) t h at = (let (a, lt, is, r) = pair_get ts xs k t h.1 at in (a, omega arith, is, r))
 
 -- as many as tables
-pub pairs_length : {B : Type 0} (R : Members → B → Type 0) (ts : List Members) (xs : List B) → EachPair R ts xs → length ts ≡ length xs
+pub pairs_length : {B : Type 0} (R : Members → B → Type 0) (ts : List Members) (xs : List B) → AllZip R ts xs → length ts ≡ length xs
 pairs_length R [] [] h = refl
 pairs_length R [] (x ∷ xs) h = absurd h
 pairs_length R (t ∷ ts) [] h = absurd h
@@ -72,7 +72,7 @@ later t ts h = record {
   conflict = h.conflict;
 }
 
-pub same_prefix : (ts : List Members) (xs : List InterfaceAddress) → EachPair Reads ts xs → HasConflict xs → HaveSamePrefix ts
+pub same_prefix : (ts : List Members) (xs : List InterfaceAddress) → AllZip Reads ts xs → HasConflict xs → HaveSamePrefix ts
 same_prefix [] [] h c = absurd c
 same_prefix [] (x ∷ xs) h c = absurd h
 same_prefix (t ∷ ts) [] h c = absurd h
@@ -123,7 +123,7 @@ conflict_same a b c d p q (one_prefix l n) = one_prefix (sym p.1 ∙ l ∙ q.1) 
 conflict_same a b c d p q (one_address e) = one_address (sym p.0 ∙ e ∙ q.0)
 
 module _ (f s : Members) (a b : InterfaceAddress) (fa : Reads f a) (sb : Reads s b) (c : Conflict a b) where
-  conflict_at : (ts : List Members) (xs : List InterfaceAddress) → EachPair Reads ts xs → (i j : ℕ) → i < j → slice_get ts i ≡ Some f → slice_get ts j ≡ Some s → HasConflict xs
+  conflict_at : (ts : List Members) (xs : List InterfaceAddress) → AllZip Reads ts xs → (i j : ℕ) → i < j → slice_get ts i ≡ Some f → slice_get ts j ≡ Some s → HasConflict xs
   conflict_at [] xs h i j lt ai aj = absurd (none_is_some f ai)
   conflict_at (t ∷ ts) [] h i j lt ai aj = absurd h
   conflict_at (t ∷ ts) (x ∷ xs) h i zero lt ai aj = absurd (omega arith)
@@ -133,12 +133,12 @@ module _ (f s : Members) (a b : InterfaceAddress) (fa : Reads f a) (sb : Reads s
       inl (j, y, within, at, conflict_same a b x y (address_one (get_member (codes "address") f) a x fa x_reads) (address_one (get_member (codes "address") s) b y sb r) c)
   conflict_at (t ∷ ts) (x ∷ xs) h (suc i) (suc j) lt ai aj = inr (conflict_at ts xs h.1 i j (omega arith) ai aj)
 
-pub has_conflict_of : (ts : List Members) (xs : List InterfaceAddress) → EachPair Reads ts xs → HaveSamePrefix ts → HasConflict xs
+pub has_conflict_of : (ts : List Members) (xs : List InterfaceAddress) → AllZip Reads ts xs → HaveSamePrefix ts → HasConflict xs
 has_conflict_of ts xs h p = conflict_at p.first p.second p.a p.b p.first_address p.second_address p.conflict ts xs h p.i p.j p.before p.at_first p.at_second
 
 -- ---- interfaces
 
-pub interfaces_apart : (ts : List Members) (xs : List Interface) → EachPair IsInterfaceOf ts xs → (HaveSamePrefix ts → ⊥) → AllPairs (λ x y. Conflict x.address y.address → ⊥) xs
+pub interfaces_apart : (ts : List Members) (xs : List Interface) → AllZip IsInterfaceOf ts xs → (HaveSamePrefix ts → ⊥) → AllPairs (λ x y. Conflict x.address y.address → ⊥) xs
 interfaces_apart ts xs h none i j d lt within c =
     let (t, at, r) = pair_at IsInterfaceOf ts xs i d h (omega arith) in
     let (u, bt, s) = pair_at IsInterfaceOf ts xs j d h within in

@@ -1,7 +1,7 @@
 -- The tables of interfaces among values.
 use Rattle.std.proofs.Common.{◌≡◌, ◌⊎◌, ℕ, zero, suc, ◌+◌, ◌<◌, ◌≤◌, true, false, ◌&&◌, List, [], ◌∷◌, ◌++◌, length, take, get_or, Option, Some, None, is_some, option_and_then, unwrap_or, Err, inl, inr, refl, sym, ap, ◌∙◌, subst, if◌then◌else◌, arith}
 use Rattle.std.specs.Prelude.{Any}
-use Rattle.std.specs.List.{list_all}
+use Rattle.std.specs.List.{list_all, AllZip}
 use Rattle.std.proofs.lemmas.List.{take_more}
 use Rattle.std.proofs.lemmas.Option.{same_Some}
 use Rattle.std.proofs.lemmas.Bool.{cases_order, false≢true}
@@ -12,7 +12,6 @@ use Rattle.toml.specs.declared.value.Value.{Value}
 use Rattle.ospf_config.specs.declared.fault.ConfigFault.{ConfigFault}
 use Rattle.ospf_config.specs.declared.fault.ConfigFault.TheVariants as fault
 use Rattle.toml.proofs.Views.{items_view-push}
-use Rattle.ospf_config.specs.Pairs.{EachPair}
 use Rattle.ospf_config.specs.Reading.{ReadsValue, Required}
 use Rattle.ospf_config.specs.Tables.{IsTableWith, tables_among, as_tables, AreInterfaceTables}
 use Rattle.ospf_config.proofs.PeerLists.{none_is_some, no, yes, known}
@@ -231,7 +230,7 @@ tables_push (item (boolean b) ds) d t e = tables_push ds d t e
 tables_push (item (datetime dt) ds) d t e = tables_push ds d t e
 tables_push (item (array xs) ds) d t e = tables_push ds d t e
 
-pair_last : {A B : Type 0} (R : A → B → Type 0) (xs : List A) (ys : List B) (x : A) (y : B) → EachPair R xs ys → R x y → EachPair R (xs ++ x ∷ []) (ys ++ y ∷ [])
+pair_last : {A B : Type 0} (R : A → B → Type 0) (xs : List A) (ys : List B) (x : A) (y : B) → AllZip R xs ys → R x y → AllZip R (xs ++ x ∷ []) (ys ++ y ∷ [])
 pair_last R [] [] x y h r = (r, tt)
 pair_last R [] (b ∷ ys) x y h r = absurd h
 pair_last R (a ∷ xs) [] x y h r = absurd h
@@ -239,8 +238,8 @@ pair_last R (a ∷ xs) (b ∷ ys) x y h r = (h.0, pair_last R xs ys x y h.1 r)
 
 -- one more pair
 pub pairs_more : {B : Type 0} (R : Members → B → Type 0) (vs : List Value) (i : ℕ) (v : Value) (t : Members) (ys : List B) (y : B)
-    → i < length vs → v ≡ get_or vs i v → as_table (view v) ≡ Some t → EachPair R (tables_among (items_view (take i vs))) ys → R t y
-    → EachPair R (tables_among (items_view (take (i + 1) vs))) (ys ++ y ∷ [])
+    → i < length vs → v ≡ get_or vs i v → as_table (view v) ≡ Some t → AllZip R (tables_among (items_view (take i vs))) ys → R t y
+    → AllZip R (tables_among (items_view (take (i + 1) vs))) (ys ++ y ∷ [])
 pairs_more R vs i v t ys y lt here is so_far r =
     rw (take_more vs i v lt, ← here, items_view-push (take i vs) v, tables_push (items_view (take i vs)) (view v) t is) (pair_last R _ ys t y so_far r)
 

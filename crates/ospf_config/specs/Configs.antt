@@ -1,5 +1,6 @@
 -- What a text says of a configuration, and which faults it has.
 use Rattle.std.specs.Prelude.{◌≡◌, ◌<◌, ℕ, List, Some, None, Ok, slice_get}
+use Rattle.std.specs.List.{AllZip}
 use Rattle.toml.specs.Data.{Members}
 use Rattle.toml.specs.Parse.{parse_document}
 use Rattle.ospf_config.specs.declared.config.Config.{Config}
@@ -7,7 +8,6 @@ use Rattle.ospf_config.specs.declared.fault.ConfigFault.{ConfigFault}
 use Rattle.ospf_config.specs.declared.fault.ConfigFault.TheVariants as fault
 use Rattle.ospf_config.specs.Keys.{ReadsOwnRouterId, ReadsArea, ReadsStubRouter, ReadsOtherLsas}
 use Rattle.ospf_config.specs.Interfaces.{IsInterfaceOf}
-use Rattle.ospf_config.specs.Pairs.{EachPair}
 use Rattle.ospf_config.specs.Tables.{HasConfigFault, interface_tables}
 
 -- the configuration is the reading of the table, its interfaces in order
@@ -16,7 +16,7 @@ pub record IsConfigOf (t : Members) (c : Config) : Type 0 where
   pub area : ReadsArea t (Ok c.area)
   pub stub_router : ReadsStubRouter t (Ok c.stub_router)
   pub passes_over : ReadsOtherLsas t (Ok c.passes_over)
-  pub interfaces : EachPair IsInterfaceOf (interface_tables t) c.interfaces.items
+  pub interfaces : AllZip IsInterfaceOf (interface_tables t) c.interfaces.items
 
 -- the text has the fault: it is no TOML, or its table has the fault
 abbrev pub TextHasFault : List ℕ → ConfigFault → Type 0

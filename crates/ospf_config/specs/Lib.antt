@@ -1,6 +1,5 @@
 pub mod Fault
 pub mod Host
-pub mod Pairs
 pub mod Reading
 pub mod Texts
 pub mod Keys

@@ -1,12 +1,12 @@
 //! Configurations from TOML.
 
 ghost use Rattle.std.specs.Prelude.{◌≡◌, ◌⊎◌, IsSome, IfOk, IfErr, OnOk, All, Any};
+ghost use Rattle.std.specs.List.{AllZip};
 ghost use Rattle.toml.specs.Data.{as_table};
 ghost use Rattle.toml.specs.View.{view, table_view, items_view};
 ghost use Rattle.ospf_config.specs.declared.fault.ConfigFault.{ConfigFault};
 ghost use Rattle.ospf_config.specs.declared.fault.ConfigFault.TheVariants as fault;
 ghost use Rattle.ospf_config.specs.Fault.{IsLeastFault};
-ghost use Rattle.ospf_config.specs.Pairs.{EachPair};
 ghost use Rattle.ospf_config.specs.Tables.{HasInterfaceFault, HasKeyFault, HasConfigFault, IsDeadNotOverHello, IsTableWith, interface_tables, tables_among};
 ghost use Rattle.ospf_config.specs.Interfaces.{IsInterfaceOf};
 ghost use Rattle.ospf_config.specs.Configs.{IsConfigOf, IsReading, TextHasFault};
@@ -111,7 +111,7 @@ fn config_at(alloc: Global, table: &Table, values: &[Value]) -> Result<Config, C
 fn interfaces_of(alloc: Global, values: &[Value]) -> Result<Vec<Interface>, ConfigFault>
     requires tables { All (λ v. IsSome (as_table (view v))) values.now }
     requires hellos { Any (λ v. IsTableWith IsDeadNotOverHello (view v)) values.now → ⊥ }
-    ensures ok { IfOk result (λ interfaces. EachPair IsInterfaceOf
+    ensures ok { IfOk result (λ interfaces. AllZip IsInterfaceOf
         (tables_among (items_view values.now)) interfaces.items) }
     ensures fault { IfErr result (λ f. (f ≡ fault.Memory)
         ⊎ Any (λ t. HasInterfaceFault t f) (tables_among (items_view values.now))) }

@@ -2,12 +2,12 @@
 
 ghost use Rattle.std.specs.Prelude.{◌≡◌, ◌⊎◌, ◌↔◌, IsTrue, IsSome, IfOk, IfErr, Some, Ok, All, Any, map, string_bytes};
 ghost use Rattle.std.specs.BTreeMap.{keys};
+ghost use Rattle.std.specs.List.{AllZip};
 ghost use Rattle.toml.specs.Data.{as_table};
 ghost use Rattle.toml.specs.View.{view, table_view, items_view};
 ghost use Rattle.ospf_config.specs.declared.fault.ConfigFault.TheVariants as fault;
 ghost use Rattle.ospf_config.specs.Conflicts.{Conflict, HasConflict};
 ghost use Rattle.ospf_config.specs.Keys.{ReadsInterfaceAddress};
-ghost use Rattle.ospf_config.specs.Pairs.{EachPair};
 ghost use Rattle.ospf_config.specs.Tables.{HasInterfaceFault, IsOtherKey, HasOtherKey, IsDeadNotOverHello, IsTableWith, tables_among, top_keys, interface_keys};
 
 use crate::address::InterfaceAddress;
@@ -82,7 +82,7 @@ pub(crate) fn addresses_of(
     values: &[Value],
 ) -> Result<Vec<InterfaceAddress>, ConfigFault>
     requires { All (λ v. IsSome (as_table (view v))) values.now }
-    ensures ok { IfOk result (λ addresses. EachPair (λ t a. ReadsInterfaceAddress t (Ok a))
+    ensures ok { IfOk result (λ addresses. AllZip (λ t a. ReadsInterfaceAddress t (Ok a))
         (tables_among (items_view values.now)) addresses.items) }
     ensures fault { IfErr result (λ f. (f ≡ fault.Memory)
         ⊎ Any (λ t. HasInterfaceFault t f) (tables_among (items_view values.now))) }

@@ -1,6 +1,7 @@
 -- A driver that goes on, turn by turn.
 use Rattle.std.proofs.Common.{◌≡◌, ◌++◌, ℕ, List, [], ◌∷◌, Option, None, Some, refl, ap, sym, subst, ◌∙◌, append_assoc, ◌+◌, arith}
 use Rattle.std.proofs.lemmas.List.{append-nil}
+use Rattle.std.specs.List.{cons_option}
 use Rattle.ospf_index.specs.Known.{Known, Table}
 use Rattle.ospf_area.specs.Outputs.{SentValue}
 use Rattle.ospf_step.specs.Step.{Event}
@@ -20,11 +21,12 @@ no_end-append (x ∷ xs) ys p q = (p.0, no_end-append xs ys p.1 q)
 
 pub events_of-append : (links : ℕ) (xs ys : List Heard) → events_of links (xs ++ ys) ≡ events_of links xs ++ events_of links ys
 events_of-append links [] ys = refl
-events_of-append links (x ∷ xs) ys =
-    elim (event_of links x) as (λ v. elim v as (λ _. List Event) [ None ↦ events_of links (xs ++ ys) | Some e ↦ e ∷ events_of links (xs ++ ys) ] ≡ (elim v as (λ _. List Event) [ None ↦ events_of links xs | Some e ↦ e ∷ events_of links xs ]) ++ events_of links ys) [
-      | None ↦ events_of-append links xs ys
-      | Some e ↦ ap (λ es. e ∷ es) (events_of-append links xs ys)
-    ]
+events_of-append links (x ∷ xs) ys = onto (event_of links x) (events_of-append links xs ys)
+  where
+    onto : (o : Option Event) → events_of links (xs ++ ys) ≡ events_of links xs ++ events_of links ys
+        → cons_option o (events_of links (xs ++ ys)) ≡ cons_option o (events_of links xs) ++ events_of links ys
+    onto None rest = rest
+    onto (Some e) rest = ap (λ es. e ∷ es) rest
 
 pub events_done-append : (xs ys : List Done) → events_done (xs ++ ys) ≡ events_done xs ++ events_done ys
 events_done-append [] ys = refl

@@ -2,12 +2,13 @@
 use Rattle.std.proofs.Common.{◌≡◌, ◌+◌, ◌<◌, ◌++◌, ℕ, suc, List, [], ◌∷◌, Result, Ok, Err, length, take, drop, get_or, refl, sym, subst, ap, ◌∙◌, append_assoc, arith, nat_eq, Bool, true}
 use Rattle.std.proofs.lemmas.Bool.{eqb-true}
 use Rattle.std.proofs.lemmas.List.{append-nil}
-use Rattle.ospf_drive.specs.Driven.{IsDriven, IsThreadJoined, IsDriverStarted, Outcome, Pairs}
+use Rattle.std.specs.List.{AllZip}
+use Rattle.ospf_drive.specs.Driven.{IsDriven, IsThreadJoined, IsDriverStarted, Outcome}
 use Rattle.ospf_drive.specs.Moments.{Moment}
 use Rattle.ospf_drive.specs.declared.fault.DriveFault.{DriveFault}
 
 -- and one pair more
-pub pairs_then : {A B : Type 0} (P : A → B → Type 0) (xs : List A) (ys : List B) (x : A) (y : B) → Pairs P xs ys → P x y → Pairs P (xs ++ x ∷ []) (ys ++ y ∷ [])
+pub pairs_then : {A B : Type 0} (P : A → B → Type 0) (xs : List A) (ys : List B) (x : A) (y : B) → AllZip P xs ys → P x y → AllZip P (xs ++ x ∷ []) (ys ++ y ∷ [])
 pairs_then P [] [] x y ps p = (p, tt)
 pairs_then P [] (z ∷ ys) x y ps p = absurd ps
 pairs_then P (w ∷ xs) [] x y ps p = absurd ps
@@ -19,7 +20,7 @@ joined a (Ok begins) outcome started is = subst (λ (m : Moment). IsDriven m out
 joined a (Err f) outcome started is = subst (λ (o : Outcome). IsDriven a o) (sym (is ∙ ap (λ (g : DriveFault). Err g) started)) tt
 
 -- what came of all
-pub all_joined : {J : Type 0} (begins : J → Moment) (jobs : List J) (threads : List (Result Moment DriveFault)) (outcomes : List Outcome) → Pairs (λ job thread. IsDriverStarted (begins job) thread) jobs threads → Pairs IsThreadJoined threads outcomes → Pairs (λ job outcome. IsDriven (begins job) outcome) jobs outcomes
+pub all_joined : {J : Type 0} (begins : J → Moment) (jobs : List J) (threads : List (Result Moment DriveFault)) (outcomes : List Outcome) → AllZip (λ job thread. IsDriverStarted (begins job) thread) jobs threads → AllZip IsThreadJoined threads outcomes → AllZip (λ job outcome. IsDriven (begins job) outcome) jobs outcomes
 all_joined begins [] [] [] ps qs = tt
 all_joined begins [] [] (o ∷ os) ps qs = absurd qs
 all_joined begins [] (t ∷ ts) os ps qs = absurd ps
@@ -40,12 +41,12 @@ no_length [] none = refl
 no_length (x ∷ xs) none = cc
 
 -- none is left
-pub all_gone : {A B : Type 0} (P : A → B → Type 0) (all done left : List A) (ys : List B) → all ≡ done ++ left → (empty : Bool) (count : ℕ) → empty ≡ true → empty ≡ nat_eq count 0 → count ≡ length left → Pairs P done ys → Pairs P all ys
+pub all_gone : {A B : Type 0} (P : A → B → Type 0) (all done left : List A) (ys : List B) → all ≡ done ++ left → (empty : Bool) (count : ℕ) → empty ≡ true → empty ≡ nat_eq count 0 → count ≡ length left → AllZip P done ys → AllZip P all ys
 all_gone P all done left ys is empty count so tested counted ps =
-    subst (λ (xs : List _). Pairs P xs ys) (sym (is ∙ ap (λ zs. done ++ zs) (no_length left (sym counted ∙ eqb-true count 0 (sym tested ∙ so))) ∙ append-nil done)) ps
+    subst (λ (xs : List _). AllZip P xs ys) (sym (is ∙ ap (λ zs. done ++ zs) (no_length left (sym counted ∙ eqb-true count 0 (sym tested ∙ so))) ∙ append-nil done)) ps
 
 -- the one list is as long as the other
-pub as_many : {A B : Type 0} (P : A → B → Type 0) (xs : List A) (ys : List B) → Pairs P xs ys → length xs ≡ length ys
+pub as_many : {A B : Type 0} (P : A → B → Type 0) (xs : List A) (ys : List B) → AllZip P xs ys → length xs ≡ length ys
 as_many P [] [] ps = refl
 as_many P [] (y ∷ ys) ps = absurd ps
 as_many P (x ∷ xs) [] ps = absurd ps

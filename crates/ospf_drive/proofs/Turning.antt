@@ -1,6 +1,7 @@
 -- One turn of a driver, from what its calls say.
 use Rattle.std.proofs.Common.{◌≡◌, ◌++◌, ◌+◌, ◌<◌, ℕ, List, [], ◌∷◌, true, false, Option, None, Some, take, length, refl, ap, sym, ◌∙◌, arith}
 use Rattle.std.proofs.lemmas.List.{append-nil}
+use Rattle.std.specs.List.{cons_option}
 use Rattle.logbook.specs.Pages.{Book}
 use Rattle.ospf_index.specs.Known.{Known, Table}
 use Rattle.ospf_area.specs.Outputs.{SentValue}
@@ -37,7 +38,7 @@ goes-sent h sent Untold = refl
 
 -- an arrival of no event
 events_of-none : (links : ℕ) (h : Heard) → event_of links h ≡ None → events_of links (h ∷ []) ≡ []
-events_of-none links h e = rw (e, events_of)
+events_of-none links h e = ap (λ (o : Option Event). cons_option o []) e
 
 -- an arrival of an event is no end
 pub not_end-of : (links : ℕ) (h : Heard) (e : Event) → event_of links h ≡ Some e → is_heard_end h ≡ false
@@ -49,7 +50,7 @@ not_end-of links Heard.End e some = cc
 
 -- an arrival of an event
 pub events_of-some : (links : ℕ) (h : Heard) (e : Event) → event_of links h ≡ Some e → events_of links (h ∷ []) ≡ e ∷ []
-events_of-some links h e is = rw (is, events_of)
+events_of-some links h e is = ap (λ (o : Option Event). cons_option o []) is
 
 pub passed_over : (h : Heard) {r : RouterValue} {t t' : Carried} {f f' : ℕ} {k : Known} → is_heard_end h ≡ false → event_of r.links h ≡ None → t' ≡ and_hears h t → f' ≡ f → DriverGoesOn (at r t f k) (at r t' f' k) None
 passed_over h {r} {t} {t'} {f} {f'} {k} not none took same = record {

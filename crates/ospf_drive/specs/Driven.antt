@@ -1,5 +1,5 @@
 -- What comes of drivers in threads of their own.
-use Rattle.std.specs.Prelude.{⊤, ◌≡◌, ℕ, List, [], ◌∷◌, Option, Result, Ok, Err}
+use Rattle.std.specs.Prelude.{⊤, ◌≡◌, ℕ, Option, Result, Ok, Err}
 use Rattle.ospf_index.specs.Known.{Known}
 use Rattle.ospf_router.specs.Routers.{RouterValue}
 use Rattle.ospf_drive.specs.Drives.{Drives}
@@ -38,9 +38,3 @@ IsDriverStarted a (Err f) = f ≡ fault.Thread
 abbrev pub IsThreadJoined : Result Moment DriveFault → Outcome → Type 0
 IsThreadJoined (Ok begins) outcome = IsDriven begins outcome
 IsThreadJoined (Err f) outcome = outcome ≡ Err f
-
--- each of the one list and its partner in the other, in order
-abbrev pub Pairs : {A B : Type 0} → (A → B → Type 0) → List A → List B → Type 0
-Pairs P [] [] = ⊤
-Pairs P (x ∷ xs) (y ∷ ys) = P x y × Pairs P xs ys
-Pairs P _ _ = ⊥

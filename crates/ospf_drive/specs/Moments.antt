@@ -1,5 +1,6 @@
 -- Where a driver stands: the router, the wire and the writer.
-use Rattle.std.specs.Prelude.{◌≡◌, ◌++◌, ℕ, List, [], ◌∷◌, Bool, true, false, ◌&&◌, Option, None, Some, nat_lt, nat_le, if◌then◌else◌}
+use Rattle.std.specs.Prelude.{◌≡◌, ℕ, List, [], ◌∷◌, Bool, true, false, ◌&&◌, Option, None, Some, filter_map, flat_map, fold, map, nat_lt, nat_le, if◌then◌else◌}
+use Rattle.std.specs.List.{AllByRecursion}
 use Rattle.ospf_index.specs.Known.{Known, Table}
 use Rattle.ospf_area.specs.Outputs.{SentValue}
 use Rattle.ospf_step.specs.Step.{Event}
@@ -32,8 +33,7 @@ event_of links End = None
 
 -- the events of arrivals, in order
 abbrev pub events_of : ℕ → List Heard → List Event
-events_of links [] = []
-events_of links (h ∷ hs) = elim (event_of links h) [ None ↦ events_of links hs | Some e ↦ e ∷ events_of links hs ]
+events_of links hs = filter_map (event_of links) hs
 
 -- no arrival is an end
 abbrev pub is_heard_end : Heard → Bool
@@ -41,8 +41,7 @@ is_heard_end End = true
 is_heard_end _ = false
 
 abbrev pub HasNoEnd : List Heard → Type 0
-HasNoEnd [] = Unit {0}
-HasNoEnd (h ∷ hs) = (is_heard_end h ≡ false) × HasNoEnd hs
+HasNoEnd hs = AllByRecursion (λ h. is_heard_end h ≡ false) hs
 
 -- a step that was made: the event, what it gave, and the router after it
 pub record Done : Type 0 where
@@ -51,8 +50,7 @@ pub record Done : Type 0 where
   pub after : RouterValue
 
 abbrev pub events_done : List Done → List Event
-events_done [] = []
-events_done (d ∷ ds) = d.event ∷ events_done ds
+events_done ds = map (λ (d : Done). d.event) ds
 
 -- each of them is a step of the router, from where the one before left it
 abbrev pub IsChain : RouterValue → List Done → Type 0
@@ -61,18 +59,15 @@ IsChain old (d ∷ ds) = Steps d.event old d.gives d.after × IsChain d.after ds
 
 -- where they leave the router
 abbrev pub left_by : RouterValue → List Done → RouterValue
-left_by old [] = old
-left_by old (d ∷ ds) = left_by d.after ds
+left_by old ds = fold (λ (r : RouterValue) (d : Done). d.after) old ds
 
 -- what they send, in order
 abbrev pub sent_by : List Done → List SentValue
-sent_by [] = []
-sent_by (d ∷ ds) = d.gives.out.sent ++ sent_by ds
+sent_by ds = flat_map (λ (d : Done). d.gives.out.sent) ds
 
 -- the tables of those that changed the table, in order
 abbrev pub table_of : Done → List Table
 table_of d = if d.gives.table_changed then d.after.table ∷ [] else []
 
 abbrev pub tables_published : List Done → List Table
-tables_published [] = []
-tables_published (d ∷ ds) = table_of d ++ tables_published ds
+tables_published ds = flat_map table_of ds

@@ -1,7 +1,8 @@
 //! The drivers of several routers, each in a thread of its own.
 
 ghost use Rattle.std.specs.Prelude.{◌≡◌, ◌+◌, ◌<◌, ◌≤◌, ◌^◌, [], All, IfOk, IfErr, vec_len, vec_capacity};
-ghost use Rattle.ospf_drive.specs.Driven.{IsDriven, IsThreadJoined, IsDriverStarted, Pairs};
+ghost use Rattle.std.specs.List.{AllZip};
+ghost use Rattle.ospf_drive.specs.Driven.{IsDriven, IsThreadJoined, IsDriverStarted};
 ghost use Rattle.ospf_drive.specs.Moments.{at};
 
 use crate::driver::drive;
@@ -32,7 +33,7 @@ pub fn drive_all<
     S: Threads + Wait + Copy + Send + 'static,
 >(rt: &S, alloc: Global, jobs: Vec<DriverJob<W, R>>) -> Result<Vec<Driven<R>>, AllocError>
     requires { All (λ job. W.failed job.1 + 1 < 2 ^ 64) jobs.items }
-    ensures { IfOk result (λ all. Pairs
+    ensures { IfOk result (λ all. AllZip
         (λ job driven. IsDriven (at job.0 (W.traffic job.1) (W.failed job.1) job.2) driven)
         jobs.items all.items) }
 {
@@ -79,7 +80,7 @@ fn start_all<
     requires fresh { All (λ job. W.failed job.1 + 1 < 2 ^ 64) jobs.items }
     requires none { threads.old.items ≡ [] }
     requires room { vec_len jobs ≤ vec_capacity threads.old }
-    ensures { Pairs (λ job thread. IsDriverStarted (at job.0 (W.traffic job.1) (W.failed job.1)
+    ensures { AllZip (λ job thread. IsDriverStarted (at job.0 (W.traffic job.1) (W.failed job.1)
         job.2)
         thread) jobs.items threads.new.items }
 {
@@ -136,7 +137,7 @@ fn join_all<W: Wire + Drop, R: Wait + Send + Drop + 'static, S: Threads + Wait>(
 )
     requires none { results.old.items ≡ [] }
     requires room { vec_len threads ≤ vec_capacity results.old }
-    ensures { Pairs IsThreadJoined threads.items results.new.items }
+    ensures { AllZip IsThreadJoined threads.items results.new.items }
 {
     while !threads.is_empty() {
         let driven = join(rt, threads.remove(0));

@@ -4,6 +4,7 @@ use Rattle.std.specs.Prelude.{MatchOption, Any, IfOk}
 use Rattle.std.specs.declared.alloc.AllocError.{AllocError}
 use Rattle.std.specs.Result.{result_err}
 use Rattle.std.specs.Map.{keys_of as map_keys}
+use Rattle.std.specs.List.{AllZip}
 use Rattle.std.proofs.lemmas.List.{take_more}
 use Rattle.std.proofs.lemmas.Option.{same_Some}
 use Rattle.toml.specs.Data.{Data, string, integer, float, boolean, datetime, array, table, Members, as_array, as_table}
@@ -17,7 +18,6 @@ use Rattle.ospf_config.specs.declared.fault.ConfigFault.TheVariants as fault
 use Rattle.ospf_files.specs.declared.rows.Row.{Row}
 use Rattle.ospf_config.specs.Configs.{TextHasFault}
 use Rattle.ospf_files.specs.Explained.{KnownKey, KeyHas, key_name, item_number, IsValueText, IsFoundText, IsKeyPlace, IsKnownPlace, ArePlacesOf, no_key, taken, passed, IsPlaceWhere, told, not_told, AreTopPlaces, AreInConflict, AreInterfacePlaces, AreAllPlaces, one_more, IsLinePlace, IsExplained, keys_at_top, keys_of_interface, router_id_key, area_key, stub_router_key, other_lsas_key, interface_key, kind_key, address_key, cost_key, priority_key, hello_key, dead_key, retransmit_key, transmit_delay_key, mtu_key, port_key, peers_key}
-use Rattle.ospf_config.specs.Pairs.{EachPair}
 use Rattle.ospf_files.specs.Rows.{IsRowOf, AddsRows}
 use Rattle.ospf_config.specs.Tables.{IsDeadNotOverHello, IsTableWith, keys_of, tables_among}
 use Rattle.ospf_config.proofs.Least.{IsSingle}
@@ -120,7 +120,7 @@ module _ (t : Members) where
       subst (λ wanted. IsKeyPlace n t (key_name k) wanted e) is.wanted_is named
 
   -- the places of rows are those of their keys
-  row_places : (f : ConfigFault) (n : Option ℕ) (ks : List KnownKey) (rows : List Row) (es : List Explained) → EachPair (IsRowOf t) ks rows
+  row_places : (f : ConfigFault) (n : Option ℕ) (ks : List KnownKey) (rows : List Row) (es : List Explained) → AllZip (IsRowOf t) ks rows
       → ArePlacesOf (λ (row : Row). row.fault ≡ Some f) (λ row e. IsKeyPlace n t row.key.now row.wanted.now e) rows es → ArePlacesOf (KeyHas t f) (IsKnownPlace n t) ks es
   row_places f n [] _ _ each no_key = no_key
   row_places f n (k ∷ ks) _ _ each no_key = absurd each
@@ -239,11 +239,11 @@ module _ (t : Members) (n : ℕ) (f : ConfigFault) (old new : List Explained) wh
       → AddsRows (IsPlaceWhere (holds ≡ true) (IsKeyPlace (Some n) t (codes "dead") (codes "more than `hello`"))) old new → AddsRows (AreInterfacePlaces n before t f) old new
   dead_added before holds is same h = rw is (record { more = h.more; added = h.added; are = where_same _ _ _ h.more same h.are })
 
-  pub rows_added : (before : List Members) (rows : List Row) → (f ≡ fault.SamePrefix → ⊥) → (f ≡ fault.DeadNotOverHello → ⊥) → (f ≡ fault.Unknown → ⊥) → EachPair (IsRowOf t) keys_of_interface rows
+  pub rows_added : (before : List Members) (rows : List Row) → (f ≡ fault.SamePrefix → ⊥) → (f ≡ fault.DeadNotOverHello → ⊥) → (f ≡ fault.Unknown → ⊥) → AllZip (IsRowOf t) keys_of_interface rows
       → AddsRows (ArePlacesOf (λ (row : Row). row.fault ≡ Some f) (λ row e. IsKeyPlace (Some n) t row.key.now row.wanted.now e) rows) old new → AddsRows (AreInterfacePlaces n before t f) old new
   rows_added before rows a b c each h = record { more = h.more; added = h.added; are = interface_places t n before f h.more a b c (row_places t f (Some n) keys_of_interface rows h.more each h.are) }
 
-  pub top_added : (rows : List Row) → (f ≡ fault.Unknown → ⊥) → EachPair (IsRowOf t) keys_at_top rows
+  pub top_added : (rows : List Row) → (f ≡ fault.Unknown → ⊥) → AllZip (IsRowOf t) keys_at_top rows
       → AddsRows (ArePlacesOf (λ (row : Row). row.fault ≡ Some f) (λ row e. IsKeyPlace None t row.key.now row.wanted.now e) rows) old new → AddsRows (AreTopPlaces t f) old new
   top_added rows other each h = record { more = h.more; added = h.added; are = top_places t f h.more other (row_places t f None keys_at_top rows h.more each h.are) }
 

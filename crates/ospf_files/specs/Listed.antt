@@ -1,5 +1,6 @@
 -- Lists of files, and the configurations that they hold.
-use Rattle.std.specs.Prelude.{◌≡◌, ℕ, List, [], ◌∷◌, ◌++◌, Option, None, Some, codes, ⊤}
+use Rattle.std.specs.Prelude.{◌≡◌, ℕ, List, ◌∷◌, ◌++◌, Option, None, Some, codes}
+use Rattle.std.specs.List.{AllByRecursion, AllZip}
 use Rattle.std.specs.Io.KnownBytes.{Appends}
 use Rattle.ospf_config.specs.declared.config.Config.{Config}
 use Rattle.ospf_config.specs.declared.fault.ConfigFault.{ConfigFault}
@@ -8,8 +9,7 @@ use Rattle.ospf_files.specs.declared.files.NamedFile.{NamedFile}
 
 -- all files could be read
 abbrev pub AreFilesRead : List NamedFile → Type 0
-AreFilesRead [] = ⊤
-AreFilesRead (file ∷ files) = IsRead file × AreFilesRead files
+AreFilesRead files = AllByRecursion IsRead files
 
 -- this file could not be read, and those before it could
 pub record IsFirstUnread (file : NamedFile) (files : List NamedFile) : Type 0 where
@@ -21,9 +21,7 @@ pub record IsFirstUnread (file : NamedFile) (files : List NamedFile) : Type 0 wh
 
 -- each file holds the configuration at its place
 abbrev pub AreConfigs : List NamedFile → List Config → Type 0
-AreConfigs [] [] = ⊤
-AreConfigs (file ∷ files) (config ∷ configs) = IsConfigIn (text_in file) config × AreConfigs files configs
-AreConfigs _ _ = ⊥
+AreConfigs files configs = AllZip (λ file config. IsConfigIn (text_in file) config) files configs
 
 -- a file holds a configuration, or it is told why it does not
 abbrev pub ConfigComes : NamedFile → Option Config → Option (List ℕ) → Option (List ℕ) → Type 0

@@ -10,6 +10,7 @@ pub record Written : Type 0 where
   pub out : Option (List ℕ)
   pub err : Option (List ℕ)
 
+-- this stands on standard output, and that on standard error
 abbrev pub written_on : Option (List ℕ) → Option (List ℕ) → Written
 written_on out err = record { out = out; err = err }
 

@@ -1,9 +1,9 @@
 //! Keys with their faults, and what belongs there.
 
 ghost use Rattle.std.specs.Prelude.{◌≡◌};
+ghost use Rattle.std.specs.List.{AllZip};
 ghost use Rattle.toml.specs.View.{table_view};
 ghost use Rattle.ospf_files.specs.Explained.{keys_at_top, keys_of_interface};
-ghost use Rattle.ospf_config.specs.Pairs.{EachPair};
 ghost use Rattle.ospf_files.specs.Rows.{IsRowOf};
 
 use ospf_config::{
@@ -23,7 +23,7 @@ pub(crate) struct Row {
 
 // The keys at the top.
 pub(crate) fn top_rows(table: &Table) -> [Row; 5]
-    ensures { EachPair (IsRowOf (table_view table.now)) keys_at_top result }
+    ensures { AllZip (IsRowOf (table_view table.now)) keys_at_top result }
 {
     let dotted = "a dotted text, as \"10.0.0.1\", other than \"0.0.0.0\",";
     [
@@ -49,7 +49,7 @@ pub(crate) fn top_rows(table: &Table) -> [Row; 5]
 
 // The keys of an interface.
 pub(crate) fn interface_rows(table: &Table) -> [Row; 11]
-    ensures { EachPair (IsRowOf (table_view table.now)) keys_of_interface result }
+    ensures { AllZip (IsRowOf (table_view table.now)) keys_of_interface result }
 {
     let address = "a host's address with the length of its prefix, 1 to 30, as \"10.0.0.1/30\",";
     let ticks = "1 to 65535";

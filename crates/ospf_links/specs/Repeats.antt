@@ -1,5 +1,5 @@
 -- What is sent again in a tick, and the marks of what was sent (RFC 2328, sections 10.8, 10.9, 13 and 13.6).
-use Rattle.std.specs.Prelude.{ℕ, List, [], ◌∷◌, map, true}
+use Rattle.std.specs.Prelude.{ℕ, List, [], fold, map, true}
 use Rattle.std.specs.List.{flat_map}
 use Rattle.ospf_base.specs.declared.ids.LsaKey.{LsaKey}
 use Rattle.ospf_iface.specs.declared.machine.Iface.{Iface}
@@ -16,8 +16,7 @@ use Rattle.ospf_area.specs.Posting.{local_by, posted_all}
 
 -- copies of these keys went out in Updates in this tick (13, step 8)
 abbrev pub marked_all : List LsaKey → List LsaKey → List LsaKey
-marked_all [] sent = sent
-marked_all (k ∷ ks) sent = marked_all ks (marked k true sent)
+marked_all keys sent = fold (λ sent key. marked key true sent) sent keys
 
 -- ---- one neighbour
 

@@ -1,5 +1,6 @@
 -- A router that starts: all links are down, and its database is empty (RFC 2328, sections 9.1 and 12.2).
-use Rattle.std.specs.Prelude.{⊤, ◌≡◌, ℕ, ℤ, List, [], ◌∷◌, Some, false, length}
+use Rattle.std.specs.Prelude.{◌≡◌, ℕ, ℤ, List, [], Some, false, length}
+use Rattle.std.specs.List.{AllZip}
 use Rattle.ospf_area.specs.State.{AreaValue, LinkValue}
 use Rattle.ospf_base.specs.Addresses.{nowhere}
 use Rattle.ospf_base.specs.Masks.{mask_of}
@@ -34,10 +35,7 @@ pub record IsLinkOf (router : RouterId) (i : Interface) (link : LinkValue) : Typ
 
 -- the links of a configuration, in its order
 abbrev pub AreLinksOf : RouterId → List Interface → List LinkValue → Type 0
-AreLinksOf router [] [] = ⊤
-AreLinksOf router [] (link ∷ links) = ⊥
-AreLinksOf router (i ∷ is) [] = ⊥
-AreLinksOf router (i ∷ is) (link ∷ links) = IsLinkOf router i link × AreLinksOf router is links
+AreLinksOf router interfaces links = AllZip (IsLinkOf router) interfaces links
 
 -- the router's part of the area
 abbrev pub area_of : Config → ℕ → ℤ → List LinkValue → AreaValue

@@ -1,5 +1,6 @@
 -- Words expect one thing at most, and some expect nothing.
 use Rattle.std.specs.Str.{IsUtf8}
+use Rattle.std.specs.List.{AllZip}
 use Rattle.std.proofs.Common.{rules, arith, ◌≡◌, inl, inr, ℕ, ◌+◌, ◌*◌, Option, None, Some, List, [], ◌∷◌, length, get_or, codes, refl, subst, sym, ap, ◌∙◌}
 use Rattle.ospf_base.specs.declared.ids.Addr.{Addr}
 use Rattle.ospf_base.specs.declared.prefix.Prefix.{Prefix}
@@ -7,7 +8,7 @@ use Rattle.ospf_base.specs.declared.ids.RouterId.{RouterId}
 use Rattle.ospf_script.specs.Commands.{BeginsWalk}
 use Rattle.ospf_script.specs.Expected.{BeginsRoute, IsArrival, IsExpected, IsLongRoute, IsNeighbour, IsOfRoute}
 use Rattle.ospf_script.specs.Laws.{IsOneExpected}
-use Rattle.ospf_script.specs.Values.{AreManySpelled, AreSomeSpelled, AreSpelled, IsDecimal, IsHopWord, IsPrefix, IsRouterWord}
+use Rattle.ospf_script.specs.Values.{AreManySpelled, AreSomeSpelled, IsDecimal, IsHopWord, IsPrefix, IsRouterWord}
 use Rattle.ospf_script.specs.Words.{Text}
 use Rattle.ospf_script.specs.declared.expected.Expected.{Expected}
 use Rattle.ospf_script.specs.declared.expected.Expected.TheVariants.{Router, Walk, Agree, Settled}
@@ -163,8 +164,8 @@ arrival_one (a ∷ b ∷ []) (Some m) None h k = absurd k
 arrival_one ws m n h k = absurd h
 
 -- values that words spell are one, where each word spells one
-pub spelled_one : {A : Type 0} (P : Text → A → Type 0) → ((w : Text) (x y : A) → P w x → P w y → x ≡ y) → (ws : List Text) (xs ys : List A) → AreSpelled P ws xs
-    → AreSpelled P ws ys → xs ≡ ys
+pub spelled_one : {A : Type 0} (P : Text → A → Type 0) → ((w : Text) (x y : A) → P w x → P w y → x ≡ y) → (ws : List Text) (xs ys : List A) → AllZip P ws xs
+    → AllZip P ws ys → xs ≡ ys
 spelled_one P one [] [] [] h k = refl
 spelled_one P one (w ∷ ws) (x ∷ xs) (y ∷ ys) h k =
     let first : x ≡ y = one w x y h.0 k.0 in
@@ -186,7 +187,7 @@ one_of (Router r (NoNeighbour m)) (Router s (NoNeighbour n)) (v ∷ w ∷ a ∷ 
     (router_one a r s h.2 k.2, ap NoNeighbour (decimal_one 64 b m n h.3 k.3))
 one_of (Router r (Route p m hs)) (Router s (Route q n ks)) (w ∷ ws) h k =
     let all = route_begins_one ws r s p q m n h.1 k.1 h.2 k.2 in
-    let there : AreSpelled IsHopWord k.1 hs.items = rw all.3 at h.3 in
+    let there : AllZip IsHopWord k.1 hs.items = rw all.3 at h.3 in
     (all.0, (all.1, all.2, spelled_one IsHopWord hop_one k.1 hs.items ks.items there k.3))
 one_of (Router r (NoRoute p)) (Router s (NoRoute q)) (v ∷ w ∷ a ∷ b ∷ []) h k =
     (router_one a r s h.2 k.2, ap NoRoute (prefix_spelled_one b p q h.3 k.3))

@@ -1,11 +1,12 @@
 -- Values, read word by word.
 use Rattle.std.proofs.Common.{◌≡◌, List, [], ◌∷◌, ◌++◌, append_assoc, append-nil, sym, subst, arith, length-append}
-use Rattle.ospf_script.specs.Values.{AreManySpelled, AreSomeSpelled, AreSpelled}
+use Rattle.std.specs.List.{AllZip}
+use Rattle.ospf_script.specs.Values.{AreManySpelled, AreSomeSpelled}
 use Rattle.ospf_script.specs.Words.{Text}
 
 -- the values found so far stand before those of the words that are left
 pub record LeadsTo {A : Type 0} (P : Text → A → Type 0) (whole rest : List Text) (found : List A) : Type 0 where
-  pub onto : (values : List A) → AreSpelled P rest values → AreSpelled P whole (found ++ values)
+  pub onto : (values : List A) → AllZip P rest values → AllZip P whole (found ++ values)
   pub from : AreSomeSpelled P whole → AreSomeSpelled P rest
 
 pub leads_at_start : {A : Type 0} (P : Text → A → Type 0) (whole : List Text) → LeadsTo P whole whole []
@@ -13,13 +14,13 @@ leads_at_start P whole = record { onto = λ values h. h; from = λ some. some }
 
 -- the first of several words spells a value, and so do the others
 pub head_value : {A : Type 0} (P : Text → A → Type 0) (word : Text) (ws : List Text) → AreSomeSpelled P (word ∷ ws) → (value : A) × P word value
-head_value {A} P word ws some = elim some.0 as (λ xs. AreSpelled P (word ∷ ws) xs → (value : A) × P word value) [
+head_value {A} P word ws some = elim some.0 as (λ xs. AllZip P (word ∷ ws) xs → (value : A) × P word value) [
   | [] ↦ λ h. absurd h
   | x ∷ xs ↦ λ h. (x, h.0)
 ] some.1
 
 pub tail_values : {A : Type 0} (P : Text → A → Type 0) (word : Text) (ws : List Text) → AreSomeSpelled P (word ∷ ws) → AreSomeSpelled P ws
-tail_values P word ws some = elim some.0 as (λ xs. AreSpelled P (word ∷ ws) xs → AreSomeSpelled P ws) [
+tail_values P word ws some = elim some.0 as (λ xs. AllZip P (word ∷ ws) xs → AreSomeSpelled P ws) [
   | [] ↦ λ h. absurd h
   | x ∷ xs ↦ λ h. (xs, h.1)
 ] some.1
@@ -28,15 +29,15 @@ pub leads_on : {A : Type 0} (P : Text → A → Type 0) (whole rest behind : Lis
     → rest ≡ word ∷ behind → P word value → LeadsTo P whole behind (found ++ value ∷ [])
 leads_on P whole rest behind found word value leads is spelled = record {
   onto = λ values h.
-      let here : AreSpelled P rest (value ∷ values) = rw is (spelled, h) in
-      subst (AreSpelled P whole) (sym (append_assoc found (value ∷ []) values)) (leads.onto (value ∷ values) here);
+      let here : AllZip P rest (value ∷ values) = rw is (spelled, h) in
+      subst (AllZip P whole) (sym (append_assoc found (value ∷ []) values)) (leads.onto (value ∷ values) here);
   from = λ some. tail_values P word behind (rw is at leads.from some);
 }
 
-pub leads_to_end : {A : Type 0} (P : Text → A → Type 0) (whole rest : List Text) (found : List A) → LeadsTo P whole rest found → rest ≡ [] → AreSpelled P whole found
+pub leads_to_end : {A : Type 0} (P : Text → A → Type 0) (whole rest : List Text) (found : List A) → LeadsTo P whole rest found → rest ≡ [] → AllZip P whole found
 leads_to_end P whole rest found leads is =
-    let none : AreSpelled P rest [] = rw is tt in
-    subst (AreSpelled P whole) (append-nil found) (leads.onto [] none)
+    let none : AllZip P rest [] = rw is tt in
+    subst (AllZip P whole) (append-nil found) (leads.onto [] none)
 
 -- where a word that is left spells no value, not all do
 pub leads_to_none : {A : Type 0} (P : Text → A → Type 0) (whole rest behind : List Text) (found : List A) (word : Text) → LeadsTo P whole rest found
@@ -54,5 +55,5 @@ leads_to_fewer P whole rest behind found word leads is none some = none (tail_va
 pub leads_to_many : {A : Type 0} (P : Text → A → Type 0) (whole rest behind : List Text) (found : List A) (word : Text) (value : A) → LeadsTo P whole rest found
     → rest ≡ word ∷ behind → P word value → AreSomeSpelled P behind → AreManySpelled P whole
 leads_to_many P whole rest behind found word value leads is spelled some =
-    let here : AreSpelled P rest (value ∷ some.0) = rw is (spelled, some.1) in
+    let here : AllZip P rest (value ∷ some.0) = rw is (spelled, some.1) in
     (found ++ value ∷ some.0, leads.onto (value ∷ some.0) here, omega (arith, length-append found (value ∷ some.0)))

@@ -1,5 +1,6 @@
 -- Words spell one command at most.
 use Rattle.std.specs.Prelude.{⊤}
+use Rattle.std.specs.List.{AllZip}
 use Rattle.std.proofs.Common.{◌≡◌, inl, inr, ℕ, ℤ, Bool, true, false, Option, None, Some, List, [], ◌∷◌, codes, refl, subst, sym, ap, ◌∙◌}
 use Rattle.ospf_base.specs.declared.ids.Addr.{Addr}
 use Rattle.ospf_base.specs.declared.ids.RouterId.{RouterId}
@@ -7,7 +8,7 @@ use Rattle.ospf_headline.specs.declared.event.WorldEvent.{WorldEvent}
 use Rattle.ospf_headline.specs.declared.event.WorldEvent.TheVariants as event
 use Rattle.ospf_script.specs.Commands.{AreDatagramWords, AreNumbers, AreRoundWords, BeginsWalk, IsAddressAlone, IsAll, IsCountAlone, IsDelivery, IsLossWords, IsRouterAlone, IsRouterAndLink, IsStart, IsSwitch, IsWalkWords, IsWhy, TakesWords, TakesEventWords, TakesMany, name_of_command, name_of_event, name_of_many, no_floor}
 use Rattle.ospf_script.specs.Laws.{IsOneCommand, WordsSpellOneCommand}
-use Rattle.ospf_script.specs.Values.{AreSpelled, IsDecimal, IsFloor, IsRouterWord}
+use Rattle.ospf_script.specs.Values.{IsDecimal, IsFloor, IsRouterWord}
 use Rattle.ospf_script.specs.Words.{Text}
 use Rattle.ospf_script.specs.declared.command.Command.{Command}
 use Rattle.ospf_script.specs.declared.command.Command.TheVariants as command
@@ -21,7 +22,7 @@ use Rattle.ospf_script.proofs.Unspelled.{IsOfEvents, event_name, many_name, word
 
 -- ---- what commands take
 
-choices_one : (ws : List Text) (cs ds : List ℕ) → AreSpelled (IsDecimal 32) ws cs → AreSpelled (IsDecimal 32) ws ds → cs ≡ ds
+choices_one : (ws : List Text) (cs ds : List ℕ) → AllZip (IsDecimal 32) ws cs → AllZip (IsDecimal 32) ws ds → cs ≡ ds
 choices_one = spelled_one (IsDecimal 32) (decimal_one 32)
 
 router_alone_one : (ws : List Text) (r s : RouterId) → IsRouterAlone ws r → IsRouterAlone ws s → r ≡ s
@@ -108,7 +109,7 @@ ends_one _ r s a b us vs h k = absurd h
 walk_one : (ws : List Text) (r s : RouterId) (a b : Addr) (cs ds : List ℕ) → IsWalkWords ws r a cs → IsWalkWords ws s b ds → (r ≡ s) × (a ≡ b) × (cs ≡ ds)
 walk_one ws r s a b cs ds h k =
     let ends = ends_one ws r s a b h.0 k.0 h.1 k.1 in
-    let there : AreSpelled (IsDecimal 32) k.0 cs = rw ends.2 at h.2 in
+    let there : AllZip (IsDecimal 32) k.0 cs = rw ends.2 at h.2 in
     (ends.0, ends.1, choices_one k.0 cs ds there k.2)
 
 -- one word is no Router ID with other words

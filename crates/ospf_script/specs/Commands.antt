@@ -1,13 +1,14 @@
 -- Which words spell which command.
 use Rattle.std.specs.Prelude.{◌≡◌, ◌⊎◌, ⊤, ℕ, ℤ, List, [], ◌∷◌, ◌++◌, Bool, true, false, codes, flat_map, string_bytes, Option, None, Some}
 use Rattle.std.specs.Int.{w32, cast_signed}
+use Rattle.std.specs.List.{AllZip}
 use Rattle.ospf_base.specs.declared.ids.Addr.{Addr}
 use Rattle.ospf_base.specs.declared.ids.RouterId.{RouterId}
 use Rattle.ospf_headline.specs.declared.event.WorldEvent.{WorldEvent}
 use Rattle.ospf_headline.specs.declared.event.WorldEvent.TheVariants as event
 use Rattle.ospf_script.specs.Expected.{IsExpected, IsLongRoute}
 use Rattle.ospf_script.specs.Names.{IsWordOf, command_name_text}
-use Rattle.ospf_script.specs.Values.{AreManySpelled, AreSpelled, IsAddress, IsDecimal, IsFloor, IsPercent, IsRouterWord}
+use Rattle.ospf_script.specs.Values.{AreManySpelled, IsAddress, IsDecimal, IsFloor, IsPercent, IsRouterWord}
 use Rattle.ospf_base.specs.Text.{IsBlank}
 use Rattle.ospf_script.specs.Words.{Text, line_words}
 use Rattle.ospf_script.specs.declared.command.Command.{Command}
@@ -90,7 +91,7 @@ BeginsWalk (a ∷ b ∷ ws) from address rest = IsRouterWord a from × IsAddress
 BeginsWalk _ from address rest = ⊥
 
 abbrev pub IsWalkWords : List Text → RouterId → Addr → List ℕ → Type 0
-IsWalkWords ws from address choices = (rest : List Text) × BeginsWalk ws from address rest × AreSpelled (IsDecimal 32) rest choices
+IsWalkWords ws from address choices = (rest : List Text) × BeginsWalk ws from address rest × AllZip (IsDecimal 32) rest choices
 
 -- a walk with a choice or more
 abbrev pub IsLongWalk : List Text → Type 0

@@ -1,8 +1,9 @@
 -- Which words say what is expected.
 use Rattle.std.specs.Prelude.{◌≡◌, ◌⊎◌, ℕ, Option, None, Some, List, [], ◌∷◌, codes}
+use Rattle.std.specs.List.{AllZip}
 use Rattle.ospf_base.specs.declared.ids.RouterId.{RouterId}
 use Rattle.ospf_base.specs.declared.prefix.Prefix.{Prefix}
-use Rattle.ospf_script.specs.Values.{AreManySpelled, AreSpelled, IsAddress, IsDecimal, IsHopWord, IsPrefix, IsRouterWord}
+use Rattle.ospf_script.specs.Values.{AreManySpelled, IsAddress, IsDecimal, IsHopWord, IsPrefix, IsRouterWord}
 use Rattle.ospf_script.specs.Words.{Text}
 use Rattle.ospf_script.specs.declared.expected.Expected.{Expected}
 use Rattle.ospf_script.specs.declared.expected.Expected.TheVariants.{Router, Walk, Agree, Settled}
@@ -29,7 +30,7 @@ abbrev pub IsWanted : RouterId → Wanted → List Text → Type 0
 IsWanted router (Full other) (w ∷ a ∷ b ∷ []) = (w ≡ codes "full") × IsRouterWord a router × IsRouterWord b other
 IsWanted router (NoNeighbour link) (v ∷ w ∷ a ∷ b ∷ []) = (v ≡ codes "no") × IsNeighbour w × IsRouterWord a router × IsDecimal 64 b link
 IsWanted router (Route prefix cost hops) (w ∷ ws) =
-    (w ≡ codes "route") × (rest : List Text) × BeginsRoute ws router prefix cost rest × AreSpelled IsHopWord rest hops.items
+    (w ≡ codes "route") × (rest : List Text) × BeginsRoute ws router prefix cost rest × AllZip IsHopWord rest hops.items
 IsWanted router (NoRoute prefix) (v ∷ w ∷ a ∷ b ∷ []) = (v ≡ codes "no") × (w ≡ codes "route") × IsRouterWord a router × IsPrefix b prefix
 IsWanted router _ _ = ⊥
 

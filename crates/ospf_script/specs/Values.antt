@@ -1,7 +1,8 @@
 -- What a word of a line spells: a number, a floor, a Router ID, an address, a prefix.
-use Rattle.std.specs.Prelude.{◌≡◌, ⊤, ℕ, ℤ, List, [], ◌^◌, ◌<◌, ◌∷◌, ◌++◌, bit_and, length}
+use Rattle.std.specs.Prelude.{◌≡◌, ⊤, ℕ, ℤ, List, ◌^◌, ◌<◌, ◌∷◌, ◌++◌, bit_and, length}
 use Rattle.std.specs.Int.{w32, cast_signed}
 use Rattle.std.specs.Net.Grammar.{IsNumber}
+use Rattle.std.specs.List.{AllZip}
 use Rattle.ospf_base.specs.Masks.{mask_of}
 use Rattle.ospf_base.specs.Text.{IsDottedNumber}
 use Rattle.ospf_base.specs.declared.ids.Addr.{Addr}
@@ -57,16 +58,10 @@ FitsHop (Lan local router address) = (local.0 < 2 ^ 32) × (router.0 < 2 ^ 32) �
 abbrev pub IsHopWord : Text → NextHop → Type 0
 IsHopWord word hop = (word ≡ hop_text hop) × FitsHop hop
 
--- each word spells the value at its place
-abbrev pub AreSpelled : {A : Type 0} → (Text → A → Type 0) → List Text → List A → Type 0
-AreSpelled P [] [] = ⊤
-AreSpelled P (a ∷ ws) (x ∷ xs) = P a x × AreSpelled P ws xs
-AreSpelled P _ _ = ⊥
-
 -- each word spells some value
 abbrev pub AreSomeSpelled : {A : Type 0} → (Text → A → Type 0) → List Text → Type 0
-AreSomeSpelled {A} P ws = (xs : List A) × AreSpelled P ws xs
+AreSomeSpelled {A} P ws = (xs : List A) × AllZip P ws xs
 
 -- the words spell values, one or more
 abbrev pub AreManySpelled : {A : Type 0} → (Text → A → Type 0) → List Text → Type 0
-AreManySpelled {A} P ws = (xs : List A) × AreSpelled P ws xs × (0 < length xs)
+AreManySpelled {A} P ws = (xs : List A) × AllZip P ws xs × (0 < length xs)

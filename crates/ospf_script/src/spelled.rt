@@ -1,7 +1,8 @@
 //! Words that spell a value each.
 
 ghost use Rattle.std.specs.Prelude.{◌≡◌, ◌↔◌, IfOk, IfErr, IsTrue};
-ghost use Rattle.ospf_script.specs.Values.{AreManySpelled, AreSomeSpelled, AreSpelled, IsDecimal, IsHopWord};
+ghost use Rattle.std.specs.List.{AllZip};
+ghost use Rattle.ospf_script.specs.Values.{AreManySpelled, AreSomeSpelled, IsDecimal, IsHopWord};
 ghost use Rattle.ospf_script.specs.Words.{Finds, Text, line_words};
 
 use crate::fault::CommandFault;
@@ -53,7 +54,7 @@ impl Spelled for NextHop {
 
 // The values that the words of a text spell. Memory is told to be missing only where each word spells one.
 pub(crate) fn values_in<V: Spelled>(alloc: Global, text: &[u8]) -> Result<Vec<V>, CommandFault>
-    ensures ok { IfOk result (λ values. AreSpelled V.is_spelled (line_words text.now)
+    ensures ok { IfOk result (λ values. AllZip V.is_spelled (line_words text.now)
         values.items) }
     ensures not_values { IfErr result (λ e. e ≡ CommandFault.NotACommand →
         AreSomeSpelled V.is_spelled (line_words text.now) → ⊥) }

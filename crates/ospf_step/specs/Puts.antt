@@ -1,5 +1,5 @@
 -- Parts whose outputs are put behind those of earlier parts.
-use Rattle.std.specs.Prelude.{◌≡◌, List, [], ◌∷◌}
+use Rattle.std.specs.Prelude.{◌≡◌, List, fold}
 use Rattle.ospf_lsa.specs.declared.header.LsaHeader.{LsaHeader}
 use Rattle.ospf_area.specs.Outputs.{OutputsValue, then_outputs}
 use Rattle.ospf_area.specs.State.{AreaValue}
@@ -14,5 +14,4 @@ pub record PutsOut (R : OutputsValue → Type 0) (out out' : OutputsValue) : Typ
 
 -- the headers of an Acknowledgment, one after the other (13.7)
 abbrev pub headers_met : Origin → List LsaHeader → AreaValue → AreaValue
-headers_met f [] s = s
-headers_met f (h ∷ hs) s = headers_met f hs (header_met f h s)
+headers_met f hs s = fold (λ s h. header_met f h s) s hs

@@ -1,5 +1,5 @@
 -- A step of a router: a chain of parts.
-use Rattle.std.specs.Prelude.{◌≡◌, ◌++◌, ℕ, zero, suc, Bool, true, false, List, [], ◌∷◌, Option, None, Some, map, option_map}
+use Rattle.std.specs.Prelude.{◌≡◌, ◌++◌, ℕ, zero, suc, Bool, true, false, List, [], ◌∷◌, Option, None, Some, flat_map, map, option_map}
 use Rattle.ospf_base.specs.declared.ids.Addr.{Addr}
 use Rattle.ospf_base.specs.declared.ids.LsaKey.{LsaKey}
 use Rattle.ospf_lsa.specs.declared.header.LsaHeader.{LsaHeader}
@@ -108,8 +108,7 @@ Chain (part ∷ parts) before out after = Then (IsPart part before) (Chain parts
 
 -- each LSA of an Update, and the Requests that become due by it
 abbrev pub lsa_parts : Origin → List (List ℕ) → List Part
-lsa_parts f [] = []
-lsa_parts f (lsa ∷ lsas) = LsaComes f lsa ∷ Requests ∷ lsa_parts f lsas
+lsa_parts f lsas = flat_map (λ lsa. LsaComes f lsa ∷ Requests ∷ []) lsas
 
 -- what a packet brings (8.2)
 abbrev pub parts_of_packet : Origin → Meaning → BodyMeaning → List Part

@@ -10,7 +10,7 @@ use Rattle.ospf_links.specs.Repeats.{keys_out, link_repeated, link_repeats_out, 
 use Rattle.ospf_update.specs.Acks.{delayed_out_on, undelayed_link}
 use Rattle.ospf_update.specs.Aging.{TickAges}
 
--- what is due is sent again, on each link, and the keys whose copies go out are marked
+-- what is due is sent again on each link (10.8, 10.9, 13.6), and the keys whose copies go out are marked (13, step 8)
 abbrev pub RepeatsAll : AreaValue → OutputsValue → OutputsValue → AreaValue → Type 0
 RepeatsAll s out out' after =
     let marks = marked_all (flat_map (keys_out (own_of s) s.database) s.links) s.sent in

@@ -1,5 +1,6 @@
 use Rattle.std.proofs.Common.{◌≡◌, ◌+◌, ◌<◌, ◌≤◌, ◌++◌, ◌^◌, All, List, vec_len, vec_capacity}
-use Rattle.ospf_drive.specs.Driven.{IsDriverStarted, Pairs}
+use Rattle.std.specs.List.{AllZip}
+use Rattle.ospf_drive.specs.Driven.{IsDriverStarted}
 use Rattle.ospf_drive.specs.Moments.{at}
 use Rattle.ospf_drive.proofs.all.start_all.Given as goal
 
@@ -8,7 +9,7 @@ abbrev pub invariant-loop-rt : goal.invariant-loop-rt
 invariant-loop-rt g l = record {
   fresh : All (λ job. g.W.Wire.failed job.1 + 1 < 2 ^ 64) l.jobs.items;
   room : vec_len l.threads + vec_len l.jobs ≤ vec_capacity l.threads;
-  started : (done : List _) × (l.fn.jobs.items ≡ done ++ l.jobs.items) × Pairs (λ job thread. IsDriverStarted (at job.0 (g.W.Wire.traffic job.1) (g.W.Wire.failed job.1) job.2) thread) done l.threads.items;
+  started : (done : List _) × (l.fn.jobs.items ≡ done ++ l.jobs.items) × AllZip (λ job thread. IsDriverStarted (at job.0 (g.W.Wire.traffic job.1) (g.W.Wire.failed job.1) job.2) thread) done l.threads.items;
 }
 
 abbrev pub decreases-loop-rt : goal.decreases-loop-rt
