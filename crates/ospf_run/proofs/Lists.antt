@@ -4,8 +4,9 @@ use Rattle.std.proofs.lemmas.List.{take_more, append-nil, map-append}
 use Rattle.std.proofs.lemmas.List.Elements.{All-cons, All-nil, All-append}
 use Rattle.std.proofs.Math.Seq.{drop-cons}
 use Rattle.std.specs.Prelude.{Option}
+use Rattle.std.specs.List.{AllZip}
 use Rattle.ospf_config.specs.declared.config.Config.{Config}
-use Rattle.ospf_drive.specs.Driven.{IsDriven, Outcome as Driven, Pairs}
+use Rattle.ospf_drive.specs.Driven.{IsDriven, Outcome as Driven}
 use Rattle.ospf_drive.specs.Moments.{Moment}
 use Rattle.ospf_drive.specs.Traffic.Carried.{Ticks}
 use Rattle.ospf_drive.proofs.Jobs.{of_first, of_later}
@@ -24,16 +25,16 @@ front_more xs i x within is = take_more xs i x within ∙ ap (λ last. take i xs
 
 -- one pair more
 pub pairs_more : {A B : Type 0} (P : A → B → Type 0) (xs : List A) (i : ℕ) (x : A) (ys more : List B) (y : B) → i < length xs → x ≡ get_or xs i x
-    → Pairs P (take i xs) ys → P x y → more ≡ ys ++ y ∷ [] → Pairs P (take (i + 1) xs) more
+    → AllZip P (take i xs) ys → P x y → more ≡ ys ++ y ∷ [] → AllZip P (take (i + 1) xs) more
 pairs_more {A} {B} P xs i x ys more y within is pairs pair more_is =
-    subst (λ (zs : List B). Pairs P (take (i + 1) xs) zs) (sym more_is)
-    (subst (λ (zs : List A). Pairs P zs (ys ++ y ∷ [])) (sym (front_more xs i x within is)) (pairs_then P (take i xs) ys x y pairs pair))
+    subst (λ (zs : List B). AllZip P (take (i + 1) xs) zs) (sym more_is)
+    (subst (λ (zs : List A). AllZip P zs (ys ++ y ∷ [])) (sym (front_more xs i x within is)) (pairs_then P (take i xs) ys x y pairs pair))
 
 -- one pair more, at the ends of both
-pub pairs_both : {A B : Type 0} (P : A → B → Type 0) (xs xs' : List A) (ys ys' : List B) (x : A) (y : B) → Pairs P xs ys → P x y
-    → xs' ≡ xs ++ x ∷ [] → ys' ≡ ys ++ y ∷ [] → Pairs P xs' ys'
+pub pairs_both : {A B : Type 0} (P : A → B → Type 0) (xs xs' : List A) (ys ys' : List B) (x : A) (y : B) → AllZip P xs ys → P x y
+    → xs' ≡ xs ++ x ∷ [] → ys' ≡ ys ++ y ∷ [] → AllZip P xs' ys'
 pairs_both {A} {B} P xs xs' ys ys' x y pairs pair more_x more_y =
-    subst (λ (zs : List B). Pairs P xs' zs) (sym more_y) (subst (λ (zs : List A). Pairs P zs (ys ++ y ∷ [])) (sym more_x) (pairs_then P xs ys x y pairs pair))
+    subst (λ (zs : List B). AllZip P xs' zs) (sym more_y) (subst (λ (zs : List A). AllZip P zs (ys ++ y ∷ [])) (sym more_x) (pairs_then P xs ys x y pairs pair))
 
 pub all_more : {A : Type 0} (P : A → Type 0) (xs xs' : List A) (x : A) → All P xs → P x → xs' ≡ xs ++ x ∷ [] → All P xs'
 all_more {A} P xs xs' x all here more = subst (λ (zs : List A). All P zs) (sym more) (All-append P xs (x ∷ []) all (All-cons P x [] here (All-nil P)))
@@ -42,14 +43,14 @@ pub one_more : {A : Type 0} (xs xs' : List A) (x : A) (n : ℕ) → xs' ≡ xs +
 one_more xs xs' x n more count = ap (λ zs. length zs) more ∙ length-append xs (x ∷ []) ∙ ap (λ m. m + 1) count
 
 -- the one list is as long as the other
-pub as_many : {A B : Type 0} (P : A → B → Type 0) (xs : List A) (ys : List B) → Pairs P xs ys → length xs ≡ length ys
+pub as_many : {A B : Type 0} (P : A → B → Type 0) (xs : List A) (ys : List B) → AllZip P xs ys → length xs ≡ length ys
 as_many P [] [] ps = refl
 as_many P [] (y ∷ ys) ps = absurd ps
 as_many P (x ∷ xs) [] ps = absurd ps
 as_many P (x ∷ xs) (y ∷ ys) ps = ap (λ (n : ℕ). suc n) (as_many P xs ys ps.1)
 
 -- what holds of each of the one list holds of its partner
-pub all_paired : {A B : Type 0} (R : A → B → Type 0) (P : A → Type 0) (Q : B → Type 0) (xs : List A) (ys : List B) → ((x : A) (y : B) → R x y → P x → Q y) → Pairs R xs ys → All P xs → All Q ys
+pub all_paired : {A B : Type 0} (R : A → B → Type 0) (P : A → Type 0) (Q : B → Type 0) (xs : List A) (ys : List B) → ((x : A) (y : B) → R x y → P x → Q y) → AllZip R xs ys → All P xs → All Q ys
 all_paired R P Q [] [] then pairs all = All-nil Q
 all_paired R P Q [] (y ∷ ys) then pairs all = absurd pairs
 all_paired R P Q (x ∷ xs) [] then pairs all = absurd pairs
@@ -79,8 +80,8 @@ all_over {J} {W} f P jobs wires over all = go jobs (subst (λ (ws : List W). All
 
 -- what began and what came of it, router by router
 pub routers_ran_of : {J : Type 0} (begins : J → Moment) (terms : Terms) (configs : List Config) (jobs : List J) (drivens : List Driven) (seats : List Known) (router_seats : List RouterSeat)
-    → Pairs (λ config job. BeginsRun terms.floor config (begins job).router (begins job).known) configs jobs → All (λ job. (begins job).traffic ≡ Ticks 0 terms.span) jobs → Pairs (λ job driven. IsDriven (begins job) driven) jobs drivens
-    → Pairs (λ job seat. seat ≡ (begins job).known) jobs seats → Pairs IsFrom seats router_seats → RoutersRan terms configs drivens router_seats
+    → AllZip (λ config job. BeginsRun terms.floor config (begins job).router (begins job).known) configs jobs → All (λ job. (begins job).traffic ≡ Ticks 0 terms.span) jobs → AllZip (λ job driven. IsDriven (begins job) driven) jobs drivens
+    → AllZip (λ job seat. seat ≡ (begins job).known) jobs seats → AllZip IsFrom seats router_seats → RoutersRan terms configs drivens router_seats
 routers_ran_of begins terms [] [] [] [] [] p n q r s = tt
 routers_ran_of begins terms [] [] [] [] (l ∷ ls) p n q r s = absurd s
 routers_ran_of begins terms [] [] [] (k ∷ ks) ls p n q r s = absurd r

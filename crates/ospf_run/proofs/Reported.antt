@@ -10,30 +10,17 @@ use Rattle.ospf_files.specs.declared.status.Status.{Status}
 use Rattle.ospf_files.specs.declared.streams.FailedStreams.{FailedStreams}
 use Rattle.ospf_run.specs.Cut.{EndsRun, EndsBy, IsRunCut, comes, cut_short, in_report, last_status}
 use Rattle.ospf_udp.specs.Obstacles.{Hinders, obstacle_line, obstacle_status}
-use Rattle.ospf_udp.specs.Plans.{floor_refused, greatest, no_config, no_number, no_port, same_router}
 use Rattle.ospf_run.specs.Printed.{IsReportCut, AreOutcomesReported}
-use Rattle.ospf_run.specs.Runs.{AreExtras, Asked, ComesOfRun, HaveRun, asked_of, no_socket, ran, refused, unread}
+use Rattle.ospf_run.specs.Runs.{AreExtras, Asked, ComesOfRun, HaveRun, asked_of, hindered, ran}
 use Rattle.ospf_run.specs.declared.outcome.Extras.{Extras}
 use Rattle.ospf_run.specs.declared.outcome.Outcome.{Outcome}
 use Rattle.ospf_run.specs.declared.settings.Settings.{Settings}
 use Rattle.ospf_udp.specs.declared.stop.Obstacle.{Obstacle}
-use Rattle.ospf_udp.specs.declared.stop.Obstacle.TheVariants as obstacle
 
 -- what keeps the routers from running is told
 pub obstacle_comes : (asked : Asked) (files : List NamedFile) (o : Obstacle) (oo eo en : Option (List ℕ))
     → Hinders asked.floor files o → Appends eo en (obstacle_line o) → ComesOfRun asked files (obstacle_status o) (written_on oo eo) (written_on oo en)
-obstacle_comes asked files obstacle.NoNumber oo eo en is told = refused refl (floor_refused (no_number is told)) refl
-obstacle_comes asked files obstacle.GreatestFloor oo eo en is told = refused refl (floor_refused (greatest is told)) refl
-obstacle_comes asked files (obstacle.Unread file) oo eo en is told =
-    unread refl (record { least = is.0; has_floor = is.1; file = file.now; first = is.2; told = told }) refl
-obstacle_comes asked files (obstacle.NoConfig file fault) oo eo en is told =
-    refused refl (no_config is.0 is.1 is.2 (record { file = file.now; fault = fault; refused = is.3; told = told })) refl
-obstacle_comes asked files obstacle.SameRouter oo eo en is told =
-    refused refl (same_router is.1.least is.1.has_floor is.1.read is.0 is.1.are_configs is.2 told) refl
-obstacle_comes asked files (obstacle.NoPort file) oo eo en is told =
-    refused refl (no_port is.1.least is.1.has_floor is.1.read is.0 is.1.are_configs is.2 file.now is.3 told) refl
-obstacle_comes asked files (obstacle.NoSocket file none) oo eo en is told =
-    no_socket refl is.0 is.1 is.2 (record { file = file.now; no_socket = none; socketless = is.3; told = told }) refl
+obstacle_comes asked files o oo eo en is told = hindered (record { obstacle = o; hinders = is; status_is = refl; told = told; unwritten = refl })
 
 -- what came of the routers is reported
 pub report_comes : (asked : Asked) (files : List NamedFile) (outcomes outcomes' : List Outcome) (extras : Extras) (s : Status)
@@ -41,16 +28,11 @@ pub report_comes : (asked : Asked) (files : List NamedFile) (outcomes outcomes' 
     → AreOutcomesReported extras outcomes' s old new → ComesOfRun asked files s old new
 report_comes asked files outcomes outcomes' extras s old new has wanted same reported =
     ran (record {
-      configs = has.configs;
-      least = has.least;
-      plan = has.plan;
-      reports = record {
-        outcomes = outcomes;
-        extras = extras;
-        are = has.are;
-        wanted = wanted;
-        reported = subst (λ (os : List Outcome). AreOutcomesReported extras os s old new) same reported;
-      };
+      outcomes = outcomes;
+      extras = extras;
+      run = has;
+      wanted = wanted;
+      reported = subst (λ (os : List Outcome). AreOutcomesReported extras os s old new) same reported;
     })
 
 -- and their report may be cut

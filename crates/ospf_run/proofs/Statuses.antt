@@ -7,10 +7,11 @@ use Rattle.ospf_files.specs.declared.status.Status.{Status}
 use Rattle.ospf_files.specs.declared.status.Status.TheVariants as status
 use Rattle.std.specs.List.{list_any}
 use Rattle.ospf_run.specs.Cut.{EndsRun, comes, cut_short}
-use Rattle.ospf_udp.specs.Plans.{IsPlanRefused}
+use Rattle.ospf_udp.specs.Obstacles.{obstacle_status}
+use Rattle.ospf_udp.specs.declared.stop.Obstacle.{Obstacle}
+use Rattle.ospf_udp.specs.declared.stop.Obstacle.TheVariants as obstacle
 use Rattle.ospf_run.specs.Printed.{is_early, is_failed}
-use Rattle.ospf_run.specs.Runs.{Asked, ComesOfRun, IsPlanRun, refused, unread, no_socket, ran}
-use Rattle.ospf_run.specs.declared.outcome.Outcome.{Outcome}
+use Rattle.ospf_run.specs.Runs.{Asked, ComesOfRun, IsHindered, IsPlanRun, hindered, ran}
 
 not_refused : (a b : Bool) → cond a status.Stream (cond b status.Memory status.Done) ≡ status.Refused → ⊥
 not_refused true b is = absurd (cc is)
@@ -22,40 +23,51 @@ not_words true b is = absurd (cc is)
 not_words false true is = absurd (cc is)
 not_words false false is = absurd (cc is)
 
+-- what keeps routers from running is not that all is done, and not that the words are none
+obstacle_not_done : (o : Obstacle) → obstacle_status o ≡ status.Done → ⊥
+obstacle_not_done obstacle.NoNumber is = absurd (cc is)
+obstacle_not_done obstacle.GreatestFloor is = absurd (cc is)
+obstacle_not_done (obstacle.Unread file) is = absurd (cc is)
+obstacle_not_done (obstacle.NoConfig file fault) is = absurd (cc is)
+obstacle_not_done obstacle.SameRouter is = absurd (cc is)
+obstacle_not_done (obstacle.NoPort file) is = absurd (cc is)
+obstacle_not_done (obstacle.NoSocket file none) is = absurd (cc is)
+
+obstacle_not_words : (o : Obstacle) → obstacle_status o ≡ status.Words → ⊥
+obstacle_not_words obstacle.NoNumber is = absurd (cc is)
+obstacle_not_words obstacle.GreatestFloor is = absurd (cc is)
+obstacle_not_words (obstacle.Unread file) is = absurd (cc is)
+obstacle_not_words (obstacle.NoConfig file fault) is = absurd (cc is)
+obstacle_not_words obstacle.SameRouter is = absurd (cc is)
+obstacle_not_words (obstacle.NoPort file) is = absurd (cc is)
+obstacle_not_words (obstacle.NoSocket file none) is = absurd (cc is)
+
 run_not_refused : (asked : Asked) (files : List NamedFile) (s : Status) (old new : Written)
     → IsPlanRun asked files s old new → s ≡ status.Refused → ⊥
 run_not_refused asked files s old new run is =
-    let outcomes : List Outcome = run.reports.outcomes in
-    not_refused (list_any is_failed outcomes) (list_any is_early outcomes) (sym run.reports.reported.status_is ∙ is)
+    not_refused (list_any is_failed run.outcomes) (list_any is_early run.outcomes) (sym run.reported.status_is ∙ is)
 
 run_not_words : (asked : Asked) (files : List NamedFile) (s : Status) (old new : Written)
     → IsPlanRun asked files s old new → s ≡ status.Words → ⊥
 run_not_words asked files s old new run is =
-    let outcomes : List Outcome = run.reports.outcomes in
-    not_words (list_any is_failed outcomes) (list_any is_early outcomes) (sym run.reports.reported.status_is ∙ is)
+    not_words (list_any is_failed run.outcomes) (list_any is_early run.outcomes) (sym run.reported.status_is ∙ is)
 
 -- where all is done, all has run
 done_runs : (asked : Asked) (files : List NamedFile) (s : Status) (old new : Written)
     → ComesOfRun asked files s old new → s ≡ status.Done → IsPlanRun asked files status.Done old new
-done_runs asked files s old new (refused is told same) done = absurd (cc (is, done))
-done_runs asked files s old new (unread is told same) done = absurd (cc (is, done))
-done_runs asked files s old new (no_socket is configs least plan told same) done = absurd (cc (is, done))
+done_runs asked files s old new (hindered h) done = absurd (obstacle_not_done h.obstacle (sym h.status_is ∙ done))
 done_runs asked files s old new (ran run) done = subst (λ (t : Status). IsPlanRun asked files t old new) done run
 
 -- what is refused is told, and nothing is written
 refused_told : (asked : Asked) (files : List NamedFile) (s : Status) (old new : Written)
-    → ComesOfRun asked files s old new → s ≡ status.Refused → IsPlanRefused asked.floor files old.err new.err × (new.out ≡ old.out)
-refused_told asked files s old new (refused is told same) so = (told, same)
-refused_told asked files s old new (unread is told same) so = absurd (cc (is, so))
-refused_told asked files s old new (no_socket is configs least plan told same) so = absurd (cc (is, so))
+    → ComesOfRun asked files s old new → s ≡ status.Refused → IsHindered asked files status.Refused old new
+refused_told asked files s old new (hindered h) so = subst (λ (t : Status). IsHindered asked files t old new) so h
 refused_told asked files s old new (ran run) so = absurd (run_not_refused asked files s old new run so)
 
 -- no run ends for its words
 comes_not_words : (asked : Asked) (files : List NamedFile) (s : Status) (old new : Written)
     → ComesOfRun asked files s old new → s ≡ status.Words → ⊥
-comes_not_words asked files s old new (refused is told same) so = absurd (cc (is, so))
-comes_not_words asked files s old new (unread is told same) so = absurd (cc (is, so))
-comes_not_words asked files s old new (no_socket is configs least plan told same) so = absurd (cc (is, so))
+comes_not_words asked files s old new (hindered h) so = obstacle_not_words h.obstacle (sym h.status_is ∙ so)
 comes_not_words asked files s old new (ran run) so = run_not_words asked files s old new run so
 
 -- ---- the same of a run that may be cut
@@ -66,7 +78,7 @@ end_done asked files s old new (comes c) done = done_runs asked files s old new 
 end_done asked files s old new (cut_short failed cut) done = absurd (failed_not_done cut.cause (sym cut.status_is ∙ done))
 
 pub end_refused : (asked : Asked) (files : List NamedFile) (s : Status) (old new : Written)
-    → EndsRun asked files s old new → s ≡ status.Refused → IsPlanRefused asked.floor files old.err new.err × (new.out ≡ old.out)
+    → EndsRun asked files s old new → s ≡ status.Refused → IsHindered asked files status.Refused old new
 end_refused asked files s old new (comes c) so = refused_told asked files s old new c so
 end_refused asked files s old new (cut_short failed cut) so = absurd (failed_not_refused cut.cause (sym cut.status_is ∙ so))
 

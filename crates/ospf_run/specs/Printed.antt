@@ -1,5 +1,5 @@
 -- What is printed and told of routers whose drivers have ended.
-use Rattle.std.specs.Prelude.{◌≡◌, ◌==◌, if◌then◌else◌, ℕ, Bool, true, false, List, [], ◌++◌, Option, None, Some, Result, Ok, Err, codes, decimal, flat_map, string_bytes, cond}
+use Rattle.std.specs.Prelude.{◌≡◌, ◌==◌, if◌then◌else◌, ℕ, Bool, true, false, List, [], ◌++◌, Option, None, Some, Ok, Err, codes, decimal, flat_map, cond}
 use Rattle.std.specs.List.{list_any}
 use Rattle.std.specs.Io.KnownBytes.{Appends}
 use Rattle.ospf_base.specs.Text.{number_text}
@@ -7,7 +7,6 @@ use Rattle.ospf_base.specs.declared.ids.RouterId.{RouterId}
 use Rattle.ospf_drive.specs.Faults.{drive_fault_text}
 use Rattle.ospf_drive.specs.declared.fault.DriveFault.{DriveFault}
 use Rattle.ospf_drive.specs.declared.fault.DriveFault.TheVariants as fault
-use Rattle.ospf_files.specs.declared.files.NamedFile.{NamedFile}
 use Rattle.ospf_files.specs.Streams.{IsBegun, IsErrorCut, IsOutputCut, Written}
 use Rattle.ospf_files.specs.declared.status.Failure.{Failure}
 use Rattle.ospf_files.specs.declared.status.Status.{Status}
@@ -20,6 +19,7 @@ use Rattle.ospf_files.specs.declared.streams.FailedStreams.{FailedStreams}
 use Rattle.ospf_views.specs.Shown.{view_lines}
 use Rattle.ospf_script.specs.declared.command.View.{View}
 use Rattle.ospf_script.specs.declared.command.View.TheVariants as view
+use Rattle.ospf_udp.specs.Obstacles.{line_about}
 use Rattle.ospf_run.specs.declared.outcome.Drops.{Drops}
 use Rattle.ospf_run.specs.declared.outcome.Extras.{Extras}
 use Rattle.ospf_run.specs.declared.outcome.Looked.{Looked}
@@ -70,12 +70,8 @@ abbrev pub router_lines : Extras → RouterId → RouterShown → List ℕ
 router_lines extras router shown = table_lines router shown ++ (looked_lines shown.looked ++ extra_lines extras router shown.router)
 
 -- what is printed of a router: nothing where its driver did not come to the end
-abbrev pub came_lines : Extras → RouterId → Result RouterShown DriveFault → List ℕ
-came_lines extras router (Ok shown) = router_lines extras router shown
-came_lines extras router (Err f) = []
-
 abbrev pub outcome_lines : Extras → Outcome → List ℕ
-outcome_lines extras outcome = came_lines extras outcome.router outcome.came
+outcome_lines extras outcome = elim outcome.came [ Ok shown ↦ router_lines extras outcome.router shown | Err f ↦ [] ]
 
 -- what is printed of routers, in their order
 abbrev pub report_lines : Extras → List Outcome → List ℕ
@@ -94,15 +90,8 @@ at_tick_lines router tick x = at_tick_line router tick ++ routes_text x.table
 -- ---- standard error
 
 -- the line of a file whose router's driver did not come to the end
-abbrev pub fault_line : NamedFile → DriveFault → List ℕ
-fault_line file f = string_bytes file.name ++ codes ": " ++ drive_fault_text f ++ codes "\n"
-
-abbrev pub came_told : NamedFile → Result RouterShown DriveFault → List ℕ
-came_told file (Ok shown) = []
-came_told file (Err f) = fault_line file f
-
 abbrev pub outcome_told : Outcome → List ℕ
-outcome_told outcome = came_told outcome.file.now outcome.came
+outcome_told outcome = elim outcome.came [ Ok shown ↦ [] | Err f ↦ line_about outcome.file.now (drive_fault_text f) ]
 
 -- what is told of routers, in their order
 abbrev pub report_told : List Outcome → List ℕ
@@ -118,19 +107,13 @@ is_fault_of_system fault.Thread = true
 is_fault_of_system fault.Stopped = false
 is_fault_of_system fault.Publish = false
 
-abbrev pub came_failed : Result RouterShown DriveFault → Bool
-came_failed (Ok shown) = false
-came_failed (Err f) = is_fault_of_system f
-
-abbrev pub came_early : Result RouterShown DriveFault → Bool
-came_early (Ok shown) = false
-came_early (Err f) = true
-
+-- a wire or a thread failed the router
 abbrev pub is_failed : Outcome → Bool
-is_failed outcome = came_failed outcome.came
+is_failed outcome = elim outcome.came [ Ok shown ↦ false | Err f ↦ is_fault_of_system f ]
 
+-- the driver did not come to the end
 abbrev pub is_early : Outcome → Bool
-is_early outcome = came_early outcome.came
+is_early outcome = elim outcome.came [ Ok shown ↦ false | Err f ↦ true ]
 
 -- a wire or a thread failed one of the routers; else one met want of memory; else all is done
 abbrev pub status_for : List Outcome → Status

@@ -1,5 +1,6 @@
 -- Routers that run: how they begin, and what comes of them.
 use Rattle.std.specs.Prelude.{⊤, ◌≡◌, ◌+◌, ℕ, ℤ, Bool, false, List, [], ◌∷◌, Option, None, Some, Result, Ok, Err, is_some, option_map, string_bytes}
+use Rattle.std.specs.Io.KnownBytes.{Appends}
 use Rattle.ospf_base.specs.declared.ids.Addr.{Addr}
 use Rattle.ospf_config.specs.declared.config.Config.{Config}
 use Rattle.ospf_drive.specs.Driven.{DrivesToEnd, IsDriven, Outcome as Driven}
@@ -11,21 +12,21 @@ use Rattle.ospf_drive.specs.declared.span.Span.{Span}
 use Rattle.ospf_fib.specs.Answers.{IsAnswerOfLast}
 use Rattle.ospf_files.specs.Streams.{Written}
 use Rattle.ospf_files.specs.declared.status.Status.{Status}
-use Rattle.ospf_files.specs.declared.status.Status.TheVariants.{Refused, Stream}
 use Rattle.ospf_files.specs.declared.files.NamedFile.{NamedFile}
 use Rattle.ospf_index.specs.Known.{Known, Table, opening}
 use Rattle.ospf_router.specs.Routers.{RouterValue}
 use Rattle.ospf_router.specs.Starts.{IsStarted}
 use Rattle.ospf_run.specs.Lookups.{IsFrom}
-use Rattle.ospf_udp.specs.Plans.{IsPlan, IsPlanRefused, IsPlanUnreadTold}
+use Rattle.ospf_udp.specs.Obstacles.{Hinders, obstacle_line, obstacle_status}
+use Rattle.ospf_udp.specs.Plans.{IsPlan}
 use Rattle.ospf_run.specs.Printed.{AreOutcomesReported}
-use Rattle.ospf_run.specs.Wires.{IsSocketTold}
 use Rattle.ospf_run.specs.declared.outcome.Extras.{Extras}
 use Rattle.ospf_run.specs.declared.outcome.Looked.{Looked}
 use Rattle.ospf_run.specs.declared.outcome.Outcome.{Outcome}
 use Rattle.ospf_run.specs.declared.outcome.RouterShown.{RouterShown}
 use Rattle.ospf_run.specs.declared.look.RouterSeat.{RouterSeat}
 use Rattle.ospf_udp.specs.declared.plan.Plan.{Plan}
+use Rattle.ospf_udp.specs.declared.stop.Obstacle.{Obstacle}
 use Rattle.ospf_run.specs.declared.settings.Settings.{Settings}
 
 -- a router begins with its configuration, DD sequence number 1 and the floor, and the empty table is published
@@ -141,14 +142,6 @@ RoutersRan terms [] [] [] = ⊤
 RoutersRan terms (config ∷ configs) (driven ∷ drivens) (router_seat ∷ router_seats) = RouterRan terms config driven router_seat × RoutersRan terms configs drivens router_seats
 RoutersRan terms _ _ _ = ⊥
 
--- what came of the routers of a plan is printed and told, with what is asked for beside it
-pub record Reports (asked : Asked) (terms : Terms) (files : List NamedFile) (configs : List Config) (status : Status) (old new : Written) : Type 0 where
-  pub outcomes : List Outcome
-  pub extras : Extras
-  pub are : AreOutcomes asked.lookup terms files configs outcomes
-  pub wanted : AreExtras asked extras
-  pub reported : AreOutcomesReported extras outcomes status old new
-
 -- ---- runs
 
 -- the plan of the files was run, with the span, and this came of its routers
@@ -158,19 +151,25 @@ pub record HaveRun (asked : Asked) (files : List NamedFile) (outcomes : List Out
   pub plan : IsPlan asked.floor files configs least
   pub are : AreOutcomes asked.lookup (record { span = asked.span; floor = least }) files configs outcomes
 
--- the plan of the files was run, with the span: what came of each router is printed and told
-pub record IsPlanRun (asked : Asked) (files : List NamedFile) (status : Status) (old new : Written) : Type 0 where
-  pub configs : List Config
-  pub least : ℤ
-  pub plan : IsPlan asked.floor files configs least
-  pub reports : Reports asked (record { span = asked.span; floor = least }) files configs status old new
+-- what keeps the routers of the files from running is told, with its status, and nothing is written beside it
+pub record IsHindered (asked : Asked) (files : List NamedFile) (status : Status) (old new : Written) : Type 0 where
+  pub obstacle : Obstacle
+  pub hinders : Hinders asked.floor files obstacle
+  pub status_is : status ≡ obstacle_status obstacle
+  pub told : Appends old.err new.err (obstacle_line obstacle)
+  pub unwritten : new.out ≡ old.out
 
--- how a run comes to its end: it is refused, a file could not be read, a socket could not be made, or it was run
+-- the plan of the files was run: what came of each router is printed and told, with what is asked for beside it
+pub record IsPlanRun (asked : Asked) (files : List NamedFile) (status : Status) (old new : Written) : Type 0 where
+  pub outcomes : List Outcome
+  pub extras : Extras
+  pub run : HaveRun asked files outcomes
+  pub wanted : AreExtras asked extras
+  pub reported : AreOutcomesReported extras outcomes status old new
+
+-- how a run comes to its end: something keeps the routers from running, or they have run
 pub data ComesOfRun (asked : Asked) (files : List NamedFile) (status : Status) (old new : Written) : Type 0 where
-  refused : status ≡ Refused → IsPlanRefused asked.floor files old.err new.err → new.out ≡ old.out → ComesOfRun asked files status old new
-  unread : status ≡ Stream → IsPlanUnreadTold asked.floor files old.err new.err → new.out ≡ old.out → ComesOfRun asked files status old new
-  no_socket : status ≡ Stream → (configs : List Config) (least : ℤ) → IsPlan asked.floor files configs least → IsSocketTold files configs old.err new.err
-      → new.out ≡ old.out → ComesOfRun asked files status old new
+  hindered : IsHindered asked files status old new → ComesOfRun asked files status old new
   ran : IsPlanRun asked files status old new → ComesOfRun asked files status old new
 
 -- the plan of the files was run as is asked for, and this came of its routers, with what is to be printed beside it

@@ -1,7 +1,7 @@
 //! Routers that start: each with a writer of its table, and a seat there.
 
 ghost use Rattle.std.specs.Prelude.{◌≡◌, ◌≢◌, ◌+◌, ◌<◌, ◌^◌, All, IfOk, length, map};
-ghost use Rattle.ospf_drive.specs.Driven.{Pairs};
+ghost use Rattle.std.specs.List.{AllZip};
 ghost use Rattle.ospf_flood.specs.Rules.{max_sequence_number};
 ghost use Rattle.ospf_index.specs.Known.{opening};
 ghost use Rattle.ospf_router.specs.Starts.{IsStarted};
@@ -32,11 +32,11 @@ pub(crate) fn begin_all<W: Wire + Drop, R: Wait + Copy + Drop>(
     requires wires { length wires.items ≡ length configs.now }
     requires fresh { All (λ wire. W.failed wire + 1 < 2 ^ 64) wires.items }
     // Each configuration has its job and its seat, in their order, over its own wire.
-    ensures begins { IfOk result (λ begun. Pairs (λ config job. BeginsRun floor config job.0 job.2)
+    ensures begins { IfOk result (λ begun. AllZip (λ config job. BeginsRun floor config job.0 job.2)
         configs.now begun.0.items) }
     ensures over { IfOk result (λ begun. map (λ job. job.1) begun.0.items ≡ wires.items) }
     ensures fresh { IfOk result (λ begun. All (λ job. W.failed job.1 + 1 < 2 ^ 64) begun.0.items) }
-    ensures seats { IfOk result (λ begun. Pairs (λ job seat. seat ≡ job.2) begun.0.items
+    ensures seats { IfOk result (λ begun. AllZip (λ job seat. seat ≡ job.2) begun.0.items
         begun.1.items) }
 {
     let mut jobs = Vec::with_capacity(alloc, configs.len())?;

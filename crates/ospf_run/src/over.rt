@@ -1,8 +1,9 @@
 //! Runs of a plan over wires.
 
 ghost use Rattle.std.specs.Prelude.{◌≡◌, ◌≢◌, ◌+◌, ◌<◌, ◌≤◌, ◌^◌, [], List, All, IfErr, IfOk, length, vec_capacity, vec_len};
+ghost use Rattle.std.specs.List.{AllZip};
 ghost use Rattle.ospf_config.specs.declared.config.Config.{Config};
-ghost use Rattle.ospf_drive.specs.Driven.{IsDriven, Pairs};
+ghost use Rattle.ospf_drive.specs.Driven.{IsDriven};
 ghost use Rattle.ospf_drive.specs.Moments.{at};
 ghost use Rattle.ospf_flood.specs.Rules.{max_sequence_number};
 ghost use Rattle.ospf_run.specs.Lookups.{IsFrom};
@@ -74,9 +75,9 @@ fn drive_and_look<
 ) -> Result<(Vec<Driven<R>>, Vec<RouterSeat>), AllocError>
     requires { All (λ job. W.failed job.1 + 1 < 2 ^ 64) jobs.items }
     ensures { (terms : Terms) (configs : List Config) →
-        Pairs (λ config job. BeginsRun terms.floor config job.0 job.2) configs jobs.items →
+        AllZip (λ config job. BeginsRun terms.floor config job.0 job.2) configs jobs.items →
         All (λ job. W.traffic job.1 ≡ Ticks 0 terms.span) jobs.items →
-        Pairs (λ job seat. seat ≡ job.2) jobs.items seats.items →
+        AllZip (λ job seat. seat ≡ job.2) jobs.items seats.items →
         IfOk result (λ ended. RoutersRan terms configs ended.0.items ended.1.items) }
 {
     let done = Arc::new(alloc, AtomicBool::new(false)).map_err(AllocError::from)?;
@@ -96,7 +97,7 @@ fn start_lookups<S: Threads + Wait + Clock + Copy + Send + 'static>(
 )
     requires none { router_seats.old.items ≡ [] }
     requires room { vec_len seats ≤ vec_capacity router_seats.old }
-    ensures { Pairs IsFrom seats.items router_seats.new.items }
+    ensures { AllZip IsFrom seats.items router_seats.new.items }
 {
     while !seats.is_empty() {
         let seat = seats.remove(0);
@@ -118,7 +119,7 @@ fn drive_to_end<
     done: &Done,
 ) -> Result<Vec<Driven<R>>, AllocError>
     requires { All (λ job. W.failed job.1 + 1 < 2 ^ 64) jobs.items }
-    ensures { IfOk result (λ all. Pairs
+    ensures { IfOk result (λ all. AllZip
         (λ job driven. IsDriven (at job.0 (W.traffic job.1) (W.failed job.1) job.2) driven)
         jobs.items all.items) }
 {

@@ -3,7 +3,9 @@
 ghost use Rattle.std.specs.Prelude.{◌≡◌, IfErr, IfOk, OnErr, OnOk, string_bytes};
 ghost use Rattle.std.specs.Io.KnownBytes.{Appends};
 ghost use Rattle.ospf_files.specs.Streams.{IsBegun, IsErrorCut, IsOutputCut, written_on};
-ghost use Rattle.ospf_run.specs.Printed.{IsReportCut, AreOutcomesReported, fault_line, looked_lines, outcome_lines, outcome_told, report_lines, report_told, router_id_line, router_lines, table_lines};
+ghost use Rattle.ospf_drive.specs.Faults.{drive_fault_text};
+ghost use Rattle.ospf_udp.specs.Obstacles.{line_about};
+ghost use Rattle.ospf_run.specs.Printed.{IsReportCut, AreOutcomesReported, looked_lines, outcome_lines, outcome_told, report_lines, report_told, router_id_line, router_lines, table_lines};
 
 use crate::extras::print_extras;
 use crate::outcome::{Extras, Looked, Outcome, RouterShown};
@@ -196,9 +198,11 @@ fn tell_fault<E: Write>(
     streams: &mut FailedStreams,
 ) -> Result<(), Failure>
     ensures told { OnOk result
-        (Appends (E.contents err.old) (E.contents err.new) (fault_line file.now fault)) }
+        (Appends (E.contents err.old) (E.contents err.new) (line_about file.now
+        (drive_fault_text fault))) }
     ensures begun { OnErr result
-        (IsBegun (E.contents err.old) (E.contents err.new) (fault_line file.now fault)) }
+        (IsBegun (E.contents err.old) (E.contents err.new) (line_about file.now
+        (drive_fault_text fault))) }
     ensures cut { IfErr result (IsErrorCut streams.new) }
 {
     let line = line_about(alloc, file, fault.text())?;

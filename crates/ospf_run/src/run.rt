@@ -5,8 +5,8 @@ ghost use Rattle.ospf_files.specs.Status.{failure_line};
 ghost use Rattle.ospf_files.specs.Streams.{IsTold, written_on};
 ghost use Rattle.ospf_run.specs.Cut.{EndsBy, EndsRun, last_status};
 ghost use Rattle.ospf_udp.specs.Obstacles.{IsStop};
-ghost use Rattle.ospf_udp.specs.Plans.{IsPlanAt, IsPlanRefused};
-ghost use Rattle.ospf_run.specs.Runs.{ComeOf, IsPlanRun, RunsTo, asked_of, floor_of};
+ghost use Rattle.ospf_udp.specs.Plans.{IsPlanAt};
+ghost use Rattle.ospf_run.specs.Runs.{ComeOf, IsHindered, IsPlanRun, RunsTo, asked_of, floor_of};
 
 use crate::outcome::{Drops, Extras, Outcome};
 use crate::over::run_over;
@@ -59,9 +59,10 @@ pub fn run_text<
     ensures done { let old = written_on (O.contents out.old) (E.contents err.old) in
         let new = written_on (O.contents out.new) (E.contents err.new) in
         result ≡ Status.Done → IsPlanRun (asked_of settings.now) files.now Status.Done old new }
-    ensures refused { result ≡ Status.Refused →
-        IsPlanRefused (floor_of settings.now) files.now (E.contents err.old) (E.contents err.new) }
-    ensures unwritten { result ≡ Status.Refused → O.contents out.new ≡ O.contents out.old }
+    ensures refused { let old = written_on (O.contents out.old) (E.contents err.old) in
+        let new = written_on (O.contents out.new) (E.contents err.new) in
+        result ≡ Status.Refused →
+        IsHindered (asked_of settings.now) files.now Status.Refused old new }
     // However it ends, the run has come to its end, or a failure has cut it short.
     ensures not_words { result ≢ Status.Words }
     ensures ended { let old = written_on (O.contents out.old) (E.contents err.old) in

@@ -1,7 +1,7 @@
 //! What is told of routers while they run.
 
 ghost use Rattle.std.specs.Prelude.{◌≡◌, IfOk, length};
-ghost use Rattle.ospf_drive.specs.Driven.{Pairs};
+ghost use Rattle.std.specs.List.{AllZip};
 
 use crate::outcome::Drops;
 use ospf_base::Addr;
@@ -106,7 +106,7 @@ pub(crate) fn tap_all<W: Wire + Drop, T: Tap + Drop>(
 ) -> Result<Vec<TappedWire<W, T>>, AllocError>
     requires files { length files.now ≡ length configs.now }
     requires wires { length wires.items ≡ length configs.now }
-    ensures { IfOk result (λ all. Pairs (λ wire it. it.wire ≡ wire) wires.items all.items) }
+    ensures { IfOk result (λ all. AllZip (λ wire it. it.wire ≡ wire) wires.items all.items) }
 {
     let mut all = Vec::with_capacity(alloc, wires.len())?;
     for (place, config) in configs.iter().enumerate() {

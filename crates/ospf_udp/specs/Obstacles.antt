@@ -13,7 +13,7 @@ use Rattle.ospf_flood.specs.Rules.{max_sequence_number}
 use Rattle.ospf_udp.specs.Faults.{IsPortIn, no_socket_text}
 use Rattle.ospf_udp.specs.declared.fault.NoSocket.{NoSocket}
 use Rattle.ospf_config.specs.Configs.{ShareRouter}
-use Rattle.ospf_udp.specs.Plans.{HasFloor, HasPlan, IsFirstPortless, IsFloorOf, IsPlan, greatest_floor_line, no_floor_line, no_port_line}
+use Rattle.ospf_udp.specs.Plans.{HasFloor, HasPlan, IsFirstPortless, IsFloorOf, IsPlan}
 use Rattle.ospf_udp.specs.declared.stop.Obstacle.{Obstacle}
 use Rattle.ospf_udp.specs.declared.stop.Obstacle.TheVariants as obstacle
 use Rattle.ospf_udp.specs.declared.stop.Stop.{Stop}
@@ -52,22 +52,22 @@ Hinders floor files (obstacle.NoPort file) =
 Hinders floor files (obstacle.NoSocket file no_socket) =
     (configs : List Config) × (least : ℤ) × IsPlan floor files configs least × IsSocketless file.now files configs no_socket
 
+-- the line that tells something of a file
+abbrev pub line_about : NamedFile → List ℕ → List ℕ
+line_about file text = string_bytes file.name ++ codes ": " ++ text ++ codes "\n"
+
 -- the line of a file of whose interfaces one has no socket, and below it the port and why
 abbrev pub no_socket_line : NamedFile → NoSocket → List ℕ
 no_socket_line file no_socket = string_bytes file.name ++ codes ": socket\n  " ++ no_socket_text no_socket ++ codes "\n"
 
--- the line that tells so of a file
-abbrev pub line_about : NamedFile → List ℕ → List ℕ
-line_about file text = string_bytes file.name ++ codes ": " ++ text ++ codes "\n"
-
 -- the line that tells of it
 abbrev pub obstacle_line : Obstacle → List ℕ
-obstacle_line obstacle.NoNumber = no_floor_line
-obstacle_line obstacle.GreatestFloor = greatest_floor_line
+obstacle_line obstacle.NoNumber = codes "floor: not a number\n"
+obstacle_line obstacle.GreatestFloor = codes "floor: S2 Floor\n"
 obstacle_line (obstacle.Unread file) = unread_line file.now
 obstacle_line (obstacle.NoConfig file fault) = refused_line file.now fault
 obstacle_line obstacle.SameRouter = same_router_line
-obstacle_line (obstacle.NoPort file) = no_port_line file.now
+obstacle_line (obstacle.NoPort file) = line_about file.now (codes "no port")
 obstacle_line (obstacle.NoSocket file no_socket) = no_socket_line file.now no_socket
 
 -- the status that it ends with: a file or a socket failed, or else something is refused

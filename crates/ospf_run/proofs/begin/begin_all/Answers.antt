@@ -1,7 +1,7 @@
 use Rattle.std.proofs.Common.{rules, ◌≡◌, ◌+◌, ◌<◌, ◌^◌, ℤ, arith, length, of_z, subst, sym, to_z, w32}
 use Rattle.std.proofs.lemmas.List.{take_all}
+use Rattle.std.specs.List.{AllZip}
 use Rattle.ospf_drive.proofs.Jobs.{of_first, of_later}
-use Rattle.ospf_drive.specs.Driven.{Pairs}
 use Rattle.ospf_run.proofs.Lists.{all_more, over_all, over_more, pairs_both, pairs_more}
 use Rattle.ospf_run.specs.Runs.{BeginsRun}
 use Rattle.ospf_run.proofs.begin.begin_all.Goals as goal
@@ -25,8 +25,8 @@ loop-config-preserved g c =
 pub returns-clause-begins : goal.returns-clause-begins
 returns-clause-begins g c =
     let same : to_z w32 (of_z w32 c.args.floor) ≡ c.args.floor = search (rules) in
-    let all = subst (λ configs. Pairs (λ config job. BeginsRun (to_z w32 (of_z w32 c.args.floor)) config job.0 job.2) configs c.loop-config.jobs.items) (take_all c.loop-config.config-index c.args.configs.now c.loop-config-test.false) c.loop-config.invariant.begins in
-    subst (λ (z : ℤ). Pairs (λ config job. BeginsRun z config job.0 job.2) c.args.configs.now c.loop-config.jobs.items) same all
+    let all = subst (λ configs. AllZip (λ config job. BeginsRun (to_z w32 (of_z w32 c.args.floor)) config job.0 job.2) configs c.loop-config.jobs.items) (take_all c.loop-config.config-index c.args.configs.now c.loop-config-test.false) c.loop-config.invariant.begins in
+    subst (λ (z : ℤ). AllZip (λ config job. BeginsRun z config job.0 job.2) c.args.configs.now c.loop-config.jobs.items) same all
 
 pub returns-clause-over : goal.returns-clause-over
 returns-clause-over g c =

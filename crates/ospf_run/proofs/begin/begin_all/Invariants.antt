@@ -1,5 +1,5 @@
 use Rattle.std.proofs.Common.{◌≡◌, ◌+◌, ◌++◌, ◌<◌, ◌^◌, All, length, map, take}
-use Rattle.ospf_drive.specs.Driven.{Pairs}
+use Rattle.std.specs.List.{AllZip}
 use Rattle.ospf_run.specs.Runs.{BeginsRun}
 use Rattle.ospf_run.proofs.begin.begin_all.Given as goal
 
@@ -9,7 +9,7 @@ invariant-loop-config g l = record {
   left : length l.wires.items + l.config-index ≡ length l.configs;
   fresh : All (λ wire. g.W.Wire.failed wire + 1 < 2 ^ 64) l.wires.items;
   over : map (λ job. job.1) l.jobs.items ++ l.wires.items ≡ l.fn.wires.items;
-  begins : Pairs (λ config job. BeginsRun l.floor config job.0 job.2) (take l.config-index l.configs) l.jobs.items;
+  begins : AllZip (λ config job. BeginsRun l.floor config job.0 job.2) (take l.config-index l.configs) l.jobs.items;
   jobs_fresh : All (λ job. g.W.Wire.failed job.1 + 1 < 2 ^ 64) l.jobs.items;
-  seats : Pairs (λ job seat. seat ≡ job.2) l.jobs.items l.seats.items;
+  seats : AllZip (λ job seat. seat ≡ job.2) l.jobs.items l.seats.items;
 }

@@ -1,5 +1,5 @@
 use Rattle.std.proofs.Common.{◌≡◌, ◌+◌, ◌≤◌, ◌++◌, List, vec_len, vec_capacity}
-use Rattle.ospf_drive.specs.Driven.{Pairs}
+use Rattle.std.specs.List.{AllZip}
 use Rattle.ospf_run.specs.Lookups.{IsFrom}
 use Rattle.ospf_run.proofs.over.start_lookups.Given as goal
 
@@ -7,7 +7,7 @@ use Rattle.ospf_run.proofs.over.start_lookups.Given as goal
 abbrev pub invariant-loop-rt : goal.invariant-loop-rt
 invariant-loop-rt g l = record {
   room : vec_len l.router_seats + vec_len l.seats ≤ vec_capacity l.router_seats;
-  started : (gone : List _) × (l.fn.seats.items ≡ gone ++ l.seats.items) × Pairs IsFrom gone l.router_seats.items;
+  started : (gone : List _) × (l.fn.seats.items ≡ gone ++ l.seats.items) × AllZip IsFrom gone l.router_seats.items;
 }
 
 abbrev pub decreases-loop-rt : goal.decreases-loop-rt

@@ -9,16 +9,10 @@ returns-clause-done g c =
     c.end.ensures.quiet c.end.ensures.told)
 
 pub returns-clause-refused : goal.returns-clause-refused
-returns-clause-refused g c = λ so.
-    (end_refused _ _ c.end.result _ _
+returns-clause-refused g c =
+    end_refused _ _ c.end.result _ _
     (all_ends c.args.settings.now c.args.files.now c.say-said.result c.end.result c.say-said.new.streams c.end.new.streams _ _ _ _ c.say-said.ensures c.end.ensures.status
-    c.end.ensures.quiet c.end.ensures.told) so).0
-
-pub returns-clause-unwritten : goal.returns-clause-unwritten
-returns-clause-unwritten g c = λ so.
-    (end_refused _ _ c.end.result _ _
-    (all_ends c.args.settings.now c.args.files.now c.say-said.result c.end.result c.say-said.new.streams c.end.new.streams _ _ _ _ c.say-said.ensures c.end.ensures.status
-    c.end.ensures.quiet c.end.ensures.told) so).1
+    c.end.ensures.quiet c.end.ensures.told)
 
 pub returns-clause-not_words : goal.returns-clause-not_words
 returns-clause-not_words g c =
