@@ -8,12 +8,12 @@ use Rattle.ospf_packet.specs.declared.body.Description.{Description}
 use Rattle.ospf_packet.proofs.BodyLengths.{description_length}
 use Rattle.ospf_exchange.specs.Exchange.{dd_room, describes}
 use Rattle.ospf_area.specs.Packing.{ip_length}
-use Rattle.ospf_area.specs.Sending.{packet_of}
+use Rattle.ospf_area.specs.Sending.{packet_from}
 use Rattle.ospf_area.specs.declared.sending.Own.{Own}
 use Rattle.ospf_area.proofs.PackLemmas.{filled, ip_length-is}
 use Rattle.ospf_adjacency.specs.Laws.{DescriptionsAreFilled}
 
-description_sized : (own : Own) (fields : Description) (headers : List LsaHeader) → ip_length (packet_of own (description fields headers)) ≡ 52 + length headers * 20
+description_sized : (own : Own) (fields : Description) (headers : List LsaHeader) → ip_length (packet_from own (description fields headers)) ≡ 52 + length headers * 20
 description_sized own fields headers = omega (arith, ip_length-is own (description fields headers), description_length fields headers)
 
 pub descriptions_are_filled : DescriptionsAreFilled
@@ -26,6 +26,6 @@ descriptions_are_filled own i local number n within =
     let left = length-drop room n.summary in (
       fields,
       refl,
-      filled (λ headers. packet_of own (description fields headers)) local.mtu 52 20 room n.summary (take room n.summary) (drop room n.summary)
+      filled (λ headers. packet_from own (description fields headers)) local.mtu 52 20 room n.summary (take room n.summary) (drop room n.summary)
           (description_sized own fields) (omega arith) within refl (take-append-drop room n.summary) (omega arith) (omega (arith, left)),
     )

@@ -22,7 +22,7 @@ use Rattle.ospf_adjacency.specs.Adjacency.{event_taken}
 use Rattle.ospf_adjacency.specs.Descriptions.{event_turn, description_turn, dd_dropped}
 use Rattle.ospf_area.specs.Turns.{Turn, request_turn}
 use Rattle.ospf_area.specs.Packing.{IsFilled}
-use Rattle.ospf_area.specs.Sending.{packet_of}
+use Rattle.ospf_area.specs.Sending.{packet_from}
 use Rattle.ospf_area.specs.declared.sending.Own.{Own}
 use Rattle.ospf_area.specs.Packets.{Parcel, dd_parcel}
 
@@ -135,4 +135,4 @@ DescriptionKeepsRouter = (i : Iface) (local : Local) (sender : RouterId) (d : De
 abbrev pub DescriptionsAreFilled : Type 0
 DescriptionsAreFilled = (own : Own) (i : Iface) (local : Local) (number : ℕ) (n : NeighbourValue) → ip_header + packet_header + description_fields ≤ local.mtu
     → (fields : Description) × ((dd_parcel i local.mtu (describes local number n)).body ≡ description fields (describes local number n).last_dd)
-    × IsFilled (λ headers. packet_of own (description fields headers)) local.mtu n.summary (describes local number n).last_dd (describes local number n).summary
+    × IsFilled (λ headers. packet_from own (description fields headers)) local.mtu n.summary (describes local number n).last_dd (describes local number n).summary

@@ -11,7 +11,7 @@ use Rattle.ospf_packet.specs.Meaning.{BodyMeaning, hello, description, request, 
 use Rattle.ospf_packet.specs.declared.entry.RequestEntry.{RequestEntry}
 use Rattle.ospf_exchange.specs.declared.rule.Local.{Local}
 use Rattle.ospf_area.specs.Packing.{ArePacked}
-use Rattle.ospf_area.specs.Sending.{packet_of, sent_lsa}
+use Rattle.ospf_area.specs.Sending.{packet_from, sent_lsa}
 use Rattle.ospf_area.specs.declared.sending.Own.{Own}
 use Rattle.ospf_area.specs.Turns.{Turn}
 use Rattle.ospf_adjacency.specs.Laws.{GoesOn, NeverEnters, SaysOnly}
@@ -55,7 +55,7 @@ RepeatsAreQuiet = (i : Iface) (local : Local) (retransmit delay : ℕ) (db : Lis
 abbrev pub UpdatesArePacked : Type 0
 UpdatesArePacked = (own : Own) (destination : Addr) (mtu delay : ℕ) (db : List Held) (keys : List LsaKey)
     → (packets : List (List (List ℕ))) × (updates_of destination mtu delay db keys ≡ map (update_to destination) packets)
-    × ArePacked (λ lsas. packet_of own (update lsas)) mtu (copies_of db delay keys) packets
+    × ArePacked (λ lsas. packet_from own (update lsas)) mtu (copies_of db delay keys) packets
 
 -- the keys whose copies answer a Request, and of those that go again, each once and in their order (10.7, 13.6)
 pub record KeysGoInOrder : Type 0 where

@@ -11,7 +11,7 @@ use Rattle.ospf_base.specs.Constants.{largest_lsa, largest_packet}
 use Rattle.std.specs.List.{flat_map}
 use Rattle.ospf_area.specs.Outputs.{SentValue, OutputsValue}
 use Rattle.ospf_area.specs.Places.{flat_from}
-use Rattle.ospf_area.specs.Sending.{and_sends, datagrams, packet_of, update_out}
+use Rattle.ospf_area.specs.Sending.{and_sends, datagrams, packet_from, update_out}
 use Rattle.ospf_area.specs.Laws.{sent_as}
 use Rattle.ospf_packet.specs.Slices.{lsas_bytes}
 use Rattle.ospf_packet.specs.Meaning as meaning
@@ -74,9 +74,9 @@ read_again bytes m are again =
 
 -- an Update of one LSA
 pub lsa_out_short : (own : Own) (way : Way) (lsa : List ℕ) → length lsa ≤ largest_lsa
-    → update_out own way (lsa ∷ []) ≡ sent_as way (packet_of own (meaning.update (lsa ∷ []))) ∷ []
+    → update_out own way (lsa ∷ []) ≡ sent_as way (packet_from own (meaning.update (lsa ∷ []))) ∷ []
 lsa_out_short own way lsa fits =
-    datagrams_short way (packet_of own (meaning.update (lsa ∷ []))) (λ long.
+    datagrams_short way (packet_from own (meaning.update (lsa ∷ []))) (λ long.
     let one : length (lsas_bytes (lsa ∷ [])) ≡ length lsa = ap length (append-nil lsa) in
-    let whole : length (packet_bytes (packet_of own (meaning.update (lsa ∷ [])))) ≡ 28 + length (lsas_bytes (lsa ∷ [])) = omega arith in
+    let whole : length (packet_bytes (packet_from own (meaning.update (lsa ∷ [])))) ≡ 28 + length (lsas_bytes (lsa ∷ [])) = omega arith in
     omega (arith, fits, long, one, whole))

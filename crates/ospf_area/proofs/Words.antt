@@ -9,7 +9,7 @@ use Rattle.ospf_area.specs.declared.state.Numbering.{Numbering}
 use Rattle.ospf_packet.specs.PacketOf as packets
 use Rattle.ospf_area.specs.Outputs.{SentValue}
 use Rattle.ospf_iface.specs.declared.machine.Iface.{Iface}
-use Rattle.ospf_area.specs.Sending.{datagrams, packet_of, to_address, way_out}
+use Rattle.ospf_area.specs.Sending.{datagrams, packet_from, to_address, way_out}
 use Rattle.ospf_area.specs.declared.sending.Own.{Own}
 use Rattle.ospf_area.specs.Asking.{request_body, loaded}
 use Rattle.ospf_area.specs.Packets.{Parcel}
@@ -39,11 +39,11 @@ abbrev pub IsReadAsSent : SentValue → Type 0
 IsReadAsSent d = packets.packet_of d.bytes ≡ Some d.packet
 
 abbrev pub request_to : Own → ℕ → Iface → NeighbourValue → List SentValue
-request_to own l i n = datagrams (way_out l i (to_address i n.address)) (packet_of own (request_body n))
+request_to own l i n = datagrams (way_out l i (to_address i n.address)) (packet_from own (request_body n))
 
 -- a packet that goes out of link l, as it is sent
 abbrev pub posted : Own → ℕ → Iface → Parcel → List SentValue
-posted own l i p = datagrams (way_out l i p.destination) (packet_of own p.body)
+posted own l i p = datagrams (way_out l i p.destination) (packet_from own p.body)
 
 abbrev pub turn_request : Own → ℕ → Iface → ℕ → NeighbourValue → List SentValue
 turn_request own l i mtu n = if request_due (loaded n) then request_to own l i (asked_next mtu own.tick (loaded n)) else []

@@ -24,7 +24,7 @@ use Rattle.ospf_area.specs.Flooding.{came_from, flooded_links, flooded_neighbour
 use Rattle.ospf_area.specs.Numbers.{counts, is_own, marked}
 use Rattle.ospf_area.specs.Outputs.{SentValue}
 use Rattle.ospf_area.specs.Packing.{IsFilled}
-use Rattle.ospf_area.specs.Sending.{datagrams, packet_of, update_out}
+use Rattle.ospf_area.specs.Sending.{datagrams, packet_from, update_out}
 use Rattle.ospf_lsdb.specs.Moments.{among}
 use Rattle.ospf_area.specs.State.{AreaValue, LinkValue, WaitsIn, kept_number, neighbour_at, numbering_of}
 use Rattle.ospf_area.specs.declared.changes.AdjacencyChange.{AdjacencyChange}
@@ -122,7 +122,7 @@ ShortAreSent = (way : Way) (m : Meaning) → length (packet_bytes m) ≤ largest
 -- and so does an LSA in an Update of its own
 abbrev pub LsasAreSent : Type 0
 LsasAreSent = (own : Own) (way : Way) (lsa : List ℕ) → length lsa ≤ largest_lsa
-    → update_out own way (lsa ∷ []) ≡ sent_as way (packet_of own (meaning.update (lsa ∷ []))) ∷ []
+    → update_out own way (lsa ∷ []) ≡ sent_as way (packet_from own (meaning.update (lsa ∷ []))) ∷ []
 
 -- ---- how Requests are filled
 
@@ -133,7 +133,7 @@ request_for headers = meaning.request (map entry_for headers)
 abbrev pub RequestsAreFilled : Type 0
 RequestsAreFilled = (own : Own) (mtu tick : ℕ) (n : NeighbourValue) → ip_header + packet_header ≤ mtu
     → (named rest : List LsaHeader) × (request_body (asked_next mtu tick n) ≡ request_for named)
-    × IsFilled (λ headers. packet_of own (request_for headers)) mtu n.requests named rest
+    × IsFilled (λ headers. packet_from own (request_for headers)) mtu n.requests named rest
 
 -- ---- how long the LSAs of a database are
 

@@ -4,7 +4,7 @@ use Rattle.std.specs.Prelude.{◌++◌, ℕ, List}
 use Rattle.std.specs.List.{flat_map}
 use Rattle.ospf_iface.specs.declared.machine.Iface.{Iface}
 use Rattle.ospf_area.specs.Outputs.{SentValue}
-use Rattle.ospf_area.specs.Sending.{datagrams, packet_of, way_out}
+use Rattle.ospf_area.specs.Sending.{datagrams, packet_from, way_out}
 use Rattle.ospf_area.specs.declared.sending.Own.{Own}
 use Rattle.ospf_area.specs.Packets.{Parcel}
 use Rattle.ospf_area.specs.State.{LinkValue}
@@ -29,4 +29,4 @@ and_parcels p ps = record p { sent = p.sent ++ ps }
 
 -- packets that go out of link l, in their order, as they are sent
 abbrev pub posted_all : Own → ℕ → Iface → List Parcel → List SentValue
-posted_all own l i ps = flat_map (λ (p : Parcel). datagrams (way_out l i p.destination) (packet_of own p.body)) ps
+posted_all own l i ps = flat_map (λ (p : Parcel). datagrams (way_out l i p.destination) (packet_from own p.body)) ps

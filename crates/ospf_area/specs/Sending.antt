@@ -29,8 +29,8 @@ datagrams way m =
     else record { link = way.link; source = way.source; destination = way.destination; bytes = packet_bytes m; packet = m } ∷ []
 
 -- a packet of the router's
-abbrev pub packet_of : Own → BodyMeaning → Meaning
-packet_of own body = record { router = own.router; area = own.area; body = body }
+abbrev pub packet_from : Own → BodyMeaning → Meaning
+packet_from own body = record { router = own.router; area = own.area; body = body }
 
 -- out of a link, from the interface's address
 abbrev pub way_out : ℕ → Iface → Addr → Way
@@ -47,4 +47,4 @@ sent_lsa delay lsa = with_age (min ((header_of lsa).age + delay) max_age) lsa
 
 -- an Update of these LSAs
 abbrev pub update_out : Own → Way → List (List ℕ) → List SentValue
-update_out own way lsas = datagrams way (packet_of own (meaning.update lsas))
+update_out own way lsas = datagrams way (packet_from own (meaning.update lsas))

@@ -11,7 +11,7 @@ use Rattle.ospf_graph.specs.Advertisements.{Advertisement, HasLink, IsAttached, 
 use Rattle.ospf_graph.specs.Graph.{IsEdge, IsEdgeBetween}
 use Rattle.ospf_graph.proofs.ListLemmas.{transit_found}
 use Rattle.ospf_edges.specs.Given.{Adds, LinksTo}
-use Rattle.ospf_edges.specs.Near.{AreEdgesAt, AreLinksBy, AreAttachedTo, HasNoNetwork, EdgesNear, LeadsTo, LinksSend, MemberGives, NamesRouter, NearLink, NearLinks, NearMembers, Returns, SendsEdge, edge_to}
+use Rattle.ospf_edges.specs.Near.{AreEdgesAt, AreLinksBy, AreAttachedTo, HasNoNetwork, EdgesNear, LinkLeadsTo, LinksSend, MemberGives, NamesRouter, NearLink, NearLinks, NearMembers, Returns, SendsEdge, edge_to}
 use Rattle.ospf_edges.proofs.AddsLemmas.{adds_as, adds_none}
 use Rattle.ospf_edges.proofs.GivenLemmas.{link_as}
 
@@ -21,7 +21,7 @@ on_ok (Ok x) P Q f p = f p
 on_ok (Err e) P Q f p = tt
 
 -- a link leads to one vertex
-pub leads_one : (link : Link) (a b : Vertex) → LeadsTo link a → LeadsTo link b → a ≡ b
+pub leads_one : (link : Link) (a b : Vertex) → LinkLeadsTo link a → LinkLeadsTo link b → a ≡ b
 leads_one link (Router x) (Router y) h k = let same : x.0 ≡ y.0 = sym h.1 ∙ k.1 in λ i. Router (record { 0 = same i })
 leads_one link (Router x) (Network n) h k = let one = h.0 in let other = k.0 in cc
 leads_one link (Network n) (Router x) h k = let one = h.0 in let other = k.0 in cc
@@ -63,14 +63,14 @@ module _ (A : List Advertisement) where
   sent_to r to e g = ap (λ (y : Edge). y.to) g.2.2.1
 
   module _ (r : RouterId) (links : List Link) (are : AreLinksBy A r links) where
-    own_link : (link : Link) → Contains links link → (x : RouterId) → LeadsTo link (Router x) → LinksTo A r x
+    own_link : (link : Link) → Contains links link → (x : RouterId) → LinkLeadsTo link (Router x) → LinksTo A r x
     own_link link link_in x leads = (
       link.link_data,
       link.metric,
       subst (λ n. HasLink A r LinkKind.PointToPoint n link.link_data link.metric) leads.1 (link_as A r links are.listed link link_in LinkKind.PointToPoint leads.0),
     )
 
-    returned_edge : (link : Link) → Contains links link → (to : Vertex) → LeadsTo link to → NamesRouter A to r → (e : Edge) → Returns to r A e → EdgesNear (Router r) A e
+    returned_edge : (link : Link) → Contains links link → (to : Vertex) → LinkLeadsTo link to → NamesRouter A to r → (e : Edge) → Returns to r A e → EdgesNear (Router r) A e
     returned_edge link link_in (Router x) leads named e g = (sent_edge x (Router r) e g (own_link link link_in x leads), inr (sent_to x (Router r) e g))
     returned_edge link link_in (Network n) leads named e g = (member_edge n r e g named, inr (member_to n r e g))
 
@@ -184,7 +184,7 @@ module _ (A : List Advertisement) where
       (λ e. (λ g. (links, are.listed, g), λ g. (g.2.0, subst (λ (ls : List Link). Contains ls g.2.0) (are.only g.0 g.1) g.2.1, g.2.2)))
 
   -- and what one link brings
-  pub near_link_as : (r : RouterId) (link : Link) (to : Vertex) → LeadsTo link to → NamesRouter A to r → (old new : List Edge)
+  pub near_link_as : (r : RouterId) (link : Link) (to : Vertex) → LinkLeadsTo link to → NamesRouter A to r → (old new : List Edge)
       → Adds (λ e. (edge_to r to link ≡ e) ⊎ Returns to r A e) old new → Adds (NearLink r link A) old new
   near_link_as r link to leads named old new =
       adds_as (λ e. (edge_to r to link ≡ e) ⊎ Returns to r A e) (NearLink r link A) old new (λ e. (

@@ -43,19 +43,19 @@ abbrev pub HasNoAddress : List Advertisement → ℕ → RouterId → Type 0
 HasNoAddress adverts n r = (address : ℕ) → IsAddressOn adverts n r address → ⊥
 
 -- one of the links is of type 1 and leads to the router
-abbrev pub HasLinkTo : RouterId → List Link → Type 0
-HasLinkTo r links = Any (λ l. (l.kind ≡ LinkKind.PointToPoint) × (l.id ≡ r.0)) links
+abbrev pub HasLinkToRouter : RouterId → List Link → Type 0
+HasLinkToRouter r links = Any (λ l. (l.kind ≡ LinkKind.PointToPoint) × (l.id ≡ r.0)) links
 
 -- ---- what is added
 
 -- a link of type 1 or 2 leads to the vertex
-abbrev pub LeadsTo : Link → Vertex → Type 0
-LeadsTo link (Router x) = (link.kind ≡ LinkKind.PointToPoint) × (link.id ≡ x.0)
-LeadsTo link (Network n) = (link.kind ≡ LinkKind.Transit) × (link.id ≡ n)
+abbrev pub LinkLeadsTo : Link → Vertex → Type 0
+LinkLeadsTo link (Router x) = (link.kind ≡ LinkKind.PointToPoint) × (link.id ≡ x.0)
+LinkLeadsTo link (Network n) = (link.kind ≡ LinkKind.Transit) × (link.id ≡ n)
 
 -- the link leads to no vertex
 abbrev pub LeadsNowhere : Link → Type 0
-LeadsNowhere link = (to : Vertex) → LeadsTo link to → ⊥
+LeadsNowhere link = (to : Vertex) → LinkLeadsTo link to → ⊥
 
 -- the LSA of the vertex names the router
 abbrev pub NamesRouter : List Advertisement → Vertex → RouterId → Type 0
@@ -68,7 +68,7 @@ edge_to r to link = record { from = Router r; to = to; cost = link.metric; link_
 
 -- the edge of a link that leads to the vertex
 abbrev pub LinkSends : RouterId → Vertex → Link → Edge → Type 0
-LinkSends r to link e = LeadsTo link to × (e ≡ edge_to r to link)
+LinkSends r to link e = LinkLeadsTo link to × (e ≡ edge_to r to link)
 
 -- the edges of such links
 abbrev pub LinksSend : RouterId → Vertex → List Link → Edge → Type 0
@@ -90,7 +90,7 @@ Returns (Network n) r adverts e = MemberGives n r adverts e
 -- the edges between a router and the end of a link of it
 abbrev pub NearLink : RouterId → Link → List Advertisement → Edge → Type 0
 NearLink r link adverts e =
-    (to : Vertex) × LeadsTo link to × NamesRouter adverts to r × ((edge_to r to link ≡ e) ⊎ Returns to r adverts e)
+    (to : Vertex) × LinkLeadsTo link to × NamesRouter adverts to r × ((edge_to r to link ≡ e) ⊎ Returns to r adverts e)
 
 -- the edges between a router and the ends of links of it
 abbrev pub NearLinks : RouterId → List Link → List Advertisement → Edge → Type 0

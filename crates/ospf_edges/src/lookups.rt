@@ -5,7 +5,7 @@ ghost use Rattle.ospf_lsa.specs.Listing.{IsListing};
 ghost use Rattle.ospf_graph.specs.Advertisements.{IsListed, IsAttached, is_transit_to, transit_address};
 ghost use Rattle.ospf_edges.specs.Listed.{advertisements_of};
 ghost use Rattle.ospf_edges.specs.Given.{LinksTo};
-ghost use Rattle.ospf_edges.specs.Near.{AreLinksBy, AreAttachedTo, HasNoNetwork, IsFirstAddress, HasNoAddress, HasLinkTo};
+ghost use Rattle.ospf_edges.specs.Near.{AreLinksBy, AreAttachedTo, HasNoNetwork, IsFirstAddress, HasNoAddress, HasLinkToRouter};
 
 use ospf_base::{Kind, LsaKey, RouterId};
 use ospf_lsa::{Attached, Link, LinkKind, Links, Listing};
@@ -78,7 +78,7 @@ pub(crate) fn address_on(listing: &Listing, id: u32, router: RouterId) -> Option
 
 // Whether one of the links is a type 1 link to a router.
 fn has_link_to(mut links: Links, router: RouterId) -> bool
-    ensures { IsTrue result ↔ HasLinkTo router links.entry }
+    ensures { IsTrue result ↔ HasLinkToRouter router links.entry }
 {
     links.any(|link| link.kind == LinkKind::PointToPoint && link.id == router.0)
 }

@@ -5,7 +5,7 @@ ghost use Rattle.ospf_lsa.specs.Listing.{IsListing};
 ghost use Rattle.ospf_graph.specs.Search.{AreFitEdges};
 ghost use Rattle.ospf_edges.specs.Listed.{advertisements_of};
 ghost use Rattle.ospf_edges.specs.Given.{Adds};
-ghost use Rattle.ospf_edges.specs.Near.{AddsAt, AreEdgesAt, EdgesNear, LeadsTo, LeadsNowhere, LinkSends, LinksSend};
+ghost use Rattle.ospf_edges.specs.Near.{AddsAt, AreEdgesAt, EdgesNear, LinkLeadsTo, LeadsNowhere, LinkSends, LinksSend};
 ghost use Rattle.ospf_edges.specs.Near.{MemberGives, NamesRouter, NearLink, NearLinks, NearMember, NearMembers, Returns, SendsEdge};
 ghost use Rattle.ospf_edges.specs.Near.{edge_to as edge_to_spec};
 
@@ -80,7 +80,7 @@ fn add_near_link(
 
 // The vertex that a link of type 1 or 2 leads to.
 fn end_of(link: Link) -> Option<Vertex>
-    ensures found { IfSome result (LeadsTo link) }
+    ensures found { IfSome result (LinkLeadsTo link) }
     ensures none { IfNone result (LeadsNowhere link) }
 {
     match link.kind {
@@ -174,7 +174,7 @@ fn add_sent_link(
 
 // Whether a link leads to a vertex.
 fn leads_to(link: Link, to: Vertex) -> bool
-    ensures { IsTrue result ↔ LeadsTo link to }
+    ensures { IsTrue result ↔ LinkLeadsTo link to }
 {
     match to {
         Vertex::Router(router) => link.kind == LinkKind::PointToPoint && link.id == router.0,

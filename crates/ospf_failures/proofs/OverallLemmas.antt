@@ -25,8 +25,8 @@ use Rattle.ospf_failures.specs.Overall.{AreOveralls, IsTableBefore, IsOverall, I
 use Rattle.ospf_table.specs.Sums.{HasSumRoom, has_changes, one_if, sums_plus}
 use Rattle.ospf_failures.specs.Reports.{SightValue, is_of}
 use Rattle.ospf_failures.specs.declared.overall.Before.{Before}
-use Rattle.ospf_failures.specs.declared.overall.Detail.{Detail}
-use Rattle.ospf_failures.specs.declared.overall.Detail.TheVariants as detail
+use Rattle.ospf_failures.specs.declared.overall.RouteDetail.{RouteDetail}
+use Rattle.ospf_failures.specs.declared.overall.RouteDetail.TheVariants as detail
 use Rattle.ospf_failures.specs.declared.overall.Overall.{Overall}
 use Rattle.ospf_table.specs.declared.sums.Sums.{Sums}
 
@@ -81,7 +81,7 @@ abbrev pub roots_of : List Before → List RouterId
 roots_of befores = map (λ b. b.root) befores
 
 module _ (A : List Advertisement) (fs : List AreaFailure) (all : AreFailures A fs) (rising : AllPairs IsFailureBefore fs) (befores : List Before) (roots : roots_of befores ≡ roots_in fs)
-    (tables : All (IsTableBefore A) befores) (wanted : Detail) (o : Overall) (so_far : IsSoFar (without o.failure A) befores wanted (roots_of befores) o) where
+    (tables : All (IsTableBefore A) befores) (wanted : RouteDetail) (o : Overall) (so_far : IsSoFar (without o.failure A) befores wanted (roots_of befores) o) where
   routers_are : map (λ s. s.0) so_far.sights ≡ filter (other_than o.failure) (roots_in fs)
   routers_are = so_far.routers ∙ ap (filter (other_than o.failure)) roots
 
@@ -129,7 +129,7 @@ sums_more sights s = λ i. record {
   routers = count_push (λ (t : SightValue). has_changes t.1) sights s i;
 }
 
-module _ (left : List Advertisement) (befores : List Before) (wanted : Detail) (i : ℕ) (b : Before) (lt : i < length befores) (is : b ≡ get_or befores i b) (old new : Overall)
+module _ (left : List Advertisement) (befores : List Before) (wanted : RouteDetail) (i : ℕ) (b : Before) (lt : i < length befores) (is : b ≡ get_or befores i b) (old new : Overall)
     (so_far : IsSoFar left befores wanted (roots_of (take i befores)) old) where
   roots_more : roots_of (take (i + 1) befores) ≡ roots_of (take i befores) ++ b.root ∷ []
   roots_more = ap roots_of (take_more befores i b lt) ∙ map_push (λ c. c.root) (take i befores) (get_or befores i b)
@@ -154,7 +154,7 @@ module _ (left : List Advertisement) (befores : List Before) (wanted : Detail) (
   lines_more : (s : SightValue) → lines_kept wanted old.failure (so_far.sights ++ s ∷ []) ≡ lines_kept wanted old.failure so_far.sights ++ lines_kept wanted old.failure (s ∷ [])
   lines_more s = go wanted
     where
-      go : (d : Detail) → lines_kept d old.failure (so_far.sights ++ s ∷ []) ≡ lines_kept d old.failure so_far.sights ++ lines_kept d old.failure (s ∷ [])
+      go : (d : RouteDetail) → lines_kept d old.failure (so_far.sights ++ s ∷ []) ≡ lines_kept d old.failure so_far.sights ++ lines_kept d old.failure (s ∷ [])
       go detail.Sums = refl
       go detail.Lines = flat_map-append (sight_lines old.failure) so_far.sights (s ∷ [])
       go detail.Routes = refl
@@ -162,7 +162,7 @@ module _ (left : List Advertisement) (befores : List Before) (wanted : Detail) (
   kept_on : (s : SightValue) → sights_kept wanted (so_far.sights ++ s ∷ []) ≡ sights_kept wanted so_far.sights ++ sights_kept wanted (s ∷ [])
   kept_on s = go wanted
     where
-      go : (d : Detail) → sights_kept d (so_far.sights ++ s ∷ []) ≡ sights_kept d so_far.sights ++ sights_kept d (s ∷ [])
+      go : (d : RouteDetail) → sights_kept d (so_far.sights ++ s ∷ []) ≡ sights_kept d so_far.sights ++ sights_kept d (s ∷ [])
       go detail.Sums = refl
       go detail.Lines = refl
       go detail.Routes = refl
@@ -215,7 +215,7 @@ room_plus n s changes few room = record {
   routers = (let r = room.routers in let k = one_at_most (has_changes changes) in omega arith);
 }
 
-pub room_after : (left : List Advertisement) (b : Before) (wanted : Detail) (old new : Overall) (n m : ℕ) → Sees left b wanted old new → n + 1 ≡ m → HasSumRoom m old.sums → HasSumRoom n new.sums
+pub room_after : (left : List Advertisement) (b : Before) (wanted : RouteDetail) (old new : Overall) (n m : ℕ) → Sees left b wanted old new → n + 1 ≡ m → HasSumRoom m old.sums → HasSumRoom n new.sums
 room_after left b wanted old new n m (inl none) is room =
     subst (λ (o : Overall). HasSumRoom n o.sums) (sym none.1) (less n m old.sums is room)
   where
@@ -232,7 +232,7 @@ room_after left b wanted old new n m (inr more) is room =
 
 -- ---- all failures
 
-pub overalls_are : (A : List Advertisement) (wanted : Detail) (fs : List AreaFailure) (befores : List Before) (overalls printed : List Overall) → AreFailures A fs
+pub overalls_are : (A : List Advertisement) (wanted : RouteDetail) (fs : List AreaFailure) (befores : List Before) (overalls printed : List Overall) → AreFailures A fs
     → AllPairs IsFailureBefore fs → roots_of befores ≡ roots_in fs → All (IsTableBefore A) befores → map (λ o. o.failure) overalls ≡ fs
     → All (λ o. IsSoFar (without o.failure A) befores wanted (roots_of befores) o) overalls → IsPermutation overalls printed → IsSorted overall_cmp printed
     → AreOveralls A wanted printed
@@ -245,18 +245,18 @@ overalls_are A wanted fs befores overalls printed all rising roots tables names 
   in_order = in_order;
 }
 
-no_lines : (f : AreaFailure) (d : Detail) → [] ≡ lines_kept d f []
+no_lines : (f : AreaFailure) (d : RouteDetail) → [] ≡ lines_kept d f []
 no_lines f detail.Sums = refl
 no_lines f detail.Lines = refl
 no_lines f detail.Routes = refl
 
-no_sights : (d : Detail) → [] ≡ sights_kept d []
+no_sights : (d : RouteDetail) → [] ≡ sights_kept d []
 no_sights detail.Sums = refl
 no_sights detail.Lines = refl
 no_sights detail.Routes = refl
 
 -- of no router yet
-pub none_yet : (left : List Advertisement) (befores : List Before) (wanted : Detail) (o : Overall) → o.sums ≡ sums_of [] → string_bytes o.lines ≡ [] → o.sights.items ≡ []
+pub none_yet : (left : List Advertisement) (befores : List Before) (wanted : RouteDetail) (o : Overall) → o.sums ≡ sums_of [] → string_bytes o.lines ≡ [] → o.sights.items ≡ []
     → IsSoFar left befores wanted [] o
 none_yet left befores wanted o sums lines sights = record {
   sights = [];

@@ -34,8 +34,8 @@ use Rattle.ospf_failures.specs.declared.answer.FailuresJob.{FailuresJob}
 use Rattle.ospf_failures.specs.declared.answer.FailuresJob.TheVariants.{All, Root, Without}
 use Rattle.ospf_failures.specs.declared.answer.FailuresStatus.{FailuresStatus}
 use Rattle.ospf_failures.specs.declared.answer.FailuresStatus.TheVariants.{CutOff, Ended}
-use Rattle.ospf_failures.specs.declared.overall.Detail.{Detail}
-use Rattle.ospf_failures.specs.declared.overall.Detail.TheVariants as detail
+use Rattle.ospf_failures.specs.declared.overall.RouteDetail.{RouteDetail}
+use Rattle.ospf_failures.specs.declared.overall.RouteDetail.TheVariants as detail
 use Rattle.ospf_failures.specs.declared.overall.Overall.{Overall}
 
 -- ---- statuses
@@ -120,7 +120,7 @@ pub record SaysChanges (adverts : List Advertisement) (root : RouterId) (each st
   pub ends : IsFailuresEnd strict printed end
 
 -- what is kept of the routes that change, where each is to be told
-abbrev pub detail_of : Bool → FailuresForm → Detail
+abbrev pub detail_of : Bool → FailuresForm → RouteDetail
 detail_of true form.Text = detail.Lines
 detail_of true form.Json = detail.Routes
 detail_of false form = detail.Sums

@@ -1,5 +1,5 @@
 -- What each failure of an area changes in the tables of all its routers.
-use Rattle.std.specs.Prelude.{◌≡◌, ◌↔◌, ◌<◌, ◌+◌, ◌*◌, ◌^◌, ℕ, Bool, true, false, List, [], ◌∷◌, ◌++◌, ◌⊎◌, All, AllPairs, Any, Contains, Err, IfOk, IsPermutation, Vec, codes, count_by, decimal, filter, flat_map, if◌then◌else◌, length, map, not, string_bytes, sum_by}
+use Rattle.std.specs.Prelude.{◌≡◌, ◌↔◌, ◌<◌, ◌+◌, ◌^◌, ℕ, true, false, List, [], ◌∷◌, ◌++◌, ◌⊎◌, All, AllPairs, Any, Contains, Err, IfOk, IsPermutation, Vec, codes, count_by, filter, flat_map, length, map, not, string_bytes, sum_by}
 use Rattle.std.specs.Cmp.Lexicographic.{slice_cmp}
 use Rattle.std.specs.List.Sorted.{IsSorted}
 use Rattle.std.specs.Ordering.{nat_cmp, ordering_then}
@@ -14,7 +14,6 @@ use Rattle.ospf_graph.specs.Routes.{IsTable}
 use Rattle.ospf_graph.specs.declared.route.Route.{Route}
 use Rattle.ospf_whatif.specs.Effect.{IsEffect, IsEffectIn}
 use Rattle.ospf_whatif.specs.Failure.{HasLarge, without}
-use Rattle.ospf_whatif.specs.Name.{area_failure_text}
 use Rattle.ospf_whatif.specs.Outage.{IsKeptRoot}
 use Rattle.ospf_whatif.specs.Single.{IsFailure, IsFailureBefore}
 use Rattle.ospf_whatif.specs.declared.area.WithoutFault.{WithoutFault}
@@ -27,8 +26,8 @@ use Rattle.ospf_table.specs.Sums.{has_changes, sums_line, sums_plus}
 use Rattle.ospf_table.specs.declared.sums.Sums.{Sums}
 use Rattle.ospf_failures.specs.Reports.{IsFailureFound, SightValue, is_of, failure_place}
 use Rattle.ospf_failures.specs.declared.overall.Before.{Before}
-use Rattle.ospf_failures.specs.declared.overall.Detail.{Detail}
-use Rattle.ospf_failures.specs.declared.overall.Detail.TheVariants as detail
+use Rattle.ospf_failures.specs.declared.overall.RouteDetail.{RouteDetail}
+use Rattle.ospf_failures.specs.declared.overall.RouteDetail.TheVariants as detail
 use Rattle.ospf_failures.specs.declared.overall.Overall.{Overall}
 
 -- ---- at each router
@@ -62,17 +61,17 @@ abbrev pub sight_lines : AreaFailure → SightValue → List ℕ
 sight_lines failure sight = flat_map (λ c. number_text sight.0.0 ++ codes " " ++ change_line failure c) sight.1
 
 -- the lines, where these are wanted
-abbrev pub lines_kept : Detail → AreaFailure → List SightValue → List ℕ
+abbrev pub lines_kept : RouteDetail → AreaFailure → List SightValue → List ℕ
 lines_kept detail.Lines failure sights = flat_map (sight_lines failure) sights
 lines_kept _ failure sights = []
 
 -- the routes, where these are
-abbrev pub sights_kept : Detail → List SightValue → List SightValue
+abbrev pub sights_kept : RouteDetail → List SightValue → List SightValue
 sights_kept detail.Routes sights = sights
 sights_kept _ sights = []
 
 -- what is told of a failure, with the lines or the routes where they are wanted
-pub record IsOverall (adverts : List Advertisement) (wanted : Detail) (o : Overall) : Type 0 where
+pub record IsOverall (adverts : List Advertisement) (wanted : RouteDetail) (o : Overall) : Type 0 where
   pub sights : List SightValue
   pub are_sights : AreSights adverts o.failure sights
   pub sums_are : o.sums ≡ sums_of sights
@@ -94,7 +93,7 @@ abbrev pub overall_rank : Overall → Reverse (List ℕ) × List ℕ
 overall_rank o = (record { 0 = sum_counts o.sums }, failure_place o.failure)
 
 -- what is printed over all roots: of each failure of the area what it changes, in order
-pub record AreOveralls (adverts : List Advertisement) (wanted : Detail) (printed : List Overall) : Type 0 where
+pub record AreOveralls (adverts : List Advertisement) (wanted : RouteDetail) (printed : List Overall) : Type 0 where
   pub overalls : List Overall
   pub whole : (failure : AreaFailure) → Contains (map (λ o. o.failure) overalls) failure ↔ IsFailure adverts failure
   pub rising : AllPairs IsFailureBefore (map (λ o. o.failure) overalls)
@@ -132,7 +131,7 @@ abbrev pub IsSightFrom : List Advertisement → List Before → SightValue → T
 IsSightFrom left befores sight = (b : Before) × Contains befores b × (b.root ≡ sight.0) × IsEffectIn left b.root b.table sight.1
 
 -- what is told so far, of some routers
-pub record IsSoFar (left : List Advertisement) (befores : List Before) (wanted : Detail) (roots : List RouterId) (o : Overall) : Type 0 where
+pub record IsSoFar (left : List Advertisement) (befores : List Before) (wanted : RouteDetail) (roots : List RouterId) (o : Overall) : Type 0 where
   pub sights : List SightValue
   pub routers : map (λ s. s.0) sights ≡ filter (λ r. not (is_of r o.failure)) roots
   pub seen : All (IsSightFrom left befores) sights
@@ -141,25 +140,25 @@ pub record IsSoFar (left : List Advertisement) (befores : List Before) (wanted :
   pub sights_are : o.sights.items ≡ sights_kept wanted sights
 
 -- what is found of one failure: what is told of all routers, or why not
-abbrev pub IsOverallFound : List Advertisement → List Before → Detail → AreaFailure → Result Overall WithoutFault → Type 0
+abbrev pub IsOverallFound : List Advertisement → List Before → RouteDetail → AreaFailure → Result Overall WithoutFault → Type 0
 IsOverallFound adverts befores wanted failure found =
     IsFailureFound adverts (λ o. o.failure) (λ f o. IsSoFar (without f adverts) befores wanted (map (λ b. b.root) befores) o) failure found
 
 -- what is found of these failures: each of them, in their order, or why not
-pub record AreOverallsFound (adverts : List Advertisement) (befores : List Before) (wanted : Detail) (failures : List AreaFailure) (found : Result (Vec Overall Global) WithoutFault) : Type 0 where
+pub record AreOverallsFound (adverts : List Advertisement) (befores : List Before) (wanted : RouteDetail) (failures : List AreaFailure) (found : Result (Vec Overall Global) WithoutFault) : Type 0 where
   pub failures_are : IfOk found (λ overalls. map (λ o. o.failure) overalls.items ≡ failures)
   pub large : found ≡ Err Links → HasLarge adverts
   pub seen : IfOk found (λ overalls. All (λ o. IsSoFar (without o.failure adverts) befores wanted (map (λ b. b.root) befores) o) overalls.items)
 
 -- what is kept of one router more
-pub record KeepsMore (wanted : Detail) (sight : SightValue) (old new : Overall) : Type 0 where
+pub record KeepsMore (wanted : RouteDetail) (sight : SightValue) (old new : Overall) : Type 0 where
   pub same : new.failure ≡ old.failure
   pub sums_are : new.sums ≡ old.sums
   pub lines_are : string_bytes new.lines ≡ string_bytes old.lines ++ lines_kept wanted old.failure (sight ∷ [])
   pub sights_are : new.sights.items ≡ old.sights.items ++ sights_kept wanted (sight ∷ [])
 
 -- one router more, which does not fail
-pub record SeesMore (left : List Advertisement) (before : Before) (wanted : Detail) (old new : Overall) : Type 0 where
+pub record SeesMore (left : List Advertisement) (before : Before) (wanted : RouteDetail) (old new : Overall) : Type 0 where
   pub changes : List RouteChange
   pub few : length changes < 2 ^ 64
   pub effect : IsEffectIn left before.root before.table changes
@@ -170,5 +169,5 @@ pub record SeesMore (left : List Advertisement) (before : Before) (wanted : Deta
   pub sights_are : new.sights.items ≡ old.sights.items ++ sights_kept wanted ((before.root, changes) ∷ [])
 
 -- one router more, which may be what fails
-abbrev pub Sees : List Advertisement → Before → Detail → Overall → Overall → Type 0
+abbrev pub Sees : List Advertisement → Before → RouteDetail → Overall → Overall → Type 0
 Sees left before wanted old new = ((is_of before.root old.failure ≡ true) × (new ≡ old)) ⊎ SeesMore left before wanted old new

@@ -15,7 +15,9 @@ ghost use Rattle.ospf_graph.specs.declared.route.Route.{Route};
 ghost use Rattle.ospf_failures.specs.Reports.{IsReported};
 ghost use Rattle.ospf_failures.specs.Without.{IsFaultOfNames, IsFirstUnnamed};
 
-use crate::overall::{Detail, Overall, cuts_somewhere, overalls, overalls_json, overalls_text};
+use crate::overall::{
+    Overall, RouteDetail, cuts_somewhere, overalls, overalls_json, overalls_text,
+};
 use crate::progress::Progress;
 use crate::report::{Report, has_cut, reports, reports_json, reports_text};
 use crate::without::text_without;
@@ -525,15 +527,15 @@ fn added_text(
 }
 
 // What has to be kept of the routes that change.
-fn detail_of(each: bool, form: FailuresForm) -> Detail
+fn detail_of(each: bool, form: FailuresForm) -> RouteDetail
     ensures { result ≡ detail_of each form }
 {
     if !each {
-        return Detail::Sums;
+        return RouteDetail::Sums;
     }
     match form {
-        FailuresForm::Text => Detail::Lines,
-        FailuresForm::Json => Detail::Routes,
+        FailuresForm::Text => RouteDetail::Lines,
+        FailuresForm::Json => RouteDetail::Routes,
     }
 }
 

@@ -1,5 +1,4 @@
-//! What each single failure of an area changes in the tables of its routers, and tables without parts of it, as lines of text; and
-//! the first as JSON too.
+//! What each single failure of an area changes in the tables of its routers, as text or JSON, and tables without parts of it.
 //!
 //! `failures_text` is the whole: it reads, calculates and prints.
 #![tactic(auto)]
@@ -11,7 +10,9 @@ mod report;
 mod without;
 
 pub use crate::answer::{FailuresForm, FailuresJob, FailuresStatus, failures_text};
-pub use crate::overall::{Detail, Overall, cuts_somewhere, overalls, overalls_json, overalls_text};
+pub use crate::overall::{
+    Overall, RouteDetail, cuts_somewhere, overalls, overalls_json, overalls_text,
+};
 pub use crate::progress::Progress;
 pub use crate::report::{Report, has_cut, reports, reports_json, reports_text};
 pub use ospf_table::Sums;

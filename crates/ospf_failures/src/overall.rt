@@ -35,7 +35,7 @@ const PARTS: usize = 16;
 
 /// What is kept of the routes that a failure changes, beside how many they are.
 #[derive(Clone, Copy, Debug, PartialEq, Eq)]
-pub enum Detail {
+pub enum RouteDetail {
     /// Nothing.
     Sums,
     /// A line for each.
@@ -77,7 +77,7 @@ pub fn overalls<P: Progress>(
     alloc: Global,
     rt: &(impl Threads + Sync),
     listing: &Listing,
-    detail: Detail,
+    detail: RouteDetail,
     progress: &mut P,
 ) -> Result<Vec<Overall>, WithoutFault>
     ensures printed { IfOk result (λ printed. AreOveralls (advertisements_of listing.now) detail
@@ -193,7 +193,7 @@ fn overalls_of<P: Progress>(
     at: (&Listing, &AreaGraph),
     failures: &[AreaFailure],
     befores: &[Before],
-    detail: Detail,
+    detail: RouteDetail,
     progress: &mut P,
 ) -> Result<Vec<Overall>, WithoutFault>
     requires graph { IsAreaGraph (advertisements_of at.0.now) at.1.now }
@@ -222,7 +222,7 @@ fn part_of(
     area: &AreaGraph,
     failures: &[AreaFailure],
     befores: &[Before],
-    detail: Detail,
+    detail: RouteDetail,
 ) -> Result<Vec<Overall>, WithoutFault>
     requires graph { IsAreaGraph (advertisements_of listing.now) area.now }
     requires tables { All (IsTableBefore (advertisements_of listing.now)) befores.now }
@@ -251,7 +251,7 @@ fn overall_of(
     area: &AreaGraph,
     failure: &AreaFailure,
     befores: &[Before],
-    detail: Detail,
+    detail: RouteDetail,
 ) -> Result<Overall, WithoutFault>
     requires graph { IsAreaGraph (advertisements_of listing.now) area.now }
     requires tables { All (IsTableBefore (advertisements_of listing.now)) befores.now }
@@ -270,7 +270,7 @@ fn overall_in(
     outage: &Outage,
     failure: AreaFailure,
     befores: &[Before],
-    detail: Detail,
+    detail: RouteDetail,
 ) -> Result<Overall, AllocError>
     requires graph { IsAreaGraph (advertisements_of listing.now) area.now }
     requires outage { IsOutage (advertisements_of listing.now) outage.now }
@@ -339,7 +339,7 @@ impl Overall {
         area: &AreaGraph,
         outage: &Outage,
         before: &Before,
-        detail: Detail,
+        detail: RouteDetail,
     ) -> Result<(), AllocError>
         requires graph { IsAreaGraph (advertisements_of listing.now) area.now }
         requires outage { IsOutage (advertisements_of listing.now) outage.now }
@@ -363,18 +363,18 @@ impl Overall {
         alloc: Global,
         root: RouterId,
         changes: Vec<RouteChange>,
-        detail: Detail,
+        detail: RouteDetail,
     ) -> Result<(), AllocError>
         ensures { OnOk result (KeepsMore detail (root, changes.items) self.old self.new) }
     {
         match detail {
-            Detail::Sums => Ok(()),
-            Detail::Lines => {
+            RouteDetail::Sums => Ok(()),
+            RouteDetail::Lines => {
                 let lines = sight_lines(alloc, &self.failure, root, &changes)?;
                 self.lines.push_str(&lines)?;
                 Ok(())
             }
-            Detail::Routes => {
+            RouteDetail::Routes => {
                 self.sights.push(Sight { root, changes })?;
                 Ok(())
             }

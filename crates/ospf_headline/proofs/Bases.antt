@@ -12,7 +12,7 @@ use Rattle.ospf_step.specs.Step.{Event, heard_in}
 use Rattle.ospf_step.proofs.StateFacts.{same_contents, slice_get-append_left}
 use Rattle.ospf_step.proofs.StepAccounts.{StepLaws-accounts}
 use Rattle.ospf_area.specs.State.{AreaValue}
-use Rattle.ospf_headline.specs.World.{Comes, World, WorldEvent, Issued, Run, Running, router_at, run_of, StepsRouter, Becomes, SameLogs, IsNewWorld, Happens, RunsEvents}
+use Rattle.ospf_headline.specs.World.{Comes, World, WorldEvent, Issued, Run, Running, router_at, run_of, StepsRouter, RouterBecomes, SameLogs, IsNewWorld, Happens, RunsEvents}
 use Rattle.ospf_headline.specs.declared.event.WorldEvent.TheVariants.{Start}
 use Rattle.ospf_headline.specs.Sound.{IssuedAt, HasBegun, NoneLargest, BasesAreFloors}
 use Rattle.ospf_headline.proofs.Facts.{Facts}
@@ -76,7 +76,7 @@ module _ (is_dropped : Event → AreaValue → Bool) (start : World) (past : Lis
   }
 
   -- where no log grows and router r becomes o, only o is to be looked at
-  Bases-same_logs : (r : RouterId) (o : Option Running) → Becomes w w' r o → SameLogs w w' → ((x : Running) → o ≡ Some x → Begun r x.first × ((key : LsaKey) → run_of x key ≡ x.first)) → Bases is_dropped start (past ++ event ∷ []) w'
+  Bases-same_logs : (r : RouterId) (o : Option Running) → RouterBecomes w w' r o → SameLogs w w' → ((x : Running) → o ≡ Some x → Begun r x.first × ((key : LsaKey) → run_of x key ≡ x.first)) → Bases is_dropped start (past ++ event ∷ []) w'
   Bases-same_logs r o becomes logs of = record {
     leads = further past start b.leads;
     running = λ q y at. run q y (which_router w w' r o q y becomes at);

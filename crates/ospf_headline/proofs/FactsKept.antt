@@ -24,7 +24,7 @@ use Rattle.ospf_step.specs.Accounts.{Accounts, HasContents, Hears, IsAcknowledge
 use Rattle.ospf_step.specs.Step.{Event, heard_in}
 use Rattle.ospf_step.proofs.StateFacts.{same_router, Contains-nil, slice_get-append_right, Contains-map_cases, Contains-map, slice_get-append_cases, slice_get-append_left, slice_get-map_cases, Contains-from_slice_get, slice_get-from_Contains}
 use Rattle.ospf_step.proofs.StepAccounts.{StepLaws-accounts, StepLaws-sound}
-use Rattle.ospf_headline.specs.World.{World, Issued, Datagram, Holding, Running, router_at, run_of, StepsRouter, Becomes, HasItsTable}
+use Rattle.ospf_headline.specs.World.{World, Issued, Datagram, Holding, Running, router_at, run_of, StepsRouter, RouterBecomes, HasItsTable}
 use Rattle.ospf_headline.specs.Sound.{WasIssued, IssuedAt, number_in}
 use Rattle.ospf_headline.proofs.Facts.{Facts, IsAfter, IsKnownTo}
 
@@ -33,7 +33,7 @@ pub data IsThat (before : World) (r : RouterId) (o : Option Running) (q : Router
   TheOne : q ≡ r → o ≡ Some y → IsThat before r o q y
   Another : q ≢ r → router_at before q ≡ Some y → IsThat before r o q y
 
-pub which_router : (before after : World) (r : RouterId) (o : Option Running) (q : RouterId) (y : Running) → Becomes before after r o → router_at after q ≡ Some y → IsThat before r o q y
+pub which_router : (before after : World) (r : RouterId) (o : Option Running) (q : RouterId) (y : Running) → RouterBecomes before after r o → router_at after q ≡ Some y → IsThat before r o q y
 which_router before after r o q y b at = go (cases_eq q.0 r.0)
   where
     that : q ≡ r → IsThat before r o q y

@@ -24,7 +24,7 @@ use Rattle.ospf_step.specs.Step.{Event, heard_in}
 use Rattle.ospf_step.proofs.StateFacts.{same_contents, Contains-nil, Contains-from_slice_get}
 use Rattle.ospf_step.proofs.StepAccounts.{StepLaws-accounts}
 use Rattle.ospf_step.specs.Step.Event.{Tick, LinkUp, LinkDown}
-use Rattle.ospf_headline.specs.World.{Comes, World, WorldEvent, Issued, Datagram, Running, router_at, run_of, StepsRouter, Becomes, SameLogs, IsRunningStarted, IsNewWorld, Happens, RunsEvents, stepped_by, HasItsTable}
+use Rattle.ospf_headline.specs.World.{Comes, World, WorldEvent, Issued, Datagram, Running, router_at, run_of, StepsRouter, RouterBecomes, SameLogs, IsRunningStarted, IsNewWorld, Happens, RunsEvents, stepped_by, HasItsTable}
 use Rattle.ospf_headline.specs.declared.event.WorldEvent.TheVariants.{Start, Stop, Tick as TickOf, LinkUp as LinkUpOf, LinkDown as LinkDownOf, Deliver}
 use Rattle.ospf_headline.specs.Sound.{WasIssued, HeldAnywhere, IssuedAgain, AgreeUnlessIssuedAgain, NoCollision, BasesAreHigh, IssuedAt, number_in, HasToldOf, IsSoundFor, SoundFor, IsSoundAcknowledgement}
 use Rattle.ospf_headline.proofs.Facts.{Facts, IsAfter, IsKnownTo}
@@ -64,7 +64,7 @@ pub record FactsOf (w : World) (r : RouterId) (x : Running) : Type 0 where
   pub tables : HasItsTable x
 
 -- where no log grows and router r becomes o, the facts need only be seen of o
-pub Facts-same_logs : (w w' : World) (r : RouterId) (o : Option Running) → Facts w → Becomes w w' r o → SameLogs w w' → ((x : Running) → o ≡ Some x → FactsOf w r x) → Facts w'
+pub Facts-same_logs : (w w' : World) (r : RouterId) (o : Option Running) → Facts w → RouterBecomes w w' r o → SameLogs w w' → ((x : Running) → o ≡ Some x → FactsOf w r x) → Facts w'
 Facts-same_logs w w' r o facts b logs of = record {
   database = λ q y lsa at c. subst (λ issued. WasIssued issued (contents lsa)) (sym logs.issued) ((each q y at).database lsa c);
   updates = λ g p lsa c reads in_p. subst (λ issued. WasIssued issued (contents lsa)) (sym logs.issued) (facts.updates g p lsa (subst (λ gs. Contains gs g) logs.datagrams c) reads in_p);

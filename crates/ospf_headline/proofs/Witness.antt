@@ -13,7 +13,7 @@ use Rattle.ospf_step.specs.Words.{CanName}
 use Rattle.ospf_step.proofs.StateFacts.{Contains-nil, same_router}
 use Rattle.ospf_step.proofs.Witness.{at_tick, ticks}
 use Rattle.ospf_headline.specs.declared.event.WorldEvent.TheVariants.{Start, Tick}
-use Rattle.ospf_headline.specs.World.{Comes, World, Member, Running, WorldEvent, router_at, run_of, Becomes, HasItsTable, IsRunningStarted, StepsRouter, RunsEvents, IsNewWorld}
+use Rattle.ospf_headline.specs.World.{Comes, World, Member, Running, WorldEvent, router_at, run_of, RouterBecomes, HasItsTable, IsRunningStarted, StepsRouter, RunsEvents, IsNewWorld}
 
 abbrev it : RouterId
 it = record { 0 = 1 }
@@ -42,7 +42,7 @@ is_new = record { none_runs = λ r. only_it None r ∙ go (1 == r.0); no_datagra
     go true = refl
     go false = refl
 
-becomes : (o p : Option Running) → Becomes (alone o) (alone p) it p
+becomes : (o p : Option Running) → RouterBecomes (alone o) (alone p) it p
 becomes o p = record { same_settings = refl; becomes = only_it p it; others = λ q other. only_it p q ∙ (go q other (1 == q.0) refl ∙ sym (only_it o q)) }
   where
     go : (q : RouterId) → q ≢ it → (b : Bool) → (1 == q.0) ≡ b → cond b p None ≡ cond (1 == q.0) o None

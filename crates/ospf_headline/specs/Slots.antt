@@ -74,7 +74,7 @@ refused_by sent (Stop r) m = world.unless_stopped m
 refused_by sent (Tick r) m = world.unless_stopped m
 refused_by sent (LinkUp r l) m = world.fault_on_link l m
 refused_by sent (LinkDown r l) m = world.fault_on_link l m
-refused_by sent (Deliver d r l) m = world.delivery l (slice_get sent d) m
+refused_by sent (Deliver d r l) m = world.fault_of_delivery l (slice_get sent d) m
 
 -- what the event steps its router with
 abbrev pub fed_by : List Datagram → WorldEvent → Option Event

@@ -91,8 +91,8 @@ with_datagram None m = Some fault.NoDatagram
 with_datagram (Some g) m = unless_stopped m
 
 -- and that comes in on one of its links
-abbrev pub delivery : ℕ → Option Datagram → Member → Option WorldFault
-delivery l g m = if nat_lt l m.links then with_datagram g m else Some fault.NoLink
+abbrev pub fault_of_delivery : ℕ → Option Datagram → Member → Option WorldFault
+fault_of_delivery l g m = if nat_lt l m.links then with_datagram g m else Some fault.NoLink
 
 -- by the router, if the world has it
 abbrev pub of_member : (Member → Option WorldFault) → Option Member → Option WorldFault
@@ -111,7 +111,7 @@ refusal w (Stop r) = of_member unless_stopped (member w r)
 refusal w (TickOf r) = of_member unless_stopped (member w r)
 refusal w (LinkUpOf r l) = of_member (fault_on_link l) (member w r)
 refusal w (LinkDownOf r l) = of_member (fault_on_link l) (member w r)
-refusal w (Deliver d r l) = of_member (delivery l (slice_get w.datagrams d)) (member w r)
+refusal w (Deliver d r l) = of_member (fault_of_delivery l (slice_get w.datagrams d)) (member w r)
 
 -- ---- what happens
 
@@ -120,7 +120,7 @@ abbrev pub settings : World → List (RouterId × ℕ)
 settings w = map (λ m. (m.router, m.links)) w.routers
 
 -- router r becomes x, and no other router changes
-pub record Becomes (before after : World) (r : RouterId) (x : Option Running) : Type 0 where
+pub record RouterBecomes (before after : World) (r : RouterId) (x : Option Running) : Type 0 where
   pub same_settings : settings after ≡ settings before
   pub becomes : router_at after r ≡ x
   pub others : (q : RouterId) → q ≢ r → router_at after q ≡ router_at before q
@@ -163,7 +163,7 @@ pub record RunsGoOn (issued : List Issued) (ended : List LsaKey) (x x' : Running
 -- router's to say
 pub record StepsRouter (is_dropped : Event → AreaValue → Bool) (before after : World) (r : RouterId) (event : Event) (x x' : Running) (out : OutputsValue) : Type 0 where
   pub was : router_at before r ≡ Some x
-  pub changes : Becomes before after r (Some x')
+  pub changes : RouterBecomes before after r (Some x')
   pub laws : StepLaws is_dropped event x.state out x'.state
   pub table : HasItsTable x'
   pub logs : LogsGrow before after r x out
@@ -174,9 +174,9 @@ pub record StepsRouter (is_dropped : Event → AreaValue → Bool) (before after
 pub data Comes (is_dropped : Event → AreaValue → Bool) (event : WorldEvent) (before : World) (result : Result (Unit {0}) WorldFault) (after : World) : Type 0 where
   Refused : (f : WorldFault) → refusal before event ≡ Some f → result ≡ Err f → after ≡ before → Comes is_dropped event before result after
   NotDone : refusal before event ≡ None → result ≡ Err (fault.Memory false) → after ≡ before → Comes is_dropped event before result after
-  MemoryStops : refusal before event ≡ None → result ≡ Err (fault.Memory true) → (r : RouterId) (e : Event) → stepped_by before event ≡ Some (r, e) → Becomes before after r None → SameLogs before after → Comes is_dropped event before result after
-  Starts : refusal before event ≡ None → result ≡ Ok tt → (r : RouterId) (dd : ℕ) (floor : ℤ) (x : Running) → event ≡ Start r dd floor → router_at before r ≡ None → Becomes before after r (Some x) → IsRunningStarted before.issued r floor x → SameLogs before after → Comes is_dropped event before result after
-  Stops : refusal before event ≡ None → result ≡ Ok tt → (r : RouterId) → event ≡ Stop r → Becomes before after r None → SameLogs before after → Comes is_dropped event before result after
+  MemoryStops : refusal before event ≡ None → result ≡ Err (fault.Memory true) → (r : RouterId) (e : Event) → stepped_by before event ≡ Some (r, e) → RouterBecomes before after r None → SameLogs before after → Comes is_dropped event before result after
+  Starts : refusal before event ≡ None → result ≡ Ok tt → (r : RouterId) (dd : ℕ) (floor : ℤ) (x : Running) → event ≡ Start r dd floor → router_at before r ≡ None → RouterBecomes before after r (Some x) → IsRunningStarted before.issued r floor x → SameLogs before after → Comes is_dropped event before result after
+  Stops : refusal before event ≡ None → result ≡ Ok tt → (r : RouterId) → event ≡ Stop r → RouterBecomes before after r None → SameLogs before after → Comes is_dropped event before result after
   Stepped : refusal before event ≡ None → result ≡ Ok tt → (r : RouterId) (e : Event) (x x' : Running) (out : OutputsValue) → stepped_by before event ≡ Some (r, e) → StepsRouter is_dropped before after r e x x' out → Comes is_dropped event before result after
 
 -- whatever is answered

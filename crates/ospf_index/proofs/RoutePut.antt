@@ -19,7 +19,7 @@ use Rattle.ospf_index.proofs.ReplaceLemmas.{ArePrefixesKept, at_place, kept_put,
 use Rattle.ospf_index.specs.Entries.{IsEntryAt}
 use Rattle.ospf_index.specs.Indexes.{IsIndexOf}
 use Rattle.ospf_index.specs.Ranges.{HasRanges, IsDirectory, IsInRange, IsPlaceFor}
-use Rattle.ospf_index.specs.Replaced.{AreSetsLonger, IsRoutePut, Replaces, entry_of}
+use Rattle.ospf_index.specs.Replaced.{AreSetsLonger, IsRoutePut, Replaces, answered_entry}
 use Rattle.ospf_index.specs.Room.{hops_put}
 use Rattle.ospf_index.specs.Sets.{AreNumbersOf, hops_of, lists_of}
 use Rattle.ospf_index.specs.declared.entries.Entry.{Entry}
@@ -120,8 +120,8 @@ module _ (routes : List Route) (table : IsInOrder routes) (old new : Index) (m :
               absurd (omega (arith, ap length empty, table.have_hops was_place q within))
         ] in
         let walk = in_walk i (omega (arith, m.ranges.same_length)) here in
-        let is : get_or new.entries.items i d ≡ entry_of q many = put.entries.anew i d walk.0 walk.1 prefix some in
-        let made : IsEntryAt after numbers was_place (entry_of q many) = (
+        let is : get_or new.entries.items i d ≡ answered_entry q many = put.entries.anew i d walk.0 walk.1 prefix some in
+        let made : IsEntryAt after numbers was_place (answered_entry q many) = (
           λ low e.
               let at_e = route_here routes table.in_order q place lt at was_place e here in
               (sym (ap (λ (r : Route). r.prefix) at_e), sym (ap (λ (r : Route). r.cost) at_e), sym (number_here was_place here)),

@@ -46,8 +46,8 @@ pub record AreBefore (starts : List ℕ) (address count : ℕ) : Type 0 where
   pub behind : (i : ℕ) → count ≤ i → i < length starts → address ≤ get_or starts i 0
 
 -- what lookups answer for a route whose set of hops has this number
-abbrev pub entry_of : Route → ℕ → Entry
-entry_of route number = record { prefix = route.prefix; cost = route.cost; set = number }
+abbrev pub answered_entry : Route → ℕ → Entry
+answered_entry route number = record { prefix = route.prefix; cost = route.cost; set = number }
 
 -- of these ranges each that a route to the entry's prefix answered is answered by the entry, and no other range is answered anew
 pub record AreAnsweredAnew (old new : List Entry) (from to : ℕ) (entry : Entry) : Type 0 where
@@ -67,4 +67,4 @@ pub record IsRoutePut (old : Index) (route : Route) (new : Index) : Type 0 where
   pub to : ℕ
   pub first : AreBefore old.starts.items route.prefix.address.0 from
   pub last : AreBefore old.starts.items (end_of route.prefix) to
-  pub entries : AreAnsweredAnew old.entries.items new.entries.items from to (entry_of route (length old.sets.sets.items))
+  pub entries : AreAnsweredAnew old.entries.items new.entries.items from to (answered_entry route (length old.sets.sets.items))

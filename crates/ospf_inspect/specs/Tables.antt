@@ -16,12 +16,12 @@ use Rattle.ospf_lsa.specs.Lsa.{kind_of}
 use Rattle.ospf_inspect.specs.Json.{IsArray, json_line}
 
 -- whose table it is
-abbrev pub router_line : ℕ → List ℕ
-router_line router = codes "router " ++ number_text router ++ codes "\n"
+abbrev pub router_heading : ℕ → List ℕ
+router_heading router = codes "router " ++ number_text router ++ codes "\n"
 
 -- a router's table below a line that says whose it is
 abbrev pub SaysTable : List Advertisement → ℕ → List ℕ → Type 0
-SaysTable adverts router text = (table : List Route) × IsTable adverts (record { 0 = router }) table × (text ≡ router_line router ++ routes_text table)
+SaysTable adverts router text = (table : List Route) × IsTable adverts (record { 0 = router }) table × (text ≡ router_heading router ++ routes_text table)
 
 -- of a router-LSA the table of its router, and of a network-LSA nothing
 abbrev pub SaysTableOfKind : List Advertisement → List ℕ → Kind → List ℕ → Type 0

@@ -15,7 +15,7 @@ use Rattle.ospf_base.specs.declared.ids.Kind.{Kind}
 use Rattle.ospf_base.specs.declared.ids.Kind.TheVariants.{Router, Network}
 use Rattle.ospf_base.specs.declared.ids.LsaKey.{LsaKey}
 use Rattle.ospf_base.proofs.SameKeys.{same_instance-eq, same_key-eq, same_key-refl, same_key-turned}
-use Rattle.ospf_neighbour.specs.Lists.{AreKeysOf, is_key_listed, is_listed, is_of_instance, key_eq, sent_again, without_instance, without_key}
+use Rattle.ospf_neighbour.specs.Lists.{TellsListedKeys, is_key_listed, is_listed, is_of_instance, key_eq, sent_again, without_instance, without_key}
 use Rattle.ospf_neighbour.proofs.Words.{is_of_key}
 use Rattle.ospf_neighbour.specs.OneAKey.{IsAloneOfKeys}
 use Rattle.ospf_neighbour.specs.declared.neighbour.Listed.{Listed}
@@ -198,13 +198,13 @@ keys_push e q ls =
     ∙ cond_or (key_eq e.instance.key q) (is_key_listed q ls)
 
 -- the key is taken off
-pub AreKeysOf-remove : (has now : LsaKey → Bool) (key : LsaKey) (ls : List Listed) → AreKeysOf has ls → ((q : LsaKey) → now q ≡ cond (key_eq key q) false (has q))
-    → AreKeysOf now (without_key key ls)
+pub AreKeysOf-remove : (has now : LsaKey → Bool) (key : LsaKey) (ls : List Listed) → TellsListedKeys has ls → ((q : LsaKey) → now q ≡ cond (key_eq key q) false (has q))
+    → TellsListedKeys now (without_key key ls)
 AreKeysOf-remove has now key ls are new q = new q ∙ ap (λ (b : Bool). cond (key_eq key q) false b) (are q) ∙ sym (keys_without key q ls)
 
 -- an entry is put last
-pub AreKeysOf-push : (has now : LsaKey → Bool) (e : Listed) (ls : List Listed) → AreKeysOf has ls → ((q : LsaKey) → now q ≡ cond (key_eq e.instance.key q) true (has q))
-    → AreKeysOf now (ls ++ e ∷ [])
+pub AreKeysOf-push : (has now : LsaKey → Bool) (e : Listed) (ls : List Listed) → TellsListedKeys has ls → ((q : LsaKey) → now q ≡ cond (key_eq e.instance.key q) true (has q))
+    → TellsListedKeys now (ls ++ e ∷ [])
 AreKeysOf-push has now e ls are new q = new q ∙ ap (λ (b : Bool). cond (key_eq e.instance.key q) true b) (are q) ∙ sym (keys_push e q ls)
 
 there : (b x : Bool) → (b ≡ true → x ≡ true) → x ≡ cond b true (cond b false x)
@@ -212,8 +212,8 @@ there true x is = is refl
 there false x is = refl
 
 -- an entry takes the place of those of its key
-pub AreKeysOf-put : (has : LsaKey → Bool) (e : Listed) (ls : List Listed) → is_key_listed e.instance.key ls ≡ true → AreKeysOf has ls
-    → AreKeysOf has (without_key e.instance.key ls ++ e ∷ [])
+pub AreKeysOf-put : (has : LsaKey → Bool) (e : Listed) (ls : List Listed) → is_key_listed e.instance.key ls ≡ true → TellsListedKeys has ls
+    → TellsListedKeys has (without_key e.instance.key ls ++ e ∷ [])
 AreKeysOf-put has e ls is are q =
     let key = e.instance.key in
     are q
@@ -231,7 +231,7 @@ keys_sent q i tick (l ∷ ls) =
     ∙ ap (λ (b : Bool). same_key l.instance.key q || b) (keys_sent q i tick ls)
 
 -- entries are sent again
-pub AreKeysOf-sent : (has : LsaKey → Bool) (i : Instance) (tick : ℕ) (ls : List Listed) → AreKeysOf has ls → AreKeysOf has (map (sent_again i tick) ls)
+pub AreKeysOf-sent : (has : LsaKey → Bool) (i : Instance) (tick : ℕ) (ls : List Listed) → TellsListedKeys has ls → TellsListedKeys has (map (sent_again i tick) ls)
 AreKeysOf-sent has i tick ls are q = are q ∙ sym (keys_sent q i tick ls)
 
 or_cond : (b x y : Bool) → cond b true (x || y) ≡ x || cond b true y

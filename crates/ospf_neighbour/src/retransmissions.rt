@@ -24,13 +24,13 @@ impl Model for Retransmissions {
     ghost use Rattle.std.specs.Prelude.{◌≡◌, List, true};
     ghost use Rattle.std.specs.HashSet.{contains};
     ghost use Rattle.ospf_neighbour.specs.declared.neighbour.Listed.{Listed};
-    ghost use Rattle.ospf_neighbour.specs.Lists.{AreKeysOf, key_eq};
+    ghost use Rattle.ospf_neighbour.specs.Lists.{TellsListedKeys, key_eq};
 
     ghost Value = { List Listed };
 
     ghost view = { λ r. r.entries.items };
 
-    ghost invariant = { λ r. r.is_keyed ≡ true → AreKeysOf (contains key_eq r.keys) r.entries.items };
+    ghost invariant = { λ r. r.is_keyed ≡ true → TellsListedKeys (contains key_eq r.keys) r.entries.items };
 }
 
 impl Retransmissions {

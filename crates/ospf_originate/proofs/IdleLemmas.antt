@@ -20,7 +20,7 @@ use Rattle.ospf_originate.specs.Numbers.{waits}
 use Rattle.ospf_originate.specs.Sound.{AreApart, AreNumbered}
 use Rattle.ospf_lsdb.specs.Moments.{among}
 use Rattle.ospf_originate.specs.Steps.{OwnLsas, action_of, wants}
-use Rattle.ospf_wanted.specs.Wanted.{WantedValue, is_dr_of, network_of, networks_at, wanted, wanted_key, wanted_of}
+use Rattle.ospf_wanted.specs.Wanted.{WantedValue, is_dr_of, network_of, networks_at, wanted_lsas, wanted_key, wanted_of}
 use Rattle.ospf_originate.specs.declared.action.OwnAction.{OwnAction}
 use Rattle.ospf_originate.specs.declared.action.OwnAction.TheVariants.{Leave, Flush, Issue}
 use Rattle.ospf_originate.proofs.DueLemmas.{left_alone}
@@ -105,7 +105,7 @@ or_false false b is = refl
 or_false true b is = absurd (false≢true (sym is))
 
 is_wanted_is : (s : AreaValue) (key : LsaKey) → (same_key (wanted_key (own_router s)) key || list_any (λ l. is_some (wanted_of (networks_at s.router l) key)) s.links) ≡ is_some (wanted_of (wants s) key)
-unfolding wanted
+unfolding wanted_lsas
 is_wanted_is s key =
     ap (λ (b : Bool). same_key (wanted_key (own_router s)) key || b) (sym (some_network_wanted s.router s.links key))
     ∙ sym (first_or (same_key (wanted_key (own_router s)) key) (own_router s) (wanted_of (flat_map (networks_at s.router) s.links) key))
@@ -140,7 +140,7 @@ all_networks_left p router (l ∷ ls) =
     list_all-append p (networks_at router l) (flat_map (networks_at router) ls) ∙ ap (λ (b : Bool). list_all p (networks_at router l) && b) (all_networks_left p router ls)
 
 all_wanted : (s : AreaValue) → list_all (wanted_left s) (wants s) ≡ (wanted_left s (own_router s) && list_all (network_left s) s.links)
-unfolding wanted
+unfolding wanted_lsas
 all_wanted s = ap (λ (b : Bool). wanted_left s (own_router s) && b) (all_networks_left (wanted_left s) s.router s.links)
 
 -- one that is found is one of all, and of the key

@@ -7,7 +7,7 @@ use Rattle.ospf_area.specs.State.{AreaValue, LinkValue, database_entry, kept_num
 use Rattle.ospf_originate.specs.Actions.{unwanted_action, wanted_action}
 use Rattle.ospf_originate.specs.Numbers.{waits}
 use Rattle.ospf_originate.specs.Steps.{action_of, wants}
-use Rattle.ospf_wanted.specs.Wanted.{WantedValue, links_at, networks_at, wanted_key, wanted_of}
+use Rattle.ospf_wanted.specs.Wanted.{WantedValue, links_of_link, networks_at, wanted_key, wanted_of}
 use Rattle.ospf_wanted.specs.Wanted.WantedValue.{RouterLsa}
 use Rattle.ospf_originate.specs.declared.action.OwnAction.{OwnAction}
 use Rattle.ospf_originate.specs.declared.action.OwnAction.TheVariants.{Leave, Flush, Issue}
@@ -38,7 +38,7 @@ key_left s key = unwanted_left s key || is_some (wanted_of (wants s) key)
 
 -- the router-LSA that is wanted
 abbrev pub own_router : AreaValue → WantedValue
-own_router s = RouterLsa s.router (flat_map (links_at s.stub_router) s.links)
+own_router s = RouterLsa s.router (flat_map (links_of_link s.stub_router) s.links)
 
 -- nothing is due of the network-LSA of a link, if one is wanted
 abbrev pub network_left : AreaValue → LinkValue → Bool

@@ -17,7 +17,7 @@ use Rattle.ospf_update.specs.Meets.{Stores, store_updates}
 use Rattle.ospf_originate.specs.Actions.{IsUsed, own_action}
 use Rattle.ospf_wanted.specs.Made.{lsa_value}
 use Rattle.ospf_originate.specs.Numbers.{waits, issued}
-use Rattle.ospf_wanted.specs.Wanted.{WantedValue, wanted, wanted_of, wanted_key}
+use Rattle.ospf_wanted.specs.Wanted.{WantedValue, wanted_lsas, wanted_of, wanted_key}
 use Rattle.ospf_originate.specs.declared.action.DueAction.{DueAction}
 use Rattle.ospf_originate.specs.declared.action.OwnAction.{OwnAction}
 use Rattle.ospf_originate.specs.declared.action.OwnAction.TheVariants.{Leave, Flush, Issue}
@@ -39,7 +39,7 @@ pub record Issues (w : WantedValue) (number : ℤ) (before : AreaValue) (out out
 
 -- what the router wants
 abbrev pub wants : AreaValue → List WantedValue
-wants s = wanted s.stub_router s.router s.links
+wants s = wanted_lsas s.stub_router s.router s.links
 
 -- what becomes of a key (12.4, 13.4)
 unfoldable pub action_of : AreaValue → LsaKey → OwnAction

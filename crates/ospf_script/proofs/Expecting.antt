@@ -6,7 +6,7 @@ use Rattle.ospf_base.specs.declared.ids.Addr.{Addr}
 use Rattle.ospf_base.specs.declared.prefix.Prefix.{Prefix}
 use Rattle.ospf_base.specs.declared.ids.RouterId.{RouterId}
 use Rattle.ospf_script.specs.Commands.{BeginsWalk}
-use Rattle.ospf_script.specs.Expected.{BeginsRoute, IsArrival, IsExpected, IsLongRoute, IsNeighbour, IsOfRoute}
+use Rattle.ospf_script.specs.Expected.{BeginsRoute, SpellsArrival, IsExpected, IsLongRoute, IsNeighbour, IsOfRoute}
 use Rattle.ospf_script.specs.Laws.{IsOneExpected}
 use Rattle.ospf_script.specs.Values.{AreManySpelled, AreSomeSpelled, IsDecimal, IsHopWord, IsPrefix, IsRouterWord}
 use Rattle.ospf_script.specs.Words.{Text}
@@ -113,13 +113,13 @@ only_absent w a b route neighbour (Router router (NoNeighbour link)) h = neighbo
 only_absent w a b route neighbour e h = let is : 622 ≡ kind_of e = kind_is e (codes "no") (w ∷ a ∷ b ∷ []) h in omega (arith, is)
 
 walked : (ws : List Text) (from : RouterId) (address : Addr) (cost : Option ℕ)
-    → ((from : RouterId) (address : Addr) (rest : List Text) (cost : Option ℕ) → BeginsWalk ws from address rest → IsArrival rest cost → ⊥)
+    → ((from : RouterId) (address : Addr) (rest : List Text) (cost : Option ℕ) → BeginsWalk ws from address rest → SpellsArrival rest cost → ⊥)
     → IsExpected (codes "walk" ∷ ws) (Walk from address cost) → ⊥
 walked (a ∷ b ∷ ws) from address cost none h = none from address ws cost (h.1, h.2, refl) h.3
 walked ws from address cost none h = h
 
 -- behind `walk`
-pub only_walk : (ws : List Text) → ((from : RouterId) (address : Addr) (rest : List Text) (cost : Option ℕ) → BeginsWalk ws from address rest → IsArrival rest cost → ⊥)
+pub only_walk : (ws : List Text) → ((from : RouterId) (address : Addr) (rest : List Text) (cost : Option ℕ) → BeginsWalk ws from address rest → SpellsArrival rest cost → ⊥)
     → (e : Expected) → IsExpected (codes "walk" ∷ ws) e → ⊥
 unfolding kind kind_of
 only_walk ws none (Walk from address cost) h = walked ws from address cost none h
@@ -156,7 +156,7 @@ only_text w ws agree settled not =
 
 -- ---- one thing
 
-arrival_one : (ws : List Text) (m n : Option ℕ) → IsArrival ws m → IsArrival ws n → m ≡ n
+arrival_one : (ws : List Text) (m n : Option ℕ) → SpellsArrival ws m → SpellsArrival ws n → m ≡ n
 arrival_one (a ∷ []) None None h k = refl
 arrival_one (a ∷ b ∷ []) (Some m) (Some n) h k = ap (λ x. Some x) (decimal_one 64 b m n h.1 k.1)
 arrival_one (a ∷ []) None (Some n) h k = absurd k

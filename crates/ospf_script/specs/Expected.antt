@@ -15,10 +15,10 @@ abbrev pub IsNeighbour : Text → Type 0
 IsNeighbour word = (word ≡ codes "neighbour") ⊎ (word ≡ codes "neighbor")
 
 -- the word `arrived`, and a cost, where one is given
-abbrev pub IsArrival : List Text → Option ℕ → Type 0
-IsArrival (a ∷ []) None = a ≡ codes "arrived"
-IsArrival (a ∷ b ∷ []) (Some cost) = (a ≡ codes "arrived") × IsDecimal 64 b cost
-IsArrival _ _ = ⊥
+abbrev pub SpellsArrival : List Text → Option ℕ → Type 0
+SpellsArrival (a ∷ []) None = a ≡ codes "arrived"
+SpellsArrival (a ∷ b ∷ []) (Some cost) = (a ≡ codes "arrived") × IsDecimal 64 b cost
+SpellsArrival _ _ = ⊥
 
 -- a Router ID, a prefix and a cost, and then other words
 abbrev pub BeginsRoute : List Text → RouterId → Prefix → ℕ → List Text → Type 0
@@ -37,7 +37,7 @@ IsWanted router _ _ = ⊥
 -- the words behind `expect`
 abbrev pub IsExpected : List Text → Expected → Type 0
 IsExpected ws (Router router wanted) = IsWanted router wanted ws
-IsExpected (w ∷ a ∷ b ∷ ws) (Walk from address cost) = (w ≡ codes "walk") × IsRouterWord a from × IsAddress b address × IsArrival ws cost
+IsExpected (w ∷ a ∷ b ∷ ws) (Walk from address cost) = (w ≡ codes "walk") × IsRouterWord a from × IsAddress b address × SpellsArrival ws cost
 IsExpected (w ∷ []) Agree = w ≡ codes "agree"
 IsExpected (w ∷ []) Settled = w ≡ codes "settled"
 IsExpected _ _ = ⊥

@@ -3,7 +3,7 @@
 ghost use Rattle.std.specs.Prelude.{◌≡◌, ◌∷◌, ℕ, List, codes, IfErr, IfNone, IfOk, IfSome};
 ghost use Rattle.ospf_base.specs.declared.ids.RouterId.{RouterId};
 ghost use Rattle.ospf_base.specs.declared.prefix.Prefix.{Prefix};
-ghost use Rattle.ospf_script.specs.Expected.{BeginsRoute, IsArrival, IsExpected, IsLongRoute, IsOfRoute};
+ghost use Rattle.ospf_script.specs.Expected.{BeginsRoute, SpellsArrival, IsExpected, IsLongRoute, IsOfRoute};
 ghost use Rattle.ospf_script.specs.Words.{Finds, Text, line_words};
 ghost use Rattle.ospf_script.specs.declared.expected.Expected.{Expected};
 
@@ -124,7 +124,7 @@ fn arrival_in(text: &[u8]) -> Option<Expected>
 
 // The word `arrived`, and a cost where one is given.
 fn cost_in(text: &[u8]) -> Option<Option<u64>>
-    ensures { Finds result (IsArrival (line_words text.now)) }
+    ensures { Finds result (SpellsArrival (line_words text.now)) }
 {
     if is_alone(text, "arrived") {
         return Some(None);

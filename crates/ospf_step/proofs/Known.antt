@@ -15,7 +15,7 @@ use Rattle.ospf_adjacency.specs.Laws.{SaysOnly, KeepsLists}
 use Rattle.ospf_area.specs.Packets.{Parcel, dd_parcel, parcel_if}
 use Rattle.ospf_area.specs.Outputs.{SentValue}
 use Rattle.ospf_area.specs.Places.{flat_from}
-use Rattle.ospf_area.specs.Sending.{own_of, packet_of, way_out}
+use Rattle.ospf_area.specs.Sending.{own_of, packet_from, way_out}
 use Rattle.ospf_area.specs.State.{AreaValue, LinkValue, neighbour}
 use Rattle.ospf_step.specs.Accounts.{WasHeld}
 use Rattle.ospf_step.specs.Headers.{IsOfInstance, Lists}
@@ -57,7 +57,7 @@ says_nothing s b no_lsas no_headers = record {
 pub posted_known : (s : AreaValue) (l : ℕ) (i : Iface) (ps : List Parcel) → ((p : Parcel) → Contains ps p → SaysKnown s p.body) → AreKnown s (posted_all (own_of s) l i ps)
 posted_known s l i ps known d c =
     let (p, inside, sent) = flat_map-members (posted (own_of s) l i) ps d c in
-    let is : d.packet ≡ packet_of (own_of s) p.body = datagrams-packet (way_out l i p.destination) (packet_of (own_of s) p.body) d sent in
+    let is : d.packet ≡ packet_from (own_of s) p.body = datagrams-packet (way_out l i p.destination) (packet_from (own_of s) p.body) d sent in
     let says = known p inside in
     subst (λ m. IsKnownPacket s m) (sym is) (record { router = refl; lsas = says.lsas; names = says.names })
 

@@ -27,7 +27,7 @@ use Rattle.ospf_area.specs.Changes.{changed_on, delayed_on}
 use Rattle.ospf_area.specs.Acting.{Becomes}
 use Rattle.ospf_update.specs.Meets.{MeetsRule, MeetsLsa, Admits, duplicated, header_met, reply_to, reply_out, lsa_out_on, heard_by, first_dd_on, restarted, replied, named_by}
 use Rattle.ospf_update.proofs.Words.{reply_of, lsa_out, taken_off, first_dd, first_description}
-use Rattle.ospf_area.specs.Sending.{own_of, and_sends, packet_of, sent_lsa}
+use Rattle.ospf_area.specs.Sending.{own_of, and_sends, packet_from, sent_lsa}
 use Rattle.ospf_area.specs.Numbers.{is_self_originated}
 use Rattle.ospf_area.specs.Outputs.{and_takes, OutputsValue, SentValue, no_outputs, AreReadAsSent}
 use Rattle.ospf_area.specs.Places.{map_from}
@@ -306,7 +306,7 @@ module _ (heard : Option Received) (p : Meaning) (f : Origin) (lsa : List ℕ) (
     where
       by : (o : Option LinkValue) (d : SentValue) → Contains (first_dd_on (own_of before) f before.next_dd o) d → IsKnownPacket before d.packet
       by None d c = absurd (Contains-nil d c)
-      by (Some link) d c = subst (λ m. IsKnownPacket before m) (sym (datagrams-packet _ (packet_of (own_of before) (description (first_description link.settings.mtu before.next_dd) [])) d c)) (record {
+      by (Some link) d c = subst (λ m. IsKnownPacket before m) (sym (datagrams-packet _ (packet_from (own_of before) (description (first_description link.settings.mtu before.next_dd) [])) d c)) (record {
         router = refl;
         lsas = λ lsa c. absurd (Contains-nil lsa c);
         names = λ i lists. absurd (Contains-nil lists.0 lists.1);
@@ -359,7 +359,7 @@ module _ (heard : Option Received) (p : Meaning) (f : Origin) (lsa : List ℕ) (
 
       link_sends : (l : List ℕ) (o : Option LinkValue) (d : SentValue) → HasCopy before l → Contains (lsa_out_on (own_of before) f l o) d → IsKnownPacket before d.packet
       link_sends l None d has c = absurd (Contains-nil d c)
-      link_sends l (Some link) d has c = subst (λ m. IsKnownPacket before m) (sym (datagrams-packet _ (packet_of (own_of before) (update (sent_lsa link.settings.transmit_delay l ∷ []))) d c)) (record {
+      link_sends l (Some link) d has c = subst (λ m. IsKnownPacket before m) (sym (datagrams-packet _ (packet_from (own_of before) (update (sent_lsa link.settings.transmit_delay l ∷ []))) d c)) (record {
         router = refl;
         lsas = λ one c. record { lsa = l; copy = has; same = ap contents (sym (one_of (sent_lsa link.settings.transmit_delay l) one c)) };
         names = λ i lists. CanName.InDatabase (

@@ -11,7 +11,7 @@ use Rattle.ospf_base.specs.Constants.{largest_packet}
 use Rattle.ospf_area.specs.Flooding.{flooding_update, flooding_updates, goes_out}
 use Rattle.ospf_area.specs.Outputs.{SentValue}
 use Rattle.ospf_area.specs.Places.{flat_from}
-use Rattle.ospf_area.specs.Sending.{datagrams, packet_of, sent_lsa}
+use Rattle.ospf_area.specs.Sending.{datagrams, packet_from, sent_lsa}
 use Rattle.ospf_area.specs.State.{LinkValue}
 use Rattle.ospf_area.specs.declared.flooding.Origin.{Origin}
 use Rattle.ospf_area.specs.declared.sending.Own.{Own}
@@ -44,14 +44,14 @@ contents-with_age age lsa = refl
 -- an Update of one LSA of these contents
 pub record IsUpdateOf (own : Own) (lsa : List ℕ) (m : Meaning) : Type 0 where
   pub one : List ℕ
-  pub packet : m ≡ packet_of own (update (one ∷ []))
+  pub packet : m ≡ packet_from own (update (one ∷ []))
   pub same : contents one ≡ contents lsa
 
 flooding_update-packet : (own : Own) (lsa : List ℕ) (from : Option Origin) (l : ℕ) (link : LinkValue) (d : SentValue) → Contains (flooding_update own lsa from l link) d → IsUpdateOf own lsa d.packet
 flooding_update-packet own lsa from l link d c = go (goes_out (key_of lsa) (header_of lsa) from l link) _ c
   where
-    go : (b : Bool) (way : Way) → Contains (cond b (datagrams way (packet_of own (update (sent_lsa link.settings.transmit_delay lsa ∷ [])))) []) d → IsUpdateOf own lsa d.packet
-    go true way c = record { one = sent_lsa link.settings.transmit_delay lsa; packet = datagrams-packet way (packet_of own (update (sent_lsa link.settings.transmit_delay lsa ∷ []))) d c; same = refl }
+    go : (b : Bool) (way : Way) → Contains (cond b (datagrams way (packet_from own (update (sent_lsa link.settings.transmit_delay lsa ∷ [])))) []) d → IsUpdateOf own lsa d.packet
+    go true way c = record { one = sent_lsa link.settings.transmit_delay lsa; packet = datagrams-packet way (packet_from own (update (sent_lsa link.settings.transmit_delay lsa ∷ []))) d c; same = refl }
     go false way c = absurd (Contains-nil d c)
 
 from-packets : (own : Own) (lsa : List ℕ) (from : Option Origin) (k : ℕ) (links : List LinkValue) (d : SentValue) → Contains (flat_from (flooding_update own lsa from) k links) d → IsUpdateOf own lsa d.packet
@@ -118,7 +118,7 @@ flat_map-members f (x ∷ xs) y c = elim (Contains-append_cases (f x) (flat_map 
 -- an Acknowledgment of some of these headers
 pub record IsAcknowledgmentOf (own : Own) (hs : List LsaHeader) (m : Meaning) : Type 0 where
   pub some : List LsaHeader
-  pub packet : m ≡ packet_of own (acknowledgment some)
+  pub packet : m ≡ packet_from own (acknowledgment some)
   pub within : (h : LsaHeader) → Contains some h → Contains hs h
 
 pub acks-packets : (own : Own) (way : Way) (mtu : ℕ) (hs : List LsaHeader) (d : SentValue) → Contains (acks_out own way mtu hs) d → IsAcknowledgmentOf own hs d.packet
@@ -126,7 +126,7 @@ acks-packets own way mtu hs d c =
     let (chunk, inside, sent) = flat_map-members (ack_out own way) (packets (ack_room mtu) (in_order hs)) d c in
     record {
       some = chunk;
-      packet = datagrams-packet way (packet_of own (acknowledgment chunk)) d sent;
+      packet = datagrams-packet way (packet_from own (acknowledgment chunk)) d sent;
       within = λ h m. in_order-members hs h (cut-members (length (in_order hs)) (ack_room mtu) (in_order hs) chunk h inside m);
     }
 

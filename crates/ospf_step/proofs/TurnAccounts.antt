@@ -15,7 +15,7 @@ use Rattle.ospf_neighbour.specs.declared.machine.NeighbourState.{NeighbourState}
 use Rattle.ospf_neighbour.specs.declared.machine.NeighbourState.TheVariants as state
 use Rattle.ospf_update.specs.Aging.{turned_area, turn_out}
 use Rattle.ospf_area.specs.Asking.{loaded, turned_to_next, turned_link, request_body, turn_requests_on}
-use Rattle.ospf_area.specs.Sending.{own_of, datagrams, packet_of, to_address, way_out}
+use Rattle.ospf_area.specs.Sending.{own_of, datagrams, packet_from, to_address, way_out}
 use Rattle.ospf_area.specs.Outputs.{SentValue, no_outputs, sends, AreReadAsSent}
 use Rattle.ospf_area.specs.Places.{flat_from}
 use Rattle.ospf_area.specs.State.{AreaValue, LinkValue, neighbour, state_in}
@@ -136,11 +136,11 @@ module _ (s : AreaValue) where
   same_delayed None = refl
   same_delayed (Some link) = refl
 
-  a_request : (d : SentValue) (n : NeighbourValue) → d.packet ≡ packet_of (own_of s) (request_body n) → IsKnownPacket s d.packet
+  a_request : (d : SentValue) (n : NeighbourValue) → d.packet ≡ packet_from (own_of s) (request_body n) → IsKnownPacket s d.packet
   a_request d n is = subst (λ m. IsKnownPacket s m) (sym is) (record { router = refl; lsas = λ lsa c. absurd (Contains-nil lsa c); names = λ i lists. absurd (Contains-nil lists.0 lists.1) })
 
-  one_sends : (l mtu : ℕ) (way : NeighbourValue → Way) (n : NeighbourValue) (b : Bool) (d : SentValue) → Contains (cond b (datagrams (way n) (packet_of (own_of s) (request_body (asked_next mtu s.tick (loaded n))))) []) d → IsKnownPacket s d.packet
-  one_sends l mtu way n true d c = a_request d (asked_next mtu s.tick (loaded n)) (datagrams-packet (way n) (packet_of (own_of s) (request_body (asked_next mtu s.tick (loaded n)))) d c)
+  one_sends : (l mtu : ℕ) (way : NeighbourValue → Way) (n : NeighbourValue) (b : Bool) (d : SentValue) → Contains (cond b (datagrams (way n) (packet_from (own_of s) (request_body (asked_next mtu s.tick (loaded n))))) []) d → IsKnownPacket s d.packet
+  one_sends l mtu way n true d c = a_request d (asked_next mtu s.tick (loaded n)) (datagrams-packet (way n) (packet_from (own_of s) (request_body (asked_next mtu s.tick (loaded n)))) d c)
   one_sends l mtu way n false d c = absurd (Contains-nil d c)
 
   all_send : (k : ℕ) (links : List LinkValue) (d : SentValue) → Contains (flat_from (turn_requests_on (own_of s)) k links) d → IsKnownPacket s d.packet

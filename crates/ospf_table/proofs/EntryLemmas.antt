@@ -14,7 +14,7 @@ use Rattle.ospf_lsa.specs.Header.{header_of}
 use Rattle.ospf_lsa.specs.Lsa.{key_of}
 use Rattle.ospf_lsa.specs.Listing.{HasKey, IsInserted}
 use Rattle.ospf_base.proofs.KeyMaps.{is_eq-key_cmp, key_cmp-less}
-use Rattle.ospf_table.specs.Entries.{IsKeyed, AreKeyed}
+use Rattle.ospf_table.specs.Entries.{IsKeyedEntry, AreKeyed}
 
 bool_cases : (b : Bool) → (b ≡ true) ⊎ (b ≡ false)
 bool_cases true = inl refl
@@ -94,7 +94,7 @@ put_in lsa (e ∷ es) none = by_order (key_cmp (key_of lsa) e.0) refl (put_in ls
           new_is = ap (λ (ls : List (List ℕ)). e.1 ∷ ls) rest.new_is;
         }
 
-pub keyed_in : (lsa : List ℕ) (es : List Entry) → AreKeyed es → IsKeyed (key_of lsa, lsa) → AreKeyed (insert_entry key_cmp es (key_of lsa) lsa)
+pub keyed_in : (lsa : List ℕ) (es : List Entry) → AreKeyed es → IsKeyedEntry (key_of lsa, lsa) → AreKeyed (insert_entry key_cmp es (key_of lsa) lsa)
 keyed_in lsa [] keyed new = (new, tt)
 keyed_in lsa (e ∷ es) keyed new = by_order (key_cmp (key_of lsa) e.0) refl (keyed_in lsa es keyed.1 new)
   where
@@ -103,7 +103,7 @@ keyed_in lsa (e ∷ es) keyed new = by_order (key_cmp (key_of lsa) e.0) refl (ke
     by_order Less is more = (new, keyed)
     by_order Equal is more =
         let same : key_of lsa ≡ e.0 = same_key-eq (key_of lsa) e.0 (sym (is_eq-key_cmp (key_of lsa) e.0) ∙ ap is_eq is) in
-        (subst (λ (k : LsaKey). IsKeyed (k, lsa)) same new, keyed.1)
+        (subst (λ (k : LsaKey). IsKeyedEntry (k, lsa)) same new, keyed.1)
     by_order Greater is more = (keyed.0, more)
 
 rises_here : (k : LsaKey) (ks : List LsaKey) → IsStrictlySortedBy key_cmp (k ∷ ks) → AllByRecursion (λ y. key_cmp k y ≡ Less) ks

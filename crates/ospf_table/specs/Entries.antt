@@ -8,12 +8,12 @@ use Rattle.ospf_lsa.specs.Lsa.{key_of}
 use Rattle.ospf_base.specs.Keys.{key_cmp}
 
 -- an LSA below MaxAge, under its own key
-pub record IsKeyed (e : LsaKey × List ℕ) : Type 0 where
+pub record IsKeyedEntry (e : LsaKey × List ℕ) : Type 0 where
   pub key : key_of e.1 ≡ e.0
   pub young : (header_of e.1).age < 3600
 
 abbrev pub AreKeyed : List (LsaKey × List ℕ) → Type 0
-AreKeyed es = AllByRecursion IsKeyed es
+AreKeyed es = AllByRecursion IsKeyedEntry es
 
 -- LSAs below MaxAge, each under its own key, in the order of keys
 pub record IsGathered (lsas : BTreeMap LsaKey (List ℕ)) : Type 0 where

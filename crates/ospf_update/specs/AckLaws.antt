@@ -6,7 +6,7 @@ use Rattle.ospf_base.specs.Constants.{ip_header, lsa_header, packet_header}
 use Rattle.ospf_lsa.specs.declared.header.LsaHeader.{LsaHeader}
 use Rattle.ospf_packet.specs.Meaning.{Meaning, acknowledgment}
 use Rattle.ospf_area.specs.Packing.{ArePacked, IsWithin}
-use Rattle.ospf_area.specs.Sending.{packet_of}
+use Rattle.ospf_area.specs.Sending.{packet_from}
 use Rattle.ospf_area.specs.declared.sending.Own.{Own}
 use Rattle.ospf_area.specs.declared.sending.Way.{Way}
 use Rattle.ospf_update.specs.Acks.{ack_out, acks_out, header_precedes, in_order}
@@ -25,7 +25,7 @@ AcknowledgementsAreOrdered = (headers : List LsaHeader) → IsOrdered headers (i
 -- ---- in packets
 
 abbrev pub acknowledgment_of : Own → List LsaHeader → Meaning
-acknowledgment_of own headers = packet_of own (acknowledgment headers)
+acknowledgment_of own headers = packet_from own (acknowledgment headers)
 
 -- what is sent are these packets: they have the headers in order of key, as many in each as fit, and each fits
 pub record AreAcknowledgments (own : Own) (way : Way) (mtu : ℕ) (headers : List LsaHeader) (packets : List (List LsaHeader)) : Type 0 where

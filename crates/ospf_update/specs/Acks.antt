@@ -8,7 +8,7 @@ use Rattle.ospf_lsa.specs.declared.header.LsaHeader.{LsaHeader}
 use Rattle.ospf_packet.specs.Meaning as meaning
 use Rattle.ospf_area.specs.Outputs.{SentValue}
 use Rattle.ospf_area.specs.Packets.{Parcel}
-use Rattle.ospf_area.specs.Sending.{datagrams, own_of, packet_of, to_address, way_out}
+use Rattle.ospf_area.specs.Sending.{datagrams, own_of, packet_from, to_address, way_out}
 use Rattle.ospf_area.specs.State.{AreaValue, LinkValue}
 use Rattle.ospf_area.specs.declared.flooding.Origin.{Origin}
 use Rattle.ospf_area.specs.declared.sending.Own.{Own}
@@ -46,7 +46,7 @@ packets room hs = cut (length hs) room hs
 
 -- an Acknowledgment
 abbrev pub ack_out : Own → Way → List LsaHeader → List SentValue
-ack_out own way hs = datagrams way (packet_of own (meaning.acknowledgment hs))
+ack_out own way hs = datagrams way (packet_from own (meaning.acknowledgment hs))
 
 -- Acknowledgments of these headers in their order, as many in each as fit
 abbrev pub acks_out : Own → Way → ℕ → List LsaHeader → List SentValue

@@ -25,7 +25,7 @@ use Rattle.ospf_area.specs.Changes.{changed_at}
 use Rattle.ospf_area.specs.Flooding.{flooded_back, flooded_links, flooding_updates, goes_anywhere, released}
 use Rattle.ospf_area.specs.Numbers.{counts, greatest_after, is_self_originated, marked}
 use Rattle.ospf_area.specs.Outputs.{OutputsValue, SentValue, and_takes}
-use Rattle.ospf_area.specs.Sending.{and_sends, datagrams, own_of, packet_of, sent_lsa, to_address, update_out, way_out}
+use Rattle.ospf_area.specs.Sending.{and_sends, datagrams, own_of, packet_from, sent_lsa, to_address, update_out, way_out}
 use Rattle.ospf_area.specs.Standing.{acknowledging, answer_at, is_awaited_of, is_requested_of, is_taken_in, origin_neighbour}
 use Rattle.ospf_lsdb.specs.Moments.{among}
 use Rattle.ospf_area.specs.State.{AreaValue, LinkValue, database_entry, some_link_loading}
@@ -88,7 +88,7 @@ abbrev pub first_dd_on : Own → Origin → ℕ → Option LinkValue → List Se
 first_dd_on own f number None = []
 first_dd_on own f number (Some link) =
     datagrams (way_out f.link link.iface (to_address link.iface f.address))
-    (packet_of own (meaning.description (record { mtu = link.settings.mtu; options = router_options; flags = first_flags; number = number }) []))
+    (packet_from own (meaning.description (record { mtu = link.settings.mtu; options = router_options; flags = first_flags; number = number }) []))
 
 -- the neighbour is back in ExStart, with the next DD sequence number
 abbrev pub restarted : Origin → AreaValue → AreaValue

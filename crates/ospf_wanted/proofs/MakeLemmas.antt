@@ -22,7 +22,7 @@ use Rattle.ospf_area.specs.State.{LinkValue}
 use Rattle.ospf_wanted.specs.Made.{CanBeMade, CanBeMadeIf, IsUnmadeIf, Needs, first_number}
 use Rattle.ospf_wanted.specs.SetUp.{AreSetUp, IsSetUp}
 use Rattle.ospf_iface.specs.Machine.{is_down}
-use Rattle.ospf_wanted.specs.Wanted.{attached_routers, is_full, is_full_before, is_full_behind, is_transit, through_metric, router_link, network_link, subnet_link, links_at, network_of, wanted, wanted_key, wanted_of, WantedValue}
+use Rattle.ospf_wanted.specs.Wanted.{attached_routers, is_full, is_full_before, is_full_behind, is_transit, through_metric, router_link, network_link, subnet_link, links_of_link, network_of, wanted_lsas, wanted_key, wanted_of, WantedValue}
 use Rattle.ospf_wanted.proofs.Words.{broadcast_link, links_of_kind}
 use Rattle.ospf_wanted.proofs.WantedLemmas.{map_all, all_networks}
 
@@ -81,16 +81,16 @@ kind_good kind.PointToPoint stub_router l up =
     both_lists IsGood (map (router_link stub_router l) (filter is_full l.neighbours)) (subnet_link l ∷ []) (mapped IsGood (router_link stub_router l) (filter is_full l.neighbours) (router_good stub_router l)) (subnet_good l up, tt)
 kind_good kind.Broadcast stub_router l up = (broadcast_good stub_router l up, tt)
 
-at_good : (stub_router : Bool) (l : LinkValue) → IsSetUp l → AllByRecursion IsGood (links_at stub_router l)
-unfolding links_at
+at_good : (stub_router : Bool) (l : LinkValue) → IsSetUp l → AllByRecursion IsGood (links_of_link stub_router l)
+unfolding links_of_link
 at_good stub_router l up = elim (bool_cases (is_down l.iface.state)) [
   | inl down ↦ rw down tt
   | inr going ↦ rw going (kind_good l.iface.settings.kind stub_router l up)
 ]
 
-all_good : (stub_router : Bool) (links : List LinkValue) → AllByRecursion IsSetUp links → AllByRecursion IsGood (flat_map (links_at stub_router) links)
+all_good : (stub_router : Bool) (links : List LinkValue) → AllByRecursion IsSetUp links → AllByRecursion IsGood (flat_map (links_of_link stub_router) links)
 all_good stub_router [] up = tt
-all_good stub_router (l ∷ ls) up = both_lists IsGood (links_at stub_router l) (flat_map (links_at stub_router) ls) (at_good stub_router l up.0) (all_good stub_router ls up.1)
+all_good stub_router (l ∷ ls) up = both_lists IsGood (links_of_link stub_router l) (flat_map (links_of_link stub_router) ls) (at_good stub_router l up.0) (all_good stub_router ls up.1)
 
 -- ---- how many
 
@@ -101,18 +101,18 @@ kind_few kind.PointToPoint stub_router l one =
     omega (arith, length-append (map (router_link stub_router l) (filter is_full l.neighbours)) (subnet_link l ∷ []), length-map (filter is_full l.neighbours) (router_link stub_router l))
 kind_few kind.Broadcast stub_router l one = omega arith
 
-at_few : (stub_router : Bool) (l : LinkValue) → IsSetUp l → length (links_at stub_router l) ≤ 2
-unfolding links_at
+at_few : (stub_router : Bool) (l : LinkValue) → IsSetUp l → length (links_of_link stub_router l) ≤ 2
+unfolding links_of_link
 at_few stub_router l up = elim (bool_cases (is_down l.iface.state)) [
   | inl down ↦ rw down (omega arith)
   | inr going ↦ rw going (kind_few l.iface.settings.kind stub_router l up.two_ends)
 ]
 
-all_few : (stub_router : Bool) (links : List LinkValue) → AllByRecursion IsSetUp links → length (flat_map (links_at stub_router) links) ≤ 2 * length links
+all_few : (stub_router : Bool) (links : List LinkValue) → AllByRecursion IsSetUp links → length (flat_map (links_of_link stub_router) links) ≤ 2 * length links
 all_few stub_router [] up = omega arith
 all_few stub_router (l ∷ ls) up =
     let here = at_few stub_router l up.0 in let rest = all_few stub_router ls up.1 in
-    omega (arith, here, rest, length-append (links_at stub_router l) (flat_map (links_at stub_router) ls))
+    omega (arith, here, rest, length-append (links_of_link stub_router l) (flat_map (links_of_link stub_router) ls))
 
 -- ---- what is needed
 
@@ -156,10 +156,10 @@ network_made : (router : RouterId) (number : ℤ) (l : LinkValue) → number ≢
 unfolding network_of
 network_made router number l used up f = network_needs number l.iface.settings.mask (attached_routers router l.neighbours) (attached_few router l.neighbours up.few) up.mask used f
 
-pub wanted_made : (stub_router : Bool) (router : RouterId) (links : List LinkValue) → AreSetUp links → AllByRecursion CanBeMade (wanted stub_router router links)
-unfolding wanted
+pub wanted_made : (stub_router : Bool) (router : RouterId) (links : List LinkValue) → AreSetUp links → AllByRecursion CanBeMade (wanted_lsas stub_router router links)
+unfolding wanted_lsas
 wanted_made stub_router router links up =
-    let own = flat_map (links_at stub_router) links in
+    let own = flat_map (links_of_link stub_router) links in
     let few : length links ≤ 32 = up.few in
     let short : 24 + 12 * length own ≤ 16356 = let some_links = all_few stub_router links up.each in omega (arith, some_links, few) in (
       (λ number used. router_needs number own short (all_good stub_router links up.each) used),

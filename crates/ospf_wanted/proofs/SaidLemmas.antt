@@ -14,7 +14,7 @@ use Rattle.ospf_lsa.specs.Lsa.{HasLinks, HasRouters, IsLsa, IsNetworkLsa, IsRout
 use Rattle.ospf_lsa.specs.declared.fault.LsaFault.TheVariants as fault
 use Rattle.ospf_neighbour.specs.Neighbour.{NeighbourValue}
 use Rattle.ospf_iface.specs.Machine.{is_down}
-use Rattle.ospf_wanted.specs.Wanted.{attached_routers, is_full, is_full_before, is_full_behind, links_at, router_link, subnet_link}
+use Rattle.ospf_wanted.specs.Wanted.{attached_routers, is_full, is_full_before, is_full_behind, links_of_link, router_link, subnet_link}
 use Rattle.ospf_wanted.proofs.Words.{broadcast_link, links_of_kind}
 use Rattle.ospf_wanted.specs.Wanted.WantedValue.{RouterLsa, NetworkLsa}
 use Rattle.ospf_base.specs.Sums.{contents}
@@ -276,12 +276,12 @@ one_behind links link start =
     ∙ behind-append (flat_map link_bytes links) (link_bytes link) start
 
 -- the links of a link that is up
-pub up_is : (stub_router : Bool) (l : LinkValue) → is_down l.iface.state ≡ false → links_at stub_router l ≡ links_of_kind l.iface.settings.kind stub_router l
-unfolding links_at
+pub up_is : (stub_router : Bool) (l : LinkValue) → is_down l.iface.state ≡ false → links_of_link stub_router l ≡ links_of_kind l.iface.settings.kind stub_router l
+unfolding links_of_link
 up_is stub_router l up = rw up refl
 
 pub down_behind : (stub_router : Bool) (l : LinkValue) (start : Option (List ℕ)) → is_down l.iface.state ≡ true → start ≡ behind (links_bytes stub_router l) start
-unfolding links_at links_bytes
+unfolding links_of_link links_bytes
 down_behind stub_router l start down = rw down (sym (behind_none start))
 
 pub ends_behind : (stub_router : Bool) (l : LinkValue) (start mid after : Option (List ℕ)) → is_down l.iface.state ≡ false → l.iface.settings.kind ≡ kind.PointToPoint
@@ -308,11 +308,11 @@ links_of_links h g [] = refl
 links_of_links h g (x ∷ xs) = flat_map-append h (g x) (flat_map g xs) ∙ ap (λ (zs : List ℕ). flat_map h (g x) ++ zs) (links_of_links h g xs)
 
 pub all_behind : (stub_router : Bool) (links : List LinkValue) (i : ℕ) (start : Option (List ℕ)) → length links ≤ i
-    → behind (flat_map (links_bytes stub_router) (take i links)) start ≡ behind (flat_map link_bytes (flat_map (links_at stub_router) links)) start
+    → behind (flat_map (links_bytes stub_router) (take i links)) start ≡ behind (flat_map link_bytes (flat_map (links_of_link stub_router) links)) start
 unfolding links_bytes
 all_behind stub_router links i start past =
     ap (λ (ls : List LinkValue). behind (flat_map (links_bytes stub_router) ls) start) (take_all i links past)
-    ∙ ap (λ (zs : List ℕ). behind zs start) (sym (links_of_links link_bytes (links_at stub_router) links))
+    ∙ ap (λ (zs : List ℕ). behind zs start) (sym (links_of_links link_bytes (links_of_link stub_router) links))
 
 -- the routers attached to a network
 pub attached_behind : (router : RouterId) (ns : List NeighbourValue) (start mid own after : Option (List ℕ)) → mid ≡ behind (flat_map (lower_bytes router) ns) start → own ≡ behind (router_bytes router) mid

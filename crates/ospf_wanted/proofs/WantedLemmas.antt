@@ -9,7 +9,7 @@ use Rattle.ospf_base.specs.Keys.{same_key}
 use Rattle.ospf_base.proofs.SameKeys.{same_key-eq, same_key-refl}
 use Rattle.ospf_area.specs.State.{LinkValue}
 use Rattle.ospf_wanted.specs.SetUp.{AreApart}
-use Rattle.ospf_wanted.specs.Wanted.{WantedValue, is_dr_of, links_at, network_of, networks_at, wanted, wanted_key, wanted_of}
+use Rattle.ospf_wanted.specs.Wanted.{WantedValue, is_dr_of, links_of_link, network_of, networks_at, wanted_lsas, wanted_key, wanted_of}
 use Rattle.ospf_wanted.specs.Wanted.WantedValue.{RouterLsa}
 
 -- what a link gives, if anything
@@ -46,8 +46,8 @@ network_router : (router : RouterId) (l : LinkValue) → (wanted_key (network_of
 unfolding network_of
 network_router router l = refl
 
-pub wanted_own : (stub_router : Bool) (router : RouterId) (links : List LinkValue) → AllByRecursion (λ w. (wanted_key w).router ≡ router) (wanted stub_router router links)
-unfolding wanted
+pub wanted_own : (stub_router : Bool) (router : RouterId) (links : List LinkValue) → AllByRecursion (λ w. (wanted_key w).router ≡ router) (wanted_lsas stub_router router links)
+unfolding wanted_lsas
 wanted_own stub_router router links =
     (refl, all_networks (λ w. (wanted_key w).router ≡ router) router links (every (λ l. (wanted_key (network_of router l)).router ≡ router) (network_router router) links))
 
@@ -60,7 +60,7 @@ other_address : (router : RouterId) (l o : LinkValue) → o.iface.settings.addre
 unfolding network_of
 other_address router l o differ = other_key _ _ (λ same. differ (sym (ap (λ (k : LsaKey). k.id) same)))
 
-other_kind : (stub_router : Bool) (router : RouterId) (links : List LinkValue) (l : LinkValue) → same_key (wanted_key (RouterLsa router (flat_map (links_at stub_router) links))) (wanted_key (network_of router l)) ≡ false
+other_kind : (stub_router : Bool) (router : RouterId) (links : List LinkValue) (l : LinkValue) → same_key (wanted_key (RouterLsa router (flat_map (links_of_link stub_router) links))) (wanted_key (network_of router l)) ≡ false
 unfolding network_of
 other_kind stub_router router links l = other_key _ _ (λ same. let kinds : Router ≡ Network = ap (λ (k : LsaKey). k.kind) same in cc)
 
@@ -97,9 +97,9 @@ networks_alone router (l ∷ ls) apart =
     (map_all (λ o. o.iface.settings.address.0 ≢ l.iface.settings.address.0) (λ o. same_key (wanted_key (network_of router l)) (wanted_key (network_of router o)) ≡ false) (other_address router l) ls apart.0)))
 
 pub wanted_alone : (stub_router : Bool) (router : RouterId) (links : List LinkValue) → AreApart links
-    → AllByRecursion (λ v. wanted_of (wanted stub_router router links) (wanted_key v) ≡ Some v) (wanted stub_router router links)
-unfolding wanted
+    → AllByRecursion (λ v. wanted_of (wanted_lsas stub_router router links) (wanted_key v) ≡ Some v) (wanted_lsas stub_router router links)
+unfolding wanted_lsas
 wanted_alone stub_router router links apart =
-    alone_in_front (RouterLsa router (flat_map (links_at stub_router) links)) (flat_map (networks_at router) links) (networks_alone router links apart)
-    (all_networks (λ v. same_key (wanted_key (RouterLsa router (flat_map (links_at stub_router) links))) (wanted_key v) ≡ false) router links
-    (every (λ l. same_key (wanted_key (RouterLsa router (flat_map (links_at stub_router) links))) (wanted_key (network_of router l)) ≡ false) (other_kind stub_router router links) links))
+    alone_in_front (RouterLsa router (flat_map (links_of_link stub_router) links)) (flat_map (networks_at router) links) (networks_alone router links apart)
+    (all_networks (λ v. same_key (wanted_key (RouterLsa router (flat_map (links_of_link stub_router) links))) (wanted_key v) ≡ false) router links
+    (every (λ l. same_key (wanted_key (RouterLsa router (flat_map (links_of_link stub_router) links))) (wanted_key (network_of router l)) ≡ false) (other_kind stub_router router links) links))

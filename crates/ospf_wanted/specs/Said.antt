@@ -7,7 +7,7 @@ use Rattle.ospf_base.specs.declared.ids.RouterId.{RouterId}
 use Rattle.ospf_lsa.specs.Attached.{router_bytes}
 use Rattle.ospf_lsa.specs.Link.{link_bytes}
 use Rattle.ospf_neighbour.specs.Neighbour.{NeighbourValue}
-use Rattle.ospf_wanted.specs.Wanted.{is_full, is_full_before, is_full_behind, links_at, router_link}
+use Rattle.ospf_wanted.specs.Wanted.{is_full, is_full_before, is_full_behind, links_of_link, router_link}
 
 -- what stands behind these bytes, where others begin with them
 unfoldable pub behind : List ℕ → Option (List ℕ) → Option (List ℕ)
@@ -26,7 +26,7 @@ router_link_bytes stub_router a n = if is_full n then link_bytes (router_link st
 
 -- the bytes of the links of a link
 unfoldable pub links_bytes : Bool → LinkValue → List ℕ
-links_bytes stub_router a = flat_map link_bytes (links_at stub_router a)
+links_bytes stub_router a = flat_map link_bytes (links_of_link stub_router a)
 
 -- the bytes of the ID of a fully adjacent neighbour that stands before a router, and of one that stands behind it (12.4.2)
 unfoldable pub lower_bytes : RouterId → NeighbourValue → List ℕ

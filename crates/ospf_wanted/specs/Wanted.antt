@@ -58,8 +58,8 @@ subnet_link a =
 
 -- the links of a link that is up (12.4.1): on one with two ends to the fully adjacent neighbour, and then to the subnet; on a
 -- broadcast link to its transit network, or else to its subnet (12.4.1.2)
-unfoldable pub links_at : Bool → LinkValue → List Link
-links_at stub_router a =
+unfoldable pub links_of_link : Bool → LinkValue → List Link
+links_of_link stub_router a =
     if is_down a.iface.state then []
     else elim a.iface.settings.kind [
       | kind.PointToPoint ↦ map (router_link stub_router a) (filter is_full a.neighbours) ++ subnet_link a ∷ []
@@ -92,8 +92,8 @@ network_of router a = NetworkLsa a.iface.settings.address.0 router a.iface.setti
 -- ---- all of them
 
 -- a router wants its router-LSA, and the network-LSAs of its links, which are in configuration order (12.4)
-unfoldable pub wanted : Bool → RouterId → List LinkValue → List WantedValue
-wanted stub_router router links = RouterLsa router (flat_map (links_at stub_router) links) ∷ flat_map (networks_at router) links
+unfoldable pub wanted_lsas : Bool → RouterId → List LinkValue → List WantedValue
+wanted_lsas stub_router router links = RouterLsa router (flat_map (links_of_link stub_router) links) ∷ flat_map (networks_at router) links
 
 -- what names a wanted LSA (12.1)
 abbrev pub wanted_key : WantedValue → LsaKey

@@ -13,7 +13,7 @@ ghost use Rattle.ospf_lsa.specs.Value.{network_value, router_value};
 ghost use Rattle.ospf_lsa.specs.declared.link.Link.{Link};
 ghost use Rattle.ospf_wanted.specs.Made.{says};
 ghost use Rattle.ospf_wanted.specs.Said.{behind, is_end, links_bytes, router_link_bytes, lower_bytes, higher_bytes};
-ghost use Rattle.ospf_wanted.specs.Wanted.{attached_routers, is_full, links_at, router_link};
+ghost use Rattle.ospf_wanted.specs.Wanted.{attached_routers, is_full, links_of_link, router_link};
 ghost use Rattle.ospf_wanted.specs.Wanted.WantedValue.{RouterLsa, NetworkLsa};
 
 use crate::wants::{broadcast_link, is_full, router_link, subnet_link};
@@ -30,7 +30,7 @@ pub fn says_router(
     links: &[AreaLink],
 ) -> bool
     ensures { result ≡ says (contents copy.now)
-        (RouterLsa router (flat_map (links_at stub_router) links.now)) }
+        (RouterLsa router (flat_map (links_of_link stub_router) links.now)) }
 {
     let lsa = copy.as_bytes();
     let rest = behind_own_links(Some(&lsa[24..]), stub_router, links);
@@ -57,7 +57,7 @@ fn behind_own_links<'a>(
     links: &[AreaLink],
 ) -> Option<&'a [u8]>
     ensures { option_copied result ≡ behind
-        (flat_map link_bytes (flat_map (links_at stub_router) links.now))
+        (flat_map link_bytes (flat_map (links_of_link stub_router) links.now))
         (option_copied bytes.entry) }
 {
     let mut rest = bytes;

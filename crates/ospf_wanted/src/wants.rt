@@ -3,7 +3,7 @@
 ghost use Rattle.std.specs.Prelude.{◌≡◌, ◌++◌, IfOk, OnOk, map, filter, ◌&&◌, ◌==◌, if◌then◌else◌};
 ghost use Rattle.std.specs.List.{list_any, flat_map};
 ghost use Rattle.ospf_neighbour.specs.Neighbour.{NeighbourValue};
-ghost use Rattle.ospf_wanted.specs.Wanted.{is_full, is_dr_of, is_transit, through_metric, router_link, network_link, subnet_link, links_at, is_full_before, is_full_behind, attached_routers, networks_at, wanted, wanted_key};
+ghost use Rattle.ospf_wanted.specs.Wanted.{is_full, is_dr_of, is_transit, through_metric, router_link, network_link, subnet_link, links_of_link, is_full_before, is_full_behind, attached_routers, networks_at, wanted_lsas, wanted_key};
 ghost use Rattle.ospf_wanted.specs.Own.{wanted_value};
 
 use ospf_area::AreaLink;
@@ -69,14 +69,15 @@ pub fn is_dr_of(link: &AreaLink) -> bool
 /// network-LSA of each link of which it is the Designated Router and fully adjacent to someone.
 ///
 /// `AllocError` where memory runs out.
-#[tactic(auto, unfolding(crate::specs::Wanted::wanted))]
+#[tactic(auto, unfolding(crate::specs::Wanted::wanted_lsas))]
 pub fn wanted(
     stub_router: bool,
     router: RouterId,
     links: &[AreaLink],
     alloc: Global,
 ) -> Result<Vec<OwnLsa>, AllocError>
-    ensures { IfOk result (λ v. map wanted_value v.items ≡ wanted stub_router router links.now) }
+    ensures { IfOk result (λ v. map wanted_value v.items
+        ≡ wanted_lsas stub_router router links.now) }
 {
     let own = own_links(stub_router, links, alloc)?;
     let mut all = Vec::new(alloc);
@@ -140,7 +141,7 @@ fn some_full(neighbours: &[Neighbour]) -> bool
 
 // The links of the router-LSA.
 fn own_links(stub_router: bool, links: &[AreaLink], alloc: Global) -> Result<Vec<Link>, AllocError>
-    ensures { IfOk result (λ v. v.items ≡ flat_map (links_at stub_router) links.now) }
+    ensures { IfOk result (λ v. v.items ≡ flat_map (links_of_link stub_router) links.now) }
 {
     let mut out = Vec::new(alloc);
     for link in links {
@@ -150,14 +151,14 @@ fn own_links(stub_router: bool, links: &[AreaLink], alloc: Global) -> Result<Vec
 }
 
 // Puts the links of a link at the end.
-#[tactic(auto, unfolding(crate::specs::Wanted::links_at))]
+#[tactic(auto, unfolding(crate::specs::Wanted::links_of_link))]
 fn push_links(
     out: &mut Vec<Link>,
     stub_router: bool,
     link: &AreaLink,
     alloc: Global,
 ) -> Result<(), AllocError>
-    ensures { OnOk result (out.new.items ≡ out.old.items ++ links_at stub_router link.now) }
+    ensures { OnOk result (out.new.items ≡ out.old.items ++ links_of_link stub_router link.now) }
 {
     if link.iface.state.is_down() {
         return Ok(());

@@ -13,7 +13,7 @@ use Rattle.ospf_iface.specs.Machine.{is_down}
 use Rattle.ospf_neighbour.specs.Neighbour.{NeighbourValue}
 use Rattle.ospf_graph.proofs.ListLemmas.{bool_cases}
 use Rattle.ospf_wanted.proofs.Words.{links_of_kind}
-use Rattle.ospf_wanted.specs.Wanted.{is_full, is_transit, links_at, network_link, router_link, subnet_link}
+use Rattle.ospf_wanted.specs.Wanted.{is_full, is_transit, links_of_link, network_link, router_link, subnet_link}
 use Rattle.ospf_whatif.specs.Failure.{kept_links, takes}
 use Rattle.ospf_whatif.specs.declared.failure.AreaFailure.{AreaFailure}
 use Rattle.ospf_whatif.specs.declared.failure.AreaFailure.TheVariants as fails
@@ -35,23 +35,23 @@ kept_none f r (l ∷ rest) all = rw all.0 (kept_none f r rest all.1)
 
 module _ (f : AreaFailure) (router : RouterId) (stub_router : Bool) (front back : List LinkValue) (before after : LinkValue)
     (spared_front : AreSpared f router stub_router front) (spared_back : AreSpared f router stub_router back) where
-  split : (l : LinkValue) → wanted_links stub_router (front ++ l ∷ back) ≡ wanted_links stub_router front ++ (links_at stub_router l ++ wanted_links stub_router back)
-  split l = flat_map-append (links_at stub_router) front (l ∷ back)
+  split : (l : LinkValue) → wanted_links stub_router (front ++ l ∷ back) ≡ wanted_links stub_router front ++ (links_of_link stub_router l ++ wanted_links stub_router back)
+  split l = flat_map-append (links_of_link stub_router) front (l ∷ back)
 
-  left : kept_links f router (links_at stub_router before) ≡ links_at stub_router after → IsLeft f router stub_router front before after back
+  left : kept_links f router (links_of_link stub_router before) ≡ links_of_link stub_router after → IsLeft f router stub_router front before after back
   left one =
       ap (λ ls. kept_links f router ls) (split before)
-      ∙ kept_links-append f router (wanted_links stub_router front) (links_at stub_router before ++ wanted_links stub_router back)
-      ∙ ap (λ ls. kept_links f router (wanted_links stub_router front) ++ ls) (kept_links-append f router (links_at stub_router before) (wanted_links stub_router back))
+      ∙ kept_links-append f router (wanted_links stub_router front) (links_of_link stub_router before ++ wanted_links stub_router back)
+      ∙ ap (λ ls. kept_links f router (wanted_links stub_router front) ++ ls) (kept_links-append f router (links_of_link stub_router before) (wanted_links stub_router back))
       ∙ (λ i. kept_all f router (wanted_links stub_router front) spared_front i ++ (one i ++ kept_all f router (wanted_links stub_router back) spared_back i))
       ∙ sym (split after)
 
-down_is : (stub_router : Bool) (l : LinkValue) → is_down l.iface.state ≡ true → links_at stub_router l ≡ []
-unfolding links_at
+down_is : (stub_router : Bool) (l : LinkValue) → is_down l.iface.state ≡ true → links_of_link stub_router l ≡ []
+unfolding links_of_link
 down_is stub_router l down = rw down refl
 
 wire_is : (stub_router : Bool) (l : LinkValue) → is_down l.iface.state ≡ false → l.iface.settings.kind ≡ kind.PointToPoint
-    → links_at stub_router l ≡ map (router_link stub_router l) (filter is_full l.neighbours) ++ subnet_link l ∷ []
+    → links_of_link stub_router l ≡ map (router_link stub_router l) (filter is_full l.neighbours) ++ subnet_link l ∷ []
 wire_is stub_router l up is = up_is stub_router l up ∙ ap (λ k. links_of_kind k stub_router l) is
 
 -- ---- a point-to-point link
@@ -91,7 +91,7 @@ module _ (router other : RouterId) (subnet : Prefix) (stub_router : Bool) (l : L
         | inr less ↦ rw less (neighbours_taken ns all.1)
       ]
 
-  all_taken : kept_links (fails.Link router other subnet) router (links_at stub_router l) ≡ []
+  all_taken : kept_links (fails.Link router other subnet) router (links_of_link stub_router l) ≡ []
   all_taken = ap (λ ls. kept_links (fails.Link router other subnet) router ls) (wire_is stub_router l w.up w.kind_is) ∙ neighbours_taken l.neighbours w.alone
 
 pub links_go_down : (router other : RouterId) (subnet : Prefix) (stub_router : Bool) (front back : List LinkValue) (before after : LinkValue)
@@ -119,7 +119,7 @@ pub interfaces_go_down : (router : RouterId) (stub_router : Bool) (front back : 
     → (f : AreaFailure) → IsNetworkFailure f router before.iface.dr.0 → AreSpared f router stub_router front → AreSpared f router stub_router back
     → IsLeft f router stub_router front before after back
 interfaces_go_down router stub_router front back before after up is transit down f of spared_front spared_back =
-    let one : links_at stub_router before ≡ network_link stub_router before ∷ [] =
+    let one : links_of_link stub_router before ≡ network_link stub_router before ∷ [] =
     up_is stub_router before up ∙ ap (λ k. links_of_kind k stub_router before) is ∙ rw transit refl in
     left f router stub_router front back before after spared_front spared_back
     (ap (λ ls. kept_links f router ls) one ∙ rw (network_taken f router before.iface.dr.0 before stub_router of refl) refl ∙ sym (down_is stub_router after down))
@@ -159,7 +159,7 @@ routers_stop router gone subnet stub_router front back before after apart w ifac
       kind = (subnet_link before).kind;
       metric = (settings i).cost;
     } in
-    let later : links_at stub_router after ≡ subnet_link before ∷ [] =
+    let later : links_of_link stub_router after ≡ subnet_link before ∷ [] =
     wire_is stub_router after up is ∙ ap (λ ns. map (router_link stub_router after) (filter is_full ns) ++ subnet_link after ∷ []) none ∙ ap (λ l. l ∷ []) same in
     left (fails.Router gone) router stub_router front back before after spared_front spared_back
     (ap (λ ls. kept_links (fails.Router gone) router ls) (wire_is stub_router before w.up w.kind_is) ∙ only_subnet router gone stub_router before apart before.neighbours w.alone ∙ sym later)

@@ -13,7 +13,8 @@ use Rattle.ospf_graph.specs.Graph.{IsEdge, IsEdgeBetween, IsPath}
 use Rattle.ospf_graph.specs.Routes.{IsEnd, IsTable, Way}
 use Rattle.ospf_graph.proofs.ListLemmas.{transit_found}
 use Rattle.ospf_graph.proofs.TreeLemmas.{IsPath-map}
-use Rattle.ospf_whatif.specs.LinksBack.{AreLinkedAlike, IsLinked, LinksTo}
+use Rattle.ospf_edges.specs.Costs.{HasLinkTo}
+use Rattle.ospf_whatif.specs.LinksBack.{AreLinkedAlike, IsLinked}
 use Rattle.ospf_whatif.proofs.MatchingLemmas.{moved, same_tables}
 
 linked_edge : (A : List Advertisement) (from : Vertex) (n cost address : ℕ) → IsEdgeBetween A from (vertex.Network n) cost address → IsLinked A n
@@ -35,7 +36,7 @@ moved_same (vertex.Network n) = refl
 
 alike_back : (A B : List Advertisement) → AreLinkedAlike A B → AreLinkedAlike B A
 alike_back A B is =
-    let link : (r : RouterId) (n : ℕ) → LinksTo B r n → LinksTo A r n =
+    let link : (r : RouterId) (n : ℕ) → HasLinkTo B r kind.Transit n → HasLinkTo A r kind.Transit n =
     λ r n l. let h = l.2 in (l.0, l.1, record { links = h.links; listed = (is.routers r h.links).1 h.listed; link_in = h.link_in }) in
     record {
       routers = λ r links. ((is.routers r links).1, (is.routers r links).0);

@@ -15,7 +15,7 @@ use Rattle.ospf_graph.specs.Advertisements.{Advertisement, router_lsa, network_l
 use Rattle.ospf_graph.specs.Graph.{IsEdge, IsEdgeBetween, IsPath, path_cost}
 use Rattle.ospf_graph.specs.Routes.{hop_of, IsEnd, IsTable, Way}
 use Rattle.ospf_graph.proofs.ListLemmas.{bool_cases, member_head, member_later, member_of_map, member_to_map}
-use Rattle.ospf_whatif.specs.Renamed.{AreNames, IsNamed, renamed, renamed_id, renamed_link, renamed_lsa}
+use Rattle.ospf_whatif.specs.Renamed.{AreNames, IsNetworkNamed, renamed, renamed_id, renamed_link, renamed_lsa}
 use Rattle.ospf_whatif.proofs.MatchingLemmas.{cost_same, HaveSameWays, hop_same, moved, moved_edge, same_tables}
 
 -- ---- the first link to a network stays the first
@@ -73,7 +73,7 @@ module _ (name : ℕ → ℕ) (owner : ℕ → RouterId → RouterId) (A : List 
           (old, subst (λ x. Contains A (router_lsa x old)) same m, new)
       router_is (network_lsa n q mask attached) m e = cc
 
-  network_back : (n : ℕ) (r : RouterId) (mask : ℕ) (attached : List RouterId) → IsNamed A n → Contains B (network_lsa (name n) r mask attached)
+  network_back : (n : ℕ) (r : RouterId) (mask : ℕ) (attached : List RouterId) → IsNetworkNamed A n → Contains B (network_lsa (name n) r mask attached)
       → (q : RouterId) × Contains A (network_lsa n q mask attached) × (owner n q ≡ r)
   network_back n r mask attached known h = let m = member_of_map (renamed_lsa name owner) A _ h in lsa_is m.0 m.1 m.2
     where
@@ -114,7 +114,7 @@ module _ (name : ℕ → ℕ) (owner : ℕ → RouterId → RouterId) (A : List 
       let same : l ≡ old = λ i. record { id = l.id; link_data = (m.2 i).link_data; kind = (m.2 i).kind; metric = (m.2 i).metric } in
       (l.id, ap (λ j. renamed_id name j l.id) (sym kinds) ∙ ap (λ (y : Link). y.id) m.2, record { links = x.0; listed = x.1; link_in = subst (λ y. Contains x.0 y) same m.1 })
 
-  network_named : (n mask : ℕ) (attached : List RouterId) → IsNetwork A n mask attached → IsNamed A n
+  network_named : (n mask : ℕ) (attached : List RouterId) → IsNetwork A n mask attached → IsNetworkNamed A n
   network_named n mask attached h = inr (h.router, (mask, attached, h.listed))
 
   network_to : (n mask : ℕ) (attached : List RouterId) → IsNetwork A n mask attached → IsNetwork B (name n) mask attached
@@ -128,7 +128,7 @@ module _ (name : ℕ → ℕ) (owner : ℕ → RouterId → RouterId) (A : List 
             ((is.owners n x.0 h.router (m, others, x.1) (mask, attached, h.listed)).0 (h.largest x.0 m others x.1));
       }
 
-  network_from : (n mask : ℕ) (attached : List RouterId) → IsNamed A n → IsNetwork B (name n) mask attached → IsNetwork A n mask attached
+  network_from : (n mask : ℕ) (attached : List RouterId) → IsNetworkNamed A n → IsNetwork B (name n) mask attached → IsNetwork A n mask attached
   network_from n mask attached known h =
       let x = network_back n h.router mask attached known h.listed in
       record {
@@ -143,16 +143,16 @@ module _ (name : ℕ → ℕ) (owner : ℕ → RouterId → RouterId) (A : List 
   attached_to : (n : ℕ) (r : RouterId) → IsAttached A n r → IsAttached B (name n) r
   attached_to n r h = record { mask = h.mask; attached = h.attached; names = h.names; network = network_to n h.mask h.attached h.network }
 
-  attached_from : (n : ℕ) (r : RouterId) → IsNamed A n → IsAttached B (name n) r → IsAttached A n r
+  attached_from : (n : ℕ) (r : RouterId) → IsNetworkNamed A n → IsAttached B (name n) r → IsAttached A n r
   attached_from n r known h = record { mask = h.mask; attached = h.attached; names = h.names; network = network_from n h.mask h.attached known h.network }
 
-  links_apart : (n : ℕ) (r : RouterId) (links : List Link) → IsNamed A n → Contains A (router_lsa r links) → AreApart name n links
+  links_apart : (n : ℕ) (r : RouterId) (links : List Link) → IsNetworkNamed A n → Contains A (router_lsa r links) → AreApart name n links
   links_apart n r links known listed l m transit =
       let old : Link = record { id = l.id; link_data = l.link_data; kind = kind.Transit; metric = l.metric } in
       let same : l ≡ old = λ i. record { id = l.id; link_data = l.link_data; kind = transit i; metric = l.metric } in
       is.apart l.id n (inl (r, (l.link_data, l.metric, record { links = links; listed = listed; link_in = subst (λ y. Contains links y) same m }))) known
 
-  address_to : (n : ℕ) (r : RouterId) (address : ℕ) → IsNamed A n → IsAddressOn A n r address → IsAddressOn B (name n) r address
+  address_to : (n : ℕ) (r : RouterId) (address : ℕ) → IsNetworkNamed A n → IsAddressOn A n r address → IsAddressOn B (name n) r address
   address_to n r address known h =
       record {
         links = map (renamed_link name) h.links;
@@ -160,7 +160,7 @@ module _ (name : ℕ → ℕ) (owner : ℕ → RouterId → RouterId) (A : List 
         first = address_same name n h.links (links_apart n r h.links known h.listed) ∙ h.first;
       }
 
-  address_from : (n : ℕ) (r : RouterId) (address : ℕ) → IsNamed A n → IsAddressOn B (name n) r address → IsAddressOn A n r address
+  address_from : (n : ℕ) (r : RouterId) (address : ℕ) → IsNetworkNamed A n → IsAddressOn B (name n) r address → IsAddressOn A n r address
   address_from n r address known h =
       let x = router_back r h.links h.listed in
       record { links = x.0; listed = x.1; first = sym (address_same name n x.0 (links_apart n r x.0 known x.1)) ∙ ap (λ l. transit_address (name n) l) x.2 ∙ h.first }
@@ -170,7 +170,7 @@ module _ (name : ℕ → ℕ) (owner : ℕ → RouterId → RouterId) (A : List 
   -- a network, that an LSA names it
   abbrev Known : Vertex → Type 0
   Known (vertex.Router r) = Unit {0}
-  Known (vertex.Network n) = IsNamed A n
+  Known (vertex.Network n) = IsNetworkNamed A n
 
   edge_to : (from to : Vertex) (cost address : ℕ) → IsEdgeBetween A from to cost address → IsEdgeBetween B (moved name from) (moved name to) cost address
   edge_to (vertex.Router a) (vertex.Router b) cost address e =
@@ -190,7 +190,7 @@ module _ (name : ℕ → ℕ) (owner : ℕ → RouterId → RouterId) (A : List 
       (vertex.Router b, refl, tt, (link_between a b.0 address cost e.0, e.1, e.2, link_between b a.0 e.1 e.2 e.3))
   edge_back (vertex.Router a) (vertex.Network k) cost address known e =
       let x = link_back a kind.Transit k address cost e.0 in
-      let named : IsNamed A x.0 = inl (a, (address, cost, x.2)) in
+      let named : IsNetworkNamed A x.0 = inl (a, (address, cost, x.2)) in
       (vertex.Network x.0, ap (λ j. vertex.Network j) x.1, named, (x.2, attached_from x.0 a named (subst (λ j. IsAttached B j a) (sym x.1) e.1)))
   edge_back (vertex.Network n) (vertex.Router b) cost address known e =
       (vertex.Router b, refl, tt, (e.0, address_from n b address known e.1, attached_from n b known e.2))
@@ -230,7 +230,7 @@ module _ (name : ℕ → ℕ) (owner : ℕ → RouterId → RouterId) (A : List 
   end_of : (root : RouterId) (p : Prefix) (w : Way A root p) (n : ℕ) → w.end ≡ vertex.Network n → IsEnd A p (vertex.Network n) 0
   end_of root p w n at = let e = subst (λ v. IsEnd A p v w.end_cost) at w.ends in (refl, e.1, e.2, e.3, e.4)
 
-  end_named : (p : Prefix) (n : ℕ) → IsEnd A p (vertex.Network n) 0 → IsNamed A n
+  end_named : (p : Prefix) (n : ℕ) → IsEnd A p (vertex.Network n) 0 → IsNetworkNamed A n
   end_named p n e = network_named n e.1 e.2 e.3
 
   same_ways : (root : RouterId) → HaveSameWays name A B root

@@ -4,7 +4,7 @@ use Rattle.std.specs.List.{AllByRecursion}
 use Rattle.std.proofs.lemmas.List.Concat.{flat_map-append}
 use Rattle.ospf_lsa.specs.declared.link.Link.{Link}
 use Rattle.ospf_area.specs.State.{LinkValue}
-use Rattle.ospf_wanted.specs.Wanted.{links_at, network_link, through_metric}
+use Rattle.ospf_wanted.specs.Wanted.{links_of_link, network_link, through_metric}
 use Rattle.ospf_wanted.proofs.Words.{links_of_kind}
 use Rattle.ospf_wanted.proofs.SaidLemmas.{up_is}
 use Rattle.ospf_whatif.specs.Renamed.{renamed_link}
@@ -19,14 +19,14 @@ map_join name [] ys = refl
 map_join name (l ∷ rest) ys = ap (λ more. renamed_link name l ∷ more) (map_join name rest ys)
 
 -- what an interface on a transit network makes
-one_link : (stub_router : Bool) (l : LinkValue) → IsOnTransit l → links_at stub_router l ≡ network_link stub_router l ∷ []
+one_link : (stub_router : Bool) (l : LinkValue) → IsOnTransit l → links_of_link stub_router l ≡ network_link stub_router l ∷ []
 one_link stub_router l on =
     let transit = on.transit in
     up_is stub_router l on.up ∙ ap (λ k. links_of_kind k stub_router l) on.kind_is ∙ rw transit refl
 
 split : (stub_router : Bool) (front back : List LinkValue) (l : LinkValue)
-    → wanted_links stub_router (front ++ l ∷ back) ≡ wanted_links stub_router front ++ (links_at stub_router l ++ wanted_links stub_router back)
-split stub_router front back l = flat_map-append (links_at stub_router) front (l ∷ back)
+    → wanted_links stub_router (front ++ l ∷ back) ≡ wanted_links stub_router front ++ (links_of_link stub_router l ++ wanted_links stub_router back)
+split stub_router front back l = flat_map-append (links_of_link stub_router) front (l ∷ back)
 
 pub designated_routers_change : (name : ℕ → ℕ) (stub_router : Bool) (front back : List LinkValue) (before after : LinkValue)
     → IsOnTransit before → IsOnTransit after → after.iface.settings ≡ before.iface.settings → after.settings ≡ before.settings
@@ -40,11 +40,11 @@ designated_routers_change name stub_router front back before after was on iface 
       kind = (network_link stub_router before).kind;
       metric = through_metric stub_router (settings i).cost;
     } in
-    let one : links_at stub_router after ≡ map (renamed_link name) (links_at stub_router before) =
+    let one : links_of_link stub_router after ≡ map (renamed_link name) (links_of_link stub_router before) =
     one_link stub_router after on ∙ ap (λ l. l ∷ []) link ∙ sym (ap (λ ls. map (renamed_link name) ls) (one_link stub_router before was)) in
     split stub_router front back after
     ∙ (λ i. sym (names_kept name (wanted_links stub_router front) kept_front) i ++ (one i ++ sym (names_kept name (wanted_links stub_router back) kept_back) i))
     ∙ sym (
     ap (λ ls. map (renamed_link name) ls) (split stub_router front back before)
-    ∙ map_join name (wanted_links stub_router front) (links_at stub_router before ++ wanted_links stub_router back)
-    ∙ ap (λ ls. map (renamed_link name) (wanted_links stub_router front) ++ ls) (map_join name (links_at stub_router before) (wanted_links stub_router back)))
+    ∙ map_join name (wanted_links stub_router front) (links_of_link stub_router before ++ wanted_links stub_router back)
+    ∙ ap (λ ls. map (renamed_link name) (wanted_links stub_router front) ++ ls) (map_join name (links_of_link stub_router before) (wanted_links stub_router back)))

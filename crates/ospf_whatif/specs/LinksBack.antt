@@ -4,21 +4,18 @@ use Rattle.std.specs.Prelude.{◌↔◌, ℕ, List, Contains}
 use Rattle.ospf_base.specs.declared.ids.RouterId.{RouterId}
 use Rattle.ospf_lsa.specs.declared.link.Link.{Link}
 use Rattle.ospf_lsa.specs.declared.link.LinkKind.TheVariants.{Transit}
-use Rattle.ospf_graph.specs.Advertisements.{Advertisement, router_lsa, HasLink, IsAttached, IsNetwork}
+use Rattle.ospf_graph.specs.Advertisements.{Advertisement, router_lsa, IsAttached, IsNetwork}
+use Rattle.ospf_edges.specs.Costs.{HasLinkTo}
 use Rattle.ospf_graph.specs.Routes.{IsTable}
 use Rattle.ospf_graph.specs.declared.route.Route.{Route}
 
--- the router has a type 2 link to the network
-abbrev pub LinksTo : List Advertisement → RouterId → ℕ → Type 0
-LinksTo adverts router n = (link_data metric : ℕ) × HasLink adverts router Transit n link_data metric
-
--- some router has
+-- some router has a type 2 link to the network
 abbrev pub IsLinked : List Advertisement → ℕ → Type 0
-IsLinked adverts n = (router : RouterId) × LinksTo adverts router n
+IsLinked adverts n = (router : RouterId) × HasLinkTo adverts router Transit n
 
 -- the LSA that stands for the network has this mask
-abbrev pub HasMask : List Advertisement → ℕ → ℕ → Type 0
-HasMask adverts n mask = (attached : List RouterId) × IsNetwork adverts n mask attached
+abbrev pub IsNetworkMask : List Advertisement → ℕ → ℕ → Type 0
+IsNetworkMask adverts n mask = (attached : List RouterId) × IsNetwork adverts n mask attached
 
 -- two listings that say the same of all that is linked
 pub record AreLinkedAlike (A B : List Advertisement) : Type 0 where
@@ -26,10 +23,10 @@ pub record AreLinkedAlike (A B : List Advertisement) : Type 0 where
   pub routers : (router : RouterId) (links : List Link) →
       Contains A (router_lsa router links) ↔ Contains B (router_lsa router links)
   -- a router that links to a network is attached to it in both, or in neither
-  pub attached : (router : RouterId) (n : ℕ) → LinksTo A router n →
+  pub attached : (router : RouterId) (n : ℕ) → HasLinkTo A router Transit n →
       IsAttached A n router ↔ IsAttached B n router
   -- and the network has the same mask
-  pub masks : (n mask : ℕ) → IsLinked A n → HasMask A n mask ↔ HasMask B n mask
+  pub masks : (n mask : ℕ) → IsLinked A n → IsNetworkMask A n mask ↔ IsNetworkMask B n mask
 
 -- then their routing tables are the same
 abbrev pub OnlyLinksBackCount : Type 0

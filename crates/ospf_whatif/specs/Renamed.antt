@@ -43,13 +43,13 @@ IsOwner adverts n router =
     (mask : ℕ) × (attached : List RouterId) × Contains adverts (network_lsa n router mask attached)
 
 -- an LSA names the network
-abbrev pub IsNamed : List Advertisement → ℕ → Type 0
-IsNamed adverts n = IsLinked adverts n ⊎ ((router : RouterId) × IsOwner adverts n router)
+abbrev pub IsNetworkNamed : List Advertisement → ℕ → Type 0
+IsNetworkNamed adverts n = IsLinked adverts n ⊎ ((router : RouterId) × IsOwner adverts n router)
 
 -- new names that tell the networks of the area apart, and order them, as the old ones do
 pub record AreNames (name : ℕ → ℕ) (owner : ℕ → RouterId → RouterId) (adverts : List Advertisement) : Type 0 where
   -- no two networks get one name
-  pub apart : (m n : ℕ) → IsNamed adverts m → IsNamed adverts n → name m ≡ name n → m ≡ n
+  pub apart : (m n : ℕ) → IsNetworkNamed adverts m → IsNetworkNamed adverts n → name m ≡ name n → m ≡ n
   -- the owners of one network keep their order: of its LSAs the one of the largest Router ID counts
   pub owners : (n : ℕ) (q r : RouterId) → IsOwner adverts n q → IsOwner adverts n r →
       q.0 ≤ r.0 ↔ (owner n q).0 ≤ (owner n r).0

@@ -8,7 +8,7 @@ use Rattle.ospf_base.specs.declared.prefix.Prefix.{Prefix}
 use Rattle.ospf_lsa.specs.declared.link.Link.{Link}
 use Rattle.ospf_area.specs.State.{LinkValue}
 use Rattle.ospf_iface.specs.Machine.{is_down}
-use Rattle.ospf_wanted.specs.Wanted.{is_transit, links_at}
+use Rattle.ospf_wanted.specs.Wanted.{is_transit, links_of_link}
 use Rattle.ospf_whatif.specs.Failure.{kept_links, takes}
 use Rattle.ospf_whatif.specs.Renamed.{renamed_link}
 use Rattle.ospf_whatif.specs.declared.failure.AreaFailure.{AreaFailure}
@@ -16,7 +16,7 @@ use Rattle.ospf_whatif.specs.declared.failure.AreaFailure.TheVariants as fails
 
 -- the links of the router-LSA that a router of these interfaces wants
 abbrev pub wanted_links : Bool → List LinkValue → List Link
-wanted_links stub_router links = flat_map (links_at stub_router) links
+wanted_links stub_router links = flat_map (links_of_link stub_router) links
 
 -- the failure takes none of the links that these interfaces make
 abbrev pub AreSpared : AreaFailure → RouterId → Bool → List LinkValue → Type 0

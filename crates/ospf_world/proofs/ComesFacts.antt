@@ -8,7 +8,7 @@ use Rattle.ospf_area.specs.Outputs.{OutputsValue}
 use Rattle.ospf_step.specs.Step.{Event}
 use Rattle.ospf_step.specs.declared.counts.DropCounts.{DropCounts}
 use Rattle.ospf_headline.specs.Headline.{IsReached}
-use Rattle.ospf_headline.specs.World.{Becomes, Comes, LogsGrow, Running, SameLogs, World, member, of_member, refusal, router_at, stepped_by, IsRunningStarted}
+use Rattle.ospf_headline.specs.World.{RouterBecomes, Comes, LogsGrow, Running, SameLogs, World, member, of_member, refusal, router_at, stepped_by, IsRunningStarted}
 use Rattle.ospf_headline.specs.declared.event.WorldEvent.{WorldEvent}
 use Rattle.ospf_headline.specs.declared.event.WorldEvent.TheVariants.{Start, Stop, Tick, LinkUp, LinkDown, Deliver}
 use Rattle.ospf_headline.specs.declared.event.WorldFault.{WorldFault}
@@ -94,8 +94,8 @@ comes event w w' k s s' result at get slots steps = by steps
     unchanged : s' ≡ s → w'.logs ≡ w.logs → world_of w' ≡ world_of w
     unchanged same logs = same_value w w' (slots ∙ (ap (set w.slots k) same ∙ set_same w.slots k s get)) logs
 
-    now : (x : Option Running) (drops : List DropCounts) → s' ≡ with_running s x drops → Becomes (world_of w) (world_of w') (router_in event) x
-    now x drops after = subst (λ x. Becomes (world_of w) (world_of w') (router_in event) x) (ap (λ (s : SlotValue). s.running) after) (becomes w w' (router_in event) k s s' at get (config_kept event s s' w.logs w'.logs result steps) slots)
+    now : (x : Option Running) (drops : List DropCounts) → s' ≡ with_running s x drops → RouterBecomes (world_of w) (world_of w') (router_in event) x
+    now x drops after = subst (λ x. RouterBecomes (world_of w) (world_of w') (router_in event) x) (ap (λ (s : SlotValue). s.running) after) (becomes w w' (router_in event) k s s' at get (config_kept event s s' w.logs w'.logs result steps) slots)
 
     goes : (e : Event) → refusal (world_of w) event ≡ None → fed_by w.logs.datagrams event ≡ Some e → result ≡ Ok tt → SlotGoesOn e s w.logs s' w'.logs → Comes is_dropped event (world_of w) result (world_of w')
     goes e none fed ok g = Comes.Stepped none ok (router_in event) e g.x g.x' g.out (steps_with (world_of w) event e fed) (record {
@@ -111,8 +111,8 @@ comes event w w' k s s' result at get slots steps = by steps
     by (SlotSteps.Refused f why is after same) = Comes.Refused f (refused ∙ why) is (unchanged after same)
     by (SlotSteps.Taken none (SlotTakes.NotDone err after same)) = Comes.NotDone (refused ∙ none) err (unchanged after same)
     by (SlotSteps.Taken none (SlotTakes.MemoryStops e fed err after same)) = Comes.MemoryStops (refused ∙ none) err (router_in event) e (steps_with (world_of w) event e fed) (now None _ after) (same_logs w w' same)
-    by (SlotSteps.Taken none (SlotTakes.Starts r dd floor x is ok stopped after starts same)) = Comes.Starts (refused ∙ none) ok r dd floor x is (subst (λ r. router_at (world_of w) r ≡ None) (ap router_in is) (was ∙ stopped)) (subst (λ r. Becomes (world_of w) (world_of w') r (Some x)) (ap router_in is) (now (Some x) _ after)) (subst (λ r. IsRunningStarted w.logs.issued r floor x) (id ∙ ap router_in is) starts.begins) (same_logs w w' same)
-    by (SlotSteps.Taken none (SlotTakes.Stops r is ok after same)) = Comes.Stops (refused ∙ none) ok r is (subst (λ r. Becomes (world_of w) (world_of w') r None) (ap router_in is) (now None _ after)) (same_logs w w' same)
+    by (SlotSteps.Taken none (SlotTakes.Starts r dd floor x is ok stopped after starts same)) = Comes.Starts (refused ∙ none) ok r dd floor x is (subst (λ r. router_at (world_of w) r ≡ None) (ap router_in is) (was ∙ stopped)) (subst (λ r. RouterBecomes (world_of w) (world_of w') r (Some x)) (ap router_in is) (now (Some x) _ after)) (subst (λ r. IsRunningStarted w.logs.issued r floor x) (id ∙ ap router_in is) starts.begins) (same_logs w w' same)
+    by (SlotSteps.Taken none (SlotTakes.Stops r is ok after same)) = Comes.Stops (refused ∙ none) ok r is (subst (λ r. RouterBecomes (world_of w) (world_of w') r None) (ap router_in is) (now None _ after)) (same_logs w w' same)
     by (SlotSteps.Taken none (SlotTakes.Stepped e fed ok g)) = goes e (refused ∙ none) fed ok g
 
 -- what an event does at a router that the world has, and where the routers stand then and how they are configured

@@ -4,7 +4,7 @@ use Rattle.std.specs.Option.{option_map}
 use Rattle.std.proofs.lemmas.Bool.{false≢true}
 use Rattle.std.proofs.lemmas.Option.{none-some, same_Some}
 use Rattle.ospf_area.specs.Outputs.{AreReadAsSent, no_outputs}
-use Rattle.ospf_area.specs.Sending.{datagrams, own_of, packet_of}
+use Rattle.ospf_area.specs.Sending.{datagrams, own_of, packet_from}
 use Rattle.ospf_area.specs.State.{AreaValue, Awaits, LinkValue}
 use Rattle.ospf_area.specs.declared.state.Numbering.{Numbering}
 use Rattle.ospf_base.specs.Keys.{same_key}
@@ -37,7 +37,7 @@ use Rattle.ospf_step.specs.Steps.{StepsArea}
 use Rattle.ospf_step.specs.Ticks.{TakesTick}
 use Rattle.ospf_update.specs.Acks.{cut}
 use Rattle.ospf_wanted.specs.Made.{says}
-use Rattle.ospf_wanted.specs.Wanted.{links_at, networks_at, wanted}
+use Rattle.ospf_wanted.specs.Wanted.{links_of_link, networks_at, wanted_lsas}
 use Rattle.ospf_world.proofs.States.{begun, down_link, has_issued, is_lsa, is_made, issuing, issuing_out, linked, linked_out, own_key, own_lsa, stored, stored_lsa, ticked}
 
 -- ---- a tick
@@ -69,7 +69,7 @@ due : List DueAction
 due = record { key = own_key; action = Issue (negsuc 0x7ffffffe) } ∷ []
 
 is_due : IsDue ticked due
-unfolding due action_of own_action wanted links_at networks_at same_key
+unfolding due action_of own_action wanted_lsas links_of_link networks_at same_key
 is_due = record {
   keys = own_key ∷ [];
   rising = (tt, tt);
@@ -78,7 +78,7 @@ is_due = record {
 }
 
 acts : ActsInTurn (wants ticked) due ticked no_outputs issuing_out issuing
-unfolding due wanted links_at networks_at same_key
+unfolding due wanted_lsas links_of_link networks_at same_key
 acts = (
   issuing,
   issuing_out,
@@ -133,7 +133,7 @@ tick_step = record {
 -- ---- a link that goes up
 
 abbrev pub hello_said : Meaning
-hello_said = packet_of (own_of has_issued) (hello_parcel (up down_link.iface) []).body
+hello_said = packet_from (own_of has_issued) (hello_parcel (up down_link.iface) []).body
 
 pub hello_fits : MeaningFits hello_said
 hello_fits = record {
@@ -164,7 +164,7 @@ twice true is = is
 twice false is = refl
 
 none_due : IsDue linked []
-unfolding action_of own_action wanted links_at networks_at same_key entry_from key_in says
+unfolding action_of own_action wanted_lsas links_of_link networks_at same_key entry_from key_in says
 none_due = record {
   keys = own_key ∷ [];
   rising = (tt, tt);

@@ -3,7 +3,7 @@ use Rattle.std.proofs.Common.{Bool, ◌≡◌, ℕ, zero, suc, List, [], ◌∷�
 use Rattle.std.proofs.lemmas.Option.{same_Some}
 use Rattle.ospf_base.specs.declared.ids.RouterId.{RouterId}
 use Rattle.ospf_config.specs.declared.config.Config.{Config}
-use Rattle.ospf_headline.specs.World.{Becomes, Member, member, router_at, settings}
+use Rattle.ospf_headline.specs.World.{RouterBecomes, Member, member, router_at, settings}
 use Rattle.ospf_headline.specs.Slots.{SlotValue, member_of}
 use Rattle.ospf_world.specs.Worlds.{WorldValue, config_of, is_slot_of, world_of}
 use Rattle.ospf_world.proofs.PlaceFacts.{IsAt, find_other, find_set, slot_at}
@@ -51,7 +51,7 @@ same_settings : (w w' : WorldValue) (k : ℕ) (s s' : SlotValue) → slice_get w
 same_settings w w' k s s' get same slots = settings_are w'.slots ∙ (ap (map setting_of) (ap (map config_of) slots ∙ configs_set w.slots k s s' get same) ∙ sym (settings_are w.slots))
 
 -- the router of a slot that is replaced becomes what the new one has, and no other changes
-pub becomes : (w w' : WorldValue) (r : RouterId) (k : ℕ) (s s' : SlotValue) → IsAt w.slots r.0 k → slice_get w.slots k ≡ Some s → s'.config ≡ s.config → w'.slots ≡ set w.slots k s' → Becomes (world_of w) (world_of w') r s'.running
+pub becomes : (w w' : WorldValue) (r : RouterId) (k : ℕ) (s s' : SlotValue) → IsAt w.slots r.0 k → slice_get w.slots k ≡ Some s → s'.config ≡ s.config → w'.slots ≡ set w.slots k s' → RouterBecomes (world_of w) (world_of w') r s'.running
 becomes w w' r k s s' at get same slots = record {
   same_settings = same_settings w w' k s s' get same slots;
   becomes = router_at-is w' r ∙ ap (option_and_then (λ (s : SlotValue). s.running)) (ap (find (is_slot_of r.0)) slots ∙ find_set w.slots r.0 k s' at (mine s' same));

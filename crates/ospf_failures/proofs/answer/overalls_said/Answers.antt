@@ -3,7 +3,7 @@ use Rattle.ospf_edges.specs.Listed.{advertisements_of}
 use Rattle.ospf_failures.specs.Answer.{IsEndBy, IsAllPrinted, added_text}
 use Rattle.ospf_failures.specs.Overall.{AreOveralls, CutsSomewhere}
 use Rattle.ospf_failures.specs.declared.answer.FailuresStatus.{FailuresStatus}
-use Rattle.ospf_failures.specs.declared.overall.Detail.{Detail}
+use Rattle.ospf_failures.specs.declared.overall.RouteDetail.{RouteDetail}
 use Rattle.ospf_failures.specs.declared.overall.Overall.{Overall}
 use Rattle.ospf_failures.proofs.AnswerLemmas.{end_is, whole_end}
 use Rattle.ospf_failures.proofs.answer.overalls_said.Goals as goal
@@ -15,7 +15,7 @@ returns-clause-said g c =
     subst (λ (l : List Overall). IsTrue c.cuts_somewhere.result ↔ CutsSomewhere l) c.deref-2.ensures.value c.cuts_somewhere.ensures in
     record {
       printed = printed;
-      are = subst (λ (d : Detail). AreOveralls (advertisements_of c.args.listing.now) d printed) c.detail_of.ensures c.in-Ok.ensures.printed;
+      are = subst (λ (d : RouteDetail). AreOveralls (advertisements_of c.args.listing.now) d printed) c.detail_of.ensures c.in-Ok.ensures.printed;
       text_is = c.in_ok-text.ensures ∙ ap (added_text c.args.form c.args.each) c.deref.ensures.value;
       ends = subst (λ (e : FailuresStatus). IsEndBy c.args.strict (CutsSomewhere printed) e) (sym c.end_of-end.ensures)
           (end_is (CutsSomewhere printed) c.args.strict c.cuts_somewhere.result cuts);

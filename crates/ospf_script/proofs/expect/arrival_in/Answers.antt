@@ -1,4 +1,4 @@
-use Rattle.ospf_script.specs.Expected.{IsArrival}
+use Rattle.ospf_script.specs.Expected.{SpellsArrival}
 use Rattle.ospf_script.specs.Words.{line_words}
 use Rattle.std.proofs.Common.{subst}
 use Rattle.ospf_script.proofs.Expecting.{only_walk, rest_one}
@@ -15,4 +15,4 @@ returns-in_err-cost c =
     let ends = rw c.in_ok-from.was at c.ends_in.ensures.some in
     let none = rw c.in_err-cost.was at c.cost_in.ensures in
     finds_none _ _ c.from_residual-in_err-cost.ensures (only_walk _ (λ from address rest cost begins arrives.
-    none cost (subst (λ ws. IsArrival ws cost) (rest_one _ from c.in_ok-from.from address c.in_ok-from.address rest (line_words c.in_ok-from.rest.now) begins ends) arrives)))
+    none cost (subst (λ ws. SpellsArrival ws cost) (rest_one _ from c.in_ok-from.from address c.in_ok-from.address rest (line_words c.in_ok-from.rest.now) begins ends) arrives)))

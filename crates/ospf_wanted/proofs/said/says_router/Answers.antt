@@ -1,12 +1,12 @@
 use Rattle.std.proofs.Common.{◌∙◌}
 use Rattle.std.specs.List.{flat_map}
 use Rattle.ospf_lsa.specs.Link.{link_bytes}
-use Rattle.ospf_wanted.specs.Wanted.{links_at}
+use Rattle.ospf_wanted.specs.Wanted.{links_of_link}
 use Rattle.ospf_wanted.proofs.SaidLemmas.{body_behind}
 use Rattle.ospf_wanted.proofs.said.says_router.Goals as goal
 
 pub returns : goal.returns
 returns c =
-    let links = flat_map (links_at c.args.stub_router) c.args.links.now in
+    let links = flat_map (links_of_link c.args.stub_router) c.args.links.now in
     c.is_router_lsa.ensures links
     (c.behind_own_links-rest.ensures ∙ body_behind (flat_map link_bytes links) c.args.copy.now c.as_bytes-lsa.result.now c.as_bytes-lsa.ensures.bytes)

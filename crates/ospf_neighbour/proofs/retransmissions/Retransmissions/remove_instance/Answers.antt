@@ -1,7 +1,7 @@
 use Rattle.std.proofs.Common.{◌≡◌, ◌∙◌, Some, ap, sym, subst}
 use Rattle.std.specs.HashSet.{contains}
 use Rattle.std.specs.List.{position}
-use Rattle.ospf_neighbour.specs.Lists.{AreKeysOf, is_of_instance, key_eq, without_instance, without_key}
+use Rattle.ospf_neighbour.specs.Lists.{TellsListedKeys, is_of_instance, key_eq, without_instance, without_key}
 use Rattle.ospf_neighbour.specs.OneAKey.{IsAloneOfKeys}
 use Rattle.ospf_neighbour.proofs.KeyLemmas.{AreKeysOf-remove, alone_leaves, no_place_leaves, place_leaves, place_listed}
 use Rattle.ospf_neighbour.proofs.retransmissions.Retransmissions.remove_instance.Goals as goal
@@ -16,7 +16,7 @@ invariant_of-self c = λ keyed.
     let left : without_key i.key old ≡ c.remove.new.self.items =
     alone_leaves i old alone (place_listed i old c.in-Some.at c.remove.result found)
     ∙ sym (place_leaves i old c.in-Some.at c.remove.result alone found) ∙ sym c.remove.ensures.items in
-    subst (AreKeysOf now) left (AreKeysOf-remove (contains key_eq c.self.inside.keys) now i.key old (c.self.invariant keyed) c.remove-in-Some.ensures.updates.0)
+    subst (TellsListedKeys now) left (AreKeysOf-remove (contains key_eq c.self.inside.keys) now i.key old (c.self.invariant keyed) c.remove-in-Some.ensures.updates.0)
 
 pub returns-in-Some : goal.returns-in-Some
 returns-in-Some c =
