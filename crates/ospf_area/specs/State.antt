@@ -29,11 +29,12 @@ pub record LinkValue : Type 0 where
   pub delayed : List LsaHeader
   pub elects : Bool
 
--- a router's part of an area: its links in configuration order, its database, the direct acknowledgements of the Update
--- that is being taken (13.5), for each key of its own that it has numbered how far it came, and for the others the
--- floor, the present tick, the next DD sequence number, the keys whose copy went out in an Update in this tick (13,
--- step 8), the keys of self-originated LSAs that this step has installed from Updates, which are still to be answered
--- (13.4), and the greatest of the floor and all numbers of keys of its own
+-- a router's part of an area: whether it is a stub router (RFC 6987), whether it passes over LSAs of LS types 3 to 5, its
+-- links in configuration order, its database, the direct acknowledgements of the Update that is being taken (13.5),
+-- for each key of its own that it has numbered how far it came, and for the others the floor, the present tick, the
+-- next DD sequence number, the keys whose copy went out in an Update in this tick (13, step 8), the keys of
+-- self-originated LSAs that this step has installed from Updates, which are still to be answered (13.4), and the
+-- greatest of the floor and all numbers of keys of its own
 pub record AreaValue : Type 0 where
   pub router : RouterId
   pub area : AreaId

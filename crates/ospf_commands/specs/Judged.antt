@@ -1,5 +1,5 @@
 -- Whether something is as it is expected to be, and what is printed where it is not.
-use Rattle.std.specs.Prelude.{◌≡◌, ◌&&◌, ◌==◌, ℕ, ⊤, Bool, true, false, not, List, [], ◌∷◌, ◌++◌, Ok, Err, Option, None, Some, codes}
+use Rattle.std.specs.Prelude.{◌≡◌, ◌&&◌, ◌==◌, ℕ, Bool, true, false, not, List, [], ◌∷◌, ◌++◌, Ok, Err, Option, None, Some, codes}
 use Rattle.std.specs.List.{AllByRecursion}
 use Rattle.ospf_base.specs.Text.{number_text}
 use Rattle.ospf_base.specs.declared.ids.Addr.{Addr}

@@ -87,7 +87,7 @@ issue_if_sound (Some w) number s o o' s' is sound = along (turned_area is.mid) s
 
 act_sound : (a : OwnAction) (ws : List WantedValue) (key : LsaKey) (s : AreaValue) (o o' : OutputsValue) (s' : AreaValue) → Acts a ws key s o o' s' → IsSound s → IsSound s'
 act_sound Leave ws key s o o' s' is sound = along s s' is.state sound
-act_sound Flush ws key s o o' s' is sound = flush_sound key s is.sent s' is.flushes sound
+act_sound Flush ws key s o o' s' is sound = flush_sound key s o o' s' is sound
 act_sound (Issue number) ws key s o o' s' is sound = issue_if_sound (wanted_of ws key) number s o o' s' is sound
 
 acts_sound : (ws : List WantedValue) (ds : List DueAction) (s : AreaValue) (o o' : OutputsValue) (s' : AreaValue) → ActsInTurn ws ds s o o' s' → IsSound s → IsSound s'

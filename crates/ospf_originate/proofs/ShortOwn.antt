@@ -59,7 +59,7 @@ if_short (Some w) number s o o' s' is needs short =
 act_short : (a : OwnAction) (ws : List WantedValue) (key : LsaKey) (s : AreaValue) (o o' : OutputsValue) (s' : AreaValue) → Acts a ws key s o o' s' → CanBeMadeIf (pos 0) (wanted_of ws key)
     → AreShort s.database → AreShort s'.database
 act_short Leave ws key s o o' s' is needs short = same s s' (ap (λ (x : AreaValue). x.database) is.state) short
-act_short Flush ws key s o o' s' is needs short = flush_short key s is.sent s' is.flushes short
+act_short Flush ws key s o o' s' is needs short = flush_short key s o o' s' is short
 act_short (Issue number) ws key s o o' s' is needs short = if_short (wanted_of ws key) number s o o' s' is needs short
 
 acts_short : (ws : List WantedValue) → ((key : LsaKey) → CanBeMadeIf (pos 0) (wanted_of ws key)) → (ds : List DueAction) (s : AreaValue) (o o' : OutputsValue) (s' : AreaValue) → ActsInTurn ws ds s o o' s'

@@ -42,10 +42,10 @@ use Rattle.ospf_area.specs.declared.changes.AdjacencyChange.{AdjacencyChange}
 use Rattle.ospf_area.specs.declared.flooding.Origin.{Origin}
 use Rattle.ospf_area.specs.declared.sending.Own.{Own}
 use Rattle.ospf_area.specs.declared.state.Numbering.{Numbering}
-use Rattle.ospf_update.specs.Aging.{Flushes, TickAges, copies_sent, copy_flooded, copy_sent, noted, turned_area}
+use Rattle.ospf_update.specs.Aging.{Flushes, TickAges, copy_flooded, noted, turned_area}
 use Rattle.ospf_area.specs.Acting.{Becomes}
 use Rattle.ospf_update.specs.Meets.{MeetsLsa, MeetsRule, Stores, restarted, flooded_area, header_met, heard_by, named_by, replied, reply_to, rule_met}
-use Rattle.ospf_update.proofs.Words.{taken_off, copy_flooded_by, TakesSlices}
+use Rattle.ospf_update.proofs.Words.{taken_off, copy_flooded_by, TakesSlices, copies_sent, copy_sent}
 use Rattle.ospf_update.specs.Updates.{MeetsAndTurns, TakesSlice, TakesUpdate}
 use Rattle.ospf_update.specs.Updates.TakesSlice.{Met, PassedOver}
 use Rattle.ospf_update.proofs.PassLemmas.{passed}
@@ -53,6 +53,7 @@ use Rattle.ospf_originate.specs.Laws.{LinksStaySetUp, PartsStaySound}
 use Rattle.ospf_originate.specs.Sound.{AreApart, AreSetUp, IsSetUp, IsSound, max_links}
 use Rattle.ospf_originate.proofs.SoundLemmas.{Numbers, contents-entry_from, counted_numbers, counts_in, fewer, greatest_in, known, number_of-contents, numbers_of, sound_of, stored_numbers}
 use Rattle.ospf_area.proofs.ShortLemmas.{expired_contents, older_contents}
+use Rattle.ospf_update.proofs.CopyLemmas.{copies_become}
 
 -- ---- links
 
@@ -288,20 +289,21 @@ all_sent_sound : (keys : List LsaKey) (s : AreaValue) → IsSound s → IsSound 
 all_sent_sound [] s sound = sound
 all_sent_sound (key ∷ keys) s sound = all_sent_sound keys (copy_sent key s) (sent_sound key s sound)
 
-pub flush_sound : (key : LsaKey) (s : AreaValue) (sent : List SentValue) (s' : AreaValue) → Flushes key s sent s' → IsSound s → IsSound s'
-flush_sound key s sent s' is sound =
+pub flush_sound : (key : LsaKey) (s : AreaValue) (o o' : OutputsValue) (s' : AreaValue) → Flushes key s o o' s' → IsSound s → IsSound s'
+flush_sound key s o o' s' is sound =
     let mid = is.mid in
     let mid_sound = same_sound s mid (ap (λ (x : AreaValue). x.links) is.rest) (ap (λ (x : AreaValue). x.router) is.rest) (ap (λ (x : AreaValue). x.numbering) is.rest) (ap (λ (x : AreaValue). x.floor) is.rest)
     (ap (λ (x : AreaValue). x.greatest) is.rest) (expired_known key s.database mid.database is.database) sound in
-    along (copy_sent key mid) s' is.state (sent_sound key mid mid_sound)
+    along (copy_sent key mid) s' is.sends.state (sent_sound key mid mid_sound)
 
-pub age_sound : (s : AreaValue) (sent : List SentValue) (s' : AreaValue) → TickAges s sent s' → IsSound s → IsSound s'
-age_sound s sent s' is sound =
+pub age_sound : (s : AreaValue) (o o' : OutputsValue) (s' : AreaValue) → TickAges s o o' s' → IsSound s → IsSound s'
+age_sound s o o' s' is sound =
     let mid = is.mid in
     let rise = is.rise.rest in
     let mid_sound = same_sound s mid (ap (λ (x : AreaValue). x.links) rise) (ap (λ (x : AreaValue). x.router) rise) (ap (λ (x : AreaValue). x.numbering) rise) (ap (λ (x : AreaValue). x.floor) rise)
     (ap (λ (x : AreaValue). x.greatest) rise) (aged_known s.database mid.database is.rise.database) sound in
-    along (copies_sent (reached_at max_age mid.database) mid) s' is.state (all_sent_sound (reached_at max_age mid.database) mid mid_sound)
+    let keys = reached_at max_age mid.database in
+    along (copies_sent keys mid) s' (copies_become keys mid s' o o' is.sends).state (all_sent_sound keys mid mid_sound)
 
 -- ---- a router that starts
 
@@ -357,7 +359,7 @@ parts_stay = record {
   met = lsa_sound;
   begun_again = restart_sound;
   turned = turned_sound;
-  copied = sent_sound;
+  copied = λ key s o o' s' is sound. along (copy_sent key s) s' is.state (sent_sound key s sound);
   flooded = λ lsa from s sound. relinked s (flooded_links (key_of lsa) (header_of lsa) from s.tick s.links) (flooded_up (key_of lsa) (header_of lsa) from s.tick s.links sound.links) sound;
   answered = λ s sound. rest s s.links [] s.tick s.next_dd s.sent s.heard sound.links sound;
   marked = λ s sent sound. rest s s.links s.direct s.tick s.next_dd sent s.heard sound.links sound;

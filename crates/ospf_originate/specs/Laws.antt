@@ -15,14 +15,14 @@ use Rattle.ospf_area.specs.Changes.{changed_at, delayed_at}
 use Rattle.ospf_area.specs.Flooding.{flooded_links, released}
 use Rattle.ospf_area.specs.Laws.{AreShort}
 use Rattle.ospf_area.specs.Numbers.{counts, greatest_after, is_own}
-use Rattle.ospf_area.specs.Outputs.{OutputsValue, SentValue}
+use Rattle.ospf_area.specs.Outputs.{OutputsValue}
 use Rattle.ospf_area.specs.Standing.{acknowledging}
 use Rattle.ospf_area.specs.State.{AreaValue, LinkValue, kept_number, numbering_of}
 use Rattle.ospf_area.specs.declared.changes.AdjacencyChange.{AdjacencyChange}
 use Rattle.ospf_area.specs.declared.flooding.Origin.{Origin}
 use Rattle.ospf_area.specs.declared.sending.Own.{Own}
 use Rattle.ospf_flood.specs.declared.acknowledgement.Acknowledgement.{Acknowledgement}
-use Rattle.ospf_update.specs.Aging.{Flushes, TickAges, copy_sent, turned_area}
+use Rattle.ospf_update.specs.Aging.{Flushes, SendsCopy, TickAges, turned_area}
 use Rattle.ospf_update.specs.Laws.{IsShortLsa}
 use Rattle.ospf_area.specs.Acting.{Becomes, InTurn}
 use Rattle.ospf_update.specs.Meets.{MeetsLsa, Stores, restarted, flooded_area, header_met}
@@ -73,14 +73,14 @@ pub record StartsSound : Type 0 where
 -- an issue, a flush, and what ends a step keep it
 pub record OwnStaySound : Type 0 where
   pub issued : (w : WantedValue) (number : ℤ) (s : AreaValue) (o o' : OutputsValue) (s' : AreaValue) → Issues w number s o o' s' → IsSound s → IsSound s'
-  pub flushed : (key : LsaKey) (s : AreaValue) (sent : List SentValue) (s' : AreaValue) → Flushes key s sent s' → IsSound s → IsSound s'
+  pub flushed : (key : LsaKey) (s : AreaValue) (o o' : OutputsValue) (s' : AreaValue) → Flushes key s o o' s' → IsSound s → IsSound s'
   pub ended : (s : AreaValue) (o o' : OutputsValue) (s' : AreaValue) → OwnLsas s o o' s' → IsSound s → IsSound s'
 
 -- an Update, a header that is acknowledged, the clock and LSAs that leave keep it
 pub record AreaStaysSound : Type 0 where
   pub updated : (f : Origin) (slices : List (List ℕ)) (s : AreaValue) (o o' : OutputsValue) (s' : AreaValue) → TakesUpdate f slices s o o' s' → IsSound s → IsSound s'
   pub acknowledged : (f : Origin) (h : LsaHeader) (s : AreaValue) → IsSound s → IsSound (header_met f h s)
-  pub aged : (s : AreaValue) (sent : List SentValue) (s' : AreaValue) → TickAges s sent s' → IsSound s → IsSound s'
+  pub aged : (s : AreaValue) (o o' : OutputsValue) (s' : AreaValue) → TickAges s o o' s' → IsSound s → IsSound s'
   pub removed : (s : AreaValue) (o o' : OutputsValue) (s' : AreaValue) → IsDatabase s.database → InTurn RemovesOne (leaving s) s o o' s' → IsSound s → IsSound s'
 
 -- links that are set up stay so, whatever their lists and neighbours do
@@ -102,7 +102,7 @@ pub record PartsStaySound : Type 0 where
   pub met : (f : Origin) (lsa : List ℕ) (s : AreaValue) (o o' : OutputsValue) (s' : AreaValue) → MeetsLsa f lsa s o o' s' → IsSound s → IsSound s'
   pub begun_again : (f : Origin) (s : AreaValue) (o o' : OutputsValue) (s' : AreaValue) → Becomes (restarted f s) o o' s' → IsSound s → IsSound s'
   pub turned : (s : AreaValue) → IsSound s → IsSound (turned_area s)
-  pub copied : (key : LsaKey) (s : AreaValue) → IsSound s → IsSound (copy_sent key s)
+  pub copied : (key : LsaKey) (s : AreaValue) (o o' : OutputsValue) (s' : AreaValue) → SendsCopy key s o o' s' → IsSound s → IsSound s'
   pub flooded : (lsa : List ℕ) (from : Option Origin) (s : AreaValue) → IsSound s → IsSound (flooded_area lsa from s)
   pub answered : (s : AreaValue) → IsSound s → IsSound (record s { direct = [] })
   pub marked : (s : AreaValue) (sent : List LsaKey) → IsSound s → IsSound (record s { sent = sent })

@@ -7,7 +7,7 @@ use Rattle.ospf_lsa.specs.Value.{IsMade}
 use Rattle.ospf_lsdb.specs.Moments.{among}
 use Rattle.ospf_lsdb.specs.Timers.{KeysRise}
 use Rattle.ospf_area.specs.Numbers.{is_own}
-use Rattle.ospf_area.specs.Outputs.{OutputsValue, SentValue}
+use Rattle.ospf_area.specs.Outputs.{OutputsValue}
 use Rattle.ospf_area.specs.Sending.{and_sends}
 use Rattle.ospf_area.specs.State.{AreaValue, database_entry, kept_number}
 use Rattle.ospf_area.specs.declared.state.Numbering.{Numbering}
@@ -58,17 +58,10 @@ abbrev pub IssuesIf : Option WantedValue → ℤ → AreaValue → OutputsValue 
 IssuesIf None number before out out' after = Becomes before out out' after
 IssuesIf (Some w) number before out out' after = IssuesAndTurns w number before out out' after
 
--- a copy's age becomes MaxAge, and nothing else of it changes; it is flooded to all, and LoadingDone and the next Requests
--- come of it (14.1)
-pub record FlushesAndTurns (key : LsaKey) (before : AreaValue) (out out' : OutputsValue) (after : AreaValue) : Type 0 where
-  pub sent : List SentValue
-  pub flushes : Flushes key before sent after
-  pub outputs : out' ≡ and_sends out sent
-
 -- what an action does to the router, by what it wants
 abbrev pub Acts : OwnAction → List WantedValue → LsaKey → AreaValue → OutputsValue → OutputsValue → AreaValue → Type 0
 Acts Leave ws key before out out' after = Becomes before out out' after
-Acts Flush ws key before out out' after = FlushesAndTurns key before out out' after
+Acts Flush ws key before out out' after = Flushes key before out out' after
 Acts (Issue number) ws key before out out' after = IssuesIf (wanted_of ws key) number before out out' after
 
 -- what is due of a key

@@ -14,7 +14,8 @@ ghost use Rattle.ospf_originate.specs.Idle.{IsIdle};
 ghost use Rattle.ospf_wanted.specs.Own.{wanted_value};
 ghost use Rattle.ospf_originate.specs.Sound.{AreNumbered, IsSound};
 ghost use Rattle.ospf_area.specs.Acting.{InTurn};
-ghost use Rattle.ospf_originate.specs.Steps.{wants, action_of, Acts, FlushesAndTurns, HasUsedNumber, IssuesAndTurns, IssuesIf, due_as, due_of, candidates, IsDue, OwnLsas};
+ghost use Rattle.ospf_update.specs.Aging.{Flushes};
+ghost use Rattle.ospf_originate.specs.Steps.{wants, action_of, Acts, HasUsedNumber, IssuesAndTurns, IssuesIf, due_as, due_of, candidates, IsDue, OwnLsas};
 ghost use Rattle.ospf_wanted.specs.Wanted.{wanted_of, wanted_key};
 
 use crate::action::{DueAction, OwnAction, own_action};
@@ -281,7 +282,7 @@ fn flush_key(
     out: &mut Outputs,
     alloc: Global,
 ) -> Result<(), AllocError>
-    ensures { OnOk result (FlushesAndTurns key area.old out.old out.new area.new) }
+    ensures { OnOk result (Flushes key area.old out.old out.new area.new) }
 {
     flush(area, key, out, alloc)
 }

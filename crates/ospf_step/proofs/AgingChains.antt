@@ -10,12 +10,12 @@ use Rattle.ospf_lsdb.specs.Database as lsdb
 use Rattle.ospf_lsdb.specs.Database.{Entry, IsDatabase, lsa_of, key_at, key_in, reached_at, entries}
 use Rattle.ospf_base.proofs.SameKeys.{same_key-eq, same_key-refl}
 use Rattle.ospf_exchange.proofs.LawLemmas.{of_copy}
-use Rattle.ospf_update.specs.Aging.{TickAges, Flushes, turn_out, noted, copy_flooded, copy_flood_out, copy_sent, copy_out, copies_sent, copies_out}
-use Rattle.ospf_update.proofs.Words.{copy_flooded_by, copy_flood_out_by}
+use Rattle.ospf_update.specs.Aging.{TickAges, Flushes, turn_out, noted, copy_flooded, copy_flood_out}
+use Rattle.ospf_update.proofs.Words.{copy_flooded_by, copy_flood_out_by, copies_out, copies_sent, copy_out, copy_sent}
 use Rattle.ospf_area.specs.Flooding.{flooded_links, flooding_updates, goes_anywhere}
 use Rattle.ospf_update.specs.Meets.{flooded_area}
 use Rattle.ospf_area.specs.Sending.{own_of}
-use Rattle.ospf_area.specs.Outputs.{SentValue, no_outputs, sends, AreReadAsSent}
+use Rattle.ospf_area.specs.Outputs.{SentValue, no_outputs, sends, AreReadAsSent, OutputsValue}
 use Rattle.ospf_area.specs.State.{AreaValue, database_entry, kept_number}
 use Rattle.ospf_step.specs.Parts.{ExpiryPart, at_max_age}
 use Rattle.ospf_step.specs.Step.{AndRequests, ExpiryStep, Times, Part, IsPart}
@@ -25,6 +25,7 @@ use Rattle.ospf_step.proofs.Accountable.{AreRead-left, AreRead-right}
 use Rattle.ospf_step.proofs.TurnAccounts.{turned-quiet}
 use Rattle.ospf_base.specs.Constants.{max_age}
 use Rattle.ospf_base.specs.Keys.{same_key}
+use Rattle.ospf_update.proofs.CopyLemmas.{copies_become}
 
 set_age : Entry → ℕ → Entry
 set_age e age = record { age = age; contents = e.contents; tick = e.tick; by_flooding = e.by_flooding }
@@ -121,31 +122,32 @@ reached_expire s is key c =
     (e, ap (λ k. database_entry s k) (sym key_is) ∙ at, ap (λ e. e.age) same ∙ eqb-true h.entry.age max_age (and_parts h.reached (h.entry.age == max_age) told).1)
 
 -- the first point of a tick (14)
-pub TickAges-is_part : (before after : AreaValue) (sent : List SentValue) → (t : TickAges before sent after) → IsDatabase t.mid.database → AreReadAsSent sent → IsPart Part.Ages before (sends sent) after
-TickAges-is_part before after sent t is read =
-    let (n, times) = copies_put (reached_at max_age t.mid.database) t.mid (λ key c. reached_expire t.mid is key c) (subst (λ ds. AreReadAsSent ds) t.sends read) in (
+pub TickAges-is_part : (before after : AreaValue) (out out' : OutputsValue) (t : TickAges before out out' after) → IsDatabase t.mid.database → AreReadAsSent (copies_out (reached_at max_age t.mid.database) t.mid) → IsPart Part.Ages before (sends (copies_out (reached_at max_age t.mid.database) t.mid)) after
+TickAges-is_part before after out out' t is read =
+    let keys = reached_at max_age t.mid.database in
+    let (n, times) = copies_put keys t.mid (λ key c. reached_expire t.mid is key c) read in (
       n,
       record {
         mid = t.mid;
         first_out = no_outputs;
-        next_out = sends sent;
+        next_out = sends (copies_out keys t.mid);
         first = record { rise = t.rise; outputs = refl };
-        next = subst (λ s. Times n ExpiryStep t.mid (sends sent) s) (sym t.state) (subst (λ ds. Times n ExpiryStep t.mid (sends ds) (copies_sent (reached_at max_age t.mid.database) t.mid)) (sym t.sends) times);
+        next = subst (λ s. Times n ExpiryStep t.mid (sends (copies_out keys t.mid)) s) (sym (copies_become keys t.mid after out out' t.sends).state) times;
         both = refl;
       },
     )
 
 -- ---- a flush (14.1)
 
-pub Flushes-is_part : (key : LsaKey) (copy : Entry) (before after : AreaValue) (sent : List SentValue) → IsDatabase before.database → database_entry before key ≡ Some copy → Flushes key before sent after → AreReadAsSent sent → AndRequests (ExpiryPart key copy) before (sends sent) after
-Flushes-is_part key copy before after sent is at x read = record {
+pub Flushes-is_part : (key : LsaKey) (copy : Entry) (before after : AreaValue) (out out' : OutputsValue) → IsDatabase before.database → database_entry before key ≡ Some copy → (x : Flushes key before out out' after) → AreReadAsSent (copy_out key x.mid) → AndRequests (ExpiryPart key copy) before (sends (copy_out key x.mid)) after
+Flushes-is_part key copy before after out out' is at x read = record {
   mid = copy_flooded key x.mid;
   first_out = sends (copy_flood_out key x.mid);
   next_out = sends (turn_out (copy_flooded key x.mid));
   first = expires;
-  next = subst (λ t. Quiet (copy_flooded key x.mid) (sends (turn_out (copy_flooded key x.mid))) t) (sym x.state)
-      (turned-quiet (copy_flooded key x.mid) (AreRead-right (sends (copy_flood_out key x.mid)) (sends (turn_out (copy_flooded key x.mid))) (subst (λ ds. AreReadAsSent ds) x.sends read)));
-  both = ap sends x.sends;
+  next = subst (λ t. Quiet (copy_flooded key x.mid) (sends (turn_out (copy_flooded key x.mid))) t) (sym x.sends.state)
+      (turned-quiet (copy_flooded key x.mid) (AreRead-right (sends (copy_flood_out key x.mid)) (sends (turn_out (copy_flooded key x.mid))) read));
+  both = refl;
 }
   where
     entries_mid : (k : LsaKey) → database_entry x.mid k ≡ (if same_key key k then Some (at_max_age copy) else database_entry before k)

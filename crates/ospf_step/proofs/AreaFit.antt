@@ -27,9 +27,9 @@ use Rattle.ospf_area.specs.State.{AreaValue, LinkValue, database_entry}
 use Rattle.ospf_area.specs.declared.changes.AdjacencyChange.{AdjacencyChange}
 use Rattle.ospf_area.specs.declared.flooding.Origin.{Origin}
 use Rattle.ospf_area.specs.declared.sending.Own.{Own}
-use Rattle.ospf_update.specs.Aging.{Flushes, TickAges, copies_sent, copy_flooded, copy_sent, noted, turned_area}
+use Rattle.ospf_update.specs.Aging.{Flushes, TickAges, copy_flooded, noted, turned_area}
 use Rattle.ospf_update.specs.Meets.{MeetsRule, Stores, flooded_area, header_met, heard_by, named_by, replied, reply_to, rule_met}
-use Rattle.ospf_update.proofs.Words.{taken_off, copy_flooded_by, RemovesAll, Removes, TakesSlices}
+use Rattle.ospf_update.proofs.Words.{taken_off, copy_flooded_by, RemovesAll, Removes, TakesSlices, copies_sent, copy_sent}
 use Rattle.ospf_update.specs.Removal.{leaving}
 use Rattle.ospf_update.specs.Updates.{TakesSlice, TakesUpdate}
 use Rattle.ospf_update.specs.Updates.TakesSlice.{Met, PassedOver}
@@ -42,6 +42,7 @@ use Rattle.ospf_originate.specs.declared.action.DueAction.{DueAction}
 use Rattle.ospf_originate.specs.declared.action.OwnAction.{OwnAction}
 use Rattle.ospf_originate.specs.declared.action.OwnAction.TheVariants.{Leave, Flush, Issue}
 use Rattle.ospf_step.proofs.FitLemmas.{AllFit, IsFor, IsKin, along, fit_from, fit_map, kin_fit, ids_map}
+use Rattle.ospf_update.proofs.CopyLemmas.{copies_become}
 
 module _ (r : RouterId) where
   -- ---- links
@@ -163,14 +164,15 @@ module _ (r : RouterId) where
   aside_for : (s s' : AreaValue) → s'.router ≡ s.router → s'.links ≡ s.links → IsFor r s → IsFor r s'
   aside_for s s' router links fit = record { own = router ∙ fit.own; links = subst (λ (xs : List LinkValue). AllFit r xs) (sym links) fit.links }
 
-  flush_for : (key : LsaKey) (s : AreaValue) (sent : List SentValue) (s' : AreaValue) → Flushes key s sent s' → IsFor r s → IsFor r s'
-  flush_for key s sent s' is fit =
-      along r (copy_sent key is.mid) s' is.state (sent_for key is.mid (aside_for s is.mid (ap (λ (x : AreaValue). x.router) is.rest) (ap (λ (x : AreaValue). x.links) is.rest) fit))
+  flush_for : (key : LsaKey) (s : AreaValue) (out out' : OutputsValue) (s' : AreaValue) → Flushes key s out out' s' → IsFor r s → IsFor r s'
+  flush_for key s out out' s' is fit =
+      along r (copy_sent key is.mid) s' is.sends.state (sent_for key is.mid (aside_for s is.mid (ap (λ (x : AreaValue). x.router) is.rest) (ap (λ (x : AreaValue). x.links) is.rest) fit))
 
-  pub age_for : (s : AreaValue) (sent : List SentValue) (s' : AreaValue) → TickAges s sent s' → IsFor r s → IsFor r s'
-  age_for s sent s' is fit =
+  pub age_for : (s : AreaValue) (out out' : OutputsValue) (s' : AreaValue) → TickAges s out out' s' → IsFor r s → IsFor r s'
+  age_for s out out' s' is fit =
       let mid = is.mid in
-      along r (copies_sent (reached_at max_age mid.database) mid) s' is.state (all_sent_for (reached_at max_age mid.database) mid
+      let keys = reached_at max_age mid.database in
+      along r (copies_sent keys mid) s' (copies_become keys mid s' out out' is.sends).state (all_sent_for keys mid
       (aside_for s mid (ap (λ (x : AreaValue). x.router) is.rise.rest) (ap (λ (x : AreaValue). x.links) is.rise.rest) fit))
 
   -- ---- own LSAs
@@ -186,7 +188,7 @@ module _ (r : RouterId) where
 
   acts_for : (a : OwnAction) (ws : List WantedValue) (key : LsaKey) (s : AreaValue) (out out' : OutputsValue) (s' : AreaValue) → Acts a ws key s out out' s' → IsFor r s → IsFor r s'
   acts_for Leave ws key s out out' s' unchanged fit = along r s s' unchanged.state fit
-  acts_for Flush ws key s out out' s' is fit = flush_for key s is.sent s' is.flushes fit
+  acts_for Flush ws key s out out' s' is fit = flush_for key s out out' s' is fit
   acts_for (Issue number) ws key s out out' s' is fit = issues_if_for (wanted_of ws key) number s out out' s' is fit
 
   in_turn_for : (ws : List WantedValue) (due : List DueAction) (s : AreaValue) (out out' : OutputsValue) (s' : AreaValue) → ActsInTurn ws due s out out' s' → IsFor r s → IsFor r s'

@@ -26,9 +26,9 @@ use Rattle.ospf_area.specs.Standing.{acknowledging}
 use Rattle.ospf_area.specs.State.{AreaValue, LinkValue, database_entry}
 use Rattle.ospf_area.specs.declared.changes.AdjacencyChange.{AdjacencyChange}
 use Rattle.ospf_area.specs.declared.flooding.Origin.{Origin}
-use Rattle.ospf_update.specs.Aging.{Flushes, TickAges, copies_sent, copy_flooded, copy_sent, noted, turned_area}
+use Rattle.ospf_update.specs.Aging.{Flushes, TickAges, copy_flooded, noted, turned_area}
 use Rattle.ospf_update.specs.Meets.{MeetsRule, Stores, flooded_area, header_met, heard_by, named_by, replied, reply_to, rule_met}
-use Rattle.ospf_update.proofs.Words.{taken_off, copy_flooded_by, RemovesAll, Removes, TakesSlices}
+use Rattle.ospf_update.proofs.Words.{taken_off, copy_flooded_by, RemovesAll, Removes, TakesSlices, copies_sent, copy_sent}
 use Rattle.ospf_update.specs.Removal.{leaving}
 use Rattle.ospf_update.specs.Updates.{TakesSlice, TakesUpdate}
 use Rattle.ospf_update.specs.Updates.TakesSlice.{Met, PassedOver}
@@ -40,6 +40,7 @@ use Rattle.ospf_originate.specs.Wanted.{WantedValue, wanted_of}
 use Rattle.ospf_originate.specs.declared.action.DueAction.{DueAction}
 use Rattle.ospf_originate.specs.declared.action.OwnAction.{OwnAction}
 use Rattle.ospf_originate.specs.declared.action.OwnAction.TheVariants.{Leave, Flush, Issue}
+use Rattle.ospf_update.proofs.CopyLemmas.{copies_become}
 
 -- a router of this Router ID, with so many links
 pub record IsAs (r : RouterId) (n : ℕ) (s : AreaValue) : Type 0 where
@@ -142,14 +143,15 @@ module _ (r : RouterId) (n : ℕ) where
   aside_as : (s s' : AreaValue) → s'.router ≡ s.router → s'.links ≡ s.links → IsAs r n s → IsAs r n s'
   aside_as s s' router links as_was = record { own = router ∙ as_was.own; many = ap (λ (xs : List LinkValue). length xs) links ∙ as_was.many }
 
-  flush_as : (key : LsaKey) (s : AreaValue) (sent : List SentValue) (s' : AreaValue) → Flushes key s sent s' → IsAs r n s → IsAs r n s'
-  flush_as key s sent s' is as_was =
-      along r n (copy_sent key is.mid) s' is.state (sent_as key is.mid (aside_as s is.mid (ap (λ (x : AreaValue). x.router) is.rest) (ap (λ (x : AreaValue). x.links) is.rest) as_was))
+  flush_as : (key : LsaKey) (s : AreaValue) (out out' : OutputsValue) (s' : AreaValue) → Flushes key s out out' s' → IsAs r n s → IsAs r n s'
+  flush_as key s out out' s' is as_was =
+      along r n (copy_sent key is.mid) s' is.sends.state (sent_as key is.mid (aside_as s is.mid (ap (λ (x : AreaValue). x.router) is.rest) (ap (λ (x : AreaValue). x.links) is.rest) as_was))
 
-  pub age_as : (s : AreaValue) (sent : List SentValue) (s' : AreaValue) → TickAges s sent s' → IsAs r n s → IsAs r n s'
-  age_as s sent s' is as_was =
+  pub age_as : (s : AreaValue) (out out' : OutputsValue) (s' : AreaValue) → TickAges s out out' s' → IsAs r n s → IsAs r n s'
+  age_as s out out' s' is as_was =
       let mid = is.mid in
-      along r n (copies_sent (reached_at max_age mid.database) mid) s' is.state (all_sent_as (reached_at max_age mid.database) mid
+      let keys = reached_at max_age mid.database in
+      along r n (copies_sent keys mid) s' (copies_become keys mid s' out out' is.sends).state (all_sent_as keys mid
       (aside_as s mid (ap (λ (x : AreaValue). x.router) is.rise.rest) (ap (λ (x : AreaValue). x.links) is.rise.rest) as_was))
 
   -- ---- own LSAs
@@ -165,7 +167,7 @@ module _ (r : RouterId) (n : ℕ) where
 
   acts_as : (a : OwnAction) (ws : List WantedValue) (key : LsaKey) (s : AreaValue) (out out' : OutputsValue) (s' : AreaValue) → Acts a ws key s out out' s' → IsAs r n s → IsAs r n s'
   acts_as Leave ws key s out out' s' unchanged as_was = along r n s s' unchanged.state as_was
-  acts_as Flush ws key s out out' s' is as_was = flush_as key s is.sent s' is.flushes as_was
+  acts_as Flush ws key s out out' s' is as_was = flush_as key s out out' s' is as_was
   acts_as (Issue number) ws key s out out' s' is as_was = issues_if_as (wanted_of ws key) number s out out' s' is as_was
 
   in_turn_as : (ws : List WantedValue) (due : List DueAction) (s : AreaValue) (out out' : OutputsValue) (s' : AreaValue) → ActsInTurn ws due s out out' s' → IsAs r n s → IsAs r n s'

@@ -24,7 +24,7 @@ use Rattle.ospf_area.specs.State.{AreaValue, database_entry, kept_number, number
 use Rattle.ospf_area.proofs.Words.{kept_in}
 use Rattle.ospf_area.proofs.NumberLemmas.{own_counted}
 use Rattle.ospf_update.specs.Aging.{Flushes, copy_flood_out, copy_flooded, noted, turn_out}
-use Rattle.ospf_update.proofs.Words.{copy_flooded_by, copy_flood_out_by}
+use Rattle.ospf_update.proofs.Words.{copy_flooded_by, copy_flood_out_by, copy_out}
 use Rattle.ospf_update.specs.Meets.{flooded_area, store_updates}
 use Rattle.ospf_step.specs.Neighbours.{Quiet}
 use Rattle.ospf_step.specs.Parts.{ExpiryPart, IssuePart, at_max_age}
@@ -39,7 +39,7 @@ use Rattle.ospf_step.proofs.PutParts.{own_end, own_more, own_none, puts_sent}
 use Rattle.ospf_step.proofs.TurnAccounts.{turned-quiet}
 use Rattle.ospf_originate.specs.Actions.{is_due, makes_room, next_action, own_action}
 use Rattle.ospf_originate.specs.Numbers.{issued}
-use Rattle.ospf_originate.specs.Steps.{FlushesAndTurns, Issues, IssuesAndTurns, IssuesIf, OwnLsas, action_of, due_as, due_of, wants}
+use Rattle.ospf_originate.specs.Steps.{Issues, IssuesAndTurns, IssuesIf, OwnLsas, action_of, due_as, due_of, wants}
 use Rattle.ospf_originate.proofs.Words.{and_issues, ActsInTurn}
 use Rattle.ospf_originate.specs.Wanted.{WantedValue, wanted_key, wanted_of}
 use Rattle.ospf_originate.specs.declared.action.OwnAction.{OwnAction}
@@ -102,7 +102,7 @@ module _ (w : WantedValue) (number : ℤ) (s : AreaValue) (out out1 : OutputsVal
 
 -- ---- a flush
 
-module _ (key : LsaKey) (copy : Entry) (s : AreaValue) (sent : List SentValue) (t : AreaValue) (x : Flushes key s sent t) (at : database_entry s key ≡ Some copy) (ages : (h : Held) → held_of s.database key ≡ Some h → h.entry.age ≤ max_age) where
+module _ (key : LsaKey) (copy : Entry) (s : AreaValue) (out out' : OutputsValue) (t : AreaValue) (x : Flushes key s out out' t) (at : database_entry s key ≡ Some copy) (ages : (h : Held) → held_of s.database key ≡ Some h → h.entry.age ≤ max_age) where
   entries_mid : (k : LsaKey) → database_entry x.mid k ≡ (if same_key key k then Some (at_max_age copy) else database_entry s k)
   entries_mid k = ap (option_map (λ (h : Held). h.entry)) (x.database k) ∙ go (same_key key k)
     where
@@ -141,25 +141,25 @@ module _ (key : LsaKey) (copy : Entry) (s : AreaValue) (sent : List SentValue) (
       go true = record { at = at; database = entries_mid; links = links_is; same_router = router_is; same_direct = direct_is; numbering = kept_is; outputs = out_is }
       go false = record { at = at; database = entries_mid; links = links_is; same_router = router_is; same_direct = direct_is; numbering = kept_is; outputs = out_is }
 
-  flush_turns : AreReadAsSent sent → AndRequests (ExpiryPart key copy) s (sends sent) t
+  flush_turns : AreReadAsSent (copy_out key x.mid) → AndRequests (ExpiryPart key copy) s (sends (copy_out key x.mid)) t
   flush_turns read = record {
     mid = copy_flooded key x.mid;
     first_out = sends (copy_flood_out key x.mid);
     next_out = sends (turn_out (copy_flooded key x.mid));
     first = flush_is;
-    next = subst (λ t. Quiet (copy_flooded key x.mid) (sends (turn_out (copy_flooded key x.mid))) t) (sym x.state)
-        (turned-quiet (copy_flooded key x.mid) (AreRead-right (sends (copy_flood_out key x.mid)) (sends (turn_out (copy_flooded key x.mid))) (subst (λ ds. AreReadAsSent ds) x.sends read)));
-    both = ap sends x.sends;
+    next = subst (λ t. Quiet (copy_flooded key x.mid) (sends (turn_out (copy_flooded key x.mid))) t) (sym x.sends.state)
+        (turned-quiet (copy_flooded key x.mid) (AreRead-right (sends (copy_flood_out key x.mid)) (sends (turn_out (copy_flooded key x.mid))) read));
+    both = refl;
   }
 
   flush_others : (k : LsaKey) → same_key key k ≡ false → (held_of t.database k ≡ held_of s.database k) × (kept_number t k ≡ kept_number s k)
   flush_others k other = (
-    ap (λ (a : AreaValue). held_of a.database k) x.state ∙ (ap (λ db. held_of db k) (same_database key x.mid) ∙ (x.database k ∙ cond-false _ _ _ other)),
-    ap (λ (a : AreaValue). kept_number a k) x.state ∙ flush_is.numbering k,
+    ap (λ (a : AreaValue). held_of a.database k) x.sends.state ∙ (ap (λ db. held_of db k) (same_database key x.mid) ∙ (x.database k ∙ cond-false _ _ _ other)),
+    ap (λ (a : AreaValue). kept_number a k) x.sends.state ∙ flush_is.numbering k,
   )
 
   flush_router : t.router ≡ s.router
-  flush_router = ap (λ (a : AreaValue). a.router) x.state ∙ flush_is.same_router
+  flush_router = ap (λ (a : AreaValue). a.router) x.sends.state ∙ flush_is.same_router
 
 -- ---- what an action tells
 
@@ -222,9 +222,10 @@ issue_puts w number s mid out mid_out x own next read =
       behind = whole ∙ (ap (λ o. then_outputs o turns) (x.issues.outputs ∙ then_issues out ds lsa) ∙ then_assoc out first turns);
     }
 
-flush_puts : (key : LsaKey) (copy : Entry) (s mid : AreaValue) (out mid_out : OutputsValue) → (x : FlushesAndTurns key s out mid_out mid) → database_entry s key ≡ Some copy → ((h : Held) → held_of s.database key ≡ Some h → h.entry.age ≤ max_age) → AreReadAsSent mid_out.sent → PutsOut (λ o. OwnStep s o mid) out mid_out
+flush_puts : (key : LsaKey) (copy : Entry) (s mid : AreaValue) (out mid_out : OutputsValue) → (x : Flushes key s out mid_out mid) → database_entry s key ≡ Some copy → ((h : Held) → held_of s.database key ≡ Some h → h.entry.age ≤ max_age) → AreReadAsSent mid_out.sent → PutsOut (λ o. OwnStep s o mid) out mid_out
 flush_puts key copy s mid out mid_out x at ages read =
-    puts_sent (λ o. OwnStep s o mid) out mid_out x.sent (OwnStep.Flush key copy (flush_turns key copy s x.sent mid x.flushes at ages (read_sent out mid_out x.sent x.outputs read))) x.outputs
+    let sent = copy_out key x.mid in
+    puts_sent (λ o. OwnStep s o mid) out mid_out sent (OwnStep.Flush key copy (flush_turns key copy s out mid_out mid x at ages (read_sent out mid_out sent x.sends.outputs read))) x.sends.outputs
 
 -- those of these keys, from any state that is the same for them
 abbrev Steps : AreaValue → List LsaKey → Type 0
@@ -264,7 +265,7 @@ module _ (s0 : AreaValue) (is : IsDatabase s0.database) (key : LsaKey) (keys : L
           let (copy, there) = flush_tells s0 key at in
           let entry : database_entry s key ≡ Some copy = ap (option_map (λ (h : Held). h.entry)) here.held ∙ there in
           let ages : (h : Held) → held_of s.database key ≡ Some h → h.entry.age ≤ max_age = λ h found. age_of_held s0.database key h is (sym here.held ∙ found) in
-          let on = rec mid t mid_out out' (flush_router key copy s x.sent mid x.flushes entry ages ∙ router) (stay s mid (flush_others key copy s x.sent mid x.flushes entry ages) same) rest read in
+          let on = rec mid t mid_out out' (flush_router key copy s out mid_out mid x entry ages ∙ router) (stay s mid (flush_others key copy s out mid_out mid x entry ages) same) rest read in
           one_more s mid t out mid_out out' (flush_puts key copy s mid out mid_out x entry ages (read_mid mid t mid_out out' on read)) on
       by (Issue number) at (mid, mid_out, acted, rest) =
           let here = same key (0, omega arith, refl) in

@@ -15,10 +15,10 @@ use Rattle.ospf_area.specs.Sending.{and_sends, own_of}
 use Rattle.ospf_area.specs.State.{AreaValue, LinkValue, database_entry}
 use Rattle.ospf_area.specs.declared.flooding.Origin.{Origin}
 use Rattle.ospf_update.specs.Acks.{delayed_out_on, undelayed_link}
-use Rattle.ospf_update.specs.Aging.{Flushes, TickAges, copies_sent, copy_sent}
+use Rattle.ospf_update.specs.Aging.{Flushes, TickAges}
 use Rattle.ospf_update.specs.Meets.{header_met}
 use Rattle.ospf_update.specs.Removal.{and_ends, ends_run, leaving}
-use Rattle.ospf_update.proofs.Words.{RemovesAll, Removes}
+use Rattle.ospf_update.proofs.Words.{RemovesAll, Removes, copies_out, copies_sent, copy_out, copy_sent}
 use Rattle.ospf_step.specs.Links.{AllEach, AreKnown, ChangesLinks, IsLinkIn, IsKnownPacket, LinkQuiet}
 use Rattle.ospf_step.specs.Neighbours.{Quiet}
 use Rattle.ospf_step.specs.Parts.{ExpiryPart, RemovalPart}
@@ -33,6 +33,7 @@ use Rattle.ospf_step.proofs.Chains.{puts_more, then_assoc, then_sends}
 use Rattle.ospf_step.proofs.LinkParts.{goes_same, map_each, part_quiet}
 use Rattle.ospf_step.proofs.StateFacts.{Contains-nil, delayed_in}
 use Rattle.ospf_step.proofs.RemovalChains.{Removes-is_part}
+use Rattle.ospf_update.proofs.CopyLemmas.{copies_become}
 
 -- a part that sends alone
 pub puts_sent : (R : OutputsValue → Type 0) (out out' : OutputsValue) (ds : List SentValue) → R (sends ds) → out' ≡ and_sends out ds → PutsOut R out out'
@@ -58,16 +59,22 @@ same_databases [] s = refl
 same_databases (key ∷ keys) s = same_databases keys (copy_sent key s) ∙ same_database key s
 
 -- copies that have come to MaxAge are flooded, and the database is as it was once ages rose
-pub mid_is_database : (s t : AreaValue) (sent : List SentValue) → (a : TickAges s sent t) → IsDatabase t.database → IsDatabase a.mid.database
-mid_is_database s t sent a is = subst IsDatabase (ap (λ s. s.database) a.state ∙ same_databases (reached_at max_age a.mid.database) a.mid) is
+pub mid_is_database : (s t : AreaValue) (out out' : OutputsValue) → (a : TickAges s out out' t) → IsDatabase t.database → IsDatabase a.mid.database
+mid_is_database s t out out' a is =
+    let keys = reached_at max_age a.mid.database in
+    subst IsDatabase (ap (λ s. s.database) (copies_become keys a.mid t out out' a.sends).state ∙ same_databases keys a.mid) is
 
-pub ages_put : (s t : AreaValue) (out out' : OutputsValue) (sent : List SentValue) → IsDatabase t.database → AreReadAsSent out'.sent → TickAges s sent t → out' ≡ and_sends out sent → PutsOut (λ o. IsPart Part.Ages s o t) out out'
-ages_put s t out out' sent is read ages outputs =
-    puts_sent (λ o. IsPart Part.Ages s o t) out out' sent (TickAges-is_part s t sent ages (mid_is_database s t sent ages is) (read_own out out' sent outputs read)) outputs
+pub ages_put : (s t : AreaValue) (out out' : OutputsValue) → IsDatabase t.database → AreReadAsSent out'.sent → TickAges s out out' t → PutsOut (λ o. IsPart Part.Ages s o t) out out'
+ages_put s t out out' is read ages =
+    let keys = reached_at max_age ages.mid.database in
+    let sent = copies_out keys ages.mid in
+    let outputs : out' ≡ and_sends out sent = (copies_become keys ages.mid t out out' ages.sends).outputs in
+    puts_sent (λ o. IsPart Part.Ages s o t) out out' sent (TickAges-is_part s t out out' ages (mid_is_database s t out out' ages is) (read_own out out' sent outputs read)) outputs
 
-pub flushes_put : (key : LsaKey) (copy : Entry) (s t : AreaValue) (out out' : OutputsValue) (sent : List SentValue) → IsDatabase s.database → database_entry s key ≡ Some copy → AreReadAsSent out'.sent → Flushes key s sent t → out' ≡ and_sends out sent → PutsOut (λ o. AndRequests (ExpiryPart key copy) s o t) out out'
-flushes_put key copy s t out out' sent is at read flushes outputs =
-    puts_sent (λ o. AndRequests (ExpiryPart key copy) s o t) out out' sent (Flushes-is_part key copy s t sent is at flushes (read_own out out' sent outputs read)) outputs
+pub flushes_put : (key : LsaKey) (copy : Entry) (s t : AreaValue) (out out' : OutputsValue) → IsDatabase s.database → database_entry s key ≡ Some copy → AreReadAsSent out'.sent → Flushes key s out out' t → PutsOut (λ o. AndRequests (ExpiryPart key copy) s o t) out out'
+flushes_put key copy s t out out' is at read flushes =
+    let sent = copy_out key flushes.mid in
+    puts_sent (λ o. AndRequests (ExpiryPart key copy) s o t) out out' sent (Flushes-is_part key copy s t out out' is at flushes (read_own out out' sent flushes.sends.outputs read)) flushes.sends.outputs
 
 -- ---- delayed acknowledgements
 

@@ -49,7 +49,7 @@ tick_puts rest s t u out mid_out out' is db aged_rise ticked_rise read next =
     let timed = is.timed in
     let helloed = is.helloed in
     let ticked = is.acknowledged in
-    let aged_out = and_sends out is.expired_out in
+    let aged_out = is.aged_out in
     let helloed_out = is.helloed_out in
     let ticked_out = is.acknowledged_out in
     let ticked_db : IsDatabase ticked.database = subst IsDatabase (sym (ap (λ (x : AreaValue). x.database) (acknowledged_is s out mid_out t is))) db in
@@ -66,7 +66,7 @@ tick_puts rest s t u out mid_out out' is db aged_rise ticked_rise read next =
     let read_aged = read_before (λ o. Chain (Hellos ∷ Acknowledgements ∷ Repeats ∷ rest) timed o u) aged_out out' from_hellos read in
     let timers : PutsOut (λ o. IsPart Timers aged o timed) aged_out aged_out = timers_put aged timed aged_out aged_rise is.timers in
     let from_timers = puts_more Timers (Hellos ∷ Acknowledgements ∷ Repeats ∷ rest) aged timed u aged_out aged_out out' timers from_hellos in
-    puts_more Ages (Timers ∷ Hellos ∷ Acknowledgements ∷ Repeats ∷ rest) s aged u out aged_out out' (ages_put s aged out aged_out is.expired_out db read_aged is.ages refl) from_timers
+    puts_more Ages (Timers ∷ Hellos ∷ Acknowledgements ∷ Repeats ∷ rest) s aged u out aged_out out' (ages_put s aged out aged_out db read_aged is.ages) from_timers
 
 -- What an event brings is the chain of its parts, in front of what follows.
 -- ---- datagrams

@@ -103,8 +103,8 @@ module _ (stay : NeighboursStayOfLink) (come : ElectionsComeAbout) (keeps : Desc
 -- ---- ticks
 
 module _ (stay : NeighboursStayOfLink) (come : ElectionsComeAbout) (repeats : RepeatsAreQuiet) (area : AreaStaysSound) where
-  pub aged_fit : (s : AreaValue) (sent : List SentValue) (a : AreaValue) → TickAges s sent a → IsFitRouter s → IsFitRouter a
-  aged_fit s sent a ages fit = fit_for s a (age_for s.router s sent a ages (for_itself s fit)) (area.aged s sent a ages fit.sound)
+  pub aged_fit : (s : AreaValue) (out out' : OutputsValue) (a : AreaValue) → TickAges s out out' a → IsFitRouter s → IsFitRouter a
+  aged_fit s out out' a ages fit = fit_for s a (age_for s.router s out out' a ages (for_itself s fit)) (area.aged s out out' a ages fit.sound)
 
   -- up to what is sent again
   pub ticked_fit : (a : AreaValue) → IsFitRouter a → IsFitRouter (acknowledged_area (helloed_area (timed_area a)))
@@ -118,7 +118,7 @@ module _ (stay : NeighboursStayOfLink) (come : ElectionsComeAbout) (repeats : Re
   pub tick_fit : (s : AreaValue) (out out' : OutputsValue) (s' : AreaValue) → TakesTick s out out' s' → IsFitRouter s → IsFitRouter s'
   tick_fit s out out' s' is fit =
       let k = acknowledged_area (helloed_area (timed_area is.aged)) in
-      let told : IsFitRouter k = ticked_fit is.aged (aged_fit s is.expired_out is.aged is.ages fit) in
+      let told : IsFitRouter k = ticked_fit is.aged (aged_fit s out is.aged_out is.aged is.ages fit) in
       moved (repeated k) s' (tick_state s out out' s' is) (map_fit k (link_repeated (own_of k) k.database) _ (λ x. refl) (repeats_fit repeats (own_of k) k.database k.router) (repeats_set_up repeats (own_of k) k.database) told)
 
 -- ---- links

@@ -61,7 +61,7 @@ module _ (stay : NeighboursStayOfLink) (come : ElectionsComeAbout) (repeats : Re
   take_tick_puts : IsFitRouter s → IsDatabase t.database → TakesTick s out mid_out t → PutsOut (λ o. Chain (first_parts Tick ++ rest) s o u) out out'
   take_tick_puts fit after is =
       let aged : IsDatabase is.aged.database = subst IsDatabase (ap (λ (x : AreaValue). x.database) (tick_state s out mid_out t is)) after in
-      let aged_fits : IsFitRouter is.aged = aged_fit stay come repeats area s is.expired_out is.aged is.ages fit in
+      let aged_fits : IsFitRouter is.aged = aged_fit stay come repeats area s out is.aged_out is.aged is.ages fit in
       let ticked_fits : IsFitRouter is.acknowledged = subst IsFitRouter (sym (acknowledged_is s out mid_out t is)) (ticked_fit stay come repeats area is.aged aged_fits) in
       tick_puts rest s t u out mid_out out' is aged (links_rise is.aged aged_fits) (links_rise is.acknowledged ticked_fits) read next
 

@@ -67,7 +67,7 @@ body_as (acknowledgment headers) f s out out' s' is = moved s _ s' is.state (hea
 tick_as : (s : AreaValue) (out out' : OutputsValue) (s' : AreaValue) → TakesTick s out out' s' → IsStill s s'
 tick_as s out out' s' is =
     let a = is.aged in
-    let aged : IsStill s a = age_as s.router (length s.links) s is.expired_out a is.ages (itself s) in
+    let aged : IsStill s a = age_as s.router (length s.links) s out is.aged_out a is.ages (itself s) in
     moved s _ s' (tick_state s out out' s' is) (record {
       own = aged.own;
       many = length-map _ (link_repeated (own_of a) a.database) ∙ (length-map (map hello_sent (map link_timed a.links)) undelayed_link ∙ (length-map (map link_timed a.links) hello_sent ∙ (length-map a.links link_timed ∙ aged.many)));

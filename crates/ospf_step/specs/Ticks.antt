@@ -1,9 +1,9 @@
 -- What a tick does (RFC 2328, sections 9.3, 9.5, 10.3, 10.8, 10.9, 13.5, 13.6 and 14).
-use Rattle.std.specs.Prelude.{◌≡◌, List, map}
+use Rattle.std.specs.Prelude.{◌≡◌, map}
 use Rattle.std.specs.List.{flat_map}
 use Rattle.ospf_area.specs.Acting.{OnEachLink}
-use Rattle.ospf_area.specs.Outputs.{OutputsValue, SentValue}
-use Rattle.ospf_area.specs.Sending.{and_sends, own_of}
+use Rattle.ospf_area.specs.Outputs.{OutputsValue}
+use Rattle.ospf_area.specs.Sending.{own_of}
 use Rattle.ospf_area.specs.State.{AreaValue}
 use Rattle.ospf_links.specs.Parts.{hello_out, hello_sent, link_timed}
 use Rattle.ospf_links.specs.Repeats.{keys_out, link_repeated, link_repeats_out, marked_all}
@@ -20,15 +20,15 @@ RepeatsAll s out out' after =
 pub record TakesTick (s : AreaValue) (out out' : OutputsValue) (after : AreaValue) : Type 0 where
   -- all ages rise, and the copies that come to MaxAge go to all (14)
   pub aged : AreaValue
-  pub expired_out : List SentValue
-  pub ages : TickAges s expired_out aged
+  pub aged_out : OutputsValue
+  pub ages : TickAges s out aged_out aged
   -- the timers of each link, a tick later (9.3, 10.3)
   pub timed : AreaValue
   pub timers : timed ≡ record aged { links = map link_timed aged.links }
   -- the Hellos that are due (9.5)
   pub helloed : AreaValue
   pub helloed_out : OutputsValue
-  pub hellos : OnEachLink hello_sent (hello_out (own_of timed)) timed (and_sends out expired_out) helloed_out helloed
+  pub hellos : OnEachLink hello_sent (hello_out (own_of timed)) timed aged_out helloed_out helloed
   -- the delayed acknowledgements (13.5)
   pub acknowledged : AreaValue
   pub acknowledged_out : OutputsValue

@@ -58,9 +58,9 @@ pub fn headers_are_chains()
 
 /// What is done at a tick with ages is a part.
 pub fn ages_put_out()
-    ensures { (s t : AreaValue) (out out' : OutputsValue) (sent : List SentValue) →
-        IsDatabase t.database → AreReadAsSent out'.sent → TickAges s sent t → out'
-        ≡ and_sends out sent → PutsOut (λ o. IsPart Part.Ages s o t) out out' }
+    ensures { (s t : AreaValue) (out out' : OutputsValue) →
+        IsDatabase t.database → AreReadAsSent out'.sent → TickAges s out out' t →
+        PutsOut (λ o. IsPart Part.Ages s o t) out out' }
 {}
 
 /// LoadingDone and the next Requests are a part.
@@ -80,10 +80,9 @@ pub fn acknowledgements_put_out()
 
 /// A flush is a part, with the Requests that come of it.
 pub fn flushes_put_out()
-    ensures { (key : LsaKey) (copy : Entry) (s t : AreaValue) (out out' : OutputsValue)
-        (sent : List SentValue) →
+    ensures { (key : LsaKey) (copy : Entry) (s t : AreaValue) (out out' : OutputsValue) →
         IsDatabase s.database → database_entry s key ≡ Some copy → AreReadAsSent out'.sent →
-        Flushes key s sent t → out' ≡ and_sends out sent →
+        Flushes key s out out' t →
         PutsOut (λ o. AndRequests (ExpiryPart key copy) s o t) out out' }
 {}
 

@@ -1,5 +1,5 @@
 -- Copies that go to all: what they leave as it is, what goes on waiting, and whom they reach.
-use Rattle.std.proofs.Common.{◌≡◌, ◌||◌, ◌⊎◌, inl, inr, if◌then◌else◌, ℕ, Bool, true, false, Option, None, Some, List, [], ◌∷◌, refl, sym, ap, subst, ◌∙◌}
+use Rattle.std.proofs.Common.{◌≡◌, ◌||◌, ◌⊎◌, inl, inr, if◌then◌else◌, ℕ, Bool, true, false, Option, None, Some, List, [], ◌∷◌, ◌++◌, refl, sym, ap, subst, ◌∙◌}
 use Rattle.std.specs.List.{slice_get}
 use Rattle.std.specs.Option.{option_map}
 use Rattle.std.proofs.lemmas.Option.{none-some, same_Some}
@@ -19,10 +19,13 @@ use Rattle.ospf_area.proofs.LawLemmas.{flooded_there, turns_there}
 use Rattle.ospf_area.proofs.WaitLemmas.{flood_waits, reaches, turn_waits}
 use Rattle.ospf_area.specs.Flooding.{flooded_neighbour, goes_anywhere}
 use Rattle.ospf_area.specs.Laws.{IsSpared}
-use Rattle.ospf_area.specs.Sending.{own_of}
+use Rattle.ospf_area.specs.Sending.{and_sends, own_of}
 use Rattle.ospf_area.specs.State.{AreaValue, Awaits, WaitsIn, database_entry, kept_number, neighbour}
-use Rattle.ospf_update.specs.Aging.{copies_sent, copy_flooded, copy_sent, noted, turned_area}
-use Rattle.ospf_update.proofs.Words.{copy_flooded_by}
+use Rattle.ospf_area.specs.Acting.{Becomes, InTurn}
+use Rattle.ospf_area.specs.Outputs.{OutputsValue}
+use Rattle.ospf_area.proofs.SendingLemmas.{sends_more, sends_none}
+use Rattle.ospf_update.specs.Aging.{SendsCopy, copy_flooded, noted, turned_area}
+use Rattle.ospf_update.proofs.Words.{copies_out, copies_sent, copy_flooded_by, copy_out, copy_sent}
 use Rattle.ospf_update.specs.Meets.{flooded_area}
 
 -- ---- what stays as it is
@@ -123,3 +126,24 @@ copy_reaches key e s at l q n is up = elim (reaches key (header_at e) None s.tic
       (sym (flooded_copy key e s at l q ∙ ap (option_map (flooded_neighbour key (header_at e) None s.tick)) is)) waits))
   | inr why ↦ inr why
 ]
+
+-- ---- one after the other
+
+-- what comes of all of them, and what goes out
+pub copies_become : (keys : List LsaKey) (s t : AreaValue) (o o' : OutputsValue) → InTurn SendsCopy keys s o o' t → Becomes (copies_sent keys s) (and_sends o (copies_out keys s)) o' t
+copies_become [] s t o o' is = record { state = is.state; outputs = is.outputs ∙ sends_none o }
+copies_become (key ∷ keys) s t o o' (mid, so_far, one, others) =
+    let later = copies_become keys mid t so_far o' others in
+    record {
+      state = later.state ∙ ap (λ (x : AreaValue). copies_sent keys x) one.state;
+      outputs =
+          later.outputs ∙ ap (λ (x : AreaValue). and_sends so_far (copies_out keys x)) one.state
+          ∙ ap (λ (x : OutputsValue). and_sends x (copies_out keys (copy_sent key s))) one.outputs
+          ∙ sends_more o (copy_out key s) (copies_out keys (copy_sent key s));
+    }
+
+-- and one more
+pub copies_more : (keys : List LsaKey) (key : LsaKey) (s m e : AreaValue) (o p q : OutputsValue) → InTurn SendsCopy keys s o p m → SendsCopy key m p q e → InTurn SendsCopy (keys ++ key ∷ []) s o q e
+copies_more [] key s m e o p q none one =
+    (e, q, subst (λ (x : AreaValue). SendsCopy key x o q e) none.state (subst (λ (x : OutputsValue). SendsCopy key m x q e) none.outputs one), record { state = refl; outputs = refl })
+copies_more (k ∷ keys) key s m e o p q some one = (some.0, some.1, some.2, copies_more keys key some.0 m e some.1 p q some.3 one)

@@ -17,7 +17,7 @@ use Rattle.ospf_lsdb.specs.Database.{Held, held_of, is_expired, reached_at, remo
 use Rattle.ospf_lsdb.specs.Moments.{among}
 use Rattle.ospf_area.proofs.NumberLemmas.{own_counted}
 use Rattle.ospf_area.specs.Numbers.{is_numbering_of, is_own}
-use Rattle.ospf_area.specs.Outputs.{OutputsValue, SentValue}
+use Rattle.ospf_area.specs.Outputs.{OutputsValue}
 use Rattle.ospf_area.specs.State.{AreaValue, kept_number, numbering_of}
 use Rattle.ospf_area.proofs.Words.{kept_in}
 use Rattle.ospf_area.specs.declared.flooding.Origin.{Origin}
@@ -29,7 +29,7 @@ use Rattle.ospf_update.specs.Removal.{RemovesOne, ends_run, is_last, lowest_numb
 use Rattle.ospf_update.proofs.Words.{RemovesAll, TakesSlices}
 use Rattle.ospf_update.specs.Updates.{TakesSlice, TakesUpdate}
 use Rattle.ospf_update.specs.Updates.TakesSlice.{Met, PassedOver}
-use Rattle.ospf_update.proofs.CopyLemmas.{copies_keep, copy_keeps}
+use Rattle.ospf_update.proofs.CopyLemmas.{copies_become, copies_keep, copy_keeps}
 use Rattle.ospf_update.proofs.MeetLemmas.{header_keeps, met_cases}
 use Rattle.ospf_update.proofs.PassLemmas.{passed}
 
@@ -82,13 +82,13 @@ update_numbers f slices s o o' t is key =
 
 -- ---- copies that go to all
 
-pub flush_numbers : (key : LsaKey) (s : AreaValue) (sent : List SentValue) (t : AreaValue) → Flushes key s sent t → (k : LsaKey) → kept_number t k ≡ kept_number s k
-flush_numbers key s sent t is k =
-    ap (λ (x : AreaValue). kept_number x k) is.state ∙ (copy_keeps key is.mid).numbers k ∙ ap (λ (x : AreaValue). kept_number x k) is.rest
+pub flush_numbers : (key : LsaKey) (s : AreaValue) (o o' : OutputsValue) (t : AreaValue) → Flushes key s o o' t → (k : LsaKey) → kept_number t k ≡ kept_number s k
+flush_numbers key s o o' t is k =
+    ap (λ (x : AreaValue). kept_number x k) is.sends.state ∙ (copy_keeps key is.mid).numbers k ∙ ap (λ (x : AreaValue). kept_number x k) is.rest
 
-pub ages_numbers : (s : AreaValue) (sent : List SentValue) (t : AreaValue) → TickAges s sent t → (key : LsaKey) → kept_number t key ≡ kept_number s key
-ages_numbers s sent t is key =
-    ap (λ (x : AreaValue). kept_number x key) is.state ∙ (copies_keep (reached_at max_age is.mid.database) is.mid).numbers key
+pub ages_numbers : (s : AreaValue) (o o' : OutputsValue) (t : AreaValue) → TickAges s o o' t → (key : LsaKey) → kept_number t key ≡ kept_number s key
+ages_numbers s o o' t is key =
+    ap (λ (x : AreaValue). kept_number x key) (copies_become (reached_at max_age is.mid.database) is.mid t o o' is.sends).state ∙ (copies_keep (reached_at max_age is.mid.database) is.mid).numbers key
     ∙ ap (λ (x : AreaValue). kept_number x key) is.rise.rest
 
 -- ---- numbering runs that end

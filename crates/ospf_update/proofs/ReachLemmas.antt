@@ -31,8 +31,8 @@ use Rattle.ospf_area.specs.Laws.IsSpared.{Came, Described}
 use Rattle.ospf_area.specs.Sending.{own_of}
 use Rattle.ospf_area.specs.State.{AreaValue, Awaits, LinkValue, database_entry, neighbour}
 use Rattle.ospf_area.specs.declared.sending.Own.{Own}
-use Rattle.ospf_update.specs.Aging.{copies_sent, copy_flooded, copy_sent}
-use Rattle.ospf_update.proofs.Words.{copy_flooded_by}
+use Rattle.ospf_update.specs.Aging.{copy_flooded}
+use Rattle.ospf_update.proofs.Words.{copies_sent, copy_flooded_by, copy_sent}
 use Rattle.ospf_update.proofs.CopyLemmas.{copies_wait, copy_keeps, copy_reaches, flooded_copy}
 
 -- a neighbour that is in Exchange or above still, and has no other request of the key than before

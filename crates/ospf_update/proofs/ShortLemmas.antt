@@ -9,7 +9,7 @@ use Rattle.ospf_lsa.specs.declared.header.LsaHeader.{LsaHeader}
 use Rattle.ospf_lsdb.specs.Database.{entry_from, reached_at}
 use Rattle.ospf_area.proofs.ShortLemmas.{short_aged, short_expired, short_installed, short_removed}
 use Rattle.ospf_area.specs.Laws.{AreShort}
-use Rattle.ospf_area.specs.Outputs.{OutputsValue, SentValue}
+use Rattle.ospf_area.specs.Outputs.{OutputsValue}
 use Rattle.ospf_area.specs.State.{AreaValue}
 use Rattle.ospf_area.specs.declared.flooding.Origin.{Origin}
 use Rattle.ospf_update.specs.Aging.{Flushes, TickAges}
@@ -18,7 +18,7 @@ use Rattle.ospf_update.specs.Meets.{MeetsLsa, Stores, header_met}
 use Rattle.ospf_update.proofs.Words.{RemovesAll, TakesSlices}
 use Rattle.ospf_update.specs.Updates.{TakesSlice, TakesUpdate}
 use Rattle.ospf_update.specs.Updates.TakesSlice.{Met, PassedOver}
-use Rattle.ospf_update.proofs.CopyLemmas.{copies_keep, copy_keeps}
+use Rattle.ospf_update.proofs.CopyLemmas.{copies_become, copies_keep, copy_keeps}
 use Rattle.ospf_update.proofs.MeetLemmas.{header_keeps, met_cases}
 use Rattle.ospf_update.proofs.PassLemmas.{passed}
 
@@ -56,13 +56,13 @@ update_short f slices s o o' t is short old = same is.mid t (ap (λ (x : AreaVal
 pub header_short : (f : Origin) (h : LsaHeader) (s : AreaValue) → AreShort s.database → AreShort (header_met f h s).database
 header_short f h s old = same s (header_met f h s) (header_keeps f h s).database old
 
-pub flush_short : (key : LsaKey) (s : AreaValue) (sent : List SentValue) (t : AreaValue) → Flushes key s sent t → AreShort s.database → AreShort t.database
-flush_short key s sent t is old =
-    same is.mid t (ap (λ (x : AreaValue). x.database) is.state ∙ (copy_keeps key is.mid).database) (short_expired key s.database is.mid.database is.database old)
+pub flush_short : (key : LsaKey) (s : AreaValue) (o o' : OutputsValue) (t : AreaValue) → Flushes key s o o' t → AreShort s.database → AreShort t.database
+flush_short key s o o' t is old =
+    same is.mid t (ap (λ (x : AreaValue). x.database) is.sends.state ∙ (copy_keeps key is.mid).database) (short_expired key s.database is.mid.database is.database old)
 
-pub ages_short : (s : AreaValue) (sent : List SentValue) (t : AreaValue) → TickAges s sent t → AreShort s.database → AreShort t.database
-ages_short s sent t is old =
-    same is.mid t (ap (λ (x : AreaValue). x.database) is.state ∙ (copies_keep (reached_at max_age is.mid.database) is.mid).database) (short_aged s.database is.mid.database is.rise.database old)
+pub ages_short : (s : AreaValue) (o o' : OutputsValue) (t : AreaValue) → TickAges s o o' t → AreShort s.database → AreShort t.database
+ages_short s o o' t is old =
+    same is.mid t (ap (λ (x : AreaValue). x.database) (copies_become (reached_at max_age is.mid.database) is.mid t o o' is.sends).state ∙ (copies_keep (reached_at max_age is.mid.database) is.mid).database) (short_aged s.database is.mid.database is.rise.database old)
 
 pub removes_short : (keys : List LsaKey) (s : AreaValue) (o o' : OutputsValue) (t : AreaValue) → RemovesAll keys s o o' t → AreShort s.database → AreShort t.database
 removes_short [] s o o' t is old = same s t (ap (λ (x : AreaValue). x.database) is.state) old

@@ -1,5 +1,5 @@
 -- Parts of definitions of specs/ by names of their own, for the proofs.
-use Rattle.std.specs.Prelude.{ℕ, Bool, Option, None, Some, List, if◌then◌else◌, slice_get, []}
+use Rattle.std.specs.Prelude.{◌++◌, ◌∷◌, ℕ, Bool, Option, None, Some, List, if◌then◌else◌, slice_get, []}
 use Rattle.ospf_flood.specs.Rules.{is_sent_back}
 use Rattle.ospf_lsdb.specs.Database.{Entry, key_in, lsa_of}
 use Rattle.ospf_area.specs.Outputs.{SentValue, OutputsValue}
@@ -18,7 +18,7 @@ use Rattle.ospf_base.specs.declared.ids.LsaKey.{LsaKey}
 use Rattle.ospf_lsa.specs.Header.{header_of}
 use Rattle.ospf_lsa.specs.Lsa.{key_of}
 use Rattle.ospf_area.specs.Flooding.{goes_anywhere, flooding_updates}
-use Rattle.ospf_update.specs.Aging.{noted}
+use Rattle.ospf_update.specs.Aging.{copy_flooded, copy_flood_out, noted, turn_out, turned_area}
 use Rattle.ospf_update.specs.Removal.{RemovesOne, leaving}
 use Rattle.ospf_update.specs.Updates.{TakesSlice}
 use Rattle.ospf_lsa.specs.declared.header.LsaHeader.{LsaHeader}
@@ -61,6 +61,22 @@ copy_flood_out_by o s = elim o [
   | None ↦ []
   | Some e ↦ flooding_updates (own_of s) (lsa_of e) None s.links
 ]
+
+-- a copy that went to all, and the Requests that came of it
+abbrev pub copy_sent : LsaKey → AreaValue → AreaValue
+copy_sent key s = turned_area (copy_flooded key s)
+
+abbrev pub copy_out : LsaKey → AreaValue → List SentValue
+copy_out key s = copy_flood_out key s ++ turn_out (copy_flooded key s)
+
+-- the copies of these keys, one after the other
+abbrev pub copies_sent : List LsaKey → AreaValue → AreaValue
+copies_sent [] s = s
+copies_sent (key ∷ keys) s = copies_sent keys (copy_sent key s)
+
+abbrev pub copies_out : List LsaKey → AreaValue → List SentValue
+copies_out [] s = []
+copies_out (key ∷ keys) s = copy_out key s ++ copies_out keys (copy_sent key s)
 
 -- one after the other
 abbrev pub RemovesAll : List LsaKey → AreaValue → OutputsValue → OutputsValue → AreaValue → Type 0

@@ -1,5 +1,5 @@
 -- LSAs at MaxAge (RFC 2328, sections 14 and 14.1).
-use Rattle.std.specs.Prelude.{◌≡◌, ◌+◌, ◌%◌, ◌^◌, ◌++◌, Bool, true, None, Some, List, [], ◌∷◌, option_map, if◌then◌else◌, map}
+use Rattle.std.specs.Prelude.{◌≡◌, ◌+◌, ◌%◌, ◌^◌, ◌++◌, Bool, true, None, Some, List, [], option_map, if◌then◌else◌, map}
 use Rattle.ospf_area.specs.Places.{flat_from}
 use Rattle.ospf_area.specs.Asking.{turn_requests_on, turned_link}
 use Rattle.ospf_base.specs.Constants.{max_age}
@@ -11,8 +11,9 @@ use Rattle.ospf_lsa.specs.Lsa.{key_of}
 use Rattle.ospf_area.specs.Flooding.{flooding_updates, goes_anywhere}
 use Rattle.ospf_update.specs.Meets.{flooded_area}
 use Rattle.ospf_area.specs.Numbers.{marked}
-use Rattle.ospf_area.specs.Outputs.{SentValue}
-use Rattle.ospf_area.specs.Sending.{own_of}
+use Rattle.ospf_area.specs.Acting.{Becomes, InTurn}
+use Rattle.ospf_area.specs.Outputs.{OutputsValue, SentValue}
+use Rattle.ospf_area.specs.Sending.{and_sends, own_of}
 use Rattle.ospf_area.specs.State.{AreaValue, database_entry}
 
 -- ---- what comes of each flood
@@ -40,21 +41,10 @@ copy_flooded key s = elim (database_entry s key) [
 abbrev pub copy_flood_out : LsaKey → AreaValue → List SentValue
 copy_flood_out key s = elim (database_entry s key) [ None ↦ [] | Some e ↦ flooding_updates (own_of s) (lsa_of e) None s.links ]
 
--- and the Requests that come of it
-abbrev pub copy_sent : LsaKey → AreaValue → AreaValue
-copy_sent key s = turned_area (copy_flooded key s)
-
-abbrev pub copy_out : LsaKey → AreaValue → List SentValue
-copy_out key s = copy_flood_out key s ++ turn_out (copy_flooded key s)
-
--- the copies of these keys, one after the other
-abbrev pub copies_sent : List LsaKey → AreaValue → AreaValue
-copies_sent [] s = s
-copies_sent (key ∷ keys) s = copies_sent keys (copy_sent key s)
-
-abbrev pub copies_out : List LsaKey → AreaValue → List SentValue
-copies_out [] s = []
-copies_out (key ∷ keys) s = copy_out key s ++ copies_out keys (copy_sent key s)
+-- and directly after it come LoadingDone and the next Requests
+abbrev pub SendsCopy : LsaKey → AreaValue → OutputsValue → OutputsValue → AreaValue → Type 0
+SendsCopy key before out out' after =
+    Becomes (turned_area (copy_flooded key before)) (and_sends out (copy_flood_out key before ++ turn_out (copy_flooded key before))) out' after
 
 -- ---- a tick (14)
 
@@ -64,18 +54,16 @@ pub record AgesRise (before after : AreaValue) : Type 0 where
   pub rest : after ≡ record before { database = after.database; tick = (before.tick + 1) % 2 ^ 64; sent = [] }
 
 -- all ages rise, and the copies that come to MaxAge go to all, in order of key
-pub record TickAges (before : AreaValue) (sent : List SentValue) (after : AreaValue) : Type 0 where
+pub record TickAges (before : AreaValue) (out out' : OutputsValue) (after : AreaValue) : Type 0 where
   pub mid : AreaValue
   pub rise : AgesRise before mid
-  pub state : after ≡ copies_sent (reached_at max_age mid.database) mid
-  pub sends : sent ≡ copies_out (reached_at max_age mid.database) mid
+  pub sends : InTurn SendsCopy (reached_at max_age mid.database) mid out out' after
 
 -- ---- a flush (14.1)
 
 -- the copy's age becomes MaxAge, and nothing else of it changes; then it goes to all
-pub record Flushes (key : LsaKey) (before : AreaValue) (sent : List SentValue) (after : AreaValue) : Type 0 where
+pub record Flushes (key : LsaKey) (before : AreaValue) (out out' : OutputsValue) (after : AreaValue) : Type 0 where
   pub mid : AreaValue
   pub database : Puts key (option_map lsdb.expired (held_of before.database key)) before.database mid.database
   pub rest : mid ≡ record before { database = mid.database }
-  pub state : after ≡ copy_sent key mid
-  pub sends : sent ≡ copy_out key mid
+  pub sends : SendsCopy key mid out out' after

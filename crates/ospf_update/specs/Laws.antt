@@ -28,7 +28,7 @@ use Rattle.ospf_area.specs.Acting.{InTurn}
 use Rattle.ospf_update.specs.Meets.{MeetsLsa, Stores, header_met, rule_met}
 use Rattle.ospf_update.specs.Updates.{TakesUpdate}
 use Rattle.ospf_area.specs.Numbers.{is_own}
-use Rattle.ospf_area.specs.Outputs.{OutputsValue, SentValue}
+use Rattle.ospf_area.specs.Outputs.{OutputsValue}
 use Rattle.ospf_update.specs.Removal.{ends_run, leaving, lowest_number, RemovesOne}
 use Rattle.ospf_area.specs.State.{Awaits, AreaValue, database_entry, kept_number, neighbour}
 use Rattle.ospf_area.specs.declared.flooding.Origin.{Origin}
@@ -72,17 +72,17 @@ RemovedEntries = (before : AreaValue) (out out' : OutputsValue) (after : AreaVal
 
 -- a flush takes instances of its key alone off the lists, a tick those of the keys that come to MaxAge in it (14, 14.1)
 pub record CopiesStay : Type 0 where
-  pub flushed : (key : LsaKey) (before : AreaValue) (sent : List SentValue) (after : AreaValue) → Flushes key before sent after → (l : ℕ) (q : RouterId) (j : Instance)
+  pub flushed : (key : LsaKey) (before : AreaValue) (out out' : OutputsValue) (after : AreaValue) → Flushes key before out out' after → (l : ℕ) (q : RouterId) (j : Instance)
       → Awaits before l q j → Awaits after l q j ⊎ (j.key ≡ key)
-  pub aged : (before : AreaValue) (sent : List SentValue) (after : AreaValue) → TickAges before sent after → (l : ℕ) (q : RouterId) (j : Instance)
+  pub aged : (before : AreaValue) (out out' : OutputsValue) (after : AreaValue) → TickAges before out out' after → (l : ℕ) (q : RouterId) (j : Instance)
       → Awaits before l q j → Awaits after l q j ⊎ (among (reached_at max_age after.database) j.key ≡ true)
 
 -- each neighbour in Exchange or above waits for what is flushed, and for what comes to MaxAge, or is spared (13.3, step 1)
 pub record CopiesReach : Type 0 where
-  pub flushed : (key : LsaKey) (before : AreaValue) (sent : List SentValue) (after : AreaValue) → Flushes key before sent after → (copy : Entry) → database_entry after key ≡ Some copy
+  pub flushed : (key : LsaKey) (before : AreaValue) (out out' : OutputsValue) (after : AreaValue) → Flushes key before out out' after → (copy : Entry) → database_entry after key ≡ Some copy
       → (l : ℕ) (q : RouterId) (n : NeighbourValue) → neighbour before l q ≡ Some n → is_exchanging n.state ≡ true
       → Awaits after l q (instance_with key (header_at copy)) ⊎ IsSpared key (header_at copy) None n
-  pub aged : (before : AreaValue) (sent : List SentValue) (after : AreaValue) → TickAges before sent after → (key : LsaKey) → among (reached_at max_age after.database) key ≡ true
+  pub aged : (before : AreaValue) (out out' : OutputsValue) (after : AreaValue) → TickAges before out out' after → (key : LsaKey) → among (reached_at max_age after.database) key ≡ true
       → (copy : Entry) → database_entry after key ≡ Some copy → (l : ℕ) (q : RouterId) (n : NeighbourValue) → neighbour before l q ≡ Some n → is_exchanging n.state ≡ true
       → Awaits after l q (instance_with key (header_at copy)) ⊎ IsSpared key (header_at copy) None n
 
@@ -107,8 +107,8 @@ pub record NumbersAreKept : Type 0 where
   pub updated : (f : Origin) (slices : List (List ℕ)) (before : AreaValue) (out out' : OutputsValue) (after : AreaValue) → TakesUpdate f slices before out out' after → (key : LsaKey)
       → kept_number before key ≤ℤ kept_number after key
   pub acknowledged : (f : Origin) (h : LsaHeader) (before : AreaValue) (key : LsaKey) → kept_number (header_met f h before) key ≡ kept_number before key
-  pub flushed : (key : LsaKey) (before : AreaValue) (sent : List SentValue) (after : AreaValue) → Flushes key before sent after → (k : LsaKey) → kept_number after k ≡ kept_number before k
-  pub aged : (before : AreaValue) (sent : List SentValue) (after : AreaValue) → TickAges before sent after → (key : LsaKey) → kept_number after key ≡ kept_number before key
+  pub flushed : (key : LsaKey) (before : AreaValue) (out out' : OutputsValue) (after : AreaValue) → Flushes key before out out' after → (k : LsaKey) → kept_number after k ≡ kept_number before k
+  pub aged : (before : AreaValue) (out out' : OutputsValue) (after : AreaValue) → TickAges before out out' after → (key : LsaKey) → kept_number after key ≡ kept_number before key
   pub removed : (before : AreaValue) (out out' : OutputsValue) (after : AreaValue) → InTurn RemovesOne (leaving before) before out out' after → (key : LsaKey)
       → kept_number after key ≡ (if among (leaving before) key && ends_run before key then lowest_number else kept_number before key)
 
@@ -130,6 +130,6 @@ pub record AreaStaysShort : Type 0 where
   pub updated : (f : Origin) (slices : List (List ℕ)) (before : AreaValue) (out out' : OutputsValue) (after : AreaValue) → TakesUpdate f slices before out out' after
       → AllByRecursion IsShortLsa slices → AreShort before.database → AreShort after.database
   pub acknowledged : (f : Origin) (h : LsaHeader) (before : AreaValue) → AreShort before.database → AreShort (header_met f h before).database
-  pub flushed : (key : LsaKey) (before : AreaValue) (sent : List SentValue) (after : AreaValue) → Flushes key before sent after → AreShort before.database → AreShort after.database
-  pub aged : (before : AreaValue) (sent : List SentValue) (after : AreaValue) → TickAges before sent after → AreShort before.database → AreShort after.database
+  pub flushed : (key : LsaKey) (before : AreaValue) (out out' : OutputsValue) (after : AreaValue) → Flushes key before out out' after → AreShort before.database → AreShort after.database
+  pub aged : (before : AreaValue) (out out' : OutputsValue) (after : AreaValue) → TickAges before out out' after → AreShort before.database → AreShort after.database
   pub removed : (before : AreaValue) (out out' : OutputsValue) (after : AreaValue) → InTurn RemovesOne (leaving before) before out out' after → AreShort before.database → AreShort after.database

@@ -1,10 +1,10 @@
 //! LSAs at MaxAge: ages that rise, copies that are flooded to all, and flushes.
 
-ghost use Rattle.std.specs.Prelude.{◌≡◌, None, List, OnOk, IfOk, length, option_map};
+ghost use Rattle.std.specs.Prelude.{◌≡◌, None, OnOk, IfOk, length, option_map};
 ghost use Rattle.ospf_base.specs.Constants.{max_age};
 ghost use Rattle.ospf_lsdb.specs.Database.{Puts, expired, held_of, reached_at};
-ghost use Rattle.ospf_area.specs.Outputs.{SentValue};
-ghost use Rattle.ospf_update.specs.Aging.{turned_area, turn_out, noted, copy_flooded, copy_flood_out, copy_sent, copy_out, copies_sent, copies_out, AgesRise, TickAges, Flushes};
+ghost use Rattle.ospf_area.specs.Acting.{InTurn};
+ghost use Rattle.ospf_update.specs.Aging.{turned_area, turn_out, noted, copy_flooded, copy_flood_out, AgesRise, Flushes, SendsCopy, TickAges};
 ghost use Rattle.ospf_area.specs.Flooding.{flooding_updates, goes_anywhere};
 ghost use Rattle.ospf_area.specs.Sending.{and_sends, own_of};
 ghost use Rattle.ospf_area.specs.State.{copy_of};
@@ -38,8 +38,7 @@ pub fn send_copy(
     out: &mut Outputs,
     alloc: Global,
 ) -> Result<(), AllocError>
-    ensures after { OnOk result (area.new ≡ copy_sent key area.old) }
-    ensures sent { OnOk result (out.new ≡ and_sends out.old (copy_out key area.old)) }
+    ensures { OnOk result (SendsCopy key area.old out.old out.new area.new) }
 {
     flood_copy(area, key, out, alloc)?;
     turn_in(area, out, alloc)
@@ -50,8 +49,7 @@ pub fn send_copy(
 /// `AllocError` where memory runs out; then the router is to be stopped.
 #[tactic(auto, using(crate::proofs::AgeLemmas::none_expire))]
 pub fn age(area: &mut Area, out: &mut Outputs, alloc: Global) -> Result<(), AllocError>
-    ensures { OnOk result ((sent : List SentValue) × TickAges area.old sent area.new
-        × (out.new ≡ and_sends out.old sent)) }
+    ensures { OnOk result (TickAges area.old out.old out.new area.new) }
 {
     let expired = rise(area);
     // Mostly none comes to `MAX_AGE`: then the ordered set of moments is not asked.
@@ -71,8 +69,7 @@ pub fn flush(
     out: &mut Outputs,
     alloc: Global,
 ) -> Result<(), AllocError>
-    ensures { OnOk result ((sent : List SentValue) × Flushes key area.old sent area.new
-        × (out.new ≡ and_sends out.old sent)) }
+    ensures { OnOk result (Flushes key area.old out.old out.new area.new) }
 {
     expire(area, &key);
     send_copy(area, key, out, alloc)
@@ -156,8 +153,7 @@ fn send_copies(
     out: &mut Outputs,
     alloc: Global,
 ) -> Result<(), AllocError>
-    ensures after { OnOk result (area.new ≡ copies_sent keys.now area.old) }
-    ensures sent { OnOk result (out.new ≡ and_sends out.old (copies_out keys.now area.old)) }
+    ensures { OnOk result (InTurn SendsCopy keys.now area.old out.old out.new area.new) }
 {
     for key in keys {
         send_copy(area, *key, out, alloc)?;

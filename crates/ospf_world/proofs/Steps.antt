@@ -46,8 +46,8 @@ takes_tick : TakesTick begun no_outputs no_outputs ticked
 unfolding reached_at cut
 takes_tick = record {
   aged = ticked;
-  expired_out = [];
-  ages = record { mid = ticked; rise = record { database = λ k. refl; rest = refl }; state = refl; sends = refl };
+  aged_out = no_outputs;
+  ages = record { mid = ticked; rise = record { database = λ k. refl; rest = refl }; sends = record { state = refl; outputs = refl } };
   timed = ticked;
   timers = refl;
   helloed = ticked;
