@@ -31,6 +31,7 @@ event_turn i local e t = record {
 
 -- ---- Database Descriptions
 
+-- the neighbour is in Init (10.1)
 abbrev pub is_init : NeighbourState → Bool
 is_init Init = true
 is_init _ = false
@@ -43,6 +44,7 @@ greeted_turn i local t = if is_init t.neighbour.state then event_turn i local (T
 abbrev pub dd_turn : Iface → Local → Turn → Turn
 dd_turn i local t = record t { sent = t.sent ++ dd_parcel i local.mtu t.neighbour ∷ [] }
 
+-- the neighbour, to which a Database Description was sent at this tick
 abbrev pub touched : ℕ → NeighbourValue → NeighbourValue
 touched tick n = record n { exchanging = record n.exchanging { sent_at = tick } }
 

@@ -74,6 +74,7 @@ is_settled iface.Backup = true
 is_settled iface.Dr = true
 is_settled _ = false
 
+-- the interface waits for a Designated Router to make itself known (9.1)
 abbrev pub is_waiting : IfaceState → Bool
 is_waiting iface.Waiting = true
 is_waiting _ = false

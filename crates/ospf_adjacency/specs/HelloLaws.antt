@@ -43,6 +43,7 @@ pub record StayOfLink (i : Iface) (ns : List NeighbourValue) : Type 0 where
   pub timers : AreOfLink i (timed ns)
   pub adj_ok : (j : Iface) (tick next : ℕ) → AreOfLink i (adjusted j tick next ns)
 
+-- the law, for all neighbours of a link
 abbrev pub NeighboursStayOfLink : Type 0
 NeighboursStayOfLink = (i : Iface) (ns : List NeighbourValue) → AreOfLink i ns → StayOfLink i ns
 
@@ -52,5 +53,6 @@ pub record ElectsWhereItCan (i : Iface) (n m : NeighbourValue) (ns : List Neighb
   pub change : elects_by_change i.state n m ≡ true → elects_in i.state ≡ true
   pub timers : elects_by_timers i ns ≡ true → elects_in i.state ≡ true
 
+-- the law, for all neighbours of a link
 abbrev pub ElectionsComeAbout : Type 0
 ElectionsComeAbout = (i : Iface) (n m : NeighbourValue) (ns : List NeighbourValue) → ElectsWhereItCan i n m ns

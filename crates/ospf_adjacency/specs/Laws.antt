@@ -80,6 +80,7 @@ KeptGoesOn = (db : List Held) (told : List LsaHeader) (n m : NeighbourValue) →
 abbrev pub RequestsKeepLists : Type 0
 RequestsKeepLists = (i : Iface) (local : Local) (t : Turn) → SameLists t.neighbour (request_turn i local t).neighbour
 
+-- by a Request that is due no neighbour enters Exchange (10.9)
 abbrev pub RequestsNeverEnter : Type 0
 RequestsNeverEnter = (i : Iface) (local : Local) (t : Turn) → NeverEnters t.neighbour (request_turn i local t).neighbour
 
@@ -115,15 +116,18 @@ AllSayOnly db n before after = (p : Parcel) → Contains after p → Contains be
 abbrev pub EventsSayOnly : Type 0
 EventsSayOnly = (i : Iface) (local : Local) (e : NbrEvent) (db : List Held) (t : Turn) → AllSayOnly db t.neighbour t.sent (event_turn i local e t).sent
 
+-- by a Request that is due nothing else goes out (10.9)
 abbrev pub RequestsSayOnly : Type 0
 RequestsSayOnly = (i : Iface) (local : Local) (db : List Held) (t : Turn) → AllSayOnly db t.neighbour t.sent (request_turn i local t).sent
 
+-- by a Database Description that comes nothing else goes out (10.6)
 abbrev pub DescriptionSaysOnly : Type 0
 DescriptionSaysOnly = (i : Iface) (local : Local) (sender : RouterId) (d : Description) (headers : List LsaHeader) (db : List Held) (t : Turn)
     → AllSayOnly db t.neighbour t.sent (description_turn i local sender d headers db t).sent
 
 -- ---- who it is
 
+-- by a Database Description that comes the neighbour stays the router that it is (10.6)
 abbrev pub DescriptionKeepsRouter : Type 0
 DescriptionKeepsRouter = (i : Iface) (local : Local) (sender : RouterId) (d : Description) (headers : List LsaHeader) (db : List Held) (t : Turn)
     → KeepsRouter t.neighbour (description_turn i local sender d headers db t).neighbour

@@ -26,6 +26,7 @@ update_count = 4
 abbrev pub update_room : ℕ → ℕ
 update_room mtu = mtu - (ip_header + packet_header + update_count)
 
+-- how many bytes all these LSAs have
 abbrev pub bytes_in : List (List ℕ) → ℕ
 bytes_in [] = 0
 bytes_in (lsa ∷ lsas) = length lsa + bytes_in lsas
@@ -39,6 +40,7 @@ abbrev pub packed : ℕ → List (List ℕ) → List (List ℕ) → List (List (
 packed room batch [] = elim batch [ [] ↦ [] | lsa ∷ lsas ↦ (lsa ∷ lsas) ∷ [] ]
 packed room batch (lsa ∷ lsas) = if goes_in room batch lsa then packed room (batch ++ lsa ∷ []) lsas else batch ∷ packed room (lsa ∷ []) lsas
 
+-- an Update of these LSAs to this address (13.3)
 abbrev pub update_to : Addr → List (List ℕ) → Parcel
 update_to destination lsas = record { destination = destination; body = update lsas }
 

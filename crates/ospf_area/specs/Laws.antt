@@ -48,6 +48,7 @@ FloodedNeighbours = (key : LsaKey) (h : LsaHeader) (from : Option Origin) (tick 
 abbrev pub changed_there : Origin → AdjacencyChange → ℕ → ℕ → NeighbourValue → NeighbourValue
 changed_there f change tick l n = if l == f.link then changed_if f.router change tick n else n
 
+-- the law: of all neighbours, that one alone is changed
 abbrev pub ChangesOne : Type 0
 ChangesOne = (f : Origin) (change : AdjacencyChange) (tick : ℕ) (links : List LinkValue) (l : ℕ) (q : RouterId)
     → neighbour_at (changed_at f change tick links) l q ≡ option_map (changed_there f change tick l) (neighbour_at links l q)
@@ -57,6 +58,7 @@ abbrev pub turned_there : Own → Option LinkValue → NeighbourValue → Neighb
 turned_there own None n = n
 turned_there own (Some link) n = turned_to_next link.settings.mtu own.tick n
 
+-- the law: each neighbour is turned to its next Request by itself
 abbrev pub TurnedNeighbours : Type 0
 TurnedNeighbours = (own : Own) (links : List LinkValue) (l : ℕ) (q : RouterId)
     → neighbour_at (map (turned_link own) links) l q ≡ option_map (turned_there own (slice_get links l)) (neighbour_at links l q)
@@ -126,6 +128,7 @@ LsasAreSent = (own : Own) (way : Way) (lsa : List ℕ) → length lsa ≤ larges
 
 -- ---- how Requests are filled
 
+-- the Request for the LSAs of these headers (10.9)
 abbrev pub request_for : List LsaHeader → BodyMeaning
 request_for headers = meaning.request (map entry_for headers)
 
@@ -141,6 +144,7 @@ RequestsAreFilled = (own : Own) (mtu tick : ℕ) (n : NeighbourValue) → ip_hea
 abbrev pub IsShort : Held → Type 0
 IsShort h = 2 + length h.entry.contents ≤ largest_lsa
 
+-- each LSA of a database is short
 abbrev pub AreShort : List Held → Type 0
 AreShort db = (key : LsaKey) (h : Held) → held_of db key ≡ Some h → IsShort h
 

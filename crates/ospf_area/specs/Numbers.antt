@@ -12,6 +12,7 @@ use Rattle.ospf_area.specs.declared.state.Numbering.{Numbering}
 
 -- ---- kept numbers
 
+-- the numbering is that of this key
 abbrev pub is_numbering_of : LsaKey → Numbering → Bool
 is_numbering_of key n = same_key n.key key
 
@@ -33,6 +34,7 @@ is_own router key = key.router.0 == router.0
 abbrev pub counts : LsaKey → ℤ → AreaValue → List Numbering
 counts key number s = if is_own s.router key then counted key number s.floor s.numbering else s.numbering
 
+-- the greatest number of a key of its own, with this one
 abbrev pub greatest_after : LsaKey → ℤ → AreaValue → ℤ
 greatest_after key number s = if is_own s.router key then int_max s.greatest number else s.greatest
 
@@ -46,6 +48,7 @@ is_self_originated router links key =
 
 -- ---- what went out in this tick
 
+-- the keys whose copy went out in this tick, but for this one
 abbrev pub unmarked : LsaKey → List LsaKey → List LsaKey
 unmarked key sent = filter (λ k. not (same_key k key)) sent
 

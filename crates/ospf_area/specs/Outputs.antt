@@ -27,6 +27,7 @@ pub record OutputsValue : Type 0 where
   pub issued : List (List ℕ)
   pub ended : List LsaKey
 
+-- nothing is put out
 abbrev pub no_outputs : OutputsValue
 no_outputs = record { sent = []; taken = []; issued = []; ended = [] }
 

@@ -15,6 +15,7 @@ use Rattle.ospf_exchange.specs.declared.rule.Local.{Local}
 abbrev pub local_by : Own → LinkSettings → Local
 local_by own settings = record { router = own.router; mtu = settings.mtu; tick = own.tick; passes_over = own.passes_over }
 
+-- what a part needs to know of the router and of this link
 abbrev pub local_of : Own → LinkValue → Local
 local_of own link = local_by own link.settings
 

@@ -13,9 +13,11 @@ router_options = 2
 abbrev pub ip_header : ℕ
 ip_header = 20
 
+-- the OSPF header of a packet (A.3.1)
 abbrev pub packet_header : ℕ
 packet_header = 24
 
+-- the header of an LSA (A.4.1)
 abbrev pub lsa_header : ℕ
 lsa_header = 20
 

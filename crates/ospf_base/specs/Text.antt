@@ -13,9 +13,11 @@ use Rattle.ospf_base.specs.declared.prefix.Prefix.{Prefix}
 abbrev pub IsDottedNumber : List ℕ → ℕ → Type 0
 IsDottedNumber text n = IsDotted text (to_be_bytes w32 n)
 
+-- the text is an address, or refused
 abbrev pub ReadsAddress : List ℕ → Result Addr AddrParseError → Type 0
 ReadsAddress = Parses (λ text a. IsDottedNumber text a.0)
 
+-- the text is a Router ID, or refused
 abbrev pub ReadsRouterId : List ℕ → Result RouterId AddrParseError → Type 0
 ReadsRouterId = Parses (λ text r. IsDottedNumber text r.0)
 

@@ -19,6 +19,7 @@ abbrev pub is_place : ℕ → Option ℕ → Bool
 is_place place None = false
 is_place place (Some k) = k == place
 
+-- the event is that of the router at this place
 abbrev pub is_at : List SlotValue → ℕ → WorldEvent → Bool
 is_at slots place event = is_place place (place_of slots (router_in event).0)
 

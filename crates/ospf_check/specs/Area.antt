@@ -40,6 +40,7 @@ note_lines explain files f = if is_note f.fault then (if explain then finding_li
 abbrev pub fault_lines : Bool → List NamedFile → Finding → List ℕ
 fault_lines explain files f = if is_note f.fault then [] else finding_lines explain files f
 
+-- the finding is a fault, and not only a note
 abbrev pub is_fault : Finding → Bool
 is_fault f = not (is_note f.fault)
 

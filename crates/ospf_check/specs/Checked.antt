@@ -49,6 +49,7 @@ delay_meaning = codes "over 900, the acknowledgement of an LSA that is sent may 
 abbrev pub link_text : ℕ → List ℕ
 link_text link = codes "interface " ++ decimal link ++ codes ": "
 
+-- what a warning of a `transmit_delay` begins with
 abbrev pub transmit_delay_text : ℕ → List ℕ
 transmit_delay_text delay = codes "transmit_delay " ++ decimal delay ++ codes ": "
 
@@ -64,6 +65,7 @@ delay_line i = if is_slow i.1.transmit_delay then indented_line (delay_text (rec
 abbrev pub leaf_meaning : List ℕ
 leaf_meaning = codes "as Designated Router it would not flood the LSAs that it passes over (other_lsas), so the others of the network get them late or not at all; priority = 0 keeps it out of the election (RFC 2328, section 13.3)"
 
+-- what a warning of a `priority` begins with
 abbrev pub priority_text : ℕ → List ℕ
 priority_text priority = codes "priority " ++ decimal priority ++ codes ": "
 
@@ -71,6 +73,7 @@ priority_text priority = codes "priority " ++ decimal priority ++ codes ": "
 abbrev pub leaf_text : LeafShown → List ℕ
 leaf_text shown = link_text shown.link ++ priority_text shown.priority ++ leaf_meaning
 
+-- the interface is on a broadcast network
 abbrev pub is_broadcast_network : InterfaceKind → Bool
 is_broadcast_network kind.Broadcast = true
 is_broadcast_network kind.PointToPoint = false
@@ -162,6 +165,7 @@ abbrev pub KeepsBy : Verdict → NamedFile → List Config → List Config → T
 KeepsBy (verdict.Accepted text) file old new = IsConfigKept file old new
 KeepsBy (verdict.Refused text) file old new = ⊤
 
+-- where configurations are kept, that of the file is
 abbrev pub KeepsIf : Bool → NamedFile → List Config → List Config → Type 0
 KeepsIf true file old new = IsConfigKept file old new
 KeepsIf false file old new = ⊤

@@ -98,6 +98,7 @@ told_data f here other =
     object (member (codes "code") (string (area_fault_text f)) (member (codes "here") here (member (codes "meaning") (string (meaning_text f)) (member (codes "note") (boolean (is_note f))
     (member (codes "other") other no_members)))))
 
+-- the object of a finding
 abbrev pub finding_data : List NamedFile → Finding → Data
 finding_data files f =
     told_data f.fault (side_data f.fault f.here (name_at files f.here.file)) (other_data f.fault f.other (name_at files f.other.file))

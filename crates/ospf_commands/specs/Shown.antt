@@ -31,6 +31,7 @@ said_line said = string_bytes said ++ codes "\n"
 abbrev pub ends_text : RouterId → Addr → Text
 ends_text from address = codes "walk from " ++ number_text from.0 ++ codes " to " ++ number_text address.0
 
+-- what stands above the lines of a walk
 abbrev pub walk_heading : RouterId → Addr → Text
 walk_heading from address = ends_text from address ++ codes ": routers, cost, end\n"
 

@@ -4,6 +4,7 @@ use Rattle.ospf_base.specs.Faults as faults
 use Rattle.ospf_config.specs.declared.fault.ConfigFault.{ConfigFault}
 use Rattle.ospf_config.specs.declared.fault.ConfigFault.TheVariants as fault
 
+-- the number of a fault, in the order in which faults are looked for
 abbrev pub config_fault_number : ConfigFault → ℕ
 config_fault_number fault.NotToml = 1
 config_fault_number fault.Missing = 2

@@ -9,6 +9,7 @@ prefix_size length = 2 ^ (32 - length)
 abbrev pub host_part : ℕ → ℕ → ℕ
 host_part address length = address % prefix_size length
 
+-- the first of the four octets of an address
 abbrev pub first_octet : ℕ → ℕ
 first_octet address = address / 2 ^ 24
 

@@ -30,6 +30,7 @@ integers_of no_items = Some []
 integers_of (item (integer z) ds) = option_map (λ zs. z ∷ zs) (integers_of ds)
 integers_of (item _ ds) = None
 
+-- the integers of an array of them; else none
 abbrev pub as_integers : Data → Option (List ℤ)
 as_integers (array ds) = integers_of ds
 as_integers _ = None

@@ -26,6 +26,7 @@ as_tables _ = None
 abbrev pub AreInterfaceTables : List Members → List Members → Type 0
 AreInterfaceTables ts us = (ts ≡ us) × (1 ≤ length us) × (length us ≤ 32)
 
+-- the key `interface`, which must be there: a table for each interface
 abbrev pub ReadsInterfaces : Members → Result (List Members) ConfigFault → Type 0
 ReadsInterfaces t r = Required as_tables AreInterfaceTables (get_member (codes "interface") t) r
 
@@ -89,13 +90,16 @@ pub record IsDeadNotOverHello (t : Members) : Type 0 where
 
 -- ---- keys that are not known
 
+-- the keys of a table, in its order
 abbrev pub keys_of : Members → List (List ℕ)
 keys_of no_members = []
 keys_of (member k d ms) = k ∷ keys_of ms
 
+-- the keys that a configuration can have
 abbrev pub top_keys : List (List ℕ)
 top_keys = codes "router_id" ∷ codes "area" ∷ codes "stub_router" ∷ codes "other_lsas" ∷ codes "interface" ∷ []
 
+-- the keys that the table of an interface can have
 abbrev pub interface_keys : List (List ℕ)
 interface_keys =
     codes "kind" ∷ codes "address" ∷ codes "cost" ∷ codes "priority" ∷ codes "hello" ∷ codes "dead" ∷ codes "retransmit"
@@ -115,6 +119,7 @@ HasOtherKey known t = Any (IsOtherKey known) (keys_of t)
 abbrev pub HasKeyFault : Members → ConfigFault → Type 0
 HasKeyFault t f = HasTopFault t f ⊎ Any (λ i. HasInterfaceFault i f) (interface_tables t)
 
+-- a table has a fault: of interfaces that are in one prefix, of an interval, of a key that is none, or of the value at a key
 abbrev pub HasConfigFault : Members → ConfigFault → Type 0
 HasConfigFault t fault.SamePrefix = HaveSamePrefix (interface_tables t)
 HasConfigFault t fault.DeadNotOverHello = Any IsDeadNotOverHello (interface_tables t)

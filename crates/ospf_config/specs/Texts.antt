@@ -13,17 +13,21 @@ pub record IsRouterIdText (text : List ℕ) (id : RouterId) : Type 0 where
   pub not_zero : 0 < id.0
   pub fits : id.0 < 2 ^ 32
 
+-- four decimal numbers with dots, as an Area ID is written (RFC 2328, section C.2)
 pub record IsAreaText (text : List ℕ) (area : AreaId) : Type 0 where
   pub spelled : IsDottedNumber text area.0
   pub fits : area.0 < 2 ^ 32
 
+-- how the kind of an interface is written
 abbrev pub kind_text : InterfaceKind → List ℕ
 kind_text PointToPoint = codes "point-to-point"
 kind_text Broadcast = codes "broadcast"
 
+-- the text stands for this kind of interface
 abbrev pub IsKindText : List ℕ → InterfaceKind → Type 0
 IsKindText text kind = text ≡ kind_text kind
 
+-- how it is written whether LSAs of LS types 3 to 5 are passed over
 abbrev pub other_lsas_text : Bool → List ℕ
 other_lsas_text false = codes "refuse"
 other_lsas_text true = codes "pass over"
@@ -38,5 +42,6 @@ pub record IsPrefixText (text : List ℕ) (address prefix_length : ℕ) : Type 0
   pub address_spelled : IsDottedNumber dotted address
   pub spelled : text ≡ dotted ++ (codes "/" ++ decimal prefix_length)
 
+-- the text stands for an interface's address and the length of its mask
 abbrev pub IsAddressText : List ℕ → InterfaceAddress → Type 0
 IsAddressText text a = IsPrefixText text a.address.0 a.length

@@ -94,6 +94,7 @@ Fails a b fault.Stopped = Stops a b
 Fails a b fault.Publish = FailsToPublish a b
 Fails a b fault.Thread = ⊥
 
+-- a drive ends well, with what the router was last told, or by this fault
 abbrev pub EndsDrive : Moment → Option Known → Moment → Result (Option Known) DriveFault → Type 0
 EndsDrive a told b (Ok last) = Ended a b × (last ≡ told)
 EndsDrive a told b (Err fault) = Fails a b fault

@@ -17,6 +17,7 @@ pub record Moment : Type 0 where
   pub failed : ℕ
   pub known : Known
 
+-- where it stands, by its four parts
 abbrev pub at : RouterValue → Carried → ℕ → Known → Moment
 at router traffic failed known =
     record { router = router; traffic = traffic; failed = failed; known = known }
@@ -40,6 +41,7 @@ abbrev pub is_heard_end : Heard → Bool
 is_heard_end End = true
 is_heard_end _ = false
 
+-- none of them is the end of what is heard
 abbrev pub HasNoEnd : List Heard → Type 0
 HasNoEnd hs = AllByRecursion (λ h. is_heard_end h ≡ false) hs
 
@@ -49,6 +51,7 @@ pub record Done : Type 0 where
   pub gives : Step
   pub after : RouterValue
 
+-- the events of these steps
 abbrev pub events_done : List Done → List Event
 events_done ds = map (λ (d : Done). d.event) ds
 
@@ -69,5 +72,6 @@ sent_by ds = flat_map (λ (d : Done). d.gives.out.sent) ds
 abbrev pub table_of : Done → List Table
 table_of d = if d.gives.table_changed then d.after.table ∷ [] else []
 
+-- the tables that these steps publish
 abbrev pub tables_published : List Done → List Table
 tables_published ds = flat_map table_of ds

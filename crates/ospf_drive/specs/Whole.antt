@@ -81,6 +81,7 @@ pub record EndsUnpublished (a b : Moment) (taken : List Heard) (steps : List Don
   pub published : tables ≡ tables_published before
   pub failed : b.failed ≡ a.failed
 
+-- the whole call, by its result
 abbrev pub EndsAs : Moment → Moment → List Heard → List Done → List SentValue → List Table → Result (Option Known) DriveFault → Type 0
 EndsAs a b taken steps out tables (Ok told) = EndsWell a b taken steps out tables told
 EndsAs a b taken steps out tables (Err fault.Recv) = EndsUnheard a b taken steps out tables

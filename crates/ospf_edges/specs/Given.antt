@@ -38,6 +38,7 @@ abbrev pub AttachedGives : List Advertisement → ℕ → RouterId → Edge → 
 AttachedGives adverts n member e =
     (address : ℕ) × IsAddressOn adverts n member address × (e ≡ record { from = Network n; to = Router member; cost = 0; link_data = address })
 
+-- the LSA gives this edge (16.1, step 2)
 abbrev pub EdgesOf : List Advertisement → Advertisement → Edge → Type 0
 EdgesOf adverts (router_lsa a links) e = (link : Link) × Contains links link × LinkGives adverts a link e
 EdgesOf adverts (network_lsa n router mask attached) e =
@@ -55,9 +56,11 @@ StubGives router link e =
     (link.kind ≡ LinkKind.Stub) × (prefix : Prefix) × IsPrefixOf link.id link.link_data prefix
     × (e ≡ record { prefix = prefix; vertex = Router router; cost = link.metric })
 
+-- a network is an end itself: its prefix, at no further cost (16.1.1)
 abbrev pub NetworkGives : ℕ → ℕ → End → Type 0
 NetworkGives n mask e = (prefix : Prefix) × IsPrefixOf n mask prefix × (e ≡ record { prefix = prefix; vertex = Network n; cost = 0 })
 
+-- the LSA gives this end (16.1, step 4)
 abbrev pub EndsOf : List Advertisement → Advertisement → End → Type 0
 EndsOf adverts (router_lsa r links) e = (link : Link) × Contains links link × StubGives r link e
 EndsOf adverts (network_lsa n r mask attached) e = StandsFor adverts n r × NetworkGives n mask e

@@ -11,6 +11,7 @@ use Rattle.ospf_edges.specs.Given.{LinksTo, StandsFor}
 abbrev pub LinkNames : RouterId → Link → ℕ → Type 0
 LinkNames router link q = (link.kind ≡ LinkKind.PointToPoint) × (q ≡ pair_code link.id router.0)
 
+-- a router-LSA names this pair
 abbrev pub LinksOf : Advertisement → ℕ → Type 0
 LinksOf (router_lsa r links) q = (link : Link) × Contains links link × LinkNames r link q
 LinksOf (network_lsa _ _ _ _) q = ⊥
@@ -19,6 +20,7 @@ LinksOf (network_lsa _ _ _ _) q = ⊥
 abbrev pub NamedOn : ℕ → RouterId → ℕ → Type 0
 NamedOn n router q = q ≡ pair_code router.0 n
 
+-- a network-LSA that stands for its network names this pair
 abbrev pub MembersOf : List Advertisement → Advertisement → ℕ → Type 0
 MembersOf adverts (router_lsa _ _) q = ⊥
 MembersOf adverts (network_lsa n router mask attached) q = StandsFor adverts n router × (member : RouterId) × Contains attached member × NamedOn n member q
@@ -38,6 +40,7 @@ AreAddressesOn adverts address =
     MatchOption (address (pair_code r.0 n)) ((a : ℕ) → IsAddressOn adverts n r a → ⊥)
     (λ a. IsAddressOn adverts n r a × ((b : ℕ) → IsAddressOn adverts n r b → b ≡ a))
 
+-- the pairs of all routers, of all networks, and the address of a router on a network, are those of the listing
 pub record IsIndexed (adverts : List Advertisement) (links members : List ℕ) (address : ℕ → Option ℕ) : Type 0 where
   pub links_are : AreBackLinks adverts links
   pub members_are : AreMembers adverts members

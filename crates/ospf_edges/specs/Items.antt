@@ -11,6 +11,7 @@ use Rattle.ospf_edges.specs.declared.items.GraphItem.TheVariants as item
 abbrev pub link_items : List Link → List GraphItem
 link_items links = map (λ l. item.Link l) (filter (λ l. is_graph_kind l.kind) links)
 
+-- an item for each attached router
 abbrev pub attached_items : List RouterId → List GraphItem
 attached_items routers = map (λ r. item.Attached r) routers
 
@@ -19,6 +20,7 @@ abbrev pub items_of : Advertisement → List GraphItem
 items_of (router_lsa r links) = item.Router r ∷ link_items links
 items_of (network_lsa n r mask attached) = item.Network n r mask ∷ attached_items attached
 
+-- the items of all LSAs, in their order
 abbrev pub items_of_all : List Advertisement → List GraphItem
 items_of_all [] = []
 items_of_all (x ∷ rest) = items_of x ++ items_of_all rest
@@ -30,6 +32,7 @@ abbrev pub links_at : List GraphItem → List Link
 links_at (item.Link l ∷ rest) = l ∷ links_at rest
 links_at _ = []
 
+-- the attached routers that the items begin with
 abbrev pub attached_at : List GraphItem → List RouterId
 attached_at (item.Attached r ∷ rest) = r ∷ attached_at rest
 attached_at _ = []

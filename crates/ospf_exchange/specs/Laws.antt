@@ -66,5 +66,6 @@ pub record KeepsRouter (n m : NeighbourValue) : Type 0 where
   pub router : m.router ≡ n.router
   pub address : m.address ≡ n.address
 
+-- the law: by a Database Description the neighbour stays the router that it is
 abbrev pub DescriptionsKeepRouters : Type 0
 DescriptionsKeepRouters = (local : Local) (sender : RouterId) (d : Description) (headers : List LsaHeader) (db : List Held) (n : NeighbourValue) → KeepsRouter n (after_dd local sender d headers db n)

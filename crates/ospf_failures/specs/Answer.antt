@@ -40,6 +40,7 @@ use Rattle.ospf_failures.specs.declared.overall.Overall.{Overall}
 
 -- ---- statuses
 
+-- the number of a status
 abbrev pub exit_code_of : FailuresStatus → ℕ
 exit_code_of (Ended s) = code_of s
 exit_code_of CutOff = 1
@@ -53,6 +54,7 @@ IsEndBy strict P CutOff = (strict ≡ true) × P
 abbrev pub IsFailuresEnd : Bool → List ReportValue → FailuresStatus → Type 0
 IsFailuresEnd strict printed end = IsEndBy strict (HasCut printed) end
 
+-- how it ends where all was printed: by `--strict`, whether something is cut off
 abbrev pub end_by : Bool → Bool → FailuresStatus
 end_by strict cut = if strict && cut then CutOff else Ended status.Done
 

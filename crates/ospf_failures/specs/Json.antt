@@ -19,9 +19,11 @@ routes_member each routes = if each then member (codes "routes") (array (items_o
 abbrev pub totals_data : AreaFailure → Totals → Members → Data
 totals_data failure t rest = object (counted_members failure t.cut t.gone t.cost t.hops rest)
 
+-- the object of what a failure changes in a router's table
 abbrev pub report_data : Bool → RouterId → ReportValue → Data
 report_data each root r = totals_data r.0 (totals_of r.1) (routes_member each (map (change_data root) r.1))
 
+-- the line of all of them
 abbrev pub reports_json : Bool → RouterId → List ReportValue → List ℕ
 reports_json each root reports = objects_line (map (report_data each root) reports)
 
@@ -33,8 +35,10 @@ sight_data sight = map (change_data sight.0) sight.1
 abbrev pub sums_data : AreaFailure → Sums → Members → Data
 sums_data failure s rest = object (counted_members failure s.cut s.gone s.cost s.hops (member (codes "routers") (number (unsigned s.routers)) rest))
 
+-- the object of what a failure changes in all tables
 abbrev pub overall_data : Bool → Overall → Data
 overall_data each o = sums_data o.failure o.sums (routes_member each (flat_map sight_data o.sights.items))
 
+-- the line of all of them
 abbrev pub overalls_json : Bool → List Overall → List ℕ
 overalls_json each overalls = objects_line (map (overall_data each) overalls)

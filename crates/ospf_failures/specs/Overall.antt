@@ -80,6 +80,7 @@ pub record IsOverall (adverts : List Advertisement) (wanted : RouteDetail) (o : 
 
 -- ---- in order
 
+-- the counts by which failures are ordered
 abbrev pub sum_counts : Sums → List ℕ
 sum_counts s = s.cut ∷ s.gone ∷ s.cost ∷ s.hops ∷ []
 

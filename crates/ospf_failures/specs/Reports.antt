@@ -50,6 +50,7 @@ pub record AreReports (adverts : List Advertisement) (root : RouterId) (table : 
 
 -- ---- in order
 
+-- the counts by which failures are ordered
 abbrev pub counts_of : Totals → List ℕ
 counts_of t = t.cut ∷ t.gone ∷ t.cost ∷ t.hops ∷ []
 

@@ -11,6 +11,7 @@ use Rattle.ospf_fib.specs.declared.rule.Knows.{Knows}
 abbrev pub IsOneList : ShownTable → List Knows → Type 0
 IsOneList shown views = (place : ℕ) (v : Knows) → get_elem? views place ≡ some v → IsTrue v.named → v.counter ≡ counter_of shown.known.fib
 
+-- what a place knows: whether it knows a list, and which
 abbrev pub knows : Bool → Book → Knows
 knows named fib = record { named = named; counter = counter_of fib }
 

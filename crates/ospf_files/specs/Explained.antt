@@ -16,6 +16,7 @@ use Rattle.ospf_config.specs.Tables.{ReadsInterfaces, IsDeadNotOverHello, IsOthe
 
 -- ---- the keys
 
+-- the keys that a configuration can have
 pub data KnownKey : Type 0 where
   router_id_key : KnownKey
   area_key : KnownKey
@@ -44,6 +45,7 @@ keys_of_interface =
     kind_key ∷ address_key ∷ cost_key ∷ priority_key ∷ hello_key ∷ dead_key ∷ retransmit_key ∷ transmit_delay_key ∷ mtu_key
     ∷ port_key ∷ peers_key ∷ []
 
+-- the key itself
 abbrev pub key_name : KnownKey → List ℕ
 key_name router_id_key = codes "router_id"
 key_name area_key = codes "area"
@@ -102,6 +104,7 @@ KeyHas t f peers_key = ReadsPeers t (Err f)
 
 -- ---- one place
 
+-- how many items there are
 abbrev pub item_number : Items → ℕ
 item_number no_items = 0
 item_number (item d ds) = 1 + item_number ds
@@ -205,10 +208,12 @@ IsExplained text f es = (t : Members) × (parse_document text ≡ Some t) × Are
 
 -- ---- what is printed
 
+-- what was found in place of what is expected
 abbrev pub found_here_text : Option (String Global) → List ℕ
 found_here_text None = codes "nothing found"
 found_here_text (Some text) = string_bytes text ++ codes " found"
 
+-- in which of the interfaces it is, if in one
 abbrev pub interface_text : Option ℕ → List ℕ
 interface_text None = []
 interface_text (Some n) = codes "interface " ++ decimal n ++ codes ": "

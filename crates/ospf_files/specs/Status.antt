@@ -5,6 +5,7 @@ use Rattle.ospf_files.specs.declared.status.Failure.TheVariants as failure
 use Rattle.ospf_files.specs.declared.status.Status.{Status}
 use Rattle.ospf_files.specs.declared.status.Status.TheVariants.{Done, Words, Refused, Memory, Stream}
 
+-- the number of a status
 abbrev pub code_of : Status → ℕ
 code_of Done = 0
 code_of Words = 2

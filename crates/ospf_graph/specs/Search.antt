@@ -10,9 +10,11 @@ use Rattle.ospf_graph.specs.declared.paths.Settled.{Settled}
 use Rattle.ospf_graph.specs.declared.candidates.SpfCandidate.{SpfCandidate}
 use Rattle.ospf_graph.specs.Tree.{rank, extend, RaisesRank}
 
+-- the rank by which a candidate waits
 abbrev pub candidate_rank : SpfCandidate → ℕ
 candidate_rank c = rank c.edge.to c.distance
 
+-- the two are one vertex
 abbrev pub vertex_eq : Vertex → Vertex → Bool
 vertex_eq (Router a) (Router b) = a.0 == b.0
 vertex_eq (Network a) (Network b) = a == b
@@ -33,12 +35,15 @@ HaveSameFrom v edges some = (d : ℕ) → candidates_from v d edges ≡ candidat
 abbrev pub AtIn : List Settled → Vertex → ℕ → Type 0
 AtIn settled v d = Contains settled (record { vertex = v; distance = d })
 
+-- of the vertex this start is among them
 abbrev pub StartsIn : List VertexStart → Vertex → Start → Type 0
 StartsIn starts v x = Contains starts (record { vertex = v; start = x })
 
+-- the edge's end waits among the candidates, at this distance
 abbrev pub WaitsAmong : List SpfCandidate → Edge → ℕ → Type 0
 WaitsAmong candidates e k = Contains candidates (record { edge = e; distance = k })
 
+-- the number that names a vertex among those of its kind
 abbrev pub vertex_id : Vertex → ℕ
 vertex_id (Router r) = r.0
 vertex_id (Network n) = n
@@ -96,6 +101,7 @@ pub record SeesAgain (c : SpfCandidate) (settled settled' : List Settled) (start
   pub nearest_is : nearest' ≡ nearest
   pub brings : ((near ≡ c.distance) × BringsStarts c.edge starts starts') ⊎ ((near ≢ c.distance) × (starts' ≡ starts))
 
+-- a candidate is taken: its vertex is new, or was reached before (16.1, steps 2 and 3)
 abbrev pub TakesCandidate : SpfCandidate → List Edge → (settled settled' : List Settled) (starts starts' : List VertexStart) (nearest nearest' : ℕ → Option ℕ)
     (candidates candidates' : List SpfCandidate) → Type 0
 TakesCandidate c edges settled settled' starts starts' nearest nearest' candidates candidates' =

@@ -2,6 +2,7 @@
 use Rattle.std.specs.Prelude.{◌+◌, ℕ, List, min}
 use Rattle.ospf_graph.specs.declared.candidates.SpfCandidate.{SpfCandidate}
 
+-- the candidates, and the looks
 pub record Waiting : Type 0 where
   pub list : List SpfCandidate
   pub looks : ℕ

@@ -36,15 +36,19 @@ BeginAgain name ended later later' = (first : Run) (key : LsaKey) → run_in fir
 
 -- ---- what logs grow by
 
+-- what a router sent, as a datagram of its own
 abbrev pub sent_as_datagram : RouterId → SentValue → Datagram
 sent_as_datagram r s = record { router = r; sent = s }
 
+-- that a router holds an instance
 abbrev pub held_by : RouterId → Instance → Holding
 held_by r i = record { router = r; instance = i }
 
+-- that a router holds the instance of an LSA
 abbrev pub holdings_by : RouterId → List ℕ → Holding
 holdings_by r lsa = record { router = r; instance = instance_of lsa }
 
+-- that an LSA was issued, in the run of its key
 abbrev pub issued_in : Run → List (LsaKey × Run) → List ℕ → Issued
 issued_in first later lsa = record { lsa = lsa; run = run_in first later (key_of lsa) }
 

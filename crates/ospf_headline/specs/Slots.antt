@@ -33,6 +33,7 @@ abbrev pub drops_in : Option RunningValue → List DropCounts
 drops_in None = []
 drops_in (Some v) = v.drops
 
+-- the router of a configuration, which may not run
 abbrev pub slot_of : Config → Option RunningValue → SlotValue
 slot_of config v = record { config = config; running = option_and_then running_of v; drops = drops_in v }
 

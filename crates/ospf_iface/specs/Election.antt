@@ -53,6 +53,7 @@ pub record IsElectionRound (candidates : List Candidate) (e : Elected) : Type 0 
   pub backup : IsBackup candidates e.backup
   pub dr : IsDr candidates e.backup e.dr
 
+-- one holds, and the other does not
 abbrev pub differs : Bool → Bool → Bool
 differs a b = if a then not b else b
 

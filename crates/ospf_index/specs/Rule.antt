@@ -42,6 +42,7 @@ abbrev pub pen_cell : Bool → List Cell
 pen_cell true = (0, false) ∷ []
 pen_cell false = []
 
+-- the cells of the book in which the events are counted
 abbrev pub cells_of : List ListEvent → List Cell
 cells_of log = (length log, true) ∷ (0, true) ∷ (replicate (opens log) (0, true) ++ pen_cell (closed false log))
 

@@ -28,9 +28,11 @@ use Rattle.ospf_inspect.specs.Lines.{AreLines}
 abbrev pub IsMarkUnless : Type 0 → List ℕ → List ℕ → Type 0
 IsMarkUnless holds word mark = (holds × (mark ≡ [])) ⊎ ((holds → ⊥) × (mark ≡ word))
 
+-- the mark of a link that its other end does not tell (16.1, step 2 b)
 abbrev pub one_way : List ℕ
 one_way = codes " one-way"
 
+-- the mark of what no route rests on
 abbrev pub unused : List ℕ
 unused = codes " unused"
 
@@ -50,6 +52,7 @@ AreJoined adverts v w = (cost link_data : ℕ) × IsEdgeBetween adverts v w cost
 abbrev pub way_of : Link → LinkWay
 way_of link = record { to = record { 0 = link.id }; from = record { 0 = link.link_data }; cost = link.metric }
 
+-- a link's other end, the router's own address on it, and its cost
 abbrev pub way_text : LinkWay → List ℕ
 way_text way = number_text way.to.0 ++ codes " from " ++ number_text way.from.0 ++ codes " cost " ++ decimal way.cost
 
@@ -57,9 +60,11 @@ way_text way = number_text way.to.0 ++ codes " from " ++ number_text way.from.0 
 abbrev pub link_line : List ℕ → LinkWay → List ℕ → List ℕ
 link_line what way mark = codes "  " ++ what ++ codes " " ++ way_text way ++ mark ++ codes "\n"
 
+-- the line of a link to a stub network (12.4.1)
 abbrev pub stub_text : Link → List ℕ
 stub_text link = codes "  stub " ++ prefix_under link.id link.link_data ++ codes " cost " ++ decimal link.metric ++ codes "\n"
 
+-- the line of a virtual link, which leads nowhere within one area
 abbrev pub virtual_text : ℕ → List ℕ
 virtual_text to = codes "  virtual " ++ number_text to ++ codes " unused\n"
 
@@ -73,11 +78,13 @@ SaysOfKind adverts router link Transit line =
 SaysOfKind adverts router link Stub line = line ≡ stub_text link
 SaysOfKind adverts router link Virtual line = line ≡ virtual_text link.id
 
+-- the line says of a link of a router-LSA what it is and where it leads
 abbrev pub SaysOfLink : List Advertisement → RouterId → Link → List ℕ → Type 0
 SaysOfLink adverts router link line = SaysOfKind adverts router link link.kind line
 
 -- ---- routers of a network
 
+-- the line of a router that is attached to a network (12.4.2)
 abbrev pub member_text : RouterId → List ℕ → List ℕ
 member_text router mark = codes "  router " ++ number_text router.0 ++ mark ++ codes "\n"
 
@@ -100,6 +107,7 @@ router_line router age instance = codes "router " ++ number_text router.0 ++ ins
 abbrev pub network_name_of : List ℕ → NetworkName
 network_name_of lsa = record { id = record { 0 = (key_of lsa).id }; mask = network_mask_of lsa; router = (key_of lsa).router }
 
+-- a network: its prefix, and the network-LSA that tells of it
 abbrev pub network_name_text : NetworkName → List ℕ
 network_name_text name = prefix_under name.id.0 name.mask ++ codes " of " ++ number_text name.id.0 ++ codes " by " ++ number_text name.router.0
 
@@ -118,9 +126,11 @@ SaysOfNetwork adverts lsa text =
     (mark lines : List ℕ) × IsMarkUnless (StandsFor adverts (key_of lsa).id (key_of lsa).router) unused mark
     × AreLines (SaysOfAttached adverts (key_of lsa).id) (attached_of lsa) lines × (text ≡ network_line (network_name_of lsa) (header_of lsa).age (instance_of lsa) mark ++ lines)
 
+-- the lines say what an LSA of this kind tells
 abbrev pub SaysOfLsaKind : List Advertisement → List ℕ → Kind → List ℕ → Type 0
 SaysOfLsaKind adverts lsa kind.Router text = SaysOfRouter adverts lsa text
 SaysOfLsaKind adverts lsa kind.Network text = SaysOfNetwork adverts lsa text
 
+-- the lines say what an LSA tells
 abbrev pub SaysOfLsa : List Advertisement → List ℕ → List ℕ → Type 0
 SaysOfLsa adverts lsa text = SaysOfLsaKind adverts lsa (kind_of lsa) text

@@ -19,11 +19,13 @@ use Rattle.ospf_inspect.specs.declared.path.PathLeg.{PathLeg}
 abbrev pub leg_of : RouterId → ℕ → Route → NextHop → ℕ → PathLeg
 leg_of at choice route hop cost = record { at = at; hop = hop; cost = cost; place = choice % length route.hops; count = length route.hops }
 
+-- a leg of the way: the router, the hop that it takes, what that costs, and which of the route's hops it is
 abbrev pub leg_text : PathLeg → List ℕ
 leg_text leg =
     number_text leg.at.0 ++ codes " " ++ hop_text leg.hop ++ codes " cost " ++ decimal leg.cost ++ codes " "
     ++ (codes "hop " ++ decimal leg.place ++ codes " of " ++ decimal leg.count)
 
+-- the line of a leg
 abbrev pub leg_line : PathLeg → List ℕ
 leg_line leg = leg_text leg ++ codes "\n"
 
@@ -31,12 +33,15 @@ leg_line leg = leg_text leg ++ codes "\n"
 abbrev pub arrived_text : Prefix → ℕ → List ℕ
 arrived_text prefix paid = prefix_text prefix ++ codes " cost " ++ decimal paid ++ codes " arrived"
 
+-- the line of a way that ends on the prefix at this cost
 abbrev pub arrived_line : Prefix → ℕ → List ℕ
 arrived_line prefix paid = arrived_text prefix paid ++ codes "\n"
 
+-- the line of a way that ends at a router without a route
 abbrev pub no_route_line : RouterId → List ℕ
 no_route_line at = number_text at.0 ++ codes " no route\n"
 
+-- the line of a way that comes to a router a second time
 abbrev pub turns_line : RouterId → List ℕ
 turns_line at = number_text at.0 ++ codes " turns\n"
 
@@ -47,6 +52,7 @@ abbrev pub first_choice : List ℕ → ℕ
 first_choice [] = 0
 first_choice (choice ∷ _) = choice
 
+-- the choices of the legs behind the first
 abbrev pub later_choices : List ℕ → List ℕ
 later_choices [] = []
 later_choices (_ ∷ choices) = choices

@@ -28,6 +28,7 @@ abbrev pub SaysTableOfKind : List Advertisement → List ℕ → Kind → List �
 SaysTableOfKind adverts lsa kind.Router text = SaysTable adverts (number_at 8 4 lsa) text
 SaysTableOfKind adverts lsa kind.Network text = text ≡ []
 
+-- the lines say of an LSA the table of its router, where it is a router-LSA
 abbrev pub SaysTableOf : List Advertisement → List ℕ → List ℕ → Type 0
 SaysTableOf adverts lsa text = SaysTableOfKind adverts lsa (kind_of lsa) text
 
@@ -37,6 +38,7 @@ SaysTableOf adverts lsa text = SaysTableOfKind adverts lsa (kind_of lsa) text
 abbrev pub hop_data : NextHop → Data
 hop_data hop = string (hop_text hop)
 
+-- the next hops of a route, as an array
 abbrev pub hops_data : List NextHop → Data
 hops_data hops = array (items_of (map hop_data hops))
 
@@ -58,9 +60,11 @@ TellsTable adverts router d = (table : List Route) × IsTable adverts (record { 
 abbrev pub root_data : ℕ → Data → Data
 root_data router routes = object (member (codes "root") (string (number_text router)) (member (codes "routes") routes no_members))
 
+-- the value tells a router and its table
 abbrev pub TellsRoot : List Advertisement → ℕ → Data → Type 0
 TellsRoot adverts router d = (routes : Data) × TellsTable adverts router routes × (d ≡ root_data router routes)
 
+-- the value tells the router of an LSA and its table
 abbrev pub TellsRootOf : List Advertisement → List ℕ → Data → Type 0
 TellsRootOf adverts lsa d = TellsRoot adverts (number_at 8 4 lsa) d
 
@@ -77,5 +81,6 @@ TellsTables adverts lsas d = IsArray (TellsRootOf adverts) (filter (λ lsa. is_r
 abbrev pub SaysTableInJson : List Advertisement → ℕ → List ℕ → Type 0
 SaysTableInJson adverts router text = (d : Data) × TellsTable adverts router d × (text ≡ json_line d)
 
+-- the text is one line of JSON with the tables of all routers
 abbrev pub SaysTablesInJson : List Advertisement → List (List ℕ) → List ℕ → Type 0
 SaysTablesInJson adverts lsas text = (d : Data) × TellsTables adverts lsas d × (text ≡ json_line d)

@@ -38,6 +38,7 @@ abbrev pub neighbours_of_link : Option SeenLinkValue → List SeenNeighbour
 neighbours_of_link None = []
 neighbours_of_link (Some link) = link.neighbours
 
+-- the neighbours that were seen on a link
 abbrev pub seen_on : List SeenLinkValue → ℕ → List SeenNeighbour
 seen_on links link = neighbours_of_link (slice_get links link)
 
@@ -93,9 +94,11 @@ abbrev pub iface_of_link : Option SeenLinkValue → SeenIface
 iface_of_link None = down_iface
 iface_of_link (Some link) = link.iface
 
+-- the interface that was seen of a link
 abbrev pub iface_on : List SeenLinkValue → ℕ → SeenIface
 iface_on links link = iface_of_link (slice_get links link)
 
+-- the two are alike in state, Designated Router and Backup
 abbrev pub is_same_iface : SeenIface → SeenIface → Bool
 is_same_iface a b = (iface_place a.state == iface_place b.state) && (a.dr.0 == b.dr.0) && (a.backup.0 == b.backup.0)
 
@@ -122,18 +125,22 @@ is_issued before None = false
 is_issued None (Some at) = true
 is_issued (Some last) (Some at) = not (last == at)
 
+-- the tick at which the LSA had last been issued, if it had
 abbrev pub issued_before : Option SeenOwn → Option ℕ
 issued_before None = None
 issued_before (Some o) = o.issued_at
 
+-- the LSA had been flushed
 abbrev pub flushed_before : Option SeenOwn → Bool
 flushed_before None = false
 flushed_before (Some o) = o.is_flushed
 
+-- the LSA was in the database
 abbrev pub held_before : Option SeenOwn → Bool
 held_before None = false
 held_before (Some o) = o.is_held
 
+-- that it was issued, if it was
 abbrev pub issue_change : Option SeenOwn → SeenOwn → List RouterChange
 issue_change before o = if is_issued (issued_before before) o.issued_at then change.Issued o.key o.number ∷ [] else []
 
@@ -145,12 +152,15 @@ flush_change before o = if o.is_flushed && not (flushed_before before) then chan
 abbrev pub removal_change : Option SeenOwn → SeenOwn → List RouterChange
 removal_change before o = if held_before before && not o.is_held then change.Removed o.key ∷ [] else []
 
+-- what became of the LSA: issued, flushed, gone from the database
 abbrev pub change_of_own : Option SeenOwn → SeenOwn → List RouterChange
 change_of_own before o = issue_change before o ++ flush_change before o ++ removal_change before o
 
+-- what became of an LSA that is seen now
 abbrev pub own_change : List SeenOwn → SeenOwn → List RouterChange
 own_change before o = change_of_own (own_as before o.key) o
 
+-- what became of all of them
 abbrev pub own_changes : (before now : List SeenOwn) → List RouterChange
 own_changes before now = flat_map (own_change before) now
 

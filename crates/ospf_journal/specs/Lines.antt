@@ -33,6 +33,7 @@ own_text key = lsa_kind_text key.kind ++ codes " " ++ number_text key.id
 unfoldable pub states_text : NeighbourState → NeighbourState → List ℕ
 states_text before now = state_text before ++ codes " " ++ state_text now
 
+-- the state of an interface before and now
 unfoldable pub iface_states_text : IfaceState → IfaceState → List ℕ
 iface_states_text before now = iface_text before ++ codes " " ++ iface_text now
 

@@ -31,6 +31,7 @@ router_member q = codes ",\"neighbour\":\"" ++ number_text q.0 ++ codes "\""
 unfoldable pub states_members : NeighbourState → NeighbourState → List ℕ
 states_members before now = codes ",\"before\":\"" ++ state_text before ++ codes "\",\"now\":\"" ++ state_text now ++ codes "\""
 
+-- the state of an interface before and now, as members
 unfoldable pub iface_states_members : IfaceState → IfaceState → List ℕ
 iface_states_members before now = codes ",\"before\":\"" ++ iface_text before ++ codes "\",\"now\":\"" ++ iface_text now ++ codes "\""
 

@@ -34,6 +34,7 @@ seen_neighbour n = record { router = n.router; state = n.state }
 abbrev pub seen_iface : Iface → SeenIface
 seen_iface i = record { state = i.state; dr = i.dr; backup = i.backup }
 
+-- what is kept of a link
 abbrev pub seen_link : LinkValue → SeenLinkValue
 seen_link link = record { iface = seen_iface link.iface; neighbours = map seen_neighbour link.neighbours }
 
@@ -52,10 +53,12 @@ seen_own db n = record {
   is_flushed = is_flushed_in (entry_of db n.key);
 }
 
+-- what is kept of the links of a router, which may not run
 abbrev pub seen_links : Option AreaValue → List SeenLinkValue
 seen_links None = []
 seen_links (Some s) = map seen_link s.links
 
+-- what is kept of the own LSAs of a router, which may not run
 abbrev pub seen_owns : Option AreaValue → List SeenOwn
 seen_owns None = []
 seen_owns (Some s) = map (seen_own s.database) s.numbering

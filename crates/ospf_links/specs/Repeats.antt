@@ -20,6 +20,7 @@ marked_all keys sent = fold (λ sent key. marked key true sent) sent keys
 
 -- ---- one neighbour
 
+-- what is sent again to a neighbour, and the neighbour then
 abbrev pub repeats_for : Own → Iface → LinkSettings → List Held → NeighbourValue → Turn
 repeats_for own i settings db n = repeats_turn i (local_by own settings) settings.retransmit settings.transmit_delay db (record { neighbour = n; next = 0; sent = [] })
 
@@ -33,11 +34,14 @@ repeats_to own l i settings db n = posted_all own l i (repeats_for own i setting
 
 -- ---- one link
 
+-- the link's neighbours after what is sent again to each
 abbrev pub link_repeated : Own → List Held → LinkValue → LinkValue
 link_repeated own db link = record link { neighbours = map (neighbour_repeated own link.iface link.settings db) link.neighbours }
 
+-- what is sent again to the neighbours of a link
 abbrev pub link_repeats_out : Own → List Held → ℕ → LinkValue → List SentValue
 link_repeats_out own db l link = flat_map (repeats_to own l link.iface link.settings db) link.neighbours
 
+-- the keys of the LSAs that are sent again on a link
 abbrev pub keys_out : Own → List Held → LinkValue → List LsaKey
 keys_out own db link = flat_map (due_keys link.settings.retransmit own.tick db) link.neighbours

@@ -19,6 +19,7 @@ pub record LinkEntry : Type 0 where
   pub tos_count : ℕ
   pub tos : List ℕ
 
+-- the bytes of a link, with what stands behind it of other TOS
 abbrev pub entry_bytes : LinkEntry → List ℕ
 entry_bytes e =
     number_bytes 4 e.link.id ++ number_bytes 4 e.link.link_data ++ (kind_byte e.link.kind ∷ e.tos_count ∷ number_bytes 2 e.link.metric)
@@ -28,6 +29,7 @@ entry_bytes e =
 abbrev pub plain : Link → LinkEntry
 plain l = record { link = l; tos_count = 0; tos = [] }
 
+-- the 12 bytes of a link without other TOS
 abbrev pub link_bytes : Link → List ℕ
 link_bytes l = entry_bytes (plain l)
 

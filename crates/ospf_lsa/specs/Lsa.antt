@@ -23,9 +23,11 @@ use Rattle.ospf_lsa.specs.declared.link.LinkKind.TheVariants.{PointToPoint, Tran
 abbrev pub type_of : List ℕ → ℕ
 type_of lsa = slice_index lsa 3
 
+-- its LS type is that of a router-LSA (12.1.3)
 abbrev pub IsRouterLsa : List ℕ → Type 0
 IsRouterLsa lsa = type_of lsa ≡ 1
 
+-- its LS type is that of a network-LSA (12.1.3)
 abbrev pub IsNetworkLsa : List ℕ → Type 0
 IsNetworkLsa lsa = type_of lsa ≡ 2
 

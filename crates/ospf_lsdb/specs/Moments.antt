@@ -13,6 +13,7 @@ use Rattle.ospf_lsdb.specs.contracts.moments.AgeDueOrd.TheImpl as due_ord
 abbrev pub due_cmp : AgeDue → AgeDue → Ordering
 due_cmp = (due_ord.ghosts).cmp
 
+-- the two are one, in moment, age and key
 unfoldable pub same_due : AgeDue → AgeDue → Bool
 same_due d q = (d.moment == q.moment) && ((d.age == q.age) && same_key d.key q.key)
 

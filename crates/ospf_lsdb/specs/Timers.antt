@@ -62,6 +62,7 @@ abbrev pub KeysRise : List LsaKey → Type 0
 KeysRise [] = Unit {0}
 KeysRise (k ∷ ks) = AllByRecursion (λ o. Precedes k o) ks × KeysRise ks
 
+-- a database as it is stored, at this moment, and the ages that its entries are yet to come to
 pub record AreKeptEntries (clock : ℕ) (entries : List (LsaKey × Stored)) (due : List AgeDue) : Type 0 where
   pub on_ring : clock < 65536
   pub stored : AllByRecursion (IsStored clock) entries

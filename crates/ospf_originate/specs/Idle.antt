@@ -19,6 +19,7 @@ pub record IsIdle (s : AreaValue) : Type 0 where
 
 -- ---- key by key, where none was heard
 
+-- nothing is done of the key
 abbrev pub is_left : OwnAction → Bool
 is_left Leave = true
 is_left Flush = false

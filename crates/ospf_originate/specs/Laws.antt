@@ -56,6 +56,7 @@ pub record IsNextIssue (w : Option WantedValue) (kept number : ℤ) : Type 0 whe
   pub is_wanted : w ≡ Some value
   pub next : number ≡ kept +ℤ pos 1
 
+-- the law: an LSA is issued by the next number (12.1.6)
 abbrev pub IssueIsNext : Type 0
 IssueIsNext = (s : AreaValue) (key : LsaKey) (number : ℤ) → action_of s key ≡ Issue number → IsNextIssue (wanted_of (wants s) key) (kept_number s key) number
 

@@ -27,5 +27,6 @@ waits tick ns key = elim (issued_at_in (numbering_of ns key)) [
 abbrev pub issued_one : LsaKey → ℕ → Numbering → Numbering
 issued_one key tick n = if is_numbering_of key n then record n { issued_at = Some tick } else n
 
+-- of the keys, this one was issued at this tick
 abbrev pub issued : LsaKey → ℕ → List Numbering → List Numbering
 issued key tick ns = map (issued_one key tick) ns

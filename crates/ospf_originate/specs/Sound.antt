@@ -22,6 +22,7 @@ AreBelowGreatest s = (key : LsaKey) → kept_number s key ≤ℤ s.greatest
 
 -- ---- both
 
+-- all of it holds of a router
 pub record IsSound (s : AreaValue) : Type 0 where
   pub links : AreSetUp s.links
   pub numbered : AreNumbered s

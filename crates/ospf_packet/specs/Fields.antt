@@ -8,6 +8,7 @@ use Rattle.ospf_packet.specs.declared.body.Description.{Description}
 abbrev pub hello_fields : ℕ
 hello_fields = 20
 
+-- how many bytes a Database Description has before its headers (A.3.3)
 abbrev pub description_fields : ℕ
 description_fields = 8
 
@@ -23,6 +24,7 @@ hello_at body = record {
   backup = record { 0 = number_at 16 4 body };
 }
 
+-- the bytes of a Hello, before its neighbours (A.3.2)
 abbrev pub hello_bytes : Hello → List ℕ
 hello_bytes h =
     number_bytes 4 h.mask ++ number_bytes 2 h.hello_interval ++ (h.options ∷ h.priority ∷ number_bytes 4 h.dead_interval)
@@ -47,6 +49,7 @@ description_at body = record {
   number = number_at 4 4 body;
 }
 
+-- the bytes of a Database Description, before its headers (A.3.3)
 abbrev pub description_bytes : Description → List ℕ
 description_bytes d = number_bytes 2 d.mtu ++ (d.options ∷ d.flags ∷ number_bytes 4 d.number)
 

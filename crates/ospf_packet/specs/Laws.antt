@@ -21,5 +21,6 @@ pub record SameAtAnyAge (age : ℕ) (bytes : List ℕ) : Type 0 where
   pub valid : IsLsa bytes ↔ IsLsa (with_age age bytes)
   pub fault : (f : LsaFault) → lsa.IsFirstFault bytes f ↔ lsa.IsFirstFault (with_age age bytes) f
 
+-- the law: bytes are an LSA or none at any age alike
 abbrev pub AgeChangesNoVerdict : Type 0
 AgeChangesNoVerdict = (age : ℕ) (bytes : List ℕ) → 2 ≤ length bytes → SameAtAnyAge age bytes

@@ -38,6 +38,7 @@ packet_body_type (request entries) = 3
 packet_body_type (update lsas) = 4
 packet_body_type (acknowledgment headers) = 5
 
+-- the bytes of what it says, behind the header
 abbrev pub packet_body_bytes : BodyMeaning → List ℕ
 packet_body_bytes (hello fields neighbours) = hello_bytes fields ++ routers_bytes neighbours
 packet_body_bytes (description fields headers) = description_bytes fields ++ flat_map aged_bytes headers
@@ -67,6 +68,7 @@ packet_bytes m = bytes_with_sum m (packet_checksum (bytes_with_sum m 0))
 abbrev pub with_packet_sum : List ℕ → ℕ → List ℕ
 with_packet_sum packet sum = take 12 packet ++ number_bytes 2 sum ++ drop 14 packet
 
+-- what it says has a spelling: the numbers fit their fields
 abbrev pub PacketBodyFits : BodyMeaning → Type 0
 PacketBodyFits (hello fields neighbours) = HelloFits fields × AllByRecursion RouterFits neighbours
 PacketBodyFits (description fields headers) = DescriptionFits fields × AllByRecursion AgedFits headers

@@ -12,6 +12,7 @@ request_size = 12
 abbrev pub request_entry_at : List ℕ → RequestEntry
 request_entry_at bytes = record { kind = number_at 0 4 bytes; id = number_at 4 4 bytes; router = record { 0 = number_at 8 4 bytes } }
 
+-- the 12 bytes of an entry
 abbrev pub request_entry_bytes : RequestEntry → List ℕ
 request_entry_bytes e = number_bytes 4 e.kind ++ number_bytes 4 e.id ++ number_bytes 4 e.router.0
 

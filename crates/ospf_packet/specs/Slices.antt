@@ -13,6 +13,7 @@ pub record IsSlice (lsa : List ℕ) : Type 0 where
   pub long : lsa_header ≤ length lsa
   pub length_is : lsa_length lsa ≡ length lsa
 
+-- their bytes, one LSA behind the other
 abbrev pub lsas_bytes : List (List ℕ) → List ℕ
 lsas_bytes lsas = flat_map (λ (lsa : List ℕ). lsa) lsas
 

@@ -14,6 +14,7 @@ pub record HeaderEntry : Type 0 where
   pub header : LsaHeader
   pub age_field : ℕ
 
+-- the 20 bytes of an LSA header
 abbrev pub header_entry_bytes : HeaderEntry → List ℕ
 header_entry_bytes e = number_bytes 2 e.age_field ++ header_bytes e.header
 

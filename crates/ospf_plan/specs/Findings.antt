@@ -33,6 +33,7 @@ around_of ends e =
       plug = first_at_port ends (port_of e);
     }
 
+-- the two are one kind
 abbrev pub same_kind : InterfaceKind → InterfaceKind → Bool
 same_kind PointToPoint PointToPoint = true
 same_kind Broadcast Broadcast = true

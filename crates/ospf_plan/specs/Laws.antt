@@ -85,6 +85,7 @@ abbrev pub IsRisingBy : {X : Type 0} → (X → X → Type 0) → List X → Typ
 IsRisingBy R [] = ⊤
 IsRisingBy {X} R (x ∷ xs) = ((y : X) → Contains xs y → R x y) × IsRisingBy R xs
 
+-- the number of a fault, as its name has it
 abbrev pub area_fault_number : AreaFault → ℕ
 area_fault_number fault.SameRouter = 1
 area_fault_number fault.SameAddress = 2

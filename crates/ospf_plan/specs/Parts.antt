@@ -19,6 +19,7 @@ use Rattle.ospf_plan.specs.Unheard.{unheard_in}
 
 -- ---- links
 
+-- the number by which links of a kind are ordered
 abbrev pub kind_number : InterfaceKind → ℕ
 kind_number PointToPoint = 0
 kind_number Broadcast = 1
@@ -28,6 +29,7 @@ kind_number Broadcast = 1
 abbrev pub LinkKey : Type 0
 LinkKey = ℕ × ℕ × ℕ × ℕ × ℕ × ℕ × ℕ
 
+-- the link of an interface: prefix, area, kind, intervals and MTU, on which its ends agree
 abbrev pub link_of : LinkEnd → LinkKey
 link_of e = (e.address.length, network_part e.address, e.area.0, kind_number e.kind, e.hello, e.dead, e.mtu)
 
@@ -68,6 +70,7 @@ pub record AreFindings (configs : List Config) (fs : List Finding) : Type 0 wher
 
 -- ---- how it is found
 
+-- the two are one link
 abbrev pub same_link : LinkKey → LinkKey → Bool
 same_link k q = ((((((k.0 == q.0) && (k.1 == q.1)) && (k.2 == q.2)) && (k.3 == q.3)) && (k.4 == q.4)) && (k.5 == q.5)) && (k.6 == q.6)
 
@@ -93,5 +96,6 @@ AreFirstLinks m ends = (k : LinkKey) → linked_in m k ≡ first_linked ends k
 abbrev pub join_at : (LinkKey → Option LinkEnd) → LinkEnd → Option Join
 join_at linked e = option_map (λ d. record { one = d.file; other = e.file }) (linked (link_of e))
 
+-- the joins of all interfaces
 abbrev pub joins_of : List LinkEnd → List Join
 joins_of ends = filter_map (join_at (first_linked ends)) ends

@@ -104,5 +104,6 @@ other_text f e name = codes ", " ++ name ++ codes ": " ++ side_text f e
 abbrev pub finding_text : Finding → (here other : List ℕ) → List ℕ
 finding_text f here other = (here ++ codes ": " ++ area_fault_text f.fault ++ codes ": ") ++ side_text f.fault f.here ++ other_text f.fault f.other other
 
+-- what is told of a finding
 abbrev pub told_text : NamedFinding → List ℕ
 told_text t = finding_text t.finding t.here.now t.other.now

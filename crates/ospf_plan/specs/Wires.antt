@@ -29,6 +29,7 @@ wires_of configs = flat_map wires_at (enumerate_from 0 configs)
 abbrev pub wire_key : LinkEnd → ℕ → ℕ × ℕ × ℕ
 wire_key e p = (e.file, e.link, p)
 
+-- the two are one wire
 abbrev pub same_wire : ℕ × ℕ × ℕ → ℕ × ℕ × ℕ → Bool
 same_wire k q = (k.0 == q.0) && (k.1 == q.1) && (k.2 == q.2)
 
@@ -36,6 +37,7 @@ same_wire k q = (k.0 == q.0) && (k.1 == q.1) && (k.2 == q.2)
 abbrev pub is_wired : List PeerWire → ℕ × ℕ × ℕ → Bool
 is_wired wires q = list_any (λ w. same_wire (wire_key w.end w.peer) q) wires
 
+-- the two are on one network
 abbrev pub is_beside : LinkEnd → LinkEnd → Bool
 is_beside d e = same_network (network_key d.address) (network_key e.address)
 
@@ -61,8 +63,10 @@ wire_faults_in ends wires = filter_map (wire_fault (first_at_port ends) (is_wire
 
 -- ---- sets of them
 
+-- the set has this wire
 abbrev pub has_wire : sorted.BTreeSet (ℕ × ℕ × ℕ) → ℕ × ℕ × ℕ → Bool
 has_wire s q = sorted.contains (λ (a b : ℕ × ℕ × ℕ). ordering_then (ordering_then (nat_cmp a.0 b.0) (nat_cmp a.1 b.1)) (nat_cmp a.2 b.2)) s q
 
+-- the set has these wires and no others
 abbrev pub AreHeard : sorted.BTreeSet (ℕ × ℕ × ℕ) → List PeerWire → Type 0
 AreHeard s wires = (q : ℕ × ℕ × ℕ) → has_wire s q ≡ is_wired wires q

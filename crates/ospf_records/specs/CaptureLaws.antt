@@ -22,6 +22,7 @@ pub record TellsLengths (recorded packet : List ℕ) : Type 0 where
   pub whole : number_at 12 4 recorded ≡ length packet
   pub total : number_at 2 2 packet ≡ length packet
 
+-- the law: where a datagram is none too long, the capture tells its lengths
 abbrev pub LengthsAreTold : Type 0
 LengthsAreTold = (at : Moment) (source destination : Addr) (ospf : List ℕ) → ip_header + length ospf ≤ largest_ip_packet
     → TellsLengths (datagram_bytes at source destination ospf) (captured at source destination ospf).packet

@@ -24,6 +24,7 @@ second_of ticks sent = capped (count_by (is_tick_of sent.1.router.0) (take_while
 abbrev pub numbered_datagrams : List Datagram → List (ℕ × Datagram)
 numbered_datagrams datagrams = enumerate_from 0 datagrams
 
+-- the seconds of all of them
 abbrev pub seconds : List Ticked → List Datagram → List ℕ
 seconds ticks datagrams = map (second_of ticks) (numbered_datagrams datagrams)
 
@@ -46,6 +47,7 @@ captured_at second microsecond g =
     then record { seconds = second; microseconds = microsecond; packet = ip_packet g.sent.source.0 g.sent.destination.0 g.sent.bytes } ∷ []
     else []
 
+-- a datagram as it is captured, at its moment
 abbrev pub captured_of : List Ticked → List Datagram → ℕ × Datagram → List Captured
 captured_of ticks datagrams sent = captured_at (second_of ticks sent) (microsecond_of ticks datagrams sent) sent.1
 

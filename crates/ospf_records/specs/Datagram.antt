@@ -10,5 +10,6 @@ abbrev pub captured : Moment → Addr → Addr → List ℕ → Captured
 captured at source destination ospf =
     record { seconds = at.seconds; microseconds = at.microseconds; packet = ip_packet source.0 destination.0 ospf }
 
+-- its bytes in a capture
 abbrev pub datagram_bytes : Moment → Addr → Addr → List ℕ → List ℕ
 datagram_bytes at source destination ospf = record_bytes (captured at source destination ospf)

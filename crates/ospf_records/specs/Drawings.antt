@@ -15,6 +15,7 @@ abbrev pub first_listing : List SlotValue → List (List ℕ)
 first_listing [] = []
 first_listing (s ∷ slots) = listing_or s.running (first_listing slots)
 
+-- the router does not run
 abbrev pub is_stopped : SlotValue → Bool
 is_stopped s = not (is_some s.running)
 

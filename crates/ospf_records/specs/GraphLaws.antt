@@ -14,6 +14,7 @@ pub data Drawn : Type 0 where
   router : (id : ℕ) → Drawn
   network : (id : ℕ) → Drawn
 
+-- the name of what is drawn
 abbrev pub node_name : Drawn → List ℕ
 node_name (router id) = router_node id
 node_name (network id) = network_node id

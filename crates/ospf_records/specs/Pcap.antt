@@ -11,6 +11,7 @@ magic = 0xa1b2c3d4
 abbrev pub major_version : ℕ
 major_version = 2
 
+-- the format's minor version
 abbrev pub minor_version : ℕ
 minor_version = 4
 

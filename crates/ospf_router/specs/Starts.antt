@@ -56,6 +56,7 @@ area_of config dd_start floor links = record {
   greatest = floor;
 }
 
+-- the area of a router that starts by this configuration
 pub record IsAreaOf (config : Config) (dd_start : ℕ) (floor : ℤ) (s : AreaValue) : Type 0 where
   pub links : AreLinksOf config.router_id config.interfaces.items s.links
   pub rest : s ≡ area_of config dd_start floor s.links

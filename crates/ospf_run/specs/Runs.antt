@@ -94,6 +94,7 @@ floor_of settings = option_map string_bytes settings.floor
 abbrev pub span_of : Settings → Span
 span_of settings = record { ticks = settings.ticks; may_be_told = is_some settings.ending }
 
+-- what the settings ask for
 abbrev pub asked_of : Settings → Asked
 asked_of settings = record {
   lookup = settings.lookup;
@@ -137,6 +138,7 @@ pub record RouterRan (terms : Terms) (config : Config) (driven : Driven) (router
   pub ended : IsDriven a driven
   pub looks : IsFrom a.known router_seat
 
+-- so did all of them, one for each configuration
 abbrev pub RoutersRan : Terms → List Config → List Driven → List RouterSeat → Type 0
 RoutersRan terms [] [] [] = ⊤
 RoutersRan terms (config ∷ configs) (driven ∷ drivens) (router_seat ∷ router_seats) = RouterRan terms config driven router_seat × RoutersRan terms configs drivens router_seats

@@ -37,18 +37,23 @@ IsThree P _ = ⊥
 
 -- ---- the words behind a command's name
 
+-- a Router ID and no more
 abbrev pub IsRouterAlone : List Text → RouterId → Type 0
 IsRouterAlone ws router = IsOne (λ a. IsRouterWord a router) ws
 
+-- an address and no more
 abbrev pub IsAddressAlone : List Text → Addr → Type 0
 IsAddressAlone ws address = IsOne (λ a. IsAddress a address) ws
 
+-- a count and no more
 abbrev pub IsCountAlone : List Text → ℕ → Type 0
 IsCountAlone ws count = IsOne (λ a. IsDecimal 64 a count) ws
 
+-- a Router ID, and the number of one of its links
 abbrev pub IsRouterAndLink : List Text → RouterId → ℕ → Type 0
 IsRouterAndLink ws router link = IsTwo (λ a b. IsRouterWord a router × IsDecimal 64 b link) ws
 
+-- two numbers
 abbrev pub AreNumbers : List Text → ℕ → ℕ → Type 0
 AreNumbers ws number count = IsTwo (λ a b. IsDecimal 64 a number × IsDecimal 64 b count) ws
 
@@ -62,6 +67,7 @@ abbrev pub AreDatagramWords : List Text → RouterId → Option ℕ → Type 0
 AreDatagramWords ws router None = IsRouterAlone ws router
 AreDatagramWords ws router (Some most) = IsTwo (λ a b. IsRouterWord a router × IsDecimal 64 b most) ws
 
+-- the number of a datagram, and the router and the link to which it goes
 abbrev pub IsDelivery : List Text → ℕ → RouterId → ℕ → Type 0
 IsDelivery ws datagram router link = IsThree (λ a b c. IsDecimal 64 a datagram × IsRouterWord b router × IsDecimal 64 c link) ws
 
@@ -90,6 +96,7 @@ abbrev pub BeginsWalk : List Text → RouterId → Addr → List Text → Type 0
 BeginsWalk (a ∷ b ∷ ws) from address rest = IsRouterWord a from × IsAddress b address × (ws ≡ rest)
 BeginsWalk _ from address rest = ⊥
 
+-- from which router to which address a walk goes, and which of the equally good next hops it takes at each router
 abbrev pub IsWalkWords : List Text → RouterId → Addr → List ℕ → Type 0
 IsWalkWords ws from address choices = (rest : List Text) × BeginsWalk ws from address rest × AllZip (IsDecimal 32) rest choices
 
@@ -113,6 +120,7 @@ spaced (a ∷ ws) = a ++ flat_map (λ b. 32 ∷ b) ws
 
 -- ---- events
 
+-- the word that an event's command begins with
 abbrev pub name_of_event : WorldEvent → Name
 name_of_event (event.Start router dd_start floor) = name.Start
 name_of_event (event.Stop router) = name.Stop
@@ -134,6 +142,7 @@ TakesEventWords (event.Deliver datagram router link) ws = IsDelivery ws datagram
 abbrev pub IsEventOf : Name → List Text → WorldEvent → Type 0
 IsEventOf name ws event = (name_of_event event ≡ name) × TakesEventWords event ws
 
+-- the word that a command of many events begins with
 abbrev pub name_of_many : Many → Name
 name_of_many many.Start = name.Start
 name_of_many many.Up = name.Up
@@ -153,6 +162,7 @@ AreEventsOf name ws many = (name_of_many many ≡ name) × TakesMany many ws
 
 -- ---- commands
 
+-- the word that a command begins with
 abbrev pub name_of_command : Command → Name
 name_of_command (command.Event event) = name_of_event event
 name_of_command (command.Many many) = name_of_many many

@@ -26,5 +26,6 @@ IsOneCommand (Say text) (Say text') = string_bytes text ≡ string_bytes text'
 IsOneCommand (Expect e) (Expect f) = IsOneExpected e f
 IsOneCommand c d = c ≡ d
 
+-- the law: two commands that the same words spell are one
 abbrev pub WordsSpellOneCommand : Type 0
 WordsSpellOneCommand = (ws : List Text) (c d : Command) → SpellsCommand ws c → SpellsCommand ws d → IsOneCommand c d

@@ -7,6 +7,7 @@ use Rattle.ospf_script.specs.declared.command.View.TheVariants as view
 use Rattle.ospf_script.specs.declared.name.Name.{Name}
 use Rattle.ospf_script.specs.declared.name.Name.TheVariants as name
 
+-- the word itself
 abbrev pub command_name_text : Name → Text
 command_name_text name.Start = codes "start"
 command_name_text name.Stop = codes "stop"
@@ -38,10 +39,12 @@ abbrev pub IsWordOf : Text → Name → Type 0
 IsWordOf word (name.Show view.Neighbours) = (word ≡ codes "neighbours") ⊎ (word ≡ codes "neighbors")
 IsWordOf word n = word ≡ command_name_text n
 
+-- the word is this one; of neighbours it can be spelled in two ways
 abbrev pub is_word_of : Text → Name → Bool
 is_word_of word (name.Show view.Neighbours) = bytes_eq word (codes "neighbours") || bytes_eq word (codes "neighbors")
 is_word_of word n = bytes_eq word (command_name_text n)
 
+-- all of them, in the order in which they are told
 abbrev pub all_names : List Name
 all_names =
     name.Start ∷ name.Stop ∷ name.Tick ∷ name.Up ∷ name.Down ∷ name.Deliver ∷ name.Cut ∷ name.Mend ∷ name.Round ∷ name.Batch

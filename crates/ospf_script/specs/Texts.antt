@@ -58,6 +58,7 @@ expected_text (Walk from address cost) =
 expected_text Agree = codes "expect agree"
 expected_text Settled = codes "expect settled"
 
+-- the command of an event
 abbrev pub event_text : WorldEvent → Text
 event_text (event.Start router dd_start floor) =
     codes "start " ++ number_text router.0 ++ codes " " ++ decimal dd_start ++ codes " " ++ floor_text floor
@@ -68,6 +69,7 @@ event_text (event.LinkDown router link) = codes "down " ++ number_text router.0 
 event_text (event.Deliver datagram router link) =
     codes "deliver " ++ decimal datagram ++ codes " " ++ number_text router.0 ++ codes " " ++ decimal link
 
+-- the command of many events
 abbrev pub many_text : Many → Text
 many_text many.Start = codes "start all"
 many_text many.Up = codes "up all"
@@ -75,12 +77,14 @@ many_text many.Down = codes "down all"
 many_text (many.Cut network) = codes "cut " ++ number_text network.0
 many_text (many.Mend network) = codes "mend " ++ number_text network.0
 
+-- the word of what is shown of a router
 abbrev pub view_text : View → Text
 view_text view.Neighbours = codes "neighbours"
 view_text view.Listing = codes "listing"
 view_text view.Table = codes "table"
 view_text view.Floor = codes "floor"
 
+-- the line of a command
 abbrev pub command_text : Command → Text
 command_text (command.Event event) = event_text event
 command_text (command.Many many) = many_text many

@@ -32,9 +32,11 @@ pub record IsFloor (word : Text) (floor : ℤ) : Type 0 where
 abbrev pub IsDotted32 : Text → ℕ → Type 0
 IsDotted32 word n = IsDottedNumber word n × (n < 2 ^ 32)
 
+-- the word is a Router ID
 abbrev pub IsRouterWord : Text → RouterId → Type 0
 IsRouterWord word router = IsDotted32 word router.0
 
+-- the word is an address
 abbrev pub IsAddress : Text → Addr → Type 0
 IsAddress word address = IsDotted32 word address.0
 

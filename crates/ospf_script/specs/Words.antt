@@ -6,6 +6,7 @@ use Rattle.std.specs.List.{filter, slice_split}
 abbrev pub Text : Type 0
 Text = List ℕ
 
+-- the byte is a space
 abbrev pub is_space : ℕ → Bool
 is_space byte = byte == 32
 

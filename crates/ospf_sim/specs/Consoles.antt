@@ -62,6 +62,7 @@ pub record IsPieceRead (piece : Text) (old new : Option (List ℕ)) : Type 0 whe
   pub taken : Consumes old new piece
   pub ends : ends_with_byte 10 piece ≡ false → IfSome old (λ bytes. bytes ≡ piece)
 
+-- what came of reading: a piece of the input, or nothing, at its end
 abbrev pub IsPiece : Bool → Text → Option (List ℕ) → Option (List ℕ) → Type 0
 IsPiece true piece old new = IsPieceRead piece old new
 IsPiece false piece old new = IsAtEnd old

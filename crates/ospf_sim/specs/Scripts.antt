@@ -79,6 +79,7 @@ pub record IsNotRead (line : Text) (w w' : Simulation) (old new : Written) : Typ
   pub same_world : w' ≡ w
   pub same_written : new ≡ old
 
+-- what a line comes to, by whether it could be read
 abbrev pub LineComes : Bool → Line → Simulation → Simulation → Written → Written → Type 0
 LineComes true line = IsRunLine line.number line.text.now
 LineComes false line = IsNotRead line.text.now

@@ -39,6 +39,7 @@ abbrev pub OpensWorld : List NamedFile → List Config → Option WorldValue →
 OpensWorld files configs (Some w) old new = IsNewOf configs w × (new ≡ old)
 OpensWorld files configs None old new = AreTwinsTold files configs old new
 
+-- the world of the files, or what is told where they make none
 abbrev pub WorldComes : List NamedFile → Option WorldValue → Option (List ℕ) → Option (List ℕ) → Type 0
 WorldComes files (Some w) old new = IsWorldOf files w × (new ≡ old)
 WorldComes files None old new = IsNoWorld files old new
@@ -56,6 +57,7 @@ pub record RunsWhole (script : NamedFile) (start : WorldValue) (simulated : Simu
   pub left : simulated.left ≡ Some end
   pub comes : ScriptComes whole (text_in script) (begun_in start) end old new
 
+-- what a script comes to by the status: all that was expected is met, or something is not
 abbrev pub ScriptRunsTo : Status → NamedFile → WorldValue → Simulated → Written → Written → Type 0
 ScriptRunsTo status.Done script start simulated = RunsWhole script start simulated true
 ScriptRunsTo status.Refused script start simulated = RunsWhole script start simulated false

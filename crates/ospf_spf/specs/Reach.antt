@@ -107,6 +107,7 @@ pub record IsRouteBy (ends : List End) (settled : List Settled) (starts : List V
 abbrev pub prefix_code : Prefix → ℕ
 prefix_code p = p.address.0 * 64 + p.length
 
+-- they stand in the order of their prefixes
 abbrev pub AreReachesInOrder : List Reach → Type 0
 AreReachesInOrder reaches = IsNonDecreasingBy (λ r. prefix_code r.prefix) reaches
 

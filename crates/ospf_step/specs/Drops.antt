@@ -24,5 +24,6 @@ dropped_by Tick s = None
 dropped_by (LinkUp link) s = None
 dropped_by (LinkDown link) s = None
 
+-- the event is dropped
 abbrev pub is_dropped : Event → AreaValue → Bool
 is_dropped e s = is_some (dropped_by e s)

@@ -7,14 +7,18 @@ use Rattle.ospf_originate.specs.Steps.{OwnLsas}
 use Rattle.ospf_area.specs.Acting.{InTurn}
 use Rattle.ospf_update.specs.Removal.{RemovesOne, leaving}
 
+-- a step ends: elections, own LSAs, and removals, one after the other
 pub record EndsStep (s : AreaValue) (out out' : OutputsValue) (after : AreaValue) : Type 0 where
   pub database : IsDatabase s.database
+  -- the elections that are due, and AdjOK? (9.4)
   pub elected : AreaValue
   pub elected_out : OutputsValue
   pub elects : ElectsAll s out elected elected_out
+  -- the router's own LSAs (12.4)
   pub issued : AreaValue
   pub issued_out : OutputsValue
   pub own : OwnLsas elected elected_out issued_out issued
   pub issued_database : IsDatabase issued.database
+  -- the LSAs that leave the database (14)
   pub removes : InTurn RemovesOne (leaving issued) issued issued_out out' after
   pub read : AreReadAsSent out'.sent

@@ -20,6 +20,7 @@ CanTakeOn (request entries) f link = (n : NeighbourValue) → neighbour_of link.
 CanTakeOn (update lsas) f link = ⊤
 CanTakeOn (acknowledgment headers) f link = ⊤
 
+-- it has that on the link that the packet came on
 abbrev pub CanTakePacket : Origin → BodyMeaning → AreaValue → Type 0
 CanTakePacket f body s = (link : LinkValue) → slice_get s.links f.link ≡ Some link → CanTakeOn body f link
 

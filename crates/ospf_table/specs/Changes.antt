@@ -30,22 +30,27 @@ change_line failure change = area_failure_text failure ++ loss_line change.befor
 
 -- ---- how many
 
+-- the prefix is reached no more, though somebody tells it
 abbrev pub is_cut : Loss → Bool
 is_cut Cut = true
 is_cut _ = false
 
+-- the prefix is reached no more, and nobody tells it
 abbrev pub is_gone : Loss → Bool
 is_gone Gone = true
 is_gone _ = false
 
+-- the prefix costs more
 abbrev pub is_dearer : Loss → Bool
 is_dearer (Dearer after) = true
 is_dearer _ = false
 
+-- the prefix costs the same over other next hops
 abbrev pub is_moved : Loss → Bool
 is_moved (Moved after) = true
 is_moved _ = false
 
+-- how many of the changes are such
 abbrev pub count_of : (Loss → Bool) → List RouteChange → ℕ
 count_of is changes = count_by (λ change. is change.loss) changes
 
@@ -53,9 +58,11 @@ count_of is changes = count_by (λ change. is change.loss) changes
 abbrev pub totals_of : List RouteChange → Totals
 totals_of changes = record { cut = count_of is_cut changes; gone = count_of is_gone changes; cost = count_of is_dearer changes; hops = count_of is_moved changes }
 
+-- how many changes of each sort there are
 abbrev pub totals_text : Totals → List ℕ
 totals_text t = codes "cut " ++ decimal t.cut ++ codes " gone " ++ decimal t.gone ++ codes " cost " ++ decimal t.cost ++ codes " hops " ++ decimal t.hops
 
+-- the line of a failure with how many changes of each sort there are
 abbrev pub totals_line : AreaFailure → Totals → List ℕ
 totals_line failure t = area_failure_text failure ++ codes " " ++ totals_text t ++ codes "\n"
 

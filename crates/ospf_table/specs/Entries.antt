@@ -12,6 +12,7 @@ pub record IsKeyedEntry (e : LsaKey × List ℕ) : Type 0 where
   pub key : key_of e.1 ≡ e.0
   pub young : (header_of e.1).age < 3600
 
+-- each of them is
 abbrev pub AreKeyed : List (LsaKey × List ℕ) → Type 0
 AreKeyed es = AllByRecursion IsKeyedEntry es
 

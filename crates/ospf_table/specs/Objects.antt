@@ -36,6 +36,7 @@ lost_members router before loss =
     member (codes "before") (reach_data before) (member (codes "loss") (string loss) (member (codes "prefix") (string (prefix_text before.prefix))
     (member (codes "router") (string (number_text router.0)) no_members)))
 
+-- the object of a route that is lost
 abbrev pub lost_data : RouterId → Route → List ℕ → Data
 lost_data router before loss = object (lost_members router before loss)
 
@@ -50,6 +51,7 @@ loss_data router before Cut = lost_data router before (codes "cut")
 loss_data router before (Dearer after) = turned_data router before after (codes "cost")
 loss_data router before (Moved after) = turned_data router before after (codes "hops")
 
+-- the object of a change in the table of a router
 abbrev pub change_data : RouterId → RouteChange → Data
 change_data router c = loss_data router c.before c.loss
 

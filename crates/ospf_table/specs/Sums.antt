@@ -12,6 +12,7 @@ sums_text s =
     codes "cut " ++ decimal s.cut ++ codes " gone " ++ decimal s.gone ++ codes " cost " ++ decimal s.cost ++ codes " hops " ++ decimal s.hops ++ codes " routers "
     ++ decimal s.routers
 
+-- the line of a failure with its sums
 abbrev pub sums_line : AreaFailure → Sums → List ℕ
 sums_line failure s = area_failure_text failure ++ codes " " ++ sums_text s ++ codes "\n"
 
@@ -20,6 +21,7 @@ abbrev pub has_changes : List RouteChange → Bool
 has_changes [] = false
 has_changes (change ∷ changes) = true
 
+-- one, or none
 abbrev pub one_if : Bool → ℕ
 one_if b = if b then 1 else 0
 

@@ -19,11 +19,13 @@ pub record IsOrdered (headers ordered : List LsaHeader) : Type 0 where
   pub rising : IsSortedBy header_precedes ordered
   pub stable : IsStableBy header_precedes headers ordered
 
+-- the law: in order of key, none left out
 abbrev pub AcknowledgementsAreOrdered : Type 0
 AcknowledgementsAreOrdered = (headers : List LsaHeader) → IsOrdered headers (in_order headers)
 
 -- ---- in packets
 
+-- the Acknowledgment of these headers
 abbrev pub acknowledgment_of : Own → List LsaHeader → Meaning
 acknowledgment_of own headers = packet_from own (acknowledgment headers)
 

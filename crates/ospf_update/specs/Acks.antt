@@ -41,6 +41,7 @@ cut zero room hs = []
 cut (suc n) room [] = []
 cut (suc n) room (h ∷ hs) = take (min room (length (h ∷ hs))) (h ∷ hs) ∷ cut n room (drop (min room (length (h ∷ hs))) (h ∷ hs))
 
+-- the headers of each packet, where this many have room in one
 abbrev pub packets : ℕ → List LsaHeader → List (List LsaHeader)
 packets room hs = cut (length hs) room hs
 
@@ -54,6 +55,7 @@ acks_out own way mtu hs = flat_map (ack_out own way) (packets (ack_room mtu) (in
 
 -- ---- as they are put to go out
 
+-- an Acknowledgment of these headers to this address
 abbrev pub ack_parcel : Addr → List LsaHeader → Parcel
 ack_parcel destination hs = record { destination = destination; body = meaning.acknowledgment hs }
 
@@ -80,5 +82,6 @@ direct_out f s = elim (slice_get s.links f.link) [
 abbrev pub delayed_out_on : Own → ℕ → LinkValue → List SentValue
 delayed_out_on own l link = acks_out own (way_out l link.iface (flooding_address link.iface)) link.settings.mtu link.delayed
 
+-- a link on which no acknowledgement waits
 abbrev pub undelayed_link : LinkValue → LinkValue
 undelayed_link link = record link { delayed = [] }

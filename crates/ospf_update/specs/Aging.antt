@@ -22,6 +22,7 @@ use Rattle.ospf_area.specs.State.{AreaValue, database_entry}
 abbrev pub turned_area : AreaValue → AreaValue
 turned_area s = record s { links = map (turned_link (own_of s)) s.links }
 
+-- the next Requests that are due on all links (10.9)
 abbrev pub turn_out : AreaValue → List SentValue
 turn_out s = flat_from (turn_requests_on (own_of s)) 0 s.links
 
@@ -38,6 +39,7 @@ copy_flooded key s = elim (database_entry s key) [
   | Some e ↦ noted key (goes_anywhere (key_of (lsa_of e)) (header_of (lsa_of e)) None s.links) (flooded_area (lsa_of e) None s)
 ]
 
+-- the Updates that flood the database's copy of a key (13.3)
 abbrev pub copy_flood_out : LsaKey → AreaValue → List SentValue
 copy_flood_out key s = elim (database_entry s key) [ None ↦ [] | Some e ↦ flooding_updates (own_of s) (lsa_of e) None s.links ]
 

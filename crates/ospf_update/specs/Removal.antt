@@ -43,6 +43,7 @@ is_last (Some e) = int_eq (header_at e).number max_sequence_number
 abbrev pub ends_run : AreaValue → LsaKey → Bool
 ends_run s key = is_own s.router key && is_last (database_entry s key)
 
+-- the numbering of this key begins anew (12.1.6)
 abbrev pub reset_one : LsaKey → Numbering → Numbering
 reset_one key n = if is_numbering_of key n then record n { kept = lowest_number } else n
 
@@ -50,6 +51,7 @@ reset_one key n = if is_numbering_of key n then record n { kept = lowest_number 
 abbrev pub reset : LsaKey → List Numbering → List Numbering
 reset key ns = if list_any (is_numbering_of key) ns then map (reset_one key) ns else ns ++ record { key = key; kept = lowest_number; issued_at = None } ∷ []
 
+-- it is told that this key has left
 abbrev pub and_ends : OutputsValue → LsaKey → OutputsValue
 and_ends out key = record out { ended = out.ended ++ key ∷ [] }
 

@@ -72,6 +72,7 @@ pub record AreTurned (own : Own) (links : List LinkValue) : Type 0 where
   pub still : map (turned_link own) links ≡ links
   pub quiet : flat_from (turn_requests_on own) 0 links ≡ []
 
+-- no neighbour of the router waits for a turn
 abbrev pub IsTurned : AreaValue → Type 0
 IsTurned s = AreTurned (own_of s) s.links
 

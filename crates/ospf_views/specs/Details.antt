@@ -24,6 +24,7 @@ hello_detail i h =
 abbrev pub mtu_detail : ℕ → Description → Option Detail
 mtu_detail mtu d = if nat_lt mtu d.mtu then Some (detail.Mtu d.mtu mtu) else None
 
+-- what differs by the body of a packet
 abbrev pub body_detail : LinkValue → BodyMeaning → Option Detail
 body_detail l (hello fields heard) = hello_detail l.iface fields
 body_detail l (description fields headers) = mtu_detail l.settings.mtu fields
@@ -36,6 +37,7 @@ abbrev pub packet_detail : LinkValue → Option Meaning → Option Detail
 packet_detail l None = None
 packet_detail l (Some m) = body_detail l m.body
 
+-- what differs, where there is the link and a packet was read
 abbrev pub link_detail : Option LinkValue → Option Meaning → Option Detail
 link_detail None m = None
 link_detail (Some l) m = packet_detail l m

@@ -22,6 +22,7 @@ use Rattle.ospf_script.specs.declared.command.View.TheVariants as view
 
 -- ---- whether it is so
 
+-- the neighbour is Full (10.1)
 abbrev pub is_state_full : NeighbourState → Bool
 is_state_full state.Full = true
 is_state_full _ = false
@@ -75,6 +76,7 @@ view_for (wanted.NoNeighbour link) = view.Neighbours
 view_for (wanted.Route prefix cost hops) = view.Table
 view_for (wanted.NoRoute prefix) = view.Table
 
+-- the line of an expectation that is not met
 abbrev pub unmet_line : Expected → Text
 unmet_line e = codes "not met: " ++ expected_text e ++ codes "\n"
 

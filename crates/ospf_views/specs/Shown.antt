@@ -36,6 +36,7 @@ neighbours_lines x = links_lines 32 x.area
 abbrev pub listed_line : List ℕ → Text
 listed_line lsa = listed_text (instance_of lsa) ++ codes "\n"
 
+-- the lines of what a router lists
 abbrev pub listing_lines : RouterValue → Text
 listing_lines x = flat_map listed_line (listing_of x.area)
 

@@ -11,9 +11,11 @@ use Rattle.ospf_views.specs.declared.shown.NeighbourShown.{NeighbourShown}
 use Rattle.ospf_views.specs.declared.shown.RefusalShown.{RefusalShown}
 use Rattle.ospf_views.specs.declared.shown.WalkShown.{WalkShown}
 
+-- a line that is refused, and why
 abbrev pub refusal_text : RefusalShown → Text
 refusal_text refusal = codes "line " ++ decimal refusal.number ++ codes ": " ++ refusal.fault.now
 
+-- a neighbour: its link, its Router ID and its state
 abbrev pub neighbour_text : NeighbourShown → Text
 neighbour_text neighbour = decimal neighbour.link ++ codes " " ++ number_text neighbour.router.0 ++ codes " " ++ state_text neighbour.state
 
@@ -27,5 +29,6 @@ listed_text i =
 abbrev pub routers_text : List RouterId → Text
 routers_text routers = flat_map (λ router. number_text router.0 ++ codes " ") routers
 
+-- a walk: the routers on it, its cost and how it ends
 abbrev pub walk_text : WalkShown → Text
 walk_text walk = routers_text walk.routers.now ++ codes "cost " ++ decimal walk.cost ++ codes " " ++ walk.end.now

@@ -56,9 +56,11 @@ request_line h = codes "    " ++ type_text h.kind ++ codes " " ++ number_text h.
 unfoldable pub requested_text : ℕ → List ℕ
 requested_text count = codes "  waits for LSAs by Request: " ++ decimal count
 
+-- how many of them the last Request named
 unfoldable pub asked_text : ℕ → List ℕ
 asked_text asked = codes ", " ++ decimal asked ++ codes " of them asked for\n"
 
+-- the line of how many LSAs are wanted, and how many of them are asked for (10.9)
 unfoldable pub requests_line : (count asked : ℕ) → List ℕ
 requests_line count asked = requested_text count ++ asked_text asked
 
@@ -104,6 +106,7 @@ interface_line link i =
     codes "link " ++ decimal link ++ codes " interface " ++ iface_text i.state ++ codes " dr " ++ number_text i.dr.0
     ++ codes " backup " ++ number_text i.backup.0 ++ codes "\n"
 
+-- the lines of a link: what it waits for alone, or of each neighbour
 unfoldable pub neighbours_why : ℕ → Iface → List NeighbourValue → List ℕ
 neighbours_why link i ns = if length ns == 0 then alone_waits i.state else flat_map (neighbour_why link i) ns
 

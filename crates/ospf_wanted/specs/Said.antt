@@ -32,5 +32,6 @@ links_bytes stub_router a = flat_map link_bytes (links_of_link stub_router a)
 unfoldable pub lower_bytes : RouterId → NeighbourValue → List ℕ
 lower_bytes router n = if is_full_before router n then router_bytes n.router else []
 
+-- the bytes of a neighbour that a network-LSA names behind the router itself, if it does
 unfoldable pub higher_bytes : RouterId → NeighbourValue → List ℕ
 higher_bytes router n = if is_full_behind router n then router_bytes n.router else []

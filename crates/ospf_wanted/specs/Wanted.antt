@@ -72,6 +72,7 @@ links_of_link stub_router a =
 abbrev pub is_full_before : RouterId → NeighbourValue → Bool
 is_full_before router n = is_full n && nat_lt n.router.0 router.0
 
+-- the neighbour is Full, and its Router ID is greater than the router's own
 abbrev pub is_full_behind : RouterId → NeighbourValue → Bool
 is_full_behind router n = is_full n && nat_lt router.0 n.router.0
 

@@ -83,5 +83,6 @@ abbrev pub IsLarge : Advertisement → Type 0
 IsLarge (router_lsa router links) = 1361 < length links
 IsLarge (network_lsa n router mask attached) = ⊥
 
+-- some LSA of the listing is too large
 abbrev pub HasLarge : List Advertisement → Type 0
 HasLarge adverts = (advert : Advertisement) × Contains adverts advert × IsLarge advert

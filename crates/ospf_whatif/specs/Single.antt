@@ -98,6 +98,7 @@ abbrev pub IsWireBetween : List Edge → List End → Edge → End → RouterId 
 IsWireBetween edges ends edge end a b =
     (a.0 < b.0) × IsSharedIn edges ends edge a b end × (HasLonger edges ends edge a b end.prefix.length ends → ⊥)
 
+-- the failure is that of a link of its own prefix between two routers
 abbrev pub WireGiven : List Edge → List End → Edge → End → failure.AreaFailure → Type 0
 WireGiven edges ends edge end f =
     (a b : RouterId) × (edge.from ≡ vertex.Router a) × (edge.to ≡ vertex.Router b) × IsWireBetween edges ends edge end a b × (f ≡ fails.Link a b end.prefix)
@@ -106,19 +107,24 @@ WireGiven edges ends edge end f =
 abbrev pub HasWire : List failure.AreaFailure → RouterId → RouterId → Type 0
 HasWire wires a b = (subnet : Prefix) × Contains wires (fails.Link a b subnet)
 
+-- the failure is that of all links between two routers, which no such prefix tells apart
 abbrev pub LinksGiven : List failure.AreaFailure → Edge → failure.AreaFailure → Type 0
 LinksGiven wires edge f =
     (a b : RouterId) × (edge.from ≡ vertex.Router a) × (edge.to ≡ vertex.Router b) × (a.0 < b.0) × (HasWire wires a b → ⊥) × (f ≡ Links a b)
 
+-- the failure is that of a router's link to a network
 abbrev pub AttachmentGiven : Edge → failure.AreaFailure → Type 0
 AttachmentGiven edge f = (router : RouterId) × (n : ℕ) × (edge.from ≡ vertex.Router router) × (edge.to ≡ vertex.Network n) × (f ≡ Attachment router n)
 
+-- the failure is that of a network
 abbrev pub NetworkGiven : Edge → failure.AreaFailure → Type 0
 NetworkGiven edge f = (router : RouterId) × (n : ℕ) × (edge.from ≡ vertex.Router router) × (edge.to ≡ vertex.Network n) × (f ≡ Network n)
 
+-- an edge gives this failure
 abbrev pub EdgeGiven : List failure.AreaFailure → Edge → failure.AreaFailure → Type 0
 EdgeGiven wires edge f = (LinksGiven wires edge f ⊎ AttachmentGiven edge f) ⊎ NetworkGiven edge f
 
+-- the failure is that of the router of an LSA
 abbrev pub RouterGiven : Advertisement → failure.AreaFailure → Type 0
 RouterGiven (router_lsa r links) f = f ≡ Router r
 RouterGiven (network_lsa n r mask attached) f = ⊥

@@ -31,6 +31,7 @@ use Rattle.ospf_table.specs.declared.table.TableJob.{TableJob}
 abbrev pub one_rule : Text → Rule
 one_rule name = record (new_rule name) { required = true; value_names = 1 }
 
+-- the word for the router whose table is asked for
 abbrev pub root_rule : Rule
 root_rule = one_rule (codes "root")
 
@@ -74,6 +75,7 @@ abbrev pub failures_app : App
 failures_app =
     with_rule (with_rule (with_rule (with_rule (new_app (codes "failures")) root_rule) (flag_rule (codes "each"))) (flag_rule (codes "strict"))) (flag_rule (codes "json"))
 
+-- the word for the file of a script
 abbrev pub script_rule : Rule
 script_rule = one_rule (codes "script")
 

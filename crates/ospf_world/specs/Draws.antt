@@ -36,6 +36,7 @@ drawn_delivery words r links datagrams =
 unfoldable pub drawn_link_up : Words → RouterId → (links : ℕ) → Option WorldEvent
 drawn_link_up words r links = option_map (λ l. LinkUp r l) (chosen_of words.link links)
 
+-- one of the router's links, drawn, goes down
 unfoldable pub drawn_link_down : Words → RouterId → (links : ℕ) → Option WorldEvent
 drawn_link_down words r links = option_map (λ l. LinkDown r l) (chosen_of words.link links)
 

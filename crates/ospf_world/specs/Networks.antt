@@ -28,6 +28,7 @@ abbrev pub places_in : Option (Vec LinkPlace) → List LinkPlace
 places_in None = []
 places_in (Some links) = links.items
 
+-- the interfaces on a network, by the map
 abbrev pub places_on_network : tree.BTreeMap ℕ (Vec LinkPlace) → ℕ → List LinkPlace
 places_on_network networks network = places_in (tree.get nat_cmp networks network)
 

@@ -36,6 +36,7 @@ sending_address slots g = option_and_then (λ s. address_at s.config g.sent.link
 unfoldable pub offers_at : ℕ → InterfaceAddress → Datagram → SlotValue → List WorldEvent
 offers_at d from g s = if is_some s.running && not (is_sender g s) then offers_to d from g.sent.destination s.config else []
 
+-- the deliveries that offer a datagram to the links of its network
 abbrev pub offers_by : ℕ → Datagram → List SlotValue → Option InterfaceAddress → List WorldEvent
 offers_by d g slots None = []
 offers_by d g slots (Some from) = flat_map (offers_at d from g) slots

@@ -30,6 +30,7 @@ world_of w = record { routers = map member_of w.slots; datagrams = w.logs.datagr
 abbrev pub config_of : SlotValue → Config
 config_of s = s.config
 
+-- the configurations of all routers
 abbrev pub configs_of : WorldValue → List Config
 configs_of w = map config_of w.slots
 
@@ -40,6 +41,7 @@ pub record SameSettings (before after : WorldValue) : Type 0 where
 
 -- ---- places
 
+-- the slot is that of this router
 abbrev pub is_slot_of : ℕ → SlotValue → Bool
 is_slot_of r s = s.config.router_id.0 == r
 
@@ -48,6 +50,7 @@ abbrev pub place_from : ℕ → ℕ → List SlotValue → Option ℕ
 place_from r k [] = None
 place_from r k (s ∷ slots) = cond (is_slot_of r s) (Some k) (place_from r (k + 1) slots)
 
+-- the place of a router's slot
 abbrev pub place_of : List SlotValue → ℕ → Option ℕ
 place_of slots r = place_from r 0 slots
 
@@ -55,6 +58,7 @@ place_of slots r = place_from r 0 slots
 abbrev pub place_in : tree.BTreeMap ℕ ℕ → ℕ → Option ℕ
 place_in places r = tree.get nat_cmp places r
 
+-- the map has the places of the slots
 abbrev pub AreSlotPlaces : tree.BTreeMap ℕ ℕ → List SlotValue → Type 0
 AreSlotPlaces places slots = (r : ℕ) → place_in places r ≡ place_of slots r
 
@@ -64,6 +68,7 @@ AreSlotPlaces places slots = (r : ℕ) → place_in places r ≡ place_of slots 
 abbrev pub stopped_slot : Config → SlotValue
 stopped_slot config = record { config = config; running = None; drops = [] }
 
+-- the logs of a world in which nothing happened yet
 abbrev pub no_logs : LogsValue
 no_logs = record { datagrams = []; issued = []; held = [] }
 
