@@ -26,7 +26,7 @@ impl Model for Changes {
 }
 
 impl Changes {
-    // No change.
+    /// No change.
     pub fn none(alloc: Global) -> Changes
         ensures { result ≡ [] }
     {
@@ -35,6 +35,7 @@ impl Changes {
         }
     }
 
+    /// These changes, which stand in the order of their prefixes.
     pub fn of(list: Vec<Change>) -> Changes
         requires in_order { AllPairs IsChangeBefore list.items }
         requires have_hops { All PutsHops list.items }
@@ -43,6 +44,7 @@ impl Changes {
         Changes { list }
     }
 
+    /// The changes, in the order of their prefixes.
     pub fn as_slice(&self) -> &[Change]
         ensures changes { result.now ≡ self.now }
         ensures in_order { AllPairs IsChangeBefore self.now }

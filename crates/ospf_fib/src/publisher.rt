@@ -54,7 +54,7 @@ impl Model for Publisher {
 }
 
 impl Publisher {
-    // The table that readers find.
+    /// The table that readers find.
     pub fn shown(&self) -> &IndexedTable
         ensures { EndsWith self.now.tables result.now }
     {

@@ -76,6 +76,7 @@ impl Model for Listing {
 }
 
 impl Listing {
+    /// A listing of no LSA.
     pub fn new(alloc: Global) -> Listing
         ensures { result ≡ [] }
     {

@@ -63,6 +63,7 @@ impl<'a> LsaView<'a> {
         self.bytes
     }
 
+    /// Its header (RFC 2328, appendix A.4.1).
     pub fn header(&self) -> LsaHeader
         ensures value { result ≡ header_of self.now }
         ensures fits { HeaderFits (header_of self.now) }
@@ -70,6 +71,7 @@ impl<'a> LsaView<'a> {
         LsaHeader::read(self.as_bytes())
     }
 
+    /// Whether it is a router-LSA or a network-LSA (RFC 2328, section 12.1.3).
     pub fn kind(&self) -> Kind
         ensures value { result ≡ kind_of self.now }
         ensures router { result ≡ Kind.Router → IsRouterLsa self.now }
@@ -82,6 +84,7 @@ impl<'a> LsaView<'a> {
         }
     }
 
+    /// What tells it from other LSAs: LS type, Link State ID and Advertising Router (RFC 2328, section 12.1).
     pub fn key(&self) -> LsaKey
         ensures { result ≡ key_of self.now }
     {
@@ -92,6 +95,7 @@ impl<'a> LsaView<'a> {
         }
     }
 
+    /// Its instance: key, LS sequence number and LS checksum (RFC 2328, section 13.1).
     pub fn instance(&self) -> Instance
         ensures { result ≡ instance_of self.now }
     {
