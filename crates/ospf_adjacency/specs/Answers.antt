@@ -1,4 +1,5 @@
--- Copies of the database that go to one neighbour, and Requests that they answer (RFC 2328, sections 10.7 and 13.6).
+-- Copies of the database that go to one neighbour, and Requests that they answer (RFC
+-- 2328, sections 10.7 and 13.6).
 use Rattle.std.specs.Prelude.{◌++◌, ℕ, List, [], filter, fold, map, if◌then◌else◌, None, Some}
 use Rattle.ospf_base.specs.declared.ids.LsaKey.{LsaKey}
 use Rattle.ospf_iface.specs.declared.machine.Iface.{Iface}
@@ -16,9 +17,15 @@ use Rattle.ospf_adjacency.specs.Packing.{updates_of}
 
 -- ---- copies to one neighbour
 
--- copies that go to the neighbour count as sent to it, where they are on its retransmission list (13.6)
+-- copies that go to the neighbour count as sent to it, where they are on
+-- its retransmission list (13.6)
 abbrev pub resent_keys : List Held → ℕ → List LsaKey → NeighbourValue → NeighbourValue
-resent_keys db tick keys n = fold (λ (n : NeighbourValue) key. (elim (entry_of db key) [ None ↦ n | Some e ↦ resent (instance_at e) tick n ])) n keys
+resent_keys db tick keys n =
+    fold
+    (λ (n : NeighbourValue) key. (elim (entry_of db key) [
+      | None ↦ n
+      | Some e ↦ resent (instance_at e) tick n
+    ])) n keys
 
 -- the copies of these keys go to the neighbour (10.7, 13.6)
 abbrev pub copies_turn : Iface → Local → ℕ → List Held → List LsaKey → Turn → Turn
@@ -38,7 +45,9 @@ asked_keys db es = filter (is_asked es) (map key_at db)
 abbrev pub answered_keys : List Held → List RequestEntry → List LsaKey
 answered_keys db es = if all_held db es then asked_keys db es else []
 
--- a Request is answered by the copies of the keys that it asks for, or is BadLSReq where the database has no copy of one
--- (10.7)
+-- a Request is answered by the copies of the keys that it asks for, or is BadLSReq where the
+-- database has no copy of one (10.7)
 abbrev pub answer_turn : Iface → Local → ℕ → List Held → List RequestEntry → Turn → Turn
-answer_turn i local delay db es t = if all_held db es then copies_turn i local delay db (asked_keys db es) t else event_turn i local BadLsReq t
+answer_turn i local delay db es t =
+    if all_held db es then copies_turn i local delay db (asked_keys db es) t
+    else event_turn i local BadLsReq t

@@ -20,11 +20,19 @@ use Rattle.ospf_area.specs.Packets.{Parcel, dd_parcel, parcel_if}
 
 -- a neighbour as it takes part in an election (9.4, step 1)
 abbrev pub candidate_of : NeighbourValue → Candidate
-candidate_of n = record { id = n.router; address = n.address; priority = n.declared.priority; dr = n.declared.dr; backup = n.declared.backup }
+candidate_of n =
+    record {
+      id = n.router;
+      address = n.address;
+      priority = n.declared.priority;
+      dr = n.declared.dr;
+      backup = n.declared.backup;
+    }
 
 -- the router itself, and the neighbours in 2-Way or above (9.4, step 1)
 abbrev pub candidates_of : Iface → List NeighbourValue → List Candidate
-candidates_of i ns = own_candidate i ∷ map candidate_of (filter (λ (n : NeighbourValue). is_two_way n.state) ns)
+candidates_of i ns =
+    own_candidate i ∷ map candidate_of (filter (λ (n : NeighbourValue). is_two_way n.state) ns)
 
 -- ---- AdjOK?
 
@@ -32,11 +40,13 @@ candidates_of i ns = own_candidate i ∷ map candidate_of (filter (λ (n : Neigh
 abbrev pub adj_ok_for : Iface → NeighbourValue → NbrEvent
 adj_ok_for i n = AdjOk (wants_adjacency i n.address)
 
--- the neighbours after AdjOK?, which changes none below 2-Way. Those with which an adjacency begins take the router's DD
--- numbers in rising Router ID (10.3, AdjOK?)
+-- the neighbours after AdjOK?, which changes none below 2-Way. Those with which an adjacency begins
+-- take the router's DD numbers in rising Router ID (10.3, AdjOK?)
 abbrev pub adjusted : Iface → ℕ → ℕ → List NeighbourValue → List NeighbourValue
 adjusted i tick next [] = []
-adjusted i tick next (n ∷ ns) = event_taken (adj_ok_for i n) i.settings.dead next tick n ∷ adjusted i tick (number_by (adj_ok_for i n) n next) ns
+adjusted i tick next (n ∷ ns) =
+    event_taken (adj_ok_for i n) i.settings.dead next tick n
+    ∷ adjusted i tick (number_by (adj_ok_for i n) n next) ns
 
 -- the router's next DD number then
 abbrev pub number_after : Iface → ℕ → List NeighbourValue → ℕ
@@ -47,7 +57,9 @@ number_after i next (n ∷ ns) = number_after i (number_by (adj_ok_for i n) n ne
 abbrev pub first_dds : Iface → ℕ → ℕ → ℕ → List NeighbourValue → List Parcel
 first_dds i mtu tick next [] = []
 first_dds i mtu tick next (n ∷ ns) =
-    parcel_if (begins_by (adj_ok_for i n) n) (dd_parcel i mtu (event_taken (adj_ok_for i n) i.settings.dead next tick n)) ++ first_dds i mtu tick (number_by (adj_ok_for i n) n next) ns
+    parcel_if (begins_by (adj_ok_for i n) n)
+    (dd_parcel i mtu (event_taken (adj_ok_for i n) i.settings.dead next tick n))
+    ++ first_dds i mtu tick (number_by (adj_ok_for i n) n next) ns
 
 -- ---- the election
 
@@ -64,8 +76,10 @@ pub record AreOfLink (i : Iface) (ns : List NeighbourValue) : Type 0 where
   pub rising : AreNeighboursRising ns
   pub others : AllByRecursion (λ n. n.router.0 ≢ i.settings.router.0) ns
 
--- the interface has the result of the election, and AdjOK? comes to its neighbours where the DR or the Backup is another (9.4)
-pub record ElectsOn (mtu tick : ℕ) (i : Iface) (ns : List NeighbourValue) (next : ℕ) (sent : List Parcel) (i' : Iface) (ns' : List NeighbourValue) (next' : ℕ) : Type 0 where
+-- the interface has the result of the election, and AdjOK? comes to its neighbours where the DR
+-- or the Backup is another (9.4)
+pub record ElectsOn (mtu tick : ℕ) (i : Iface) (ns : List NeighbourValue) (next : ℕ)
+    (sent : List Parcel) (i' : Iface) (ns' : List NeighbourValue) (next' : ℕ) : Type 0 where
   pub result : Elected
   pub is_elected : IsElected (candidates_of i ns) i.settings.router result
   pub interface : i' ≡ elected result i

@@ -1,4 +1,5 @@
--- Hellos that come, and what they make of a neighbour and of its link's election (RFC 2328, sections 9.2 and 10.5).
+-- Hellos that come, and what they make of a neighbour and of its link's election
+-- (RFC 2328, sections 9.2 and 10.5).
 use Rattle.std.specs.Prelude.{◌==◌, ◌&&◌, ◌||◌, not, nat_lt, ℕ, List, [], ◌∷◌, Bool, true, false, unwrap_or, suc, if◌then◌else◌}
 use Rattle.std.specs.List.{list_any}
 use Rattle.ospf_base.specs.Addresses.{nowhere}
@@ -33,21 +34,25 @@ names rs q = list_any (λ r. r.0 == q.0) rs
 abbrev pub heard : Iface → Hello → NeighbourValue → NeighbourValue
 heard i h n =
     if is_broadcast i
-    then record (after_event HelloReceived i.settings.dead n) { declared = record { priority = h.priority; dr = h.designated; backup = h.backup } }
+    then record (after_event HelloReceived i.settings.dead n)
+    { declared = record { priority = h.priority; dr = h.designated; backup = h.backup } }
     else after_event HelloReceived i.settings.dead n
 
 -- 2-WayReceived where the Hello names the router, else 1-WayReceived (10.5)
 abbrev pub naming_event : Iface → Bool → NeighbourValue → NbrEvent
-naming_event i named n = if named then TwoWayReceived (wants_adjacency i n.address) else OneWayReceived
+naming_event i named n =
+    if named then TwoWayReceived (wants_adjacency i n.address) else OneWayReceived
 
 -- a Hello of the neighbour, which names the router or does not (10.5)
 abbrev pub hello_turn : Iface → Local → Hello → Bool → Turn → Turn
-hello_turn i local h named t = event_turn i local (naming_event i named t.neighbour) (record t { neighbour = heard i h t.neighbour })
+hello_turn i local h named t =
+    event_turn i local (naming_event i named t.neighbour)
+    (record t { neighbour = heard i h t.neighbour })
 
 -- ---- the election of the link
 
--- what an election looks at in a neighbour: whether it is in 2-Way or above, its priority, whether it declares itself DR and Backup,
--- and whether it declares that there is no Backup (9.2, 9.4)
+-- what an election looks at in a neighbour: whether it is in 2-Way or above, its priority, whether
+-- it declares itself DR and Backup, and whether it declares that there is no Backup (9.2, 9.4)
 abbrev pub bearing_of : NeighbourValue → ElectionView
 bearing_of n = record {
   two_way = is_two_way n.state;
@@ -57,13 +62,15 @@ bearing_of n = record {
   sees_none = (n.declared.backup.0 == nowhere.0);
 }
 
--- the neighbour has come into 2-Way or above, or fallen below it; or its priority has changed, or it has begun or ceased to declare
--- itself DR or Backup (9.2, NeighborChange)
+-- the neighbour has come into 2-Way or above, or fallen below it; or its priority has changed, or
+-- it has begun or ceased to declare itself DR or Backup (9.2, NeighborChange)
 abbrev pub is_neighbor_change : ElectionView → ElectionView → Bool
-is_neighbor_change b c = differs b.two_way c.two_way || not (b.priority == c.priority) || differs b.is_dr c.is_dr || differs b.is_backup c.is_backup
+is_neighbor_change b c =
+    differs b.two_way c.two_way || not (b.priority == c.priority) || differs b.is_dr c.is_dr
+    || differs b.is_backup c.is_backup
 
--- it is known whether there is a Backup: a neighbour in 2-Way or above declares itself Backup, or itself DR with no Backup
--- (9.2, BackupSeen)
+-- it is known whether there is a Backup: a neighbour in 2-Way or above declares itself Backup, or
+-- itself DR with no Backup (9.2, BackupSeen)
 abbrev pub is_backup_seen : ElectionView → Bool
 is_backup_seen c = c.two_way && (c.is_backup || (c.is_dr && c.sees_none))
 
@@ -79,9 +86,12 @@ abbrev pub is_waiting : IfaceState → Bool
 is_waiting iface.Waiting = true
 is_waiting _ = false
 
--- an election is due by a Hello: BackupSeen in Waiting, NeighborChange in DROther, Backup and DR (9.3)
+-- an election is due by a Hello: BackupSeen in Waiting, NeighborChange
+-- in DROther, Backup and DR (9.3)
 abbrev pub elects_by_hello : IfaceState → NeighbourValue → NeighbourValue → Bool
-elects_by_hello s n m = (is_waiting s && is_backup_seen (bearing_of m)) || (is_settled s && is_neighbor_change (bearing_of n) (bearing_of m))
+elects_by_hello s n m =
+    (is_waiting s && is_backup_seen (bearing_of m))
+    || (is_settled s && is_neighbor_change (bearing_of n) (bearing_of m))
 
 -- and by a Database Description, which may be 2-WayReceived: NeighborChange (9.3)
 abbrev pub elects_by_change : IfaceState → NeighbourValue → NeighbourValue → Bool
@@ -94,16 +104,21 @@ abbrev pub place_for : List NeighbourValue → ℕ → ℕ
 place_for [] q = 0
 place_for (m ∷ ms) q = if nat_lt m.router.0 q then suc (place_for ms q) else 0
 
--- the neighbours with one put in: in place of that of its Router ID, or between those of lower and those of higher Router ID
+-- the neighbours with one put in: in place of that of its Router ID, or between those of
+-- lower and those of higher Router ID
 abbrev pub put : NeighbourValue → List NeighbourValue → List NeighbourValue
 put n [] = n ∷ []
-put n (m ∷ ms) = if nat_lt m.router.0 n.router.0 then m ∷ put n ms else if m.router.0 == n.router.0 then n ∷ ms else n ∷ m ∷ ms
+put n (m ∷ ms) =
+    if nat_lt m.router.0 n.router.0 then m ∷ put n ms
+    else if m.router.0 == n.router.0 then n ∷ ms
+    else n ∷ m ∷ ms
 
 -- the sender of a packet: a neighbour, or one that was not known before (10.5)
 abbrev pub sender_of : List NeighbourValue → RouterId → Addr → NeighbourValue
 sender_of ns q source = unwrap_or (neighbour_of ns q) (new_neighbour q source)
 
--- the neighbours of a link in a part of a step, whether an election is due by it, the router's next DD number, and what goes out
+-- the neighbours of a link in a part of a step, whether an election is due by it, the router's
+-- next DD number, and what goes out
 pub record Neighbourhood : Type 0 where
   pub neighbours : List NeighbourValue
   pub elects : Bool
@@ -112,7 +127,8 @@ pub record Neighbourhood : Type 0 where
 
 -- neighbours, and what a part leaves beside them
 abbrev pub neighbourhood : List NeighbourValue → Bool → PostValue → Neighbourhood
-neighbourhood ns elects p = record { neighbours = ns; elects = elects; next = p.next; sent = p.sent }
+neighbourhood ns elects p =
+    record { neighbours = ns; elects = elects; next = p.next; sent = p.sent }
 
 -- one neighbour of them
 abbrev pub turn_of : NeighbourValue → Neighbourhood → Turn
@@ -120,7 +136,13 @@ turn_of n x = record { neighbour = n; next = x.next; sent = x.sent }
 
 -- after its turn it is put back, and an election is due by it or not
 abbrev pub put_back : Bool → Turn → Neighbourhood → Neighbourhood
-put_back elects t x = record { neighbours = put t.neighbour x.neighbours; elects = x.elects || elects; next = t.next; sent = t.sent }
+put_back elects t x =
+    record {
+      neighbours = put t.neighbour x.neighbours;
+      elects = x.elects || elects;
+      next = t.next;
+      sent = t.sent;
+    }
 
 -- a Hello of router q from this address: it makes its neighbour, or finds it (10.5)
 abbrev pub hello_on : Iface → Local → RouterId → Addr → Hello → Bool → Neighbourhood → Neighbourhood

@@ -1,5 +1,6 @@
--- What every part of a step keeps of a neighbour: it may only fall below Exchange, but for a Database Description, and what is new
--- on its lists are copies of the database and, on the request list, what it told (RFC 2328, sections 10.3 and 10.6 to 10.9).
+-- What every part of a step keeps of a neighbour: it may only fall below Exchange, but for a
+-- Database Description, and what is new on its lists are copies of the database and, on the request
+-- list, what it told (RFC 2328, sections 10.3 and 10.6 to 10.9).
 use Rattle.std.specs.Prelude.{⊤, ◌≡◌, ◌⊎◌, ◌+◌, ◌≤◌, ℕ, List, [], true, false, Contains, length}
 use Rattle.ospf_base.specs.Constants.{ip_header, packet_header}
 use Rattle.ospf_base.specs.declared.ids.Instance.{Instance}
@@ -26,13 +27,14 @@ use Rattle.ospf_area.specs.Sending.{packet_from}
 use Rattle.ospf_area.specs.declared.sending.Own.{Own}
 use Rattle.ospf_area.specs.Packets.{Parcel, dd_parcel}
 
--- a neighbour goes on: new on its lists are copies of the database and, on the request list, what it told; a list is left only
--- below Exchange
+-- a neighbour goes on: new on its lists are copies of the database and, on the request list, what
+-- it told; a list is left only below Exchange
 pub record GoesOn (db : List Held) (told : List LsaHeader) (n m : NeighbourValue) : Type 0 where
   pub requests : (h : LsaHeader) → Contains m.requests h → Contains n.requests h ⊎ Contains told h
   pub retransmission : (i : Instance) → Waits m i → Waits n i ⊎ HasInstance db i
   pub summary : (h : LsaHeader) → Contains m.summary h → Contains n.summary h ⊎ HasHeader db h
-  pub last_dd : (h : LsaHeader) → Contains m.last_dd h → Contains n.last_dd h ⊎ (Contains n.summary h ⊎ HasHeader db h)
+  pub last_dd : (h : LsaHeader) → Contains m.last_dd h
+      → Contains n.last_dd h ⊎ (Contains n.summary h ⊎ HasHeader db h)
   pub stays : (i : Instance) → Waits n i → Waits m i ⊎ (is_exchanging m.state ≡ false)
 
 -- it does not enter Exchange
@@ -61,28 +63,39 @@ KeepsLists n m = SameLists n m ⊎ (NoLists m × (is_exchanging m.state ≡ fals
 
 -- no event adds to a list
 abbrev pub EventsKeepLists : Type 0
-EventsKeepLists = (e : NbrEvent) (dead next tick : ℕ) (n : NeighbourValue) → KeepsLists n (event_taken e dead next tick n)
+EventsKeepLists =
+    (e : NbrEvent) (dead next tick : ℕ) (n : NeighbourValue)
+    → KeepsLists n (event_taken e dead next tick n)
 
 -- and no event but NegotiationDone brings a neighbour into Exchange (10.3)
 abbrev pub OnlyNegotiationEnters : Type 0
 OnlyNegotiationEnters = (e : NbrEvent) (dead next tick : ℕ) (n : NeighbourValue)
-    → is_exchanging (event_taken e dead next tick n).state ≡ true → (is_exchanging n.state ≡ true) ⊎ (e ≡ NegotiationDone)
+    → is_exchanging (event_taken e dead next tick n).state ≡ true
+    → (is_exchanging n.state ≡ true) ⊎ (e ≡ NegotiationDone)
 
 -- an event makes no other neighbour of it
 abbrev pub EventsKeepRouters : Type 0
-EventsKeepRouters = (e : NbrEvent) (dead next tick : ℕ) (n : NeighbourValue) → KeepsRouter n (event_taken e dead next tick n)
+EventsKeepRouters =
+    (e : NbrEvent) (dead next tick : ℕ) (n : NeighbourValue)
+    → KeepsRouter n (event_taken e dead next tick n)
 
 -- what keeps its lists goes on
 abbrev pub KeptGoesOn : Type 0
-KeptGoesOn = (db : List Held) (told : List LsaHeader) (n m : NeighbourValue) → KeepsLists n m → GoesOn db told n m
+KeptGoesOn =
+    (db : List Held) (told : List LsaHeader) (n m : NeighbourValue) → KeepsLists n m
+    → GoesOn db told n m
 
 -- the next Request, and LoadingDone, change no list
 abbrev pub RequestsKeepLists : Type 0
-RequestsKeepLists = (i : Iface) (local : Local) (t : Turn) → SameLists t.neighbour (request_turn i local t).neighbour
+RequestsKeepLists =
+    (i : Iface) (local : Local) (t : Turn)
+    → SameLists t.neighbour (request_turn i local t).neighbour
 
 -- by a Request that is due no neighbour enters Exchange (10.9)
 abbrev pub RequestsNeverEnter : Type 0
-RequestsNeverEnter = (i : Iface) (local : Local) (t : Turn) → NeverEnters t.neighbour (request_turn i local t).neighbour
+RequestsNeverEnter =
+    (i : Iface) (local : Local) (t : Turn)
+    → NeverEnters t.neighbour (request_turn i local t).neighbour
 
 -- below Exchange nothing waits for an acknowledgement (10.1)
 abbrev pub HasNoneBelow : NeighbourValue → Type 0
@@ -90,53 +103,76 @@ HasNoneBelow n = is_exchanging n.state ≡ false → length n.retransmission ≡
 
 -- a Database Description: what the neighbour told comes on its request list
 abbrev pub DescriptionGoesOn : Type 0
-DescriptionGoesOn = (i : Iface) (local : Local) (sender : RouterId) (d : Description) (headers : List LsaHeader) (db : List Held) (t : Turn)
-    → HasNoneBelow t.neighbour → GoesOn db headers t.neighbour (description_turn i local sender d headers db t).neighbour
+DescriptionGoesOn =
+    (i : Iface) (local : Local) (sender : RouterId) (d : Description) (headers : List LsaHeader)
+    (db : List Held) (t : Turn)
+    → HasNoneBelow t.neighbour
+    → GoesOn db headers t.neighbour (description_turn i local sender d headers db t).neighbour
 
 -- one that is dropped changes nothing
 abbrev pub DroppedIsUnchanged : Type 0
-DroppedIsUnchanged = (i : Iface) (local : Local) (sender : RouterId) (d : Description) (headers : List LsaHeader) (db : List Held) (t : Turn)
-    → dd_dropped local sender d headers t.neighbour ≡ true → description_turn i local sender d headers db t ≡ t
+DroppedIsUnchanged =
+    (i : Iface) (local : Local) (sender : RouterId) (d : Description) (headers : List LsaHeader)
+    (db : List Held) (t : Turn)
+    → dd_dropped local sender d headers t.neighbour ≡ true
+    → description_turn i local sender d headers db t ≡ t
 
 -- ---- what goes out
 
--- a packet to the neighbour names only what stood on its lists, or is a copy of the database, and has no LSA (10.8)
+-- a packet to the neighbour names only what stood on its lists, or is a copy of the
+-- database, and has no LSA (10.8)
 abbrev pub SaysOnly : List Held → NeighbourValue → BodyMeaning → Type 0
 SaysOnly db n (hello fields heard) = ⊤
-SaysOnly db n (description fields headers) = (h : LsaHeader) → Contains headers h → Contains n.last_dd h ⊎ (Contains n.summary h ⊎ HasHeader db h)
+SaysOnly db n (description fields headers) =
+    (h : LsaHeader) → Contains headers h
+    → Contains n.last_dd h ⊎ (Contains n.summary h ⊎ HasHeader db h)
 SaysOnly db n (request entries) = ⊤
 SaysOnly db n (update lsas) = ⊥
 SaysOnly db n (acknowledgment headers) = ⊥
 
 -- so are those of a list
 abbrev pub AllSayOnly : List Held → NeighbourValue → List Parcel → List Parcel → Type 0
-AllSayOnly db n before after = (p : Parcel) → Contains after p → Contains before p ⊎ SaysOnly db n p.body
+AllSayOnly db n before after =
+    (p : Parcel) → Contains after p → Contains before p ⊎ SaysOnly db n p.body
 
 -- by an event there goes out at most a first DD packet, which has no headers
 abbrev pub EventsSayOnly : Type 0
-EventsSayOnly = (i : Iface) (local : Local) (e : NbrEvent) (db : List Held) (t : Turn) → AllSayOnly db t.neighbour t.sent (event_turn i local e t).sent
+EventsSayOnly =
+    (i : Iface) (local : Local) (e : NbrEvent) (db : List Held) (t : Turn)
+    → AllSayOnly db t.neighbour t.sent (event_turn i local e t).sent
 
 -- by a Request that is due nothing else goes out (10.9)
 abbrev pub RequestsSayOnly : Type 0
-RequestsSayOnly = (i : Iface) (local : Local) (db : List Held) (t : Turn) → AllSayOnly db t.neighbour t.sent (request_turn i local t).sent
+RequestsSayOnly =
+    (i : Iface) (local : Local) (db : List Held) (t : Turn)
+    → AllSayOnly db t.neighbour t.sent (request_turn i local t).sent
 
 -- by a Database Description that comes nothing else goes out (10.6)
 abbrev pub DescriptionSaysOnly : Type 0
-DescriptionSaysOnly = (i : Iface) (local : Local) (sender : RouterId) (d : Description) (headers : List LsaHeader) (db : List Held) (t : Turn)
+DescriptionSaysOnly =
+    (i : Iface) (local : Local) (sender : RouterId) (d : Description) (headers : List LsaHeader)
+    (db : List Held) (t : Turn)
     → AllSayOnly db t.neighbour t.sent (description_turn i local sender d headers db t).sent
 
 -- ---- who it is
 
 -- by a Database Description that comes the neighbour stays the router that it is (10.6)
 abbrev pub DescriptionKeepsRouter : Type 0
-DescriptionKeepsRouter = (i : Iface) (local : Local) (sender : RouterId) (d : Description) (headers : List LsaHeader) (db : List Held) (t : Turn)
+DescriptionKeepsRouter =
+    (i : Iface) (local : Local) (sender : RouterId) (d : Description) (headers : List LsaHeader)
+    (db : List Held) (t : Turn)
     → KeepsRouter t.neighbour (description_turn i local sender d headers db t).neighbour
 
 -- ---- how Database Descriptions are filled
 
--- a Database Description of the exchange has the first headers of the summary list, as many as fit the MTU, and the others stay on the
--- list (10.8)
+-- a Database Description of the exchange has the first headers of the summary list, as many as fit
+-- the MTU, and the others stay on the list (10.8)
 abbrev pub DescriptionsAreFilled : Type 0
-DescriptionsAreFilled = (own : Own) (i : Iface) (local : Local) (number : ℕ) (n : NeighbourValue) → ip_header + packet_header + description_fields ≤ local.mtu
-    → (fields : Description) × ((dd_parcel i local.mtu (describes local number n)).body ≡ description fields (describes local number n).last_dd)
-    × IsFilled (λ headers. packet_from own (description fields headers)) local.mtu n.summary (describes local number n).last_dd (describes local number n).summary
+DescriptionsAreFilled =
+    (own : Own) (i : Iface) (local : Local) (number : ℕ) (n : NeighbourValue)
+    → ip_header + packet_header + description_fields ≤ local.mtu
+    → (fields : Description)
+    × ((dd_parcel i local.mtu (describes local number n)).body
+    ≡ description fields (describes local number n).last_dd)
+    × IsFilled (λ headers. packet_from own (description fields headers)) local.mtu n.summary
+    (describes local number n).last_dd (describes local number n).summary

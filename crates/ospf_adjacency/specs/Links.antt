@@ -1,4 +1,5 @@
--- Links that go up and down, their timers, and the Hellos that they send (RFC 2328, sections 9.3, 9.5 and 10.3).
+-- Links that go up and down, their timers, and the Hellos that they send (RFC
+-- 2328, sections 9.3, 9.5 and 10.3).
 use Rattle.std.specs.Prelude.{◌==◌, ◌&&◌, ◌||◌, ◌-◌, not, nat_le, List, Bool, map, filter, if◌then◌else◌}
 use Rattle.std.specs.List.{list_any}
 use Rattle.ospf_base.specs.Addresses.{all_spf_routers, nowhere}
@@ -15,8 +16,8 @@ use Rattle.ospf_adjacency.specs.Heard.{is_waiting, is_settled}
 
 -- ---- Hellos that go out
 
--- the Hello that a link sends to all: it names the link's neighbours. The DR and the Backup are 0.0.0.0 where the link has two
--- ends (9.5)
+-- the Hello that a link sends to all: it names the link's neighbours. The DR and the Backup are
+-- 0.0.0.0 where the link has two ends (9.5)
 abbrev pub hello_parcel : Iface → List NeighbourValue → Parcel
 hello_parcel i ns = record {
   destination = all_spf_routers;
@@ -35,9 +36,12 @@ hello_parcel i ns = record {
 abbrev pub is_hello_due : Iface → Bool
 is_hello_due i = not (is_down i.state) && nat_le i.hello_in 1
 
--- the Hello timer, a tick later: it starts again, or runs on, or stands still where the link is down (9.5)
+-- the Hello timer, a tick later: it starts again, or runs on, or stands
+-- still where the link is down (9.5)
 abbrev pub hello_ticked : Iface → Iface
-hello_ticked i = if is_down i.state then i else record i { hello_in = (if nat_le i.hello_in 1 then i.settings.hello else i.hello_in - 1) }
+hello_ticked i =
+    if is_down i.state then i
+    else record i { hello_in = (if nat_le i.hello_in 1 then i.settings.hello else i.hello_in - 1) }
 
 -- ---- up and down
 
@@ -57,13 +61,17 @@ is_inactive n = n.inactivity == 1
 
 -- the neighbours a tick later: the inactive ones are removed (10.3, InactivityTimer)
 abbrev pub timed : List NeighbourValue → List NeighbourValue
-timed ns = map (λ (n : NeighbourValue). record n { inactivity = n.inactivity - 1 }) (filter (λ n. not (is_inactive n)) ns)
+timed ns =
+    map (λ (n : NeighbourValue). record n { inactivity = n.inactivity - 1 })
+    (filter (λ n. not (is_inactive n)) ns)
 
 -- the wait timer, a tick later
 abbrev pub wait_ticked : Iface → Iface
 wait_ticked i = record i { wait = i.wait - 1 }
 
--- by the timers an election is due: the wait timer fires, or a neighbour in 2-Way or above is removed (9.2, WaitTimer; 9.3)
+-- by the timers an election is due: the wait timer fires, or a neighbour in 2-Way or above
+-- is removed (9.2, WaitTimer; 9.3)
 abbrev pub elects_by_timers : Iface → List NeighbourValue → Bool
 elects_by_timers i ns =
-    (is_waiting i.state && (i.wait == 1)) || (is_settled i.state && list_any (λ n. is_inactive n && is_two_way n.state) ns)
+    (is_waiting i.state && (i.wait == 1))
+    || (is_settled i.state && list_any (λ n. is_inactive n && is_two_way n.state) ns)

@@ -14,7 +14,11 @@ use Rattle.ospf_area.specs.Packets.{Parcel}
 -- the copies of these keys, where there are any, as they are sent: InfTransDelay older (13.3)
 abbrev pub copies_of : List Held → ℕ → List LsaKey → List (List ℕ)
 copies_of db delay [] = []
-copies_of db delay (k ∷ ks) = elim (entry_of db k) [ None ↦ copies_of db delay ks | Some e ↦ sent_lsa delay (lsa_of e) ∷ copies_of db delay ks ]
+copies_of db delay (k ∷ ks) =
+    elim (entry_of db k) [
+      | None ↦ copies_of db delay ks
+      | Some e ↦ sent_lsa delay (lsa_of e) ∷ copies_of db delay ks
+    ]
 
 -- ---- Updates
 
@@ -22,7 +26,8 @@ copies_of db delay (k ∷ ks) = elim (entry_of db k) [ None ↦ copies_of db del
 abbrev pub update_count : ℕ
 update_count = 4
 
--- how many bytes of LSAs an Update has room for, behind an IP header, a packet header and their number
+-- how many bytes of LSAs an Update has room for, behind an IP header, a
+-- packet header and their number
 abbrev pub update_room : ℕ → ℕ
 update_room mtu = mtu - (ip_header + packet_header + update_count)
 
@@ -38,7 +43,9 @@ goes_in room batch lsa = is_empty batch || nat_le (length lsa) (room - bytes_in 
 -- LSAs in their order, as many in an Update as fit, behind those that are in the first one already
 abbrev pub packed : ℕ → List (List ℕ) → List (List ℕ) → List (List (List ℕ))
 packed room batch [] = elim batch [ [] ↦ [] | lsa ∷ lsas ↦ (lsa ∷ lsas) ∷ [] ]
-packed room batch (lsa ∷ lsas) = if goes_in room batch lsa then packed room (batch ++ lsa ∷ []) lsas else batch ∷ packed room (lsa ∷ []) lsas
+packed room batch (lsa ∷ lsas) =
+    if goes_in room batch lsa then packed room (batch ++ lsa ∷ []) lsas
+    else batch ∷ packed room (lsa ∷ []) lsas
 
 -- an Update of these LSAs to this address (13.3)
 abbrev pub update_to : Addr → List (List ℕ) → Parcel
@@ -46,4 +53,5 @@ update_to destination lsas = record { destination = destination; body = update l
 
 -- the Updates with the copies of these keys (10.7, 13.6)
 abbrev pub updates_of : Addr → ℕ → ℕ → List Held → List LsaKey → List Parcel
-updates_of destination mtu delay db keys = map (update_to destination) (packed (update_room mtu) [] (copies_of db delay keys))
+updates_of destination mtu delay db keys =
+    map (update_to destination) (packed (update_room mtu) [] (copies_of db delay keys))

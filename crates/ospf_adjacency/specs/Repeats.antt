@@ -19,21 +19,31 @@ use Rattle.ospf_adjacency.specs.Answers.{copies_turn}
 -- the last DD packet, in ExStart and by the master in Exchange (10.8)
 abbrev pub dd_again : Iface → Local → ℕ → Turn → Turn
 dd_again i local retransmit t =
-    if dd_due retransmit local.tick t.neighbour then dd_turn i local (record t { neighbour = touched local.tick t.neighbour }) else t
+    if dd_due retransmit local.tick t.neighbour
+    then dd_turn i local (record t { neighbour = touched local.tick t.neighbour })
+    else t
 
 -- the last Request, filled afresh (10.9)
 abbrev pub request_again : Iface → Local → ℕ → Turn → Turn
 request_again i local retransmit t =
     if request_repeat_due retransmit local.tick t.neighbour
-    then record t { neighbour = asked_next local.mtu local.tick t.neighbour; sent = t.sent ++ request_parcel i (asked_next local.mtu local.tick t.neighbour) ∷ [] }
+    then record t {
+      neighbour = asked_next local.mtu local.tick t.neighbour;
+      sent = t.sent ++ request_parcel i (asked_next local.mtu local.tick t.neighbour) ∷ [];
+    }
     else t
 
--- the keys of the database of which an entry is due on the neighbour's retransmission list (13.6), in their order: each once
+-- the keys of the database of which an entry is due on the neighbour's retransmission list
+-- (13.6), in their order: each once
 abbrev pub due_keys : ℕ → ℕ → List Held → NeighbourValue → List LsaKey
 due_keys retransmit tick db n =
-    filter (λ key. list_any (λ (l : Listed). is_resend_due retransmit tick l && same_key l.instance.key key) n.retransmission) (map key_at db)
+    filter
+    (λ key. list_any
+    (λ (l : Listed). is_resend_due retransmit tick l && same_key l.instance.key key)
+    n.retransmission) (map key_at db)
 
 -- its DD packet, then its Request, then the copies of what is due on its retransmission list
 abbrev pub repeats_turn : Iface → Local → ℕ → ℕ → List Held → Turn → Turn
 repeats_turn i local retransmit delay db t =
-    copies_turn i local delay db (due_keys retransmit local.tick db t.neighbour) (request_again i local retransmit (dd_again i local retransmit t))
+    copies_turn i local delay db (due_keys retransmit local.tick db t.neighbour)
+    (request_again i local retransmit (dd_again i local retransmit t))

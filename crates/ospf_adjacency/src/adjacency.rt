@@ -12,22 +12,25 @@ use ospf_iface::Iface;
 use ospf_neighbour::{Effect, NbrEvent, Neighbour};
 use std::alloc::AllocError;
 
-/// Whether a link is a broadcast link, on which a DR and a Backup are elected (RFC 2328, section 9.4).
+/// Whether a link is a broadcast link, on which a DR and a Backup are
+/// elected (RFC 2328, section 9.4).
 pub fn is_broadcast(iface: &Iface) -> bool
     ensures { result ≡ is_broadcast iface.now }
 {
     matches!(iface.settings.kind, InterfaceKind::Broadcast)
 }
 
-/// Whether an adjacency with the neighbour of this address is wanted (RFC 2328, section 10.4). No memory is taken.
+/// Whether an adjacency with the neighbour of this address is wanted (RFC 2328,
+/// section 10.4). No memory is taken.
 pub fn wants_adjacency(iface: &Iface, address: Addr) -> bool
     ensures { result ≡ wants_adjacency iface.now address }
 {
     !is_broadcast(iface) || is_chosen(iface, iface.settings.address) || is_chosen(iface, address)
 }
 
-/// Takes an event of the neighbour machine (RFC 2328, section 10.3). Where an adjacency begins by it, the neighbour takes
-/// the router's next Database Description number, which counts up, and a first packet goes out to it.
+/// Takes an event of the neighbour machine (RFC 2328, section 10.3). Where an adjacency begins
+/// by it, the neighbour takes the router's next Database Description number, which counts up,
+/// and a first packet goes out to it.
 ///
 /// `AllocError` where memory runs out.
 pub fn take_event(
@@ -57,8 +60,8 @@ fn is_chosen(iface: &Iface, address: Addr) -> bool
     address.0 == iface.dr.0 || address.0 == iface.backup.0
 }
 
-// Takes an event; whether an adjacency begins by it. The neighbour then has the router's next Database Description number,
-// which counts up.
+// Takes an event; whether an adjacency begins by it. The neighbour then has the router's next
+// Database Description number, which counts up.
 fn count_event(neighbour: &mut Neighbour, event: NbrEvent, at: &OnLink, post: &mut Post) -> bool
     ensures begins { result ≡ begins_by event neighbour.old }
     ensures neighbour { neighbour.new

@@ -18,9 +18,9 @@ use ospf_packet::Requests;
 use std::alloc::AllocError;
 use std::collections::BTreeSet;
 
-/// Takes a Link State Request of a neighbour in Exchange or above (RFC 2328, section 10.7): the copies that it asks for
-/// go out, in the order of their keys, or BadLSReq begins the adjacency anew. `delay` is InfTransDelay, in ticks. Answers
-/// the keys whose copies went out.
+/// Takes a Link State Request of a neighbour in Exchange or above (RFC 2328, section 10.7): the
+/// copies that it asks for go out, in the order of their keys, or BadLSReq begins the adjacency
+/// anew. `delay` is InfTransDelay, in ticks. Answers the keys whose copies went out.
 ///
 /// `AllocError` where memory runs out; then the router is to be stopped.
 pub fn take_request(

@@ -15,9 +15,9 @@ use ospf_neighbour::{NbrEvent, Neighbour, NeighbourState};
 use ospf_packet::{Description, Headers};
 use std::alloc::AllocError;
 
-/// Whether `take_description` drops a Database Description of the neighbour's router, `sender`, and so changes nothing: its
-/// MTU is over the interface's, or there is no exchange and it begins none. In Init it is 2-WayReceived, and so not dropped
-/// (RFC 2328, section 10.6). No memory is taken.
+/// Whether `take_description` drops a Database Description of the neighbour's router, `sender`, and
+/// so changes nothing: its MTU is over the interface's, or there is no exchange and it begins none.
+/// In Init it is 2-WayReceived, and so not dropped (RFC 2328, section 10.6). No memory is taken.
 pub fn is_dropped(
     neighbour: &Neighbour,
     sender: RouterId,
@@ -32,8 +32,8 @@ pub fn is_dropped(
             && is_not_taken(neighbour, sender, description, headers, local))
 }
 
-/// Takes a Database Description (RFC 2328, section 10.6) of the neighbour's router, `sender`. Answers whether it was taken:
-/// where not, it is dropped, and nothing changes.
+/// Takes a Database Description (RFC 2328, section 10.6) of the neighbour's router, `sender`.
+/// Answers whether it was taken: where not, it is dropped, and nothing changes.
 ///
 /// `AllocError` where memory runs out.
 pub fn take_description(
@@ -82,7 +82,8 @@ fn greet(neighbour: &mut Neighbour, at: &OnLink, post: &mut Post) -> Result<(), 
     Ok(())
 }
 
-// Looks at a Database Description in the neighbour's state; whether there is an exchange, or it begins one.
+// Looks at a Database Description in the neighbour's state; whether there is
+// an exchange, or it begins one.
 fn exchange(
     neighbour: &mut Neighbour,
     sender: RouterId,

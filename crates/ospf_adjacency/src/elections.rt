@@ -15,8 +15,8 @@ use ospf_iface::{Candidate, Iface, IfaceEvent, IfaceState};
 use ospf_neighbour::{NbrEvent, Neighbour};
 use std::alloc::{AllocError, Global};
 
-/// The election of a link on which one is due (RFC 2328, section 9.4), and AdjOK? where the Designated Router or the Backup
-/// is another.
+/// The election of a link on which one is due (RFC 2328, section 9.4), and AdjOK? where the
+/// Designated Router or the Backup is another.
 ///
 /// `AllocError` where memory runs out.
 pub fn elect_on(

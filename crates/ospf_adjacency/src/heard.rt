@@ -26,7 +26,8 @@ pub(crate) struct ElectionView {
     sees_none: bool,
 }
 
-/// Whether a Hello names a router among the neighbours that its sender has heard. No memory is taken.
+/// Whether a Hello names a router among the neighbours that its sender
+/// has heard. No memory is taken.
 pub fn is_named(neighbours: Neighbours<'_>, router: RouterId) -> bool
     ensures { result ≡ names neighbours.entry router }
 {
@@ -38,7 +39,8 @@ pub fn is_named(neighbours: Neighbours<'_>, router: RouterId) -> bool
     false
 }
 
-/// Whether an election comes about by NeighborChange: in DR Other, Backup and DR (RFC 2328, section 9.3).
+/// Whether an election comes about by NeighborChange: in DR Other, Backup
+/// and DR (RFC 2328, section 9.3).
 pub fn is_settled(state: IfaceState) -> bool
     ensures { result ≡ is_settled state }
 {
@@ -76,9 +78,9 @@ pub fn is_at(all: &[Neighbour], at: usize, router: RouterId) -> bool
     }
 }
 
-/// Takes a Hello that comes on a link (RFC 2328, section 10.5), from the router `sender` at the address `source`; `named` tells
-/// whether it names the router itself. The sender is found among the link's neighbours, or is a new one. Answers whether an
-/// election of the link is due by it.
+/// Takes a Hello that comes on a link (RFC 2328, section 10.5), from the router `sender` at the
+/// address `source`; `named` tells whether it names the router itself. The sender is found among
+/// the link's neighbours, or is a new one. Answers whether an election of the link is due by it.
 ///
 /// `AllocError` where memory runs out.
 pub fn hello_on(

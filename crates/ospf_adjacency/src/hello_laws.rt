@@ -7,7 +7,8 @@ pub fn puts_one()
     ensures { PutsOne }
 {}
 
-/// By a Hello each neighbour keeps its lists or loses them, none enters Exchange, and a new one has no lists.
+/// By a Hello each neighbour keeps its lists or loses them, none enters
+/// Exchange, and a new one has no lists.
 pub fn hello_goes()
     ensures { HelloGoes }
 {}

@@ -1,10 +1,12 @@
-//! One link and its neighbours (RFC 2328, sections 9.2 to 9.5, 10.2 to 10.9 and 13.6): Hellos and timers, adjacencies,
-//! Database Descriptions, Requests and their answers, repeats, and the link's election.
+//! One link and its neighbours (RFC 2328, sections 9.2 to 9.5, 10.2 to 10.9 and 13.6):
+//! Hellos and timers, adjacencies, Database Descriptions, Requests and their answers,
+//! repeats, and the link's election.
 //!
-//! `hello_on` takes a Hello, `go_up` and `go_down` bring the link up and down, `tick_timers` counts its timers, and
-//! `send_due_hello` sends its Hello. `take_event` takes an event of the neighbour machine, `take_description` a
-//! Database Description, and `take_request` a Request; `repeat` sends again what is due in a tick. `elect_on` ends a
-//! step on the link with its election and AdjOK?. What goes out is put into a `Post`, and sent at the end of a part.
+//! `hello_on` takes a Hello, `go_up` and `go_down` bring the link up and down, `tick_timers` counts
+//! its timers, and `send_due_hello` sends its Hello. `take_event` takes an event of the neighbour
+//! machine, `take_description` a Database Description, and `take_request` a Request; `repeat` sends
+//! again what is due in a tick. `elect_on` ends a step on the link with its election and AdjOK?.
+//! What goes out is put into a `Post`, and sent at the end of a part.
 #![tactic(auto)]
 
 mod adjacency;

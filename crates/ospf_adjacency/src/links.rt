@@ -11,7 +11,8 @@ use crate::heard::{is_settled, is_waiting};
 use ospf_iface::{Iface, IfaceEvent};
 use ospf_neighbour::Neighbour;
 
-/// A link goes up (RFC 2328, section 9.3). Answers whether it was down: then a Hello goes out. No memory is taken.
+/// A link goes up (RFC 2328, section 9.3). Answers whether it was down: then a
+/// Hello goes out. No memory is taken.
 pub fn go_up(iface: &mut Iface) -> bool
     ensures was_down { result ≡ is_down iface.old.state }
     ensures up { iface.new ≡ up iface.old }
@@ -23,7 +24,8 @@ pub fn go_up(iface: &mut Iface) -> bool
     true
 }
 
-/// A link goes down: its neighbours get KillNbr (RFC 2328, section 9.3). Answers whether it was up. No memory is taken.
+/// A link goes down: its neighbours get KillNbr (RFC 2328, section 9.3). Answers whether
+/// it was up. No memory is taken.
 pub fn go_down(iface: &mut Iface, neighbours: &mut Vec<Neighbour>) -> bool
     ensures was_up { result ≡ not (is_down iface.old.state) }
     ensures down { iface.new ≡ down iface.old }
@@ -38,8 +40,8 @@ pub fn go_down(iface: &mut Iface, neighbours: &mut Vec<Neighbour>) -> bool
     true
 }
 
-/// A tick of the inactivity timers of a link's neighbours (RFC 2328, section 10.3): those whose timer fires are removed. No
-/// memory is taken.
+/// A tick of the inactivity timers of a link's neighbours (RFC 2328, section 10.3): those whose
+/// timer fires are removed. No memory is taken.
 pub fn tick_neighbours(neighbours: &mut Vec<Neighbour>)
     ensures { neighbours.new.items ≡ timed neighbours.old.items }
 {
@@ -47,7 +49,8 @@ pub fn tick_neighbours(neighbours: &mut Vec<Neighbour>)
     count(neighbours);
 }
 
-/// A tick of a link's timers (RFC 2328, sections 9.3 and 10.3). Answers whether an election is due by it. No memory is taken.
+/// A tick of a link's timers (RFC 2328, sections 9.3 and 10.3). Answers whether an election is
+/// due by it. No memory is taken.
 pub fn tick_timers(iface: &mut Iface, neighbours: &mut Vec<Neighbour>) -> bool
     ensures elects { result ≡ elects_by_timers iface.old neighbours.old.items }
     ensures iface { iface.new ≡ wait_ticked iface.old }

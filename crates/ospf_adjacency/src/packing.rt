@@ -22,9 +22,9 @@ const COUNT: usize = 4;
 /// The bytes in front of the LSAs of an Update.
 const HEAD: usize = IP_HEADER + PACKET_HEADER + COUNT;
 
-/// The copies of these keys go out in Updates, as many in one as fit, in the order of the keys; a key without a copy is
-/// left out, and an LSA that does not fit has an Update of its own. `delay` is InfTransDelay, in ticks, `mtu` the
-/// interface's, in bytes.
+/// The copies of these keys go out in Updates, as many in one as fit, in the order of the keys; a
+/// key without a copy is left out, and an LSA that does not fit has an Update of its own. `delay`
+/// is InfTransDelay, in ticks, `mtu` the interface's, in bytes.
 ///
 /// `AllocError` where memory runs out.
 pub fn send_copies(
@@ -73,8 +73,8 @@ fn sent_copy(copy: &EntryView<'_>, delay: u16, alloc: Global) -> Result<Lsa, All
     Ok(lsa)
 }
 
-// One LSA more: it goes into the Update that is being packed, or that one goes out and a next one begins. `left` is the
-// room that is left in it.
+// One LSA more: it goes into the Update that is being packed, or that one goes out and a next one
+// begins. `left` is the room that is left in it.
 fn add(
     lsa: Lsa,
     batch: &mut Vec<Lsa>,

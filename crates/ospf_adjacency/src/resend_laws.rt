@@ -2,8 +2,8 @@
 
 ghost use Rattle.ospf_adjacency.specs.ResendLaws.{AnswersAreQuiet, KeysGoInOrder, RepeatsAreQuiet, UpdatesArePacked};
 
-/// By a Request that is answered, or not, no list gains an entry, none loses one but below Exchange, the neighbour does
-/// not enter Exchange, and only copies of the database go out.
+/// By a Request that is answered, or not, no list gains an entry, none loses one but below
+/// Exchange, the neighbour does not enter Exchange, and only copies of the database go out.
 pub fn answers_are_quiet()
     ensures { AnswersAreQuiet }
 {}
@@ -13,7 +13,8 @@ pub fn repeats_are_quiet()
     ensures { RepeatsAreQuiet }
 {}
 
-/// The Updates with copies have them all, in the order of their keys, and as many in each as fit the MTU.
+/// The Updates with copies have them all, in the order of their keys, and
+/// as many in each as fit the MTU.
 pub fn updates_are_packed()
     ensures { UpdatesArePacked }
 {}

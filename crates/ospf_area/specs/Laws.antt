@@ -1,4 +1,5 @@
--- Laws: what is read of a router's neighbours after changes of all links, of its numbers, of its marks and of what it sends.
+-- Laws: what is read of a router's neighbours after changes of all links, of its numbers, of
+-- its marks and of what it sends.
 use Rattle.std.specs.Prelude.{◌≡◌, ◌==◌, ◌+◌, ◌&&◌, ◌⊎◌, ◌↔◌, ◌≤◌, ℕ, ℤ, Bool, true, false, Option, None, Some, List, [], ◌∷◌, length, map, option_map, slice_get, if◌then◌else◌}
 use Rattle.std.specs.Int.{int_max}
 use Rattle.ospf_base.specs.Constants.{ip_header, largest_lsa, largest_packet, packet_header}
@@ -41,8 +42,11 @@ ReleasedNeighbours = (key : LsaKey) (links : List LinkValue) (l : ℕ) (q : Rout
 
 -- an LSA is flooded to each neighbour, or past it (13.3)
 abbrev pub FloodedNeighbours : Type 0
-FloodedNeighbours = (key : LsaKey) (h : LsaHeader) (from : Option Origin) (tick : ℕ) (links : List LinkValue) (l : ℕ) (q : RouterId)
-    → neighbour_at (flooded_links key h from tick links) l q ≡ option_map (flooded_neighbour key h (on_link from l) tick) (neighbour_at links l q)
+FloodedNeighbours =
+    (key : LsaKey) (h : LsaHeader) (from : Option Origin) (tick : ℕ) (links : List LinkValue)
+    (l : ℕ) (q : RouterId)
+    → neighbour_at (flooded_links key h from tick links) l q
+    ≡ option_map (flooded_neighbour key h (on_link from l) tick) (neighbour_at links l q)
 
 -- a change is one of the origin's neighbour alone
 abbrev pub changed_there : Origin → AdjacencyChange → ℕ → ℕ → NeighbourValue → NeighbourValue
@@ -50,8 +54,11 @@ changed_there f change tick l n = if l == f.link then changed_if f.router change
 
 -- the law: of all neighbours, that one alone is changed
 abbrev pub ChangesOne : Type 0
-ChangesOne = (f : Origin) (change : AdjacencyChange) (tick : ℕ) (links : List LinkValue) (l : ℕ) (q : RouterId)
-    → neighbour_at (changed_at f change tick links) l q ≡ option_map (changed_there f change tick l) (neighbour_at links l q)
+ChangesOne =
+    (f : Origin) (change : AdjacencyChange) (tick : ℕ) (links : List LinkValue) (l : ℕ)
+    (q : RouterId)
+    → neighbour_at (changed_at f change tick links) l q
+    ≡ option_map (changed_there f change tick l) (neighbour_at links l q)
 
 -- each neighbour gets LoadingDone and its next Request, by the MTU of its link
 abbrev pub turned_there : Own → Option LinkValue → NeighbourValue → NeighbourValue
@@ -61,7 +68,8 @@ turned_there own (Some link) n = turned_to_next link.settings.mtu own.tick n
 -- the law: each neighbour is turned to its next Request by itself
 abbrev pub TurnedNeighbours : Type 0
 TurnedNeighbours = (own : Own) (links : List LinkValue) (l : ℕ) (q : RouterId)
-    → neighbour_at (map (turned_link own) links) l q ≡ option_map (turned_there own (slice_get links l)) (neighbour_at links l q)
+    → neighbour_at (map (turned_link own) links) l q
+    ≡ option_map (turned_there own (slice_get links l)) (neighbour_at links l q)
 
 -- an acknowledgement that waits changes no neighbour
 abbrev pub DelayedNeighbours : Type 0
@@ -73,31 +81,41 @@ DelayedNeighbours = (number : ℕ) (h : LsaHeader) (links : List LinkValue) (l :
 -- the old copy leaves all lists, and takes nothing of another key along (13, step 5c)
 pub record ReleaseTakesItsKey : Type 0 where
   pub others : (key : LsaKey) (links : List LinkValue) (l : ℕ) (q : RouterId) (j : Instance)
-      → WaitsIn (neighbour_at links l q) j → WaitsIn (neighbour_at (released key links) l q) j ⊎ (j.key ≡ key)
+      → WaitsIn (neighbour_at links l q) j
+      → WaitsIn (neighbour_at (released key links) l q) j ⊎ (j.key ≡ key)
   pub gone : (key : LsaKey) (links : List LinkValue) (l : ℕ) (q : RouterId) (n : NeighbourValue)
       → neighbour_at (released key links) l q ≡ Some n → is_key_listed key n.retransmission ≡ false
 
 -- a flood takes off instances of its own key alone (13.3)
 abbrev pub FloodsTakeTheirKey : Type 0
-FloodsTakeTheirKey = (key : LsaKey) (h : LsaHeader) (from : Option Origin) (tick : ℕ) (links : List LinkValue) (l : ℕ) (q : RouterId) (j : Instance)
-    → WaitsIn (neighbour_at links l q) j → WaitsIn (neighbour_at (flooded_links key h from tick links) l q) j ⊎ (j.key ≡ key)
+FloodsTakeTheirKey =
+    (key : LsaKey) (h : LsaHeader) (from : Option Origin) (tick : ℕ) (links : List LinkValue)
+    (l : ℕ) (q : RouterId) (j : Instance)
+    → WaitsIn (neighbour_at links l q) j
+    → WaitsIn (neighbour_at (flooded_links key h from tick links) l q) j ⊎ (j.key ≡ key)
 
 -- LoadingDone and Requests change nothing of what waits
 abbrev pub TurnsTakeNothing : Type 0
 TurnsTakeNothing = (own : Own) (links : List LinkValue) (l : ℕ) (q : RouterId) (j : Instance)
-    → WaitsIn (neighbour_at (map (turned_link own) links) l q) j ↔ WaitsIn (neighbour_at links l q) j
+    → WaitsIn (neighbour_at (map (turned_link own) links) l q) j
+    ↔ WaitsIn (neighbour_at links l q) j
 
--- why a neighbour in Exchange or above need not acknowledge an LSA (13.3, step 1): it came from there, or it has
--- described one that is not older
-pub data IsSpared (key : LsaKey) (h : LsaHeader) (here : Option Origin) (n : NeighbourValue) : Type 0 where
+-- why a neighbour in Exchange or above need not acknowledge an LSA (13.3, step 1): it came from
+-- there, or it has described one that is not older
+pub data IsSpared (key : LsaKey) (h : LsaHeader) (here : Option Origin) (n : NeighbourValue)
+    : Type 0 where
   Came : came_from here n ≡ true → IsSpared key h here n
-  Described : (entry : LsaHeader) → request_of key n.requests ≡ Some entry → (recency h entry ≡ Newer → ⊥) → IsSpared key h here n
+  Described : (entry : LsaHeader) → request_of key n.requests ≡ Some entry
+      → (recency h entry ≡ Newer → ⊥) → IsSpared key h here n
 
 -- each neighbour in Exchange or above waits for what is flooded, or is spared (13.3, step 1)
 abbrev pub FloodReaches : Type 0
-FloodReaches = (key : LsaKey) (h : LsaHeader) (from : Option Origin) (tick : ℕ) (links : List LinkValue) (l : ℕ) (q : RouterId) (n : NeighbourValue)
+FloodReaches =
+    (key : LsaKey) (h : LsaHeader) (from : Option Origin) (tick : ℕ) (links : List LinkValue)
+    (l : ℕ) (q : RouterId) (n : NeighbourValue)
     → neighbour_at links l q ≡ Some n → is_exchanging n.state ≡ true
-    → WaitsIn (neighbour_at (flooded_links key h from tick links) l q) (instance_with key h) ⊎ IsSpared key h (on_link from l) n
+    → WaitsIn (neighbour_at (flooded_links key h from tick links) l q) (instance_with key h)
+    ⊎ IsSpared key h (on_link from l) n
 
 -- ---- numbers and marks
 
@@ -105,21 +123,33 @@ FloodReaches = (key : LsaKey) (h : LsaHeader) (from : Option Origin) (tick : ℕ
 abbrev pub KeepsGreatest : Type 0
 KeepsGreatest = (key : LsaKey) (number : ℤ) (s : AreaValue) (k : LsaKey)
     → (elim (numbering_of (counts key number s) k) [ None ↦ s.floor | Some n ↦ n.kept ])
-    ≡ (if same_key key k && is_own s.router k then int_max (kept_number s k) number else kept_number s k)
+    ≡ (if same_key key k && is_own s.router k then int_max (kept_number s k) number
+    else kept_number s k)
 
 -- a mark is one of its key (13, step 8)
 abbrev pub MarksOne : Type 0
-MarksOne = (key : LsaKey) (went : Bool) (sent : List LsaKey) (k : LsaKey) → among (marked key went sent) k ≡ (if same_key key k then went else among sent k)
+MarksOne =
+    (key : LsaKey) (went : Bool) (sent : List LsaKey) (k : LsaKey)
+    → among (marked key went sent) k ≡ (if same_key key k then went else among sent k)
 
 -- ---- what is sent
 
 -- a packet as it goes out
 abbrev pub sent_as : Way → Meaning → SentValue
-sent_as way m = record { link = way.link; source = way.source; destination = way.destination; bytes = packet_bytes m; packet = m }
+sent_as way m =
+    record {
+      link = way.link;
+      source = way.source;
+      destination = way.destination;
+      bytes = packet_bytes m;
+      packet = m;
+    }
 
 -- a packet that is not too long goes out
 abbrev pub ShortAreSent : Type 0
-ShortAreSent = (way : Way) (m : Meaning) → length (packet_bytes m) ≤ largest_packet → datagrams way m ≡ sent_as way m ∷ []
+ShortAreSent =
+    (way : Way) (m : Meaning) → length (packet_bytes m) ≤ largest_packet
+    → datagrams way m ≡ sent_as way m ∷ []
 
 -- and so does an LSA in an Update of its own
 abbrev pub LsasAreSent : Type 0
@@ -134,7 +164,8 @@ request_for headers = meaning.request (map entry_for headers)
 
 -- a Request asks for the first headers of the request list, as many as fit the MTU (10.9)
 abbrev pub RequestsAreFilled : Type 0
-RequestsAreFilled = (own : Own) (mtu tick : ℕ) (n : NeighbourValue) → ip_header + packet_header ≤ mtu
+RequestsAreFilled =
+    (own : Own) (mtu tick : ℕ) (n : NeighbourValue) → ip_header + packet_header ≤ mtu
     → (named rest : List LsaHeader) × (request_body (asked_next mtu tick n) ≡ request_for named)
     × IsFilled (λ headers. packet_from own (request_for headers)) mtu n.requests named rest
 
@@ -150,7 +181,11 @@ AreShort db = (key : LsaKey) (h : Held) → held_of db key ≡ Some h → IsShor
 
 -- whatever happens to a database, its LSAs stay short, if what is installed is short
 pub record StayShort : Type 0 where
-  pub installed : (e : Entry) (before after : List Held) → Installs e before after → 2 + length e.contents ≤ largest_lsa → AreShort before → AreShort after
+  pub installed : (e : Entry) (before after : List Held) → Installs e before after
+      → 2 + length e.contents ≤ largest_lsa → AreShort before → AreShort after
   pub aged : (before after : List Held) → Ages before after → AreShort before → AreShort after
-  pub expired : (key : LsaKey) (before after : List Held) → Puts key (option_map lsdb.expired (held_of before key)) before after → AreShort before → AreShort after
-  pub removed : (key : LsaKey) (before after : List Held) → Puts key (lsdb.removed (held_of before key)) before after → AreShort before → AreShort after
+  pub expired : (key : LsaKey) (before after : List Held)
+      → Puts key (option_map lsdb.expired (held_of before key)) before after → AreShort before
+      → AreShort after
+  pub removed : (key : LsaKey) (before after : List Held)
+      → Puts key (lsdb.removed (held_of before key)) before after → AreShort before → AreShort after

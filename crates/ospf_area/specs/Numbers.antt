@@ -18,7 +18,8 @@ is_numbering_of key n = same_key n.key key
 
 -- the greater of the kept number and this one
 abbrev pub counted_one : LsaKey → ℤ → Numbering → Numbering
-counted_one key number n = if is_numbering_of key n then record n { kept = int_max n.kept number } else n
+counted_one key number n =
+    if is_numbering_of key n then record n { kept = int_max n.kept number } else n
 
 -- a number of the key was issued or installed
 abbrev pub counted : LsaKey → ℤ → ℤ → List Numbering → List Numbering
@@ -32,7 +33,8 @@ is_own router key = key.router.0 == router.0
 
 -- the router's numbers once an LSA of the key was installed with this one
 abbrev pub counts : LsaKey → ℤ → AreaValue → List Numbering
-counts key number s = if is_own s.router key then counted key number s.floor s.numbering else s.numbering
+counts key number s =
+    if is_own s.router key then counted key number s.floor s.numbering else s.numbering
 
 -- the greatest number of a key of its own, with this one
 abbrev pub greatest_after : LsaKey → ℤ → AreaValue → ℤ
@@ -40,11 +42,13 @@ greatest_after key number s = if is_own s.router key then int_max s.greatest num
 
 -- ---- what the router answers itself
 
--- the LSA is self-originated: its Advertising Router is this one, or it is of a network whose DR's address is one of the
--- router's own (13.4)
+-- the LSA is self-originated: its Advertising Router is this one, or it is of a network whose DR's
+-- address is one of the router's own (13.4)
 abbrev pub is_self_originated : RouterId → List LinkValue → LsaKey → Bool
 is_self_originated router links key =
-    is_own router key || (elim key.kind [ Router ↦ false | Network ↦ true ] && list_any (λ (link : LinkValue). link.iface.settings.address.0 == key.id) links)
+    is_own router key
+    || (elim key.kind [ Router ↦ false | Network ↦ true ]
+    && list_any (λ (link : LinkValue). link.iface.settings.address.0 == key.id) links)
 
 -- ---- what went out in this tick
 
@@ -52,7 +56,7 @@ is_self_originated router links key =
 abbrev pub unmarked : LsaKey → List LsaKey → List LsaKey
 unmarked key sent = filter (λ k. not (same_key k key)) sent
 
--- the key's copy has just been installed, and was sent in an Update or was not (13, step 8): it stands at its place in
--- the order of keys, or not
+-- the key's copy has just been installed, and was sent in an Update or was not (13, step 8): it
+-- stands at its place in the order of keys, or not
 abbrev pub marked : LsaKey → Bool → List LsaKey → List LsaKey
 marked key went sent = if went then insert_key key_cmp sent key else unmarked key sent

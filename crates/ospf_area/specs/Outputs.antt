@@ -7,7 +7,8 @@ use Rattle.ospf_base.specs.declared.ids.LsaKey.{LsaKey}
 use Rattle.ospf_packet.specs.Meaning.{Meaning}
 use Rattle.ospf_packet.specs.PacketOf.{packet_of}
 
--- a datagram that is sent: out of which link, from which address and to which, its bytes, and the packet that these are
+-- a datagram that is sent: out of which link, from which address and to which, its
+-- bytes, and the packet that these are
 pub record SentValue : Type 0 where
   pub link : ℕ
   pub source : Addr
@@ -19,8 +20,8 @@ pub record SentValue : Type 0 where
 abbrev pub AreReadAsSent : List SentValue → Type 0
 AreReadAsSent ds = All (λ (d : SentValue). packet_of d.bytes ≡ Some d.packet) ds
 
--- the datagrams sent, the instances installed from an Update or acknowledged as expired without a copy (13), the LSAs
--- issued, as bytes (12.4), and the keys whose numbering run it ended (12.1.6)
+-- the datagrams sent, the instances installed from an Update or acknowledged as expired without a
+-- copy (13), the LSAs issued, as bytes (12.4), and the keys whose numbering run it ended (12.1.6)
 pub record OutputsValue : Type 0 where
   pub sent : List SentValue
   pub taken : List Instance
@@ -34,7 +35,12 @@ no_outputs = record { sent = []; taken = []; issued = []; ended = [] }
 -- the outputs of one part and then of the next
 abbrev pub then_outputs : OutputsValue → OutputsValue → OutputsValue
 then_outputs a b =
-    record { sent = a.sent ++ b.sent; taken = a.taken ++ b.taken; issued = a.issued ++ b.issued; ended = a.ended ++ b.ended }
+    record {
+      sent = a.sent ++ b.sent;
+      taken = a.taken ++ b.taken;
+      issued = a.issued ++ b.issued;
+      ended = a.ended ++ b.ended;
+    }
 
 -- these datagrams, and nothing else
 abbrev pub sends : List SentValue → OutputsValue

@@ -21,7 +21,14 @@ parcel_if b p = if b then p ∷ [] else []
 abbrev pub dd_parcel : Iface → ℕ → NeighbourValue → Parcel
 dd_parcel i mtu n = record {
   destination = to_address i n.address;
-  body = description (record { mtu = mtu; options = router_options; flags = n.exchanging.flags; number = n.exchanging.number }) n.last_dd;
+  body =
+      description
+      (record {
+        mtu = mtu;
+        options = router_options;
+        flags = n.exchanging.flags;
+        number = n.exchanging.number;
+      }) n.last_dd;
 }
 
 -- the last Request sent to the neighbour, or to be sent to it (10.9)

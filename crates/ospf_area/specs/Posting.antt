@@ -1,5 +1,5 @@
--- What a part of a step at a link works with, what it leaves beside its neighbours, and how packets go out (RFC 2328,
--- section 8.1).
+-- What a part of a step at a link works with, what it leaves beside its neighbours, and how packets
+-- go out (RFC 2328, section 8.1).
 use Rattle.std.specs.Prelude.{◌++◌, ℕ, List}
 use Rattle.std.specs.List.{flat_map}
 use Rattle.ospf_iface.specs.declared.machine.Iface.{Iface}
@@ -13,7 +13,13 @@ use Rattle.ospf_exchange.specs.declared.rule.Local.{Local}
 
 -- what a part needs to know of the router and of a link
 abbrev pub local_by : Own → LinkSettings → Local
-local_by own settings = record { router = own.router; mtu = settings.mtu; tick = own.tick; passes_over = own.passes_over }
+local_by own settings =
+    record {
+      router = own.router;
+      mtu = settings.mtu;
+      tick = own.tick;
+      passes_over = own.passes_over;
+    }
 
 -- what a part needs to know of the router and of this link
 abbrev pub local_of : Own → LinkValue → Local
@@ -30,4 +36,5 @@ and_parcels p ps = record p { sent = p.sent ++ ps }
 
 -- packets that go out of link l, in their order, as they are sent
 abbrev pub posted_all : Own → ℕ → Iface → List Parcel → List SentValue
-posted_all own l i ps = flat_map (λ (p : Parcel). datagrams (way_out l i p.destination) (packet_from own p.body)) ps
+posted_all own l i ps =
+    flat_map (λ (p : Parcel). datagrams (way_out l i p.destination) (packet_from own p.body)) ps

@@ -26,7 +26,13 @@ and_sends out datagrams = record out { sent = out.sent ++ datagrams }
 unfoldable pub datagrams : Way → Meaning → List SentValue
 datagrams way m =
     if nat_lt largest_packet (length (packet_bytes m)) then []
-    else record { link = way.link; source = way.source; destination = way.destination; bytes = packet_bytes m; packet = m } ∷ []
+    else record {
+      link = way.link;
+      source = way.source;
+      destination = way.destination;
+      bytes = packet_bytes m;
+      packet = m;
+    } ∷ []
 
 -- a packet of the router's
 abbrev pub packet_from : Own → BodyMeaning → Meaning
@@ -34,10 +40,11 @@ packet_from own body = record { router = own.router; area = own.area; body = bod
 
 -- out of a link, from the interface's address
 abbrev pub way_out : ℕ → Iface → Addr → Way
-way_out l i destination = record { link = l; source = i.settings.address; destination = destination }
+way_out l i destination =
+    record { link = l; source = i.settings.address; destination = destination }
 
--- where all but Hellos, flooded Updates and delayed acknowledgements go: to the neighbour's address, but on a
--- point-to-point link to AllSPFRouters (8.1)
+-- where all but Hellos, flooded Updates and delayed acknowledgements go: to the neighbour's
+-- address, but on a point-to-point link to AllSPFRouters (8.1)
 abbrev pub to_address : Iface → Addr → Addr
 to_address i address = elim i.settings.kind [ PointToPoint ↦ all_spf_routers | Broadcast ↦ address ]
 

@@ -1,4 +1,5 @@
--- How the neighbour stands that an Update or an Acknowledgment came from, and how what it sent is acknowledged.
+-- How the neighbour stands that an Update or an Acknowledgment came from, and
+-- how what it sent is acknowledged.
 use Rattle.std.specs.Prelude.{◌++◌, Bool, false, Option, None, Some, is_some, List, [], ◌∷◌, slice_get}
 use Rattle.ospf_base.specs.declared.ids.Instance.{Instance}
 use Rattle.ospf_base.specs.declared.ids.LsaKey.{LsaKey}

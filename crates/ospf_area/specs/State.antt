@@ -20,8 +20,9 @@ use Rattle.ospf_area.specs.declared.state.Numbering.{Numbering}
 
 -- ---- the state
 
--- a link: its interface, what never changes of it, its neighbours in rising Router ID, the acknowledgements that go out
--- at the next tick (13.5), and whether an election is due at the end of the step (9.4)
+-- a link: its interface, what never changes of it, its neighbours in rising Router ID,
+-- the acknowledgements that go out at the next tick (13.5), and whether an election is
+-- due at the end of the step (9.4)
 pub record LinkValue : Type 0 where
   pub iface : Iface
   pub settings : LinkSettings
@@ -29,12 +30,13 @@ pub record LinkValue : Type 0 where
   pub delayed : List LsaHeader
   pub elects : Bool
 
--- a router's part of an area: whether it is a stub router (RFC 6987), whether it passes over LSAs of LS types 3 to 5, its
--- links in configuration order, its database, the direct acknowledgements of the Update that is being taken (13.5),
--- for each key of its own that it has numbered how far it came, and for the others the floor, the present tick, the
--- next DD sequence number, the keys whose copy went out in an Update in this tick (13, step 8), the keys of
--- self-originated LSAs that this step has installed from Updates, which are still to be answered (13.4), and the
--- greatest of the floor and all numbers of keys of its own
+-- a router's part of an area: whether it is a stub router (RFC 6987), whether it passes over LSAs
+-- of LS types 3 to 5, its links in configuration order, its database, the direct acknowledgements
+-- of the Update that is being taken (13.5), for each key of its own that it has numbered how far it
+-- came, and for the others the floor, the present tick, the next DD sequence number, the keys whose
+-- copy went out in an Update in this tick (13, step 8), the keys of self-originated LSAs that this
+-- step has installed from Updates, which are still to be answered (13.4), and the greatest of the
+-- floor and all numbers of keys of its own
 pub record AreaValue : Type 0 where
   pub router : RouterId
   pub area : AreaId
@@ -55,7 +57,8 @@ pub record AreaValue : Type 0 where
 
 -- what router q is on link l, which may not be there
 abbrev pub neighbour_at : List LinkValue → ℕ → RouterId → Option NeighbourValue
-neighbour_at links l q = neighbour_of (elim (slice_get links l) [ None ↦ [] | Some link ↦ link.neighbours ]) q
+neighbour_at links l q =
+    neighbour_of (elim (slice_get links l) [ None ↦ [] | Some link ↦ link.neighbours ]) q
 
 -- what it is to this router
 abbrev pub neighbour : AreaValue → ℕ → RouterId → Option NeighbourValue
@@ -93,6 +96,7 @@ some_link_loading links = list_any (λ (link : LinkValue). some_loading link.nei
 abbrev pub numbering_of : List Numbering → LsaKey → Option Numbering
 numbering_of numbering key = find (λ n. same_key n.key key) numbering
 
--- the number that the router keeps for a key: the floor, if the key was not numbered. The next one issued is one more (12.1.6)
+-- the number that the router keeps for a key: the floor, if the key was not numbered. The next
+-- one issued is one more (12.1.6)
 abbrev pub kept_number : AreaValue → LsaKey → ℤ
 kept_number s key = elim (numbering_of s.numbering key) [ None ↦ s.floor | Some n ↦ n.kept ]

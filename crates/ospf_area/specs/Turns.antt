@@ -1,4 +1,5 @@
--- Where one neighbour stands in a part of a step, and what comes of its request list (RFC 2328, sections 10.3 and 10.9).
+-- Where one neighbour stands in a part of a step, and what comes of its request list (RFC
+-- 2328, sections 10.3 and 10.9).
 use Rattle.std.specs.Prelude.{◌++◌, ℕ, List, []}
 use Rattle.std.specs.List.{flat_map}
 use Rattle.ospf_exchange.specs.Requests.{asked_next, request_due}
@@ -23,7 +24,10 @@ turn n p = record { neighbour = n; next = p.next; sent = p.sent }
 abbrev pub request_turn : Iface → Local → Turn → Turn
 request_turn i local t = record t {
   neighbour = turned_to_next local.mtu local.tick t.neighbour;
-  sent = t.sent ++ parcel_if (request_due (loaded t.neighbour)) (request_parcel i (asked_next local.mtu local.tick (loaded t.neighbour)));
+  sent =
+      t.sent
+      ++ parcel_if (request_due (loaded t.neighbour))
+      (request_parcel i (asked_next local.mtu local.tick (loaded t.neighbour)));
 }
 
 -- the next Request of a neighbour, where one is due (10.9)

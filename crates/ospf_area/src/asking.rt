@@ -21,8 +21,8 @@ use ospf_neighbour::{NbrEvent, Neighbour};
 use ospf_packet::{BodyValue, RequestEntry};
 use std::alloc::{AllocError, Global};
 
-/// A neighbour's request list may have changed: LoadingDone where it is empty, and the next Request goes out where one is
-/// due (RFC 2328, sections 10.3 and 10.9).
+/// A neighbour's request list may have changed: LoadingDone where it is empty, and the next Request
+/// goes out where one is due (RFC 2328, sections 10.3 and 10.9).
 ///
 /// `AllocError` where memory runs out.
 pub fn request_turn(
@@ -42,7 +42,8 @@ pub fn request_turn(
     Ok(())
 }
 
-/// LoadingDone and the next Requests of all neighbours, where they are due (sections 10.3 and 10.9).
+/// LoadingDone and the next Requests of all neighbours, where they are due (sections 10.3 and
+/// 10.9).
 ///
 /// `AllocError` where memory runs out; then the router is to be stopped.
 pub fn turn_requests(
@@ -74,8 +75,8 @@ pub(crate) fn request_body(neighbour: &Neighbour, alloc: Global) -> Result<BodyV
     Ok(BodyValue::Request(entries))
 }
 
-// LoadingDone and the next Request of one neighbour, where they are due (RFC 2328, sections 10.3 and 10.9). Answers
-// whether that Request is to be sent. No memory is taken.
+// LoadingDone and the next Request of one neighbour, where they are due (RFC 2328, sections 10.3
+// and 10.9). Answers whether that Request is to be sent. No memory is taken.
 fn turn_one(neighbour: &mut Neighbour, mtu: u16, tick: u64) -> bool
     ensures after { neighbour.new ≡ turned_to_next mtu tick neighbour.old }
     ensures due { result ≡ request_due (loaded neighbour.old) }

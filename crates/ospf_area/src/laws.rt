@@ -72,7 +72,8 @@ pub fn requests_are_filled()
     ensures { RequestsAreFilled }
 {}
 
-/// What happens to a database leaves each of its LSAs at most `ospf_base::LARGEST_LSA` bytes long, if what is installed is.
+/// What happens to a database leaves each of its LSAs at most `ospf_base::LARGEST_LSA` bytes
+/// long, if what is installed is.
 pub fn stay_short()
     ensures { StayShort }
 {}

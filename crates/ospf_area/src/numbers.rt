@@ -64,8 +64,8 @@ pub fn was_sent(sent: &BTreeSet<LsaKey>, key: &LsaKey) -> bool
     sent.contains(key)
 }
 
-/// The copy of a key has just been installed, and was sent in an Update or was not. Memory is taken for a key that was
-/// not marked.
+/// The copy of a key has just been installed, and was sent in an Update or was not. Memory is taken
+/// for a key that was not marked.
 ///
 /// `AllocError` where memory runs out; then the router is to be stopped.
 pub fn mark(sent: &mut BTreeSet<LsaKey>, key: LsaKey, went: bool) -> Result<(), AllocError>

@@ -24,7 +24,13 @@ impl Model for Sent {
 
     ghost Value = { SentValue };
 
-    ghost view = { λ s. record { link = s.link; source = s.source; destination = s.destination; bytes = s.bytes.items; packet = meaning_of s.bytes.items } };
+    ghost view = { λ s. record {
+      link = s.link;
+      source = s.source;
+      destination = s.destination;
+      bytes = s.bytes.items;
+      packet = meaning_of s.bytes.items;
+    } };
 
     ghost invariant = { λ s. packet_of s.bytes.items ≡ Some (meaning_of s.bytes.items) };
 }
@@ -34,8 +40,8 @@ impl Model for Sent {
 pub struct Outputs {
     /// The datagrams, in the order in which they go out.
     pub sent: Vec<Sent>,
-    /// The instances that were installed from an Update, or acknowledged as expired without a copy (RFC 2328, section
-    /// 13).
+    /// The instances that were installed from an Update, or acknowledged as expired without
+    /// a copy (RFC 2328, section 13).
     pub taken: Vec<Instance>,
     /// The LSAs that were issued (section 12.4).
     pub issued: Vec<Lsa>,
@@ -48,7 +54,12 @@ impl Model for Outputs {
 
     ghost Value = { OutputsValue };
 
-    ghost view = { λ o. record { sent = o.sent.items; taken = o.taken.items; issued = o.issued.items; ended = o.ended.items } };
+    ghost view = { λ o. record {
+      sent = o.sent.items;
+      taken = o.taken.items;
+      issued = o.issued.items;
+      ended = o.ended.items;
+    } };
 
     ghost invariant = { λ o. AreReadAsSent o.sent.items };
 }
@@ -69,7 +80,8 @@ impl Outputs {
         }
     }
 
-    /// The datagrams, in the order in which they go out: the bytes of each are read again as its packet.
+    /// The datagrams, in the order in which they go out: the bytes of
+    /// each are read again as its packet.
     pub fn sent(&self) -> &[Sent]
         ensures sent { result.now ≡ self.now.sent }
         ensures read { AreReadAsSent self.now.sent }

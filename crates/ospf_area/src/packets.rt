@@ -16,7 +16,8 @@ use ospf_neighbour::{Exchanging, Neighbour};
 use ospf_packet::{BodyValue, Description};
 use std::alloc::AllocError;
 
-/// A Database Description with these headers, of an exchange that stands so (RFC 2328, section 10.8).
+/// A Database Description with these headers, of an exchange that
+/// stands so (RFC 2328, section 10.8).
 pub fn description_body(mtu: u16, exchanging: Exchanging, headers: Vec<LsaHeader>) -> BodyValue
     ensures { body_meant result ≡ meaning.description
         (record {

@@ -37,8 +37,8 @@ impl OnLink {
     }
 }
 
-/// What a part of a step at one link leaves beside its neighbours: the router's next Database Description number, and the
-/// packets that go out.
+/// What a part of a step at one link leaves beside its neighbours: the router's next Database
+/// Description number, and the packets that go out.
 #[derive(Drop)]
 pub struct Post {
     next: u32,
@@ -60,7 +60,8 @@ impl Post {
     ghost use Rattle.ospf_packet.specs.Said.{body_meant};
     ghost use Rattle.ospf_area.specs.Posting.{and_parcels, posted_all};
 
-    /// Nothing goes out yet; `next` is the router's next Database Description number (RFC 2328, section 10.8).
+    /// Nothing goes out yet; `next` is the router's next Database Description
+    /// number (RFC 2328, section 10.8).
     pub fn new(next: u32, alloc: Global) -> Post
         ensures { result ≡ record { next = next; sent = [] } }
     {
@@ -96,8 +97,8 @@ impl Post {
         Ok(())
     }
 
-    /// All goes out of the link of this number, whose interface this is, behind these outputs. A packet that is longer than
-    /// `ospf_packet::LARGEST_PACKET` is not sent.
+    /// All goes out of the link of this number, whose interface this is, behind these outputs. A
+    /// packet that is longer than `ospf_packet::LARGEST_PACKET` is not sent.
     ///
     /// `AllocError` where memory runs out.
     pub fn send_all(

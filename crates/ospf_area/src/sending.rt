@@ -43,7 +43,8 @@ pub fn own_of(area: &Area) -> Own
     }
 }
 
-/// Where packets to a neighbour go, but for flooded Updates and delayed acknowledgements (RFC 2328, section 8.1).
+/// Where packets to a neighbour go, but for flooded Updates and delayed
+/// acknowledgements (RFC 2328, section 8.1).
 pub fn to_address(iface: &Iface, address: Addr) -> Addr
     ensures { result ≡ to_address iface.now address }
 {

@@ -1,4 +1,5 @@
-//! How the neighbour stands that an Update or an Acknowledgment came from, and how what it sent is acknowledged.
+//! How the neighbour stands that an Update or an Acknowledgment came from, and
+//! how what it sent is acknowledged.
 
 ghost use Rattle.std.specs.Prelude.{◌≡◌, OnOk};
 ghost use Rattle.std.specs.Option.{option_copied};
@@ -54,8 +55,8 @@ pub fn is_awaited(links: &[AreaLink], from: Origin, instance: &Instance) -> bool
     }
 }
 
-/// Whether some neighbour of the router is in Exchange or Loading. It looks at each; the rules ask where an LSA of
-/// `MAX_AGE` has no copy, and a step where LSAs are to leave.
+/// Whether some neighbour of the router is in Exchange or Loading. It looks at each; the rules ask
+/// where an LSA of `MAX_AGE` has no copy, and a step where LSAs are to leave.
 pub fn some_link_loading(links: &[AreaLink]) -> bool
     ensures { result ≡ some_link_loading links.now }
 {

@@ -14,4 +14,5 @@ Holds prefix address = bit_and address (mask_of prefix.length) ≡ prefix.addres
 
 -- the order of prefixes: by address, then by length
 abbrev pub IsPrefixBefore : Prefix → Prefix → Type 0
-IsPrefixBefore p q = (p.address.0 < q.address.0) ⊎ ((p.address.0 ≡ q.address.0) × (p.length < q.length))
+IsPrefixBefore p q =
+    (p.address.0 < q.address.0) ⊎ ((p.address.0 ≡ q.address.0) × (p.length < q.length))

@@ -9,7 +9,8 @@ use Rattle.ospf_base.specs.declared.ids.Addr.{Addr}
 use Rattle.ospf_base.specs.declared.ids.RouterId.{RouterId}
 use Rattle.ospf_base.specs.declared.prefix.Prefix.{Prefix}
 
--- four decimal numbers below 256 without leading zeros, and dots between them: the bytes of the number
+-- four decimal numbers below 256 without leading zeros, and dots
+-- between them: the bytes of the number
 abbrev pub IsDottedNumber : List ℕ → ℕ → Type 0
 IsDottedNumber text n = IsDotted text (to_be_bytes w32 n)
 

@@ -54,7 +54,8 @@ impl LsaKey {
     ghost use Rattle.std.specs.Prelude.{◌≡◌, ◌↔◌, IsTrue};
     ghost use Rattle.ospf_base.specs.Keys.{Precedes, key_from, same_key};
 
-    /// The key of an LS type, a Link State ID and an Advertising Router; `None` of other LS types than 1 and 2.
+    /// The key of an LS type, a Link State ID and an Advertising Router; `None`
+    /// of other LS types than 1 and 2.
     pub fn from_type(ls_type: u32, id: u32, router: RouterId) -> Option<LsaKey>
         ensures { result ≡ key_from ls_type id router }
     {
@@ -84,8 +85,8 @@ impl LsaKey {
     }
 }
 
-/// What tells the instances of one LSA apart: sequence number and checksum beside the key (RFC 2328,
-/// section 12.1).
+/// What tells the instances of one LSA apart: sequence number and checksum beside
+/// the key (RFC 2328, section 12.1).
 #[derive(Clone, Copy, Debug, PartialEq, Eq, Hash)]
 pub struct Instance {
     pub key: LsaKey,

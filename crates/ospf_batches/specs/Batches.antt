@@ -1,4 +1,5 @@
--- Batches: a tick of each router that runs, and then what waits, router by router (RFC 2328, section 8.1).
+-- Batches: a tick of each router that runs, and then what waits, router by
+-- router (RFC 2328, section 8.1).
 use Rattle.std.specs.Prelude.{◌≡◌, ◌==◌, ◌+◌, ◌<◌, ◌≤◌, ◌++◌, ℕ, zero, suc, Bool, true, false, List, [], ◌∷◌, Option, None, Some, Result, Ok, Err, drop, filter, get_or, length, map, set}
 use Rattle.std.specs.Global.{Vec}
 use Rattle.std.specs.List.{flat_map}
@@ -23,10 +24,12 @@ is_place place (Some k) = k == place
 abbrev pub is_at : List SlotValue → ℕ → WorldEvent → Bool
 is_at slots place event = is_place place (place_of slots (router_in event).0)
 
--- the events for each of so many routers, from the one at this place on, each router's in their order
+-- the events for each of so many routers, from the one at this place
+-- on, each router's in their order
 abbrev pub queues_from : List SlotValue → ℕ → ℕ → List WorldEvent → List (List WorldEvent)
 queues_from slots place zero events = []
-queues_from slots place (suc count) events = filter (is_at slots place) events ∷ queues_from slots (place + 1) count events
+queues_from slots place (suc count) events =
+    filter (is_at slots place) events ∷ queues_from slots (place + 1) count events
 
 -- for each router, in the order of the configurations
 abbrev pub queues_of : List SlotValue → List WorldEvent → List (List WorldEvent)
@@ -68,30 +71,41 @@ pub data IsNextWave (w : WorldValue) (next : Option (List WorldEvent)) : Type 0 
 abbrev pub all_passed : WorldValue → WorldValue
 all_passed w = record w { offered = length w.logs.datagrams }
 
--- the next wave is taken, if datagrams wait: refusals are passed over, and memory that runs out ends it. The datagrams then count as
--- offered, but where there was no memory for the list of the wave
-pub data TakesWave (before : WorldValue) (answer : Result Bool WorldFault) (after : WorldValue) : Type 0 where
-  NoneWaits : length before.logs.datagrams ≤ before.offered → answer ≡ Ok false → after ≡ before → TakesWave before answer after
+-- the next wave is taken, if datagrams wait: refusals are passed over, and memory
+-- that runs out ends it. The datagrams then count as offered, but where there was no
+-- memory for the list of the wave
+pub data TakesWave (before : WorldValue) (answer : Result Bool WorldFault) (after : WorldValue)
+    : Type 0 where
+  NoneWaits : length before.logs.datagrams ≤ before.offered → answer ≡ Ok false → after ≡ before
+      → TakesWave before answer after
   NoRoom : answer ≡ Err (fault.Memory false) → after ≡ before → TakesWave before answer after
-  Takes : (refused : ℕ) → before.offered < length before.logs.datagrams → IsRun Does (wave before) (all_passed before) (Ok refused) after → answer ≡ Ok true → TakesWave before answer after
-  Ends : (f : WorldFault) → before.offered < length before.logs.datagrams → IsRun Does (wave before) (all_passed before) (Err f) after → answer ≡ Err f → TakesWave before answer after
+  Takes : (refused : ℕ) → before.offered < length before.logs.datagrams
+      → IsRun Does (wave before) (all_passed before) (Ok refused) after → answer ≡ Ok true
+      → TakesWave before answer after
+  Ends : (f : WorldFault) → before.offered < length before.logs.datagrams
+      → IsRun Does (wave before) (all_passed before) (Err f) after → answer ≡ Err f
+      → TakesWave before answer after
 
 -- so many waves at most
 abbrev pub AreTaken : ℕ → WorldValue → Result (Unit {0}) WorldFault → WorldValue → Type 0
 AreTaken zero before result after = (after ≡ before) × (result ≡ Ok tt)
 AreTaken (suc most) before result after = OffersMore (TakesWave before) (AreTaken most) result after
 
--- a batch of so many waves at most: the ticks, and then the waves. Refusals are passed over, and memory that runs out ends it, that for
--- the list of ticks before anything is done
-pub data IsBatchOf (most : ℕ) (before : WorldValue) (result : Result (Unit {0}) WorldFault) (after : WorldValue) : Type 0 where
+-- a batch of so many waves at most: the ticks, and then the waves. Refusals are passed over, and
+-- memory that runs out ends it, that for the list of ticks before anything is done
+pub data IsBatchOf (most : ℕ) (before : WorldValue) (result : Result (Unit {0}) WorldFault)
+    (after : WorldValue) : Type 0 where
   NoRoom : result ≡ Err (fault.Memory false) → after ≡ before → IsBatchOf most before result after
-  TicksEnd : (f : WorldFault) → IsRun Does (ticks before.slots) before (Err f) after → result ≡ Err f → IsBatchOf most before result after
-  Goes : (refused : ℕ) (mid : WorldValue) → IsRun Does (ticks before.slots) before (Ok refused) mid → AreTaken most mid result after → IsBatchOf most before result after
+  TicksEnd : (f : WorldFault) → IsRun Does (ticks before.slots) before (Err f) after
+      → result ≡ Err f → IsBatchOf most before result after
+  Goes : (refused : ℕ) (mid : WorldValue) → IsRun Does (ticks before.slots) before (Ok refused) mid
+      → AreTaken most mid result after → IsBatchOf most before result after
 
 -- how many waves a batch has at most
 unfoldable pub most_waves : ℕ
 most_waves = 10000
 
 -- a batch: one of as many
-abbrev pub IsBatch : (before : WorldValue) → Result (Unit {0}) WorldFault → (after : WorldValue) → Type 0
+abbrev pub IsBatch : (before : WorldValue) → Result (Unit {0}) WorldFault → (after : WorldValue)
+    → Type 0
 IsBatch before result after = IsBatchOf most_waves before result after

@@ -16,12 +16,13 @@ use std::alloc::{AllocError, Global};
 /// How many waves a batch has at most.
 pub const MOST_WAVES: u64 = 10_000;
 
-/// A batch: a tick of each router that runs, in the order of the configurations, and then wave after wave of the datagrams
-/// that no round has offered, as long as there are some, 10,000 waves at most. In a wave each router, in the order of the
-/// configurations, takes all of them that are offered to it, in the order in which they were sent; what is sent meanwhile
-/// waits for the next wave. They are offered to whom a round offers them, and what is refused is passed over. It is for
-/// areas of many routers: a router that takes all that waits for it at once finds its memory at hand. A watch is told of
-/// each event.
+/// A batch: a tick of each router that runs, in the order of the configurations, and then wave
+/// after wave of the datagrams that no round has offered, as long as there are some, 10,000 waves
+/// at most. In a wave each router, in the order of the configurations, takes all of them that are
+/// offered to it, in the order in which they were sent; what is sent meanwhile waits for the next
+/// wave. They are offered to whom a round offers them, and what is refused is passed over. It is
+/// for areas of many routers: a router that takes all that waits for it at once finds its memory at
+/// hand. A watch is told of each event.
 ///
 /// `Memory` where memory runs out, which ends it.
 pub fn batch<W: EventWatch>(

@@ -30,11 +30,14 @@ line_of files f = finding_text f (name_at files f.here.file) (name_at files f.ot
 
 -- its line, and a line of what follows from it where that is wanted
 abbrev pub finding_lines : Bool → List NamedFile → Finding → List ℕ
-finding_lines explain files f = (line_of files f ++ codes "\n") ++ (if explain then indented_line (meaning_text f.fault) else [])
+finding_lines explain files f =
+    (line_of files f ++ codes "\n")
+    ++ (if explain then indented_line (meaning_text f.fault) else [])
 
 -- what is told of a finding on standard output: of a note, where it is to be explained
 abbrev pub note_lines : Bool → List NamedFile → Finding → List ℕ
-note_lines explain files f = if is_note f.fault then (if explain then finding_lines true files f else []) else []
+note_lines explain files f =
+    if is_note f.fault then (if explain then finding_lines true files f else []) else []
 
 -- what is told of it on standard error: of a fault
 abbrev pub fault_lines : Bool → List NamedFile → Finding → List ℕ
@@ -47,13 +50,16 @@ is_fault f = not (is_note f.fault)
 -- ---- what is told of all
 
 -- the findings are told in order, and whether all are notes
-pub record IsFindingsWritten (explain : Bool) (files : List NamedFile) (findings : List Finding) (sound : Bool) (old new : Written) : Type 0 where
+pub record IsFindingsWritten (explain : Bool) (files : List NamedFile) (findings : List Finding)
+    (sound : Bool) (old new : Written) : Type 0 where
   pub sound_is : sound ≡ not (list_any is_fault findings)
   pub out_written : Appends old.out new.out (flat_map (note_lines explain files) findings)
   pub err_written : Appends old.err new.err (flat_map (fault_lines explain files) findings)
 
--- the files hold configurations, and what is wrong between these is told, and whether nothing is but notes
-pub record IsAreaTold (explain : Bool) (files : List NamedFile) (sound : Bool) (old new : Written) : Type 0 where
+-- the files hold configurations, and what is wrong between these is told,
+-- and whether nothing is but notes
+pub record IsAreaTold (explain : Bool) (files : List NamedFile) (sound : Bool) (old new : Written)
+    : Type 0 where
   pub configs : List Config
   pub are : AreConfigs files configs
   pub findings : List Finding
@@ -61,22 +67,30 @@ pub record IsAreaTold (explain : Bool) (files : List NamedFile) (sound : Bool) (
   pub told : IsFindingsWritten explain files findings sound old new
 
 -- the files are told of one by one, and where all are accepted what is wrong between them
-pub data IsChecked (how : Telling) (files : List NamedFile) : Bool → (old new : Written) → Type 0 where
-  one_by_one : {old new : Written} → IsWritten how files false old new → IsChecked how files false old new
-  together : {sound : Bool} {old between new : Written} → IsWritten how files true old between → IsAreaTold (explains how) files sound between new → IsChecked how files sound old new
+pub data IsChecked (how : Telling) (files : List NamedFile)
+    : Bool → (old new : Written) → Type 0 where
+  one_by_one : {old new : Written} → IsWritten how files false old new
+      → IsChecked how files false old new
+  together : {sound : Bool} {old between new : Written} → IsWritten how files true old between
+      → IsAreaTold (explains how) files sound between new → IsChecked how files sound old new
 
 -- ---- where it ends early
 
 -- the telling ended at a finding: what of it was written until then, and which stream failed
-pub data EndsAtFinding (explain : Bool) (files : List NamedFile) (failed : FailedStreams) (f : Finding) (old new : Written) : Failure → Type 0 where
-  at_memory : new.out ≡ old.out → new.err ≡ old.err → EndsAtFinding explain files failed f old new failure.Memory
-  at_output : (x : Failure) → (x ≡ failure.Memory) ⊎ (x ≡ failure.Output) → IsOutputFailed failed → IsBegun old.out new.out (note_lines explain files f) → new.err ≡ old.err
+pub data EndsAtFinding (explain : Bool) (files : List NamedFile) (failed : FailedStreams)
+    (f : Finding) (old new : Written) : Failure → Type 0 where
+  at_memory : new.out ≡ old.out → new.err ≡ old.err
+      → EndsAtFinding explain files failed f old new failure.Memory
+  at_output : (x : Failure) → (x ≡ failure.Memory) ⊎ (x ≡ failure.Output) → IsOutputFailed failed
+      → IsBegun old.out new.out (note_lines explain files f) → new.err ≡ old.err
       → EndsAtFinding explain files failed f old new x
-  at_error : (x : Failure) → (x ≡ failure.Memory) ⊎ (x ≡ failure.Error) → IsErrorFailed failed → new.out ≡ old.out → IsBegun old.err new.err (fault_lines explain files f)
+  at_error : (x : Failure) → (x ≡ failure.Memory) ⊎ (x ≡ failure.Error) → IsErrorFailed failed
+      → new.out ≡ old.out → IsBegun old.err new.err (fault_lines explain files f)
       → EndsAtFinding explain files failed f old new x
 
 -- it ended at one of the findings; of those before it all was told
-pub record IsCutAtFinding (explain : Bool) (files : List NamedFile) (findings : List Finding) (failed : FailedStreams) (old new : Written) (x : Failure) : Type 0 where
+pub record IsCutAtFinding (explain : Bool) (files : List NamedFile) (findings : List Finding)
+    (failed : FailedStreams) (old new : Written) (x : Failure) : Type 0 where
   pub before : List Finding
   pub finding : Finding
   pub after : List Finding
@@ -87,12 +101,18 @@ pub record IsCutAtFinding (explain : Bool) (files : List NamedFile) (findings : 
   pub ends : EndsAtFinding explain files failed finding between new x
 
 -- memory ran out before anything was told of the configurations, or it ended at a finding
-pub data IsAreaCut (explain : Bool) (files : List NamedFile) (configs : List Config) (failed : FailedStreams) (old new : Written) : Failure → Type 0 where
-  at_none : new.out ≡ old.out → new.err ≡ old.err → IsAreaCut explain files configs failed old new failure.Memory
-  at_one : {x : Failure} (findings : List Finding) → AreFindings configs findings → IsCutAtFinding explain files findings failed old new x → IsAreaCut explain files configs failed old new x
+pub data IsAreaCut (explain : Bool) (files : List NamedFile) (configs : List Config)
+    (failed : FailedStreams) (old new : Written) : Failure → Type 0 where
+  at_none : new.out ≡ old.out → new.err ≡ old.err
+      → IsAreaCut explain files configs failed old new failure.Memory
+  at_one : {x : Failure} (findings : List Finding) → AreFindings configs findings
+      → IsCutAtFinding explain files findings failed old new x
+      → IsAreaCut explain files configs failed old new x
 
--- all files were told of, and the telling of what is between them ended; and last what failed, as far as that could be told
-pub record IsAreaCutShort (explain : Bool) (files : List NamedFile) (configs : List Config) (failed : FailedStreams) (old new : Written) (status : Status) : Type 0 where
+-- all files were told of, and the telling of what is between them ended; and last what
+-- failed, as far as that could be told
+pub record IsAreaCutShort (explain : Bool) (files : List NamedFile) (configs : List Config)
+    (failed : FailedStreams) (old new : Written) (status : Status) : Type 0 where
   pub cause : Failure
   pub failed_then : FailedStreams
   pub err_then : Option (List ℕ)
@@ -101,7 +121,11 @@ pub record IsAreaCutShort (explain : Bool) (files : List NamedFile) (configs : L
   pub status_is : status ≡ failure_status cause
 
 -- the check ended in one of the files, or behind them
-pub data IsCheckCut (how : Telling) (files : List NamedFile) (failed : FailedStreams) : (old new : Written) → Status → Type 0 where
-  in_a_file : {old new : Written} {status : Status} → IsCheckCutShort how files failed old new status → IsCheckCut how files failed old new status
-  behind_them : {old between new : Written} {status : Status} (configs : List Config) → IsWritten how files true old between → AreConfigs files configs
-      → IsAreaCutShort (explains how) files configs failed between new status → IsCheckCut how files failed old new status
+pub data IsCheckCut (how : Telling) (files : List NamedFile) (failed : FailedStreams)
+    : (old new : Written) → Status → Type 0 where
+  in_a_file : {old new : Written} {status : Status}
+      → IsCheckCutShort how files failed old new status → IsCheckCut how files failed old new status
+  behind_them : {old between new : Written} {status : Status} (configs : List Config)
+      → IsWritten how files true old between → AreConfigs files configs
+      → IsAreaCutShort (explains how) files configs failed between new status
+      → IsCheckCut how files failed old new status

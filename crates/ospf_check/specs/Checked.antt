@@ -43,7 +43,9 @@ indented_line text = codes "  " ++ (text ++ codes "\n")
 
 -- what follows from an InfTransDelay over MaxAgeDiff
 abbrev pub delay_meaning : List ℕ
-delay_meaning = codes "over 900, the acknowledgement of an LSA that is sent may be taken for one of another instance, and the LSA is sent again and again; where both ends of a link have that they may never become Full (RFC 2328, sections 13.1 and 13.3)"
+delay_meaning =
+    codes
+    "over 900, the acknowledgement of an LSA that is sent may be taken for one of another instance, and the LSA is sent again and again; where both ends of a link have that they may never become Full (RFC 2328, sections 13.1 and 13.3)"
 
 -- where an interface stands, and its InfTransDelay
 abbrev pub link_text : ℕ → List ℕ
@@ -53,23 +55,30 @@ link_text link = codes "interface " ++ decimal link ++ codes ": "
 abbrev pub transmit_delay_text : ℕ → List ℕ
 transmit_delay_text delay = codes "transmit_delay " ++ decimal delay ++ codes ": "
 
--- what an interface is warned of: its InfTransDelay, by which an LSA becomes another instance as it is sent
+-- what an interface is warned of: its InfTransDelay, by which an LSA becomes
+-- another instance as it is sent
 abbrev pub delay_text : DelayShown → List ℕ
 delay_text shown = link_text shown.link ++ transmit_delay_text shown.delay ++ delay_meaning
 
 -- the line of the warning, where there is cause
 abbrev pub delay_line : ℕ × Interface → List ℕ
-delay_line i = if is_slow i.1.transmit_delay then indented_line (delay_text (record { link = i.0; delay = i.1.transmit_delay })) else []
+delay_line i =
+    if is_slow i.1.transmit_delay
+    then indented_line (delay_text (record { link = i.0; delay = i.1.transmit_delay }))
+    else []
 
 -- what follows where a router that passes LSAs over can become Designated Router
 abbrev pub leaf_meaning : List ℕ
-leaf_meaning = codes "as Designated Router it would not flood the LSAs that it passes over (other_lsas), so the others of the network get them late or not at all; priority = 0 keeps it out of the election (RFC 2328, section 13.3)"
+leaf_meaning =
+    codes
+    "as Designated Router it would not flood the LSAs that it passes over (other_lsas), so the others of the network get them late or not at all; priority = 0 keeps it out of the election (RFC 2328, section 13.3)"
 
 -- what a warning of a `priority` begins with
 abbrev pub priority_text : ℕ → List ℕ
 priority_text priority = codes "priority " ++ decimal priority ++ codes ": "
 
--- what an interface is warned of: its router priority, by which the router can become Designated Router
+-- what an interface is warned of: its router priority, by which the
+-- router can become Designated Router
 abbrev pub leaf_text : LeafShown → List ℕ
 leaf_text shown = link_text shown.link ++ priority_text shown.priority ++ leaf_meaning
 
@@ -84,7 +93,10 @@ can_lead passes_over i = passes_over && (is_broadcast_network i.kind && nat_lt 0
 
 -- the line of the warning, where there is cause
 abbrev pub leaf_line : Bool → ℕ × Interface → List ℕ
-leaf_line passes_over i = if can_lead passes_over i.1 then indented_line (leaf_text (record { link = i.0; priority = i.1.priority })) else []
+leaf_line passes_over i =
+    if can_lead passes_over i.1
+    then indented_line (leaf_text (record { link = i.0; priority = i.1.priority }))
+    else []
 
 -- all that an interface is warned of
 abbrev pub warning_line : Bool → ℕ × Interface → List ℕ
@@ -92,29 +104,41 @@ warning_line passes_over i = delay_line i ++ leaf_line passes_over i
 
 -- what is said behind the line of an accepted file: nothing, unless it is to be explained
 abbrev pub warnings : Bool → Config → List ℕ
-warnings explain config = if explain then flat_map (warning_line config.passes_over) (enumerate_from 0 config.interfaces.items) else []
+warnings explain config =
+    if explain
+    then flat_map (warning_line config.passes_over) (enumerate_from 0 config.interfaces.items)
+    else []
 
 -- the line of a place
 abbrev pub place_line : Explained → List ℕ
 place_line place = indented_line (explained_text place)
 
--- what is said about bytes that are refused: that they are not UTF-8, or a line for each place that has the fault
+-- what is said about bytes that are refused: that they are not UTF-8, or a line
+-- for each place that has the fault
 pub data IsFaultSaid (bytes : List ℕ) (fault : ConfigFault) (more : List ℕ) : Type 0 where
-  no_text : (IsUtf8 bytes → ⊥) → more ≡ indented_line (codes "the file is not UTF-8") → IsFaultSaid bytes fault more
-  its_places : (places : List Explained) → IsUtf8 bytes → IsExplained bytes fault places → more ≡ flat_map place_line places → IsFaultSaid bytes fault more
+  no_text : (IsUtf8 bytes → ⊥) → more ≡ indented_line (codes "the file is not UTF-8")
+      → IsFaultSaid bytes fault more
+  its_places : (places : List Explained) → IsUtf8 bytes → IsExplained bytes fault places
+      → more ≡ flat_map place_line places → IsFaultSaid bytes fault more
 
 -- the line of a place, behind the fault that it has
 abbrev pub faulty_place_line : ConfigFault → Explained → List ℕ
-faulty_place_line fault place = indented_line (config_fault_text fault ++ codes ": " ++ explained_text place)
+faulty_place_line fault place =
+    indented_line (config_fault_text fault ++ codes ": " ++ explained_text place)
 
 -- the lines of a fault, one for each of its places
 abbrev pub fault_told : FaultExplained → List ℕ
 fault_told told = flat_map (faulty_place_line told.fault) told.places.items
 
--- what is said of all faults of bytes that are refused: that they are not UTF-8, or for each fault that holds a line for each of its places
+-- what is said of all faults of bytes that are refused: that they are not UTF-8, or for each fault
+-- that holds a line for each of its places
 pub data AreFaultsSaid (bytes : List ℕ) (more : List ℕ) : Type 0 where
-  no_text_at_all : (IsUtf8 bytes → ⊥) → more ≡ indented_line (config_fault_text config_fault.NotToml ++ codes ": the file is not UTF-8") → AreFaultsSaid bytes more
-  each_fault : (faults : List FaultExplained) → IsUtf8 bytes → AreAllExplained bytes faults → more ≡ flat_map fault_told faults → AreFaultsSaid bytes more
+  no_text_at_all : (IsUtf8 bytes → ⊥)
+      → more
+      ≡ indented_line (config_fault_text config_fault.NotToml ++ codes ": the file is not UTF-8")
+      → AreFaultsSaid bytes more
+  each_fault : (faults : List FaultExplained) → IsUtf8 bytes → AreAllExplained bytes faults
+      → more ≡ flat_map fault_told faults → AreFaultsSaid bytes more
 
 -- what is said behind the line of a refused file: nothing, or of its fault, or of all its faults
 abbrev pub IsExplanation : Telling → List ℕ → ConfigFault → List ℕ → Type 0
@@ -122,15 +146,20 @@ IsExplanation telling.Verdict bytes fault more = more ≡ []
 IsExplanation telling.Explained bytes fault more = IsFaultSaid bytes fault more
 IsExplanation telling.AllExplained bytes fault more = AreFaultsSaid bytes more
 
--- a file that was read, whether it is accepted, and what is told of it on standard output and on standard error
+-- a file that was read, whether it is accepted, and what is told of it on
+-- standard output and on standard error
 pub data IsFileTold (how : Telling) : NamedFile → Bool → List ℕ → List ℕ → Type 0 where
-  accepted_told : {file : NamedFile} (bytes : List ℕ) (config : Config) → bytes_of file ≡ Some bytes → IsConfigIn bytes config
+  accepted_told : {file : NamedFile} (bytes : List ℕ) (config : Config) → bytes_of file ≡ Some bytes
+      → IsConfigIn bytes config
       → IsFileTold how file true (accepted_line file ++ warnings (explains how) config) []
-  refused_told : {file : NamedFile} (bytes : List ℕ) (fault : ConfigFault) (more : List ℕ) → bytes_of file ≡ Some bytes → IsRefusedFor bytes fault
-      → IsExplanation how bytes fault more → IsFileTold how file false [] (refused_line file fault ++ more)
+  refused_told : {file : NamedFile} (bytes : List ℕ) (fault : ConfigFault) (more : List ℕ)
+      → bytes_of file ≡ Some bytes → IsRefusedFor bytes fault
+      → IsExplanation how bytes fault more
+      → IsFileTold how file false [] (refused_line file fault ++ more)
 
 -- what is told of a file is what was written
-pub record IsWrittenOf (how : Telling) (file : NamedFile) (accepted : Bool) (old new : Written) : Type 0 where
+pub record IsWrittenOf (how : Telling) (file : NamedFile) (accepted : Bool) (old new : Written)
+    : Type 0 where
   pub out : List ℕ
   pub err : List ℕ
   pub told : IsFileTold how file accepted out err
@@ -140,11 +169,14 @@ pub record IsWrittenOf (how : Telling) (file : NamedFile) (accepted : Bool) (old
 -- the files in order, whether all are accepted, and what is told of them
 pub data AreTold (how : Telling) : List NamedFile → Bool → List ℕ → List ℕ → Type 0 where
   no_file : AreTold how [] true [] []
-  one_file : {file : NamedFile} {files : List NamedFile} {accepted all : Bool} {out outs err errs : List ℕ} → IsFileTold how file accepted out err
-      → AreTold how files all outs errs → AreTold how (file ∷ files) (accepted && all) (out ++ outs) (err ++ errs)
+  one_file : {file : NamedFile} {files : List NamedFile} {accepted all : Bool}
+      {out outs err errs : List ℕ} → IsFileTold how file accepted out err
+      → AreTold how files all outs errs
+      → AreTold how (file ∷ files) (accepted && all) (out ++ outs) (err ++ errs)
 
 -- what is told of the files is what was written
-pub record IsWritten (how : Telling) (files : List NamedFile) (all : Bool) (old new : Written) : Type 0 where
+pub record IsWritten (how : Telling) (files : List NamedFile) (all : Bool) (old new : Written)
+    : Type 0 where
   pub out : List ℕ
   pub err : List ℕ
   pub told : AreTold how files all out err
@@ -158,7 +190,8 @@ IsVerdict how file (verdict.Refused text) = IsFileTold how file false [] (string
 
 -- the configuration of a file is kept behind the others
 abbrev pub IsConfigKept : NamedFile → List Config → List Config → Type 0
-IsConfigKept file old new = (config : Config) × IsConfigIn (text_in file) config × (new ≡ old ++ config ∷ [])
+IsConfigKept file old new =
+    (config : Config) × IsConfigIn (text_in file) config × (new ≡ old ++ config ∷ [])
 
 -- a file that is accepted has its configuration kept
 abbrev pub KeepsBy : Verdict → NamedFile → List Config → List Config → Type 0
@@ -182,19 +215,28 @@ HoldConfigs files (Some configs) = AreConfigs files configs
 
 -- what is told on standard error of a file that is not accepted
 abbrev pub IsToldOnError : Telling → NamedFile → List ℕ → Type 0
-IsToldOnError how file text = IsFileTold how file false [] text ⊎ ((bytes_of file ≡ None) × (text ≡ unread_line file))
+IsToldOnError how file text =
+    IsFileTold how file false [] text ⊎ ((bytes_of file ≡ None) × (text ≡ unread_line file))
 
 -- a check ended in a file: what of it was written until then, and which stream failed
-pub data EndsIn (how : Telling) (file : NamedFile) (failed : FailedStreams) (old new : Written) : CheckFault → Type 0 where
-  not_read : bytes_of file ≡ None → new.out ≡ old.out → Appends old.err new.err (unread_line file) → EndsIn how file failed old new fault.NotRead
-  no_memory : new.out ≡ old.out → new.err ≡ old.err → EndsIn how file failed old new (fault.Failure failure.Memory)
-  no_output : (f : Failure) (text : List ℕ) → (f ≡ failure.Memory) ⊎ (f ≡ failure.Output) → IsOutputFailed failed → IsFileTold how file true text [] → IsBegun old.out new.out text → new.err ≡ old.err
+pub data EndsIn (how : Telling) (file : NamedFile) (failed : FailedStreams) (old new : Written)
+    : CheckFault → Type 0 where
+  not_read : bytes_of file ≡ None → new.out ≡ old.out → Appends old.err new.err (unread_line file)
+      → EndsIn how file failed old new fault.NotRead
+  no_memory : new.out ≡ old.out → new.err ≡ old.err
+      → EndsIn how file failed old new (fault.Failure failure.Memory)
+  no_output : (f : Failure) (text : List ℕ) → (f ≡ failure.Memory) ⊎ (f ≡ failure.Output)
+      → IsOutputFailed failed → IsFileTold how file true text [] → IsBegun old.out new.out text
+      → new.err ≡ old.err
       → EndsIn how file failed old new (fault.Failure f)
-  no_error : (f : Failure) (text : List ℕ) → (f ≡ failure.Memory) ⊎ (f ≡ failure.Error) → IsErrorFailed failed → IsToldOnError how file text → new.out ≡ old.out → IsBegun old.err new.err text
+  no_error : (f : Failure) (text : List ℕ) → (f ≡ failure.Memory) ⊎ (f ≡ failure.Error)
+      → IsErrorFailed failed → IsToldOnError how file text → new.out ≡ old.out
+      → IsBegun old.err new.err text
       → EndsIn how file failed old new (fault.Failure f)
 
 -- a check ended in one of the files, for this cause; of those before it all was told
-pub record IsCutIn (how : Telling) (files : List NamedFile) (failed : FailedStreams) (old new : Written) (cause : CheckFault) : Type 0 where
+pub record IsCutIn (how : Telling) (files : List NamedFile) (failed : FailedStreams)
+    (old new : Written) (cause : CheckFault) : Type 0 where
   pub before : List NamedFile
   pub file : NamedFile
   pub after : List NamedFile
@@ -210,12 +252,16 @@ status_of fault.NotRead = status.Stream
 status_of (fault.Failure f) = failure_status f
 
 -- what is told last: of a failure its line
-abbrev pub IsLastTold : FailedStreams → FailedStreams → Option (List ℕ) → Option (List ℕ) → CheckFault → Type 0
+abbrev pub IsLastTold : FailedStreams → FailedStreams → Option (List ℕ) → Option (List ℕ)
+    → CheckFault → Type 0
 IsLastTold before after old new fault.NotRead = (after ≡ before) × (new ≡ old)
-IsLastTold before after old new (fault.Failure f) = IsFailureTold before after old new (failure_line f)
+IsLastTold before after old new (fault.Failure f) =
+    IsFailureTold before after old new (failure_line f)
 
--- a check ended in one of the files: of those before it all was told, of that one a beginning, and then what failed, as far as that could be told
-pub record IsCheckCutShort (how : Telling) (files : List NamedFile) (failed : FailedStreams) (old new : Written) (status : Status) : Type 0 where
+-- a check ended in one of the files: of those before it all was told, of that one a beginning, and
+-- then what failed, as far as that could be told
+pub record IsCheckCutShort (how : Telling) (files : List NamedFile) (failed : FailedStreams)
+    (old new : Written) (status : Status) : Type 0 where
   pub cause : CheckFault
   pub failed_then : FailedStreams
   pub err_then : Option (List ℕ)

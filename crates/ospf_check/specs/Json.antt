@@ -84,7 +84,11 @@ place_data _ e = number (unsigned e.link)
 -- what an interface has, and where, by the name of its file
 abbrev pub side_data : AreaFault → LinkEnd → List ℕ → Data
 side_data f e name =
-    object (member (codes "file") (string name) (member (codes "interface") (place_data f e) (member (codes "key") (string (key_text f)) (member (codes "value") (value_data f e) no_members))))
+    object
+    (member (codes "file") (string name)
+    (member (codes "interface") (place_data f e)
+    (member (codes "key") (string (key_text f))
+    (member (codes "value") (value_data f e) no_members))))
 
 -- what the other interface has, where there is one
 abbrev pub other_data : AreaFault → LinkEnd → List ℕ → Data
@@ -92,16 +96,22 @@ other_data fault.Alone e name = null
 other_data (fault.Nowhere peer) e name = null
 other_data f e name = side_data f e name
 
--- the number and the name of the fault, what follows from it, whether it is a note, and the interfaces
+-- the number and the name of the fault, what follows from it, whether
+-- it is a note, and the interfaces
 abbrev pub told_data : AreaFault → Data → Data → Data
 told_data f here other =
-    object (member (codes "code") (string (area_fault_text f)) (member (codes "here") here (member (codes "meaning") (string (meaning_text f)) (member (codes "note") (boolean (is_note f))
+    object
+    (member (codes "code") (string (area_fault_text f))
+    (member (codes "here") here
+    (member (codes "meaning") (string (meaning_text f))
+    (member (codes "note") (boolean (is_note f))
     (member (codes "other") other no_members)))))
 
 -- the object of a finding
 abbrev pub finding_data : List NamedFile → Finding → Data
 finding_data files f =
-    told_data f.fault (side_data f.fault f.here (name_at files f.here.file)) (other_data f.fault f.other (name_at files f.other.file))
+    told_data f.fault (side_data f.fault f.here (name_at files f.here.file))
+    (other_data f.fault f.other (name_at files f.other.file))
 
 -- the findings in their order
 abbrev pub findings_data : List NamedFile → List Finding → Data
@@ -113,8 +123,10 @@ findings_line files findings = compact_text (findings_data files findings) ++ co
 
 -- ---- what is printed
 
--- the files hold configurations, and what is wrong between these is printed, and whether nothing is but notes
-pub record IsAreaPrinted (files : List NamedFile) (sound : Bool) (out_old out_new : Option (List ℕ)) : Type 0 where
+-- the files hold configurations, and what is wrong between these is printed,
+-- and whether nothing is but notes
+pub record IsAreaPrinted (files : List NamedFile) (sound : Bool) (out_old out_new : Option (List ℕ))
+    : Type 0 where
   pub configs : List Config
   pub are : AreConfigs files configs
   pub findings : List Finding
@@ -122,23 +134,30 @@ pub record IsAreaPrinted (files : List NamedFile) (sound : Bool) (out_old out_ne
   pub sound_is : sound ≡ not (list_any is_fault findings)
   pub written : Appends out_old out_new (findings_line files findings)
 
--- files that are refused are told of on standard error; where all are accepted it is printed what is wrong between them. What is said
--- of those that are accepted goes to another stream
+-- files that are refused are told of on standard error; where all are accepted it is printed what
+-- is wrong between them. What is said of those that are accepted goes to another stream
 pub data IsJson (files : List NamedFile) : Bool → (old new : Written) → Type 0 where
-  one_by_one : {b c : Option (List ℕ)} {old new : Written} → IsWritten telling.Verdict files false (record old { out = b }) (record new { out = c }) → new.out ≡ old.out → IsJson files false old new
-  together : {sound : Bool} {b c : Option (List ℕ)} {old new : Written} → IsWritten telling.Verdict files true (record old { out = b }) (record new { out = c })
+  one_by_one : {b c : Option (List ℕ)} {old new : Written}
+      → IsWritten telling.Verdict files false (record old { out = b }) (record new { out = c })
+      → new.out ≡ old.out → IsJson files false old new
+  together : {sound : Bool} {b c : Option (List ℕ)} {old new : Written}
+      → IsWritten telling.Verdict files true (record old { out = b }) (record new { out = c })
       → IsAreaPrinted files sound old.out new.out → IsJson files sound old new
 
 -- ---- where it ends early
 
 -- memory ran out before anything was printed, or a beginning of it was
-pub data IsPrintCut (files : List NamedFile) (configs : List Config) (failed : FailedStreams) (out_old out_new : Option (List ℕ)) : Failure → Type 0 where
-  at_none : {x : Failure} → out_new ≡ out_old → IsOutputCut failed x → IsPrintCut files configs failed out_old out_new x
-  at_line : {x : Failure} (findings : List Finding) → AreFindings configs findings → IsBegun out_old out_new (findings_line files findings) → IsOutputCut failed x
+pub data IsPrintCut (files : List NamedFile) (configs : List Config) (failed : FailedStreams)
+    (out_old out_new : Option (List ℕ)) : Failure → Type 0 where
+  at_none : {x : Failure} → out_new ≡ out_old → IsOutputCut failed x
+      → IsPrintCut files configs failed out_old out_new x
+  at_line : {x : Failure} (findings : List Finding) → AreFindings configs findings
+      → IsBegun out_old out_new (findings_line files findings) → IsOutputCut failed x
       → IsPrintCut files configs failed out_old out_new x
 
 -- and last what failed, as far as that could be told
-pub record IsPrintCutShort (files : List NamedFile) (configs : List Config) (failed : FailedStreams) (old new : Written) (status : Status) : Type 0 where
+pub record IsPrintCutShort (files : List NamedFile) (configs : List Config) (failed : FailedStreams)
+    (old new : Written) (status : Status) : Type 0 where
   pub cause : Failure
   pub failed_then : FailedStreams
   pub cut : IsPrintCut files configs failed_then old.out new.out cause
@@ -146,9 +165,15 @@ pub record IsPrintCutShort (files : List NamedFile) (configs : List Config) (fai
   pub status_is : status ≡ failure_status cause
 
 -- it ended in one of the files, or behind them
-pub data IsJsonCut (files : List NamedFile) (failed : FailedStreams) : (old new : Written) → Status → Type 0 where
-  in_a_file : {b c : Option (List ℕ)} {old new : Written} {status : Status} → IsCheckCutShort telling.Verdict files failed (record old { out = b }) (record new { out = c }) status
+pub data IsJsonCut (files : List NamedFile) (failed : FailedStreams)
+    : (old new : Written) → Status → Type 0 where
+  in_a_file : {b c : Option (List ℕ)} {old new : Written} {status : Status}
+      → IsCheckCutShort telling.Verdict files failed (record old { out = b })
+      (record new { out = c }) status
       → new.out ≡ old.out → IsJsonCut files failed old new status
-  behind_them : {b c err_then : Option (List ℕ)} {old new : Written} {status : Status} (configs : List Config)
-      → IsWritten telling.Verdict files true (record old { out = b }) (written_on c err_then) → AreConfigs files configs
-      → IsPrintCutShort files configs failed (record old { err = err_then }) new status → IsJsonCut files failed old new status
+  behind_them :
+      {b c err_then : Option (List ℕ)} {old new : Written} {status : Status} (configs : List Config)
+      → IsWritten telling.Verdict files true (record old { out = b }) (written_on c err_then)
+      → AreConfigs files configs
+      → IsPrintCutShort files configs failed (record old { err = err_then }) new status
+      → IsJsonCut files failed old new status

@@ -15,13 +15,14 @@ use ospf_plan::{Finding, NamedFinding, findings};
 use std::alloc::{AllocError, Global};
 use std::io::Write;
 
-/// Checks the configurations of one area: each as `check_text` does, and where all are accepted what is wrong between
-/// them. Faults go to `err`; where more than a verdict is asked for notes go to `out`, and behind each fault and note a line of
-/// what follows.
+/// Checks the configurations of one area: each as `check_text` does, and where all are accepted
+/// what is wrong between them. Faults go to `err`; where more than a verdict is asked for notes go
+/// to `out`, and behind each fault and note a line of what follows.
 ///
-/// The status is `Refused` where a file was refused or a fault was told, and `Done` where there are none but notes. The check
-/// ends early as `check_text` does, with status `Stream` or `Memory`: then all is written of the files before, and where
-/// it ended behind the files, of the findings before; of the one where it ended no more than a beginning.
+/// The status is `Refused` where a file was refused or a fault was told, and `Done` where there are
+/// none but notes. The check ends early as `check_text` does, with status `Stream` or `Memory`:
+/// then all is written of the files before, and where it ended behind the files, of the findings
+/// before; of the one where it ended no more than a beginning.
 pub fn check_area_text<O: Write, E: Write>(
     alloc: Global,
     files: &[NamedFile],

@@ -26,14 +26,16 @@ pub(crate) enum CheckFault {
     Failure(Failure),
 }
 
-/// Checks configurations, and tells of each file in order: on `out` that it is accepted, or on `err`
-/// the fault of least number that it has; behind that, in lines behind two spaces, as `how` asks: nothing more, or what to do
-/// about that fault, or about each fault that it has, and at an accepted one of what it is warned.
+/// Checks configurations, and tells of each file in order: on `out` that it is accepted, or on
+/// `err` the fault of least number that it has; behind that, in lines behind two spaces, as `how`
+/// asks: nothing more, or what to do about that fault, or about each fault that it has, and at an
+/// accepted one of what it is warned.
 ///
-/// A file that is not UTF-8 is no TOML. The status is `Refused` where a file was refused. The check ends
-/// at a file that could not be read, which is told on `err`, and where a write fails, with status
-/// `Stream`; and with status `Memory` where memory ran out. What failed is told on `err`, as far as that can
-/// be written: then of the files before all is written, and of that one no more than a beginning.
+/// A file that is not UTF-8 is no TOML. The status is `Refused` where a file was refused. The
+/// check ends at a file that could not be read, which is told on `err`, and where a write
+/// fails, with status `Stream`; and with status `Memory` where memory ran out. What failed is
+/// told on `err`, as far as that can be written: then of the files before all is written, and
+/// of that one no more than a beginning.
 pub fn check_text<O: Write, E: Write>(
     alloc: Global,
     files: &[NamedFile],

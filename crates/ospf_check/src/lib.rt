@@ -1,8 +1,10 @@
-//! Configurations of routers that are checked (RFC 2328, appendix C): each alone, and those of one area together.
+//! Configurations of routers that are checked (RFC 2328, appendix C): each alone,
+//! and those of one area together.
 //!
-//! `check_text` tells of each file that it is accepted, or the fault of least number that it has, and as it is asked to what to
-//! do about that, or about all faults. `check_area_text` tells of each as `check_text` does, and then what is wrong between them;
-//! `check_area_json` prints that as JSON. What is told of a file stands in `specs/Checked`, and between files in `specs/Area` and
+//! `check_text` tells of each file that it is accepted, or the fault of least number that it has,
+//! and as it is asked to what to do about that, or about all faults. `check_area_text` tells of
+//! each as `check_text` does, and then what is wrong between them; `check_area_json` prints that as
+//! JSON. What is told of a file stands in `specs/Checked`, and between files in `specs/Area` and
 //! `specs/Json`; where its faults are tells `ospf_files`.
 #![tactic(auto)]
 

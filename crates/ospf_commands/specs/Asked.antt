@@ -25,45 +25,64 @@ abbrev pub IsTextSaid : String Global → Answer → Text → Type 0
 IsTextSaid said answer text = (answer ≡ Ok tt) × (text ≡ said_line said)
 
 -- what is printed of a router that runs; of another one nothing, and it is said why
-pub data IsViewShown (view : View) (r : RouterId) (s : Simulation) (answer : Answer) (text : Text) : Type 0 where
-  is_shown : (x : RouterValue) → LendsRouter s.world r x → answer ≡ Ok tt → text ≡ shown_lines s.is_labelled view r x → IsViewShown view r s answer text
-  is_not_shown : (f : WorldFault) → IsNotLent s.world r f → answer ≡ Err f → text ≡ [] → IsViewShown view r s answer text
+pub data IsViewShown (view : View) (r : RouterId) (s : Simulation) (answer : Answer) (text : Text)
+    : Type 0 where
+  is_shown : (x : RouterValue) → LendsRouter s.world r x → answer ≡ Ok tt
+      → text ≡ shown_lines s.is_labelled view r x → IsViewShown view r s answer text
+  is_not_shown : (f : WorldFault) → IsNotLent s.world r f → answer ≡ Err f → text ≡ []
+      → IsViewShown view r s answer text
 
--- the walk from a router towards an address by these choices is printed, and is known from then on; or it is said why there is none
-pub data IsWalked (from : RouterId) (address : Addr) (choices : List ℕ) (s s' : Simulation) (answer : Answer) (text : Text) : Type 0 where
+-- the walk from a router towards an address by these choices is printed, and is known from then on;
+-- or it is said why there is none
+pub data IsWalked (from : RouterId) (address : Addr) (choices : List ℕ) (s s' : Simulation)
+    (answer : Answer) (text : Text) : Type 0 where
   is_walked : (walk : Walk) → IsWalkFrom s.world from address.0 choices (Ok walk) → answer ≡ Ok tt
       → text ≡ walked_lines s.is_labelled from address walk → s' ≡ record s { walk = Some walk }
       → IsWalked from address choices s s' answer text
-  is_not_walked : (f : WorldFault) → IsWalkFrom s.world from address.0 choices (Err f) → answer ≡ Err f → text ≡ [] → s' ≡ s
+  is_not_walked : (f : WorldFault) → IsWalkFrom s.world from address.0 choices (Err f)
+      → answer ≡ Err f → text ≡ [] → s' ≡ s
       → IsWalked from address choices s s' answer text
 
--- what a link of a router that runs waits for, or a Router ID on it, is printed, and why it would drop what came last; or it is said why it
--- cannot be asked: there is no such link, or the router does not run
-pub data IsWhyAnswered (r : RouterId) (link : ℕ) (neighbour : Option RouterId) (s : Simulation) (answer : Answer) (text : Text) : Type 0 where
-  is_explained : (x : RouterValue) → LendsRouter s.world r x → why_lines s.world r link neighbour x.area ≡ Some text → answer ≡ Ok tt
+-- what a link of a router that runs waits for, or a Router ID on it, is printed, and why
+-- it would drop what came last; or it is said why it cannot be asked: there is no such
+-- link, or the router does not run
+pub data IsWhyAnswered (r : RouterId) (link : ℕ) (neighbour : Option RouterId) (s : Simulation)
+    (answer : Answer) (text : Text) : Type 0 where
+  is_explained : (x : RouterValue) → LendsRouter s.world r x
+      → why_lines s.world r link neighbour x.area ≡ Some text → answer ≡ Ok tt
       → IsWhyAnswered r link neighbour s answer text
-  is_on_no_link : (x : RouterValue) → LendsRouter s.world r x → why_lines s.world r link neighbour x.area ≡ None → answer ≡ Err fault.NoLink → text ≡ []
+  is_on_no_link : (x : RouterValue) → LendsRouter s.world r x
+      → why_lines s.world r link neighbour x.area ≡ None → answer ≡ Err fault.NoLink → text ≡ []
       → IsWhyAnswered r link neighbour s answer text
-  is_not_explained : (f : WorldFault) → IsNotLent s.world r f → answer ≡ Err f → text ≡ [] → IsWhyAnswered r link neighbour s answer text
+  is_not_explained : (f : WorldFault) → IsNotLent s.world r f → answer ≡ Err f → text ≡ []
+      → IsWhyAnswered r link neighbour s answer text
 
 -- how many datagrams are shown: so many as are asked for, else 16
 abbrev pub most_shown : Option ℕ → ℕ
 most_shown most = unwrap_or most 16
 
--- what a round offers to a router that runs is printed, the last so many datagrams of it; or it is said why the router cannot be asked
-pub data AreDatagramsShown (r : RouterId) (most : Option ℕ) (s : Simulation) (answer : Answer) (text : Text) : Type 0 where
-  are_shown : (x : RouterValue) → LendsRouter s.world r x → answer ≡ Ok tt → text ≡ datagram_lines s.world r (most_shown most) x.area
+-- what a round offers to a router that runs is printed, the last so many datagrams of it; or it is
+-- said why the router cannot be asked
+pub data AreDatagramsShown (r : RouterId) (most : Option ℕ) (s : Simulation) (answer : Answer)
+    (text : Text) : Type 0 where
+  are_shown : (x : RouterValue) → LendsRouter s.world r x → answer ≡ Ok tt
+      → text ≡ datagram_lines s.world r (most_shown most) x.area
       → AreDatagramsShown r most s answer text
-  are_not_shown : (f : WorldFault) → IsNotLent s.world r f → answer ≡ Err f → text ≡ [] → AreDatagramsShown r most s answer text
+  are_not_shown : (f : WorldFault) → IsNotLent s.world r f → answer ≡ Err f → text ≡ []
+      → AreDatagramsShown r most s answer text
 
 -- the router of a Router ID, running or not, if there is one
 abbrev pub slot_at : WorldValue → RouterId → Option SlotValue
 slot_at w r = find (is_slot_of r.0) w.slots
 
 -- what a router that runs dropped since it started is printed; or it is said why it cannot be asked
-pub data AreDropsShown (r : RouterId) (s : Simulation) (answer : Answer) (text : Text) : Type 0 where
-  drops_are_shown : (x : SlotValue) → slot_at s.world r ≡ Some x → is_some x.running ≡ true → answer ≡ Ok tt → text ≡ drop_lines x.drops
+pub data AreDropsShown (r : RouterId) (s : Simulation) (answer : Answer) (text : Text)
+    : Type 0 where
+  drops_are_shown : (x : SlotValue) → slot_at s.world r ≡ Some x → is_some x.running ≡ true
+      → answer ≡ Ok tt → text ≡ drop_lines x.drops
       → AreDropsShown r s answer text
-  of_one_stopped : (x : SlotValue) → slot_at s.world r ≡ Some x → is_some x.running ≡ false → answer ≡ Err fault.NotRunning → text ≡ []
+  of_one_stopped : (x : SlotValue) → slot_at s.world r ≡ Some x → is_some x.running ≡ false
+      → answer ≡ Err fault.NotRunning → text ≡ []
       → AreDropsShown r s answer text
-  of_nobody : slot_at s.world r ≡ None → answer ≡ Err fault.NoRouter → text ≡ [] → AreDropsShown r s answer text
+  of_nobody : slot_at s.world r ≡ None → answer ≡ Err fault.NoRouter → text ≡ []
+      → AreDropsShown r s answer text

@@ -26,31 +26,44 @@ ManyHappen many s answer s' = (w : WorldValue) × ComesAbout many s.world answer
 
 -- events by chance, drawn by this number
 abbrev pub SomeHappen : (number count : ℕ) → Simulation → Answer → Simulation → Type 0
-SomeHappen number count s answer s' = (w : WorldValue) × IsRandomRun number count s.world answer w × (s' ≡ moved s w)
+SomeHappen number count s answer s' =
+    (w : WorldValue) × IsRandomRun number count s.world answer w × (s' ≡ moved s w)
 
 -- what a command does to a simulation, what is answered, and what is printed
 abbrev pub DoesCommand : Command → Simulation → Answer → Text → Simulation → Type 0
 DoesCommand (command.Event e) s answer text s' = EventComesAbout e s answer s' × (text ≡ [])
 DoesCommand (command.Many many) s answer text s' = ManyHappen many s answer s' × (text ≡ [])
-DoesCommand (command.Round count most) s answer text s' = AreRounds (most_of most) count s answer s' × (text ≡ [])
+DoesCommand (command.Round count most) s answer text s' =
+    AreRounds (most_of most) count s answer s' × (text ≡ [])
 DoesCommand (command.Batch count) s answer text s' = AreBatches count s answer s' × (text ≡ [])
-DoesCommand (command.Random number count) s answer text s' = SomeHappen number count s answer s' × (text ≡ [])
-DoesCommand (command.Settle most) s answer text s' = Settles most (record s { is_settled = false }) answer text s'
+DoesCommand (command.Random number count) s answer text s' =
+    SomeHappen number count s answer s' × (text ≡ [])
+DoesCommand (command.Settle most) s answer text s' =
+    Settles most (record s { is_settled = false }) answer text s'
 DoesCommand (command.Show view r) s answer text s' = IsViewShown view r s answer text × (s' ≡ s)
-DoesCommand (command.Walk from address choices) s answer text s' = IsWalked from address choices.items s s' answer text
+DoesCommand (command.Walk from address choices) s answer text s' =
+    IsWalked from address choices.items s s' answer text
 DoesCommand (command.Say said) s answer text s' = IsTextSaid said answer text × (s' ≡ s)
-DoesCommand (command.Why r link neighbour) s answer text s' = IsWhyAnswered r link neighbour s answer text × (s' ≡ s)
-DoesCommand (command.Datagrams r most) s answer text s' = AreDatagramsShown r most s answer text × (s' ≡ s)
+DoesCommand (command.Why r link neighbour) s answer text s' =
+    IsWhyAnswered r link neighbour s answer text × (s' ≡ s)
+DoesCommand (command.Datagrams r most) s answer text s' =
+    AreDatagramsShown r most s answer text × (s' ≡ s)
 DoesCommand (command.Drops r) s answer text s' = AreDropsShown r s answer text × (s' ≡ s)
 DoesCommand (command.Loss percent number network) s answer text s' =
-    (answer ≡ Ok tt) × (text ≡ []) × (s' ≡ record s { losses = Some (losses_of percent number network) })
+    (answer ≡ Ok tt) × (text ≡ [])
+    × (s' ≡ record s { losses = Some (losses_of percent number network) })
 DoesCommand (command.Expect e) s answer text s' = JudgedSo e s s' answer text
-DoesCommand (command.Label is_on) s answer text s' = (answer ≡ Ok tt) × (text ≡ []) × (s' ≡ record s { is_labelled = is_on })
+DoesCommand (command.Label is_on) s answer text s' =
+    (answer ≡ Ok tt) × (text ≡ []) × (s' ≡ record s { is_labelled = is_on })
 
 -- what the command prints is what was written
-abbrev pub IsDone : Command → Simulation → Answer → Simulation → (out_old out_new : Option (List ℕ)) → Type 0
-IsDone c s answer s' out_old out_new = IsPrinted (λ given text. DoesCommand c s given text s') answer out_old out_new
+abbrev pub IsDone : Command → Simulation → Answer → Simulation → (out_old out_new : Option (List ℕ))
+    → Type 0
+IsDone c s answer s' out_old out_new =
+    IsPrinted (λ given text. DoesCommand c s given text s') answer out_old out_new
 
 -- a beginning of what it prints was written
-abbrev pub IsDoneBegun : Command → Simulation → Simulation → (out_old out_new : Option (List ℕ)) → Type 0
-IsDoneBegun c s s' out_old out_new = IsPrintedBegun (λ given text. DoesCommand c s given text s') out_old out_new
+abbrev pub IsDoneBegun : Command → Simulation → Simulation → (out_old out_new : Option (List ℕ))
+    → Type 0
+IsDoneBegun c s s' out_old out_new =
+    IsPrintedBegun (λ given text. DoesCommand c s given text s') out_old out_new

@@ -24,14 +24,19 @@ use Rattle.ospf_commands.specs.declared.simulation.Simulation.{Simulation}
 
 -- ---- of a router
 
--- a router that runs has what is wanted of it, and nothing is printed; or it has not, and that is printed with what stands there; or
--- it cannot be asked, and it is said why. The last tells whether it is not known to be so
-pub data IsOfRouter (r : RouterId) (wanted : Wanted) (w : WorldValue) (answer : Answer) (text : Text) (unmet : Bool) : Type 0 where
-  is_as_expected : (x : RouterValue) → LendsRouter w r x → IsMet wanted x → answer ≡ Ok tt → text ≡ [] → unmet ≡ false
+-- a router that runs has what is wanted of it, and nothing is printed; or it has not, and that is
+-- printed with what stands there; or it cannot be asked, and it is said why. The last tells
+-- whether it is not known to be so
+pub data IsOfRouter (r : RouterId) (wanted : Wanted) (w : WorldValue) (answer : Answer)
+    (text : Text) (unmet : Bool) : Type 0 where
+  is_as_expected : (x : RouterValue) → LendsRouter w r x → IsMet wanted x → answer ≡ Ok tt
+      → text ≡ [] → unmet ≡ false
       → IsOfRouter r wanted w answer text unmet
-  is_otherwise : (x : RouterValue) → LendsRouter w r x → (IsMet wanted x → ⊥) → answer ≡ Ok tt → text ≡ unmet_lines r wanted x
+  is_otherwise : (x : RouterValue) → LendsRouter w r x → (IsMet wanted x → ⊥) → answer ≡ Ok tt
+      → text ≡ unmet_lines r wanted x
       → unmet ≡ true → IsOfRouter r wanted w answer text unmet
-  is_not_asked : (f : WorldFault) → IsNotLent w r f → answer ≡ Err f → text ≡ [] → unmet ≡ true → IsOfRouter r wanted w answer text unmet
+  is_not_asked : (f : WorldFault) → IsNotLent w r f → answer ≡ Err f → text ≡ [] → unmet ≡ true
+      → IsOfRouter r wanted w answer text unmet
 
 -- ---- of a walk
 
@@ -49,13 +54,19 @@ is_at_cost (Some wanted) cost = cost == wanted
 abbrev pub arrives : Option ℕ → Walk → Bool
 arrives cost walk = is_arrived walk.end && is_at_cost cost walk.cost
 
--- the walk by first hops arrives; or it does not so, and that is printed with the walk; or there is none, and it is said why
-pub data IsOfWalk (e : Expected) (from : RouterId) (address : Addr) (cost : Option ℕ) (w : WorldValue) (answer : Answer) (text : Text) (unmet : Bool) : Type 0 where
-  has_arrived : (walk : Walk) → IsWalkFrom w from address.0 [] (Ok walk) → arrives cost walk ≡ true → answer ≡ Ok tt → text ≡ [] → unmet ≡ false
+-- the walk by first hops arrives; or it does not so, and that is printed with the walk; or
+-- there is none, and it is said why
+pub data IsOfWalk (e : Expected) (from : RouterId) (address : Addr) (cost : Option ℕ)
+    (w : WorldValue) (answer : Answer) (text : Text) (unmet : Bool) : Type 0 where
+  has_arrived : (walk : Walk) → IsWalkFrom w from address.0 [] (Ok walk) → arrives cost walk ≡ true
+      → answer ≡ Ok tt → text ≡ [] → unmet ≡ false
       → IsOfWalk e from address cost w answer text unmet
-  has_not_arrived : (walk : Walk) → IsWalkFrom w from address.0 [] (Ok walk) → arrives cost walk ≡ false → answer ≡ Ok tt
-      → text ≡ unmet_line e ++ walk_line walk → unmet ≡ true → IsOfWalk e from address cost w answer text unmet
-  is_no_walk : (f : WorldFault) → IsWalkFrom w from address.0 [] (Err f) → answer ≡ Err f → text ≡ [] → unmet ≡ true
+  has_not_arrived : (walk : Walk) → IsWalkFrom w from address.0 [] (Ok walk)
+      → arrives cost walk ≡ false → answer ≡ Ok tt
+      → text ≡ unmet_line e ++ walk_line walk → unmet ≡ true
+      → IsOfWalk e from address cost w answer text unmet
+  is_no_walk : (f : WorldFault) → IsWalkFrom w from address.0 [] (Err f) → answer ≡ Err f
+      → text ≡ [] → unmet ≡ true
       → IsOfWalk e from address cost w answer text unmet
 
 -- ---- of all routers
@@ -75,7 +86,8 @@ NoneRuns slots = AllByRecursion (λ (s : SlotValue). s.running ≡ None) slots
 -- the first of these routers that runs and lists otherwise, if there is one
 pub data IsFirstOther (lsas : List ℕ) (slots : List SlotValue) : Option RouterId → Type 0 where
   all_list : AllList lsas slots → IsFirstOther lsas slots None
-  one_lists_otherwise : (before after : List SlotValue) (s : SlotValue) (x : Running) → slots ≡ before ++ s ∷ after
+  one_lists_otherwise : (before after : List SlotValue) (s : SlotValue) (x : Running)
+      → slots ≡ before ++ s ∷ after
       → AllList lsas before → s.running ≡ Some x → (area_listed (Some x.state) ≡ lsas → ⊥)
       → IsFirstOther lsas slots (Some s.config.router_id)
 
@@ -87,7 +99,8 @@ both r (Some o) = Some (r, o)
 -- the first router that runs, and the first behind it that lists otherwise, if there is one
 pub data AreFirstToDiffer (slots : List SlotValue) : Option (RouterId × RouterId) → Type 0 where
   none_runs : NoneRuns slots → AreFirstToDiffer slots None
-  one_runs : (before after : List SlotValue) (s : SlotValue) (x : Running) (other : Option RouterId) → slots ≡ before ++ s ∷ after
+  one_runs : (before after : List SlotValue) (s : SlotValue) (x : Running) (other : Option RouterId)
+      → slots ≡ before ++ s ∷ after
       → NoneRuns before → s.running ≡ Some x → IsFirstOther (area_listed (Some x.state)) after other
       → AreFirstToDiffer slots (both s.config.router_id other)
 
@@ -99,12 +112,16 @@ two_text two = number_text two.0.0 ++ codes " and " ++ number_text two.1.0
 abbrev pub apart_line : RouterId × RouterId → Text
 apart_line two = two_text two ++ codes " list otherwise\n"
 
--- all routers that run list the same; or there is no room to know; or two do not, and that is printed
+-- all routers that run list the same; or there is no room to know; or
+-- two do not, and that is printed
 pub data IsOfAll (w : WorldValue) (answer : Answer) (text : Text) (unmet : Bool) : Type 0 where
-  they_agree : AreFirstToDiffer w.slots None → answer ≡ Ok tt → text ≡ [] → unmet ≡ false → IsOfAll w answer text unmet
-  no_room : answer ≡ Err (fault.Memory false) → text ≡ [] → unmet ≡ true → IsOfAll w answer text unmet
+  they_agree : AreFirstToDiffer w.slots None → answer ≡ Ok tt → text ≡ [] → unmet ≡ false
+      → IsOfAll w answer text unmet
+  no_room : answer ≡ Err (fault.Memory false) → text ≡ [] → unmet ≡ true
+      → IsOfAll w answer text unmet
   they_differ : (two : RouterId × RouterId) → AreFirstToDiffer w.slots (Some two) → answer ≡ Ok tt
-      → text ≡ unmet_line expected.Agree ++ apart_line two → unmet ≡ true → IsOfAll w answer text unmet
+      → text ≡ unmet_line expected.Agree ++ apart_line two → unmet ≡ true
+      → IsOfAll w answer text unmet
 
 -- ---- whatever is expected
 
@@ -115,12 +132,15 @@ settled_text false = unmet_line expected.Settled
 
 -- the last settling is known to hold, and nothing is printed; or it is not, and that is printed
 abbrev pub IsOfSettling : Bool → Answer → Text → Bool → Type 0
-IsOfSettling is_settled answer text unmet = (answer ≡ Ok tt) × (text ≡ settled_text is_settled) × (unmet ≡ not is_settled)
+IsOfSettling is_settled answer text unmet =
+    (answer ≡ Ok tt) × (text ≡ settled_text is_settled) × (unmet ≡ not is_settled)
 
 -- what is expected is judged
 abbrev pub IsJudged : Expected → Simulation → Answer → Text → Bool → Type 0
-IsJudged (expected.Router r wanted) s answer text unmet = IsOfRouter r wanted s.world answer text unmet
-IsJudged (expected.Walk from address cost) s answer text unmet = IsOfWalk (expected.Walk from address cost) from address cost s.world answer text unmet
+IsJudged (expected.Router r wanted) s answer text unmet =
+    IsOfRouter r wanted s.world answer text unmet
+IsJudged (expected.Walk from address cost) s answer text unmet =
+    IsOfWalk (expected.Walk from address cost) from address cost s.world answer text unmet
 IsJudged expected.Agree s answer text unmet = IsOfAll s.world answer text unmet
 IsJudged expected.Settled s answer text unmet = IsOfSettling s.is_settled answer text unmet
 

@@ -24,7 +24,8 @@ ageless lsa = drop 2 (take 20 lsa)
 abbrev pub area_listed : Option AreaValue → List ℕ
 area_listed area = flat_map ageless (listing_of area)
 
--- what is seen of a router that runs: its neighbours, as `neighbours` prints them, and what it lists
+-- what is seen of a router that runs: its neighbours, as `neighbours`
+-- prints them, and what it lists
 abbrev pub area_sight : Option AreaValue → List ℕ
 area_sight area = links_lines 32 area ++ area_listed area
 
@@ -61,22 +62,26 @@ longest_dead s = fold longer_in 0 s.world.slots
 abbrev pub settling_offers : ℕ
 settling_offers = 1000000
 
--- simulations, the latest first: the last is this one, and a round lies between each and the one before
+-- simulations, the latest first: the last is this one, and a round lies
+-- between each and the one before
 abbrev pub ArePassed : Simulation → List Simulation → Type 0
 ArePassed s [] = ⊥
 ArePassed s (now ∷ []) = now ≡ s
-ArePassed s (now ∷ before ∷ passed) = IsOneRound settling_offers before (Ok tt) now × ArePassed s (before ∷ passed)
+ArePassed s (now ∷ before ∷ passed) =
+    IsOneRound settling_offers before (Ok tt) now × ArePassed s (before ∷ passed)
 
 -- of simulations, the latest first: in the last so many rounds nothing that is seen has changed
 abbrev pub IsStillFor : ℕ → List Simulation → Type 0
 IsStillFor zero passed = ⊤
-IsStillFor (suc rounds) (now ∷ before ∷ passed) = (sight now ≡ sight before) × IsStillFor rounds (before ∷ passed)
+IsStillFor (suc rounds) (now ∷ before ∷ passed) =
+    (sight now ≡ sight before) × IsStillFor rounds (before ∷ passed)
 IsStillFor (suc rounds) _ = ⊥
 
 -- that was so behind none of them
 abbrev pub NeverStillFor : ℕ → List Simulation → Type 0
 NeverStillFor rounds [] = ⊤
-NeverStillFor rounds (now ∷ passed) = (IsStillFor rounds (now ∷ passed) → ⊥) × NeverStillFor rounds passed
+NeverStillFor rounds (now ∷ passed) =
+    (IsStillFor rounds (now ∷ passed) → ⊥) × NeverStillFor rounds passed
 
 -- what is printed of it: the round of the last change, and how many more changed nothing
 abbrev pub round_text : (rounds : ℕ) → Text
@@ -94,21 +99,33 @@ settled_line rounds still = round_text rounds ++ still_line still
 abbrev pub unsettled_line : (rounds : ℕ) → Text
 unsettled_line rounds = codes "not settled by round " ++ decimal rounds ++ codes "\n"
 
--- rounds, at most so many, up to the first behind which nothing has changed for so many; or there is none such; or a round is
--- refused; or there is no room for what is seen
-pub data Passes (most still : ℕ) (s : Simulation) (result : Result (Option ℕ) WorldFault) (s' : Simulation) : Type 0 where
-  settles : (passed : List Simulation) → ArePassed s (s' ∷ passed) → IsStillFor still (s' ∷ passed) → NeverStillFor still passed
+-- rounds, at most so many, up to the first behind which nothing has changed for so many; or there
+-- is none such; or a round is refused; or there is no room for what is seen
+pub data Passes (most still : ℕ) (s : Simulation) (result : Result (Option ℕ) WorldFault)
+    (s' : Simulation) : Type 0 where
+  settles : (passed : List Simulation) → ArePassed s (s' ∷ passed) → IsStillFor still (s' ∷ passed)
+      → NeverStillFor still passed
       → length passed ≤ most → result ≡ Ok (Some (length passed)) → Passes most still s result s'
-  does_not_settle : (passed : List Simulation) → ArePassed s (s' ∷ passed) → NeverStillFor still (s' ∷ passed) → length passed ≡ most
+  does_not_settle : (passed : List Simulation) → ArePassed s (s' ∷ passed)
+      → NeverStillFor still (s' ∷ passed) → length passed ≡ most
       → result ≡ Ok None → Passes most still s result s'
-  round_ends_it : (now : Simulation) (passed : List Simulation) (f : WorldFault) → ArePassed s (now ∷ passed) → NeverStillFor still (now ∷ passed)
-      → length passed < most → IsOneRound settling_offers now (Err f) s' → result ≡ Err f → Passes most still s result s'
-  no_room_ends_it : (passed : List Simulation) → ArePassed s (s' ∷ passed) → NeverStillFor still passed → length passed ≤ most
+  round_ends_it : (now : Simulation) (passed : List Simulation) (f : WorldFault)
+      → ArePassed s (now ∷ passed) → NeverStillFor still (now ∷ passed)
+      → length passed < most → IsOneRound settling_offers now (Err f) s' → result ≡ Err f
+      → Passes most still s result s'
+  no_room_ends_it : (passed : List Simulation) → ArePassed s (s' ∷ passed)
+      → NeverStillFor still passed → length passed ≤ most
       → result ≡ Err (fault.Memory false) → Passes most still s result s'
 
--- it is looked at for as many rounds as the longest RouterDeadInterval has seconds, and told what came of it
-pub data Settles (most : ℕ) (s : Simulation) (answer : Answer) (text : Text) (s' : Simulation) : Type 0 where
-  has_settled : (rounds : ℕ) (now : Simulation) → Passes most (longest_dead s) s (Ok (Some rounds)) now → answer ≡ Ok tt
-      → text ≡ settled_line (rounds - longest_dead s) (longest_dead s) → s' ≡ record now { is_settled = true } → Settles most s answer text s'
-  has_not_settled : Passes most (longest_dead s) s (Ok None) s' → answer ≡ Ok tt → text ≡ unsettled_line most → Settles most s answer text s'
-  has_ended : (f : WorldFault) → Passes most (longest_dead s) s (Err f) s' → answer ≡ Err f → text ≡ [] → Settles most s answer text s'
+-- it is looked at for as many rounds as the longest RouterDeadInterval has
+-- seconds, and told what came of it
+pub data Settles (most : ℕ) (s : Simulation) (answer : Answer) (text : Text) (s' : Simulation)
+    : Type 0 where
+  has_settled : (rounds : ℕ) (now : Simulation)
+      → Passes most (longest_dead s) s (Ok (Some rounds)) now → answer ≡ Ok tt
+      → text ≡ settled_line (rounds - longest_dead s) (longest_dead s)
+      → s' ≡ record now { is_settled = true } → Settles most s answer text s'
+  has_not_settled : Passes most (longest_dead s) s (Ok None) s' → answer ≡ Ok tt
+      → text ≡ unsettled_line most → Settles most s answer text s'
+  has_ended : (f : WorldFault) → Passes most (longest_dead s) s (Err f) s' → answer ≡ Err f
+      → text ≡ [] → Settles most s answer text s'

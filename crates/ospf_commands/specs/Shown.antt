@@ -21,7 +21,8 @@ end_text Turns = codes "turns"
 -- a walk: the routers that it met, what it cost, how it ended
 abbrev pub walk_line : Walk → Text
 walk_line walk =
-    routers_text walk.routers.items ++ codes "cost " ++ decimal walk.cost ++ codes " " ++ end_text walk.end ++ codes "\n"
+    routers_text walk.routers.items ++ codes "cost " ++ decimal walk.cost ++ codes " "
+    ++ end_text walk.end ++ codes "\n"
 
 -- a text that is said
 abbrev pub said_line : String Global → Text
@@ -29,7 +30,8 @@ said_line said = string_bytes said ++ codes "\n"
 
 -- the line above a walk: from where to where, and what stands in its line
 abbrev pub ends_text : RouterId → Addr → Text
-ends_text from address = codes "walk from " ++ number_text from.0 ++ codes " to " ++ number_text address.0
+ends_text from address =
+    codes "walk from " ++ number_text from.0 ++ codes " to " ++ number_text address.0
 
 -- what stands above the lines of a walk
 abbrev pub walk_heading : RouterId → Addr → Text
@@ -37,4 +39,5 @@ walk_heading from address = ends_text from address ++ codes ": routers, cost, en
 
 -- a walk
 abbrev pub walked_lines : Bool → RouterId → Addr → Walk → Text
-walked_lines is_labelled from address walk = headed is_labelled (walk_heading from address) (walk_line walk)
+walked_lines is_labelled from address walk =
+    headed is_labelled (walk_heading from address) (walk_line walk)

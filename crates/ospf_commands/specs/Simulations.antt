@@ -8,9 +8,18 @@ use Rattle.ospf_commands.specs.declared.simulation.Simulation.{Simulation}
 abbrev pub Answer : Type 0
 Answer = Result (Unit {0}) WorldFault
 
--- a simulation in this world before its first line: nothing is lost, labelled or settled, no walk was asked for, and nothing was expected
+-- a simulation in this world before its first line: nothing is lost, labelled or settled, no walk
+-- was asked for, and nothing was expected
 abbrev pub begun_in : WorldValue → Simulation
-begun_in w = record { world = w; losses = None; walk = None; is_labelled = false; is_settled = false; is_unmet = false }
+begun_in w =
+    record {
+      world = w;
+      losses = None;
+      walk = None;
+      is_labelled = false;
+      is_settled = false;
+      is_unmet = false;
+    }
 
 -- something may have come about: the world is this one, and it is not known to have settled
 abbrev pub moved : Simulation → WorldValue → Simulation

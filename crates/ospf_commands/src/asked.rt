@@ -37,7 +37,7 @@ pub(crate) fn say<O: Write>(
     Ok(Ok(()))
 }
 
-// Prints what a line asks of a router, if that runs. Where that fails, a beginning of it was written.
+// Prints what a line asks of a router, if that runs; where that fails, a beginning of it.
 pub(crate) fn show_router<O: Write>(
     simulation: &Simulation,
     view: View,
@@ -62,7 +62,7 @@ pub(crate) fn show_router<O: Write>(
     }
 }
 
-// Prints a walk, if there is one, and keeps whom it met. Where printing fails, a beginning of it was written.
+// Prints a walk, if there is one, and keeps whom it met; where that fails, a beginning of it.
 pub(crate) fn show_walk<O: Write>(
     simulation: &mut Simulation,
     ends: (RouterId, Addr),
@@ -91,8 +91,8 @@ pub(crate) fn show_walk<O: Write>(
     }
 }
 
-// Prints what a link waits for, or a router on it, and why it would drop what came last, if there is such a link. Where that fails,
-// a beginning of it was written.
+// Prints what a link waits for, or a router on it, and why it would drop what came last, if there
+// is such a link. Where that fails, a beginning of it was written.
 pub(crate) fn show_why<O: Write>(
     simulation: &Simulation,
     place: (RouterId, usize),
@@ -122,7 +122,7 @@ pub(crate) fn show_why<O: Write>(
     }
 }
 
-// Prints what a round offers to a router that runs, the last so many of it. Where that fails, a beginning of it was written.
+// Prints the last that a round offers to a router that runs; where that fails, a beginning of it.
 pub(crate) fn show_datagrams<O: Write>(
     simulation: &Simulation,
     router: RouterId,
@@ -148,7 +148,7 @@ pub(crate) fn show_datagrams<O: Write>(
     Ok(Ok(()))
 }
 
-// Prints what a router dropped since it started, if it runs. Where that fails, a beginning of it was written.
+// Prints what a router that runs dropped since its start; where that fails, a beginning of it.
 pub(crate) fn show_drops<O: Write>(
     simulation: &Simulation,
     router: RouterId,

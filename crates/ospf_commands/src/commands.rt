@@ -18,10 +18,11 @@ use ospf_world::{WorldEvent, WorldFault};
 use std::alloc::Global;
 use std::io::Write;
 
-/// Does what a command asks for, and prints what it is to print. The answer is why it is refused, if it is. A watch is told of each
-/// event, and how far rounds have come.
+/// Does what a command asks for, and prints what it is to print. The answer is why it is refused,
+/// if it is. A watch is told of each event, and how far rounds have come.
 ///
-/// `Failure` where memory runs out or the stream fails: then a beginning of what it is to print was written.
+/// `Failure` where memory runs out or the stream fails: then a beginning of
+/// what it is to print was written.
 pub fn run_command<O: Write, V: Watch>(
     simulation: &mut Simulation,
     command: &Command,

@@ -36,8 +36,7 @@ impl Display for TwoShown {
     }
 }
 
-// Whether something is as it is expected to be: where it is not, that is printed, and kept. Where printing fails, a beginning of it
-// was written.
+// Whether something is as it is expected to be. If not, that is printed, or a beginning, and kept.
 pub(crate) fn judge<O: Write>(
     simulation: &mut Simulation,
     expected: &Expected,

@@ -13,8 +13,8 @@ use ospf_headline::{headline, runs_lead_on, soundness};
 use ospf_world::{EventWatch, World, WorldEvent, WorldFault, ticks_of};
 use std::alloc::{AllocError, Global};
 
-/// A round, as `World::round_of` has it, in which deliveries are lost: what is lost is not delivered, and nothing else changes. A
-/// watch is told of each event.
+/// A round, as `World::round_of` has it, in which deliveries are lost: what is lost is not
+/// delivered, and nothing else changes. A watch is told of each event.
 ///
 /// `Memory` where memory runs out, which ends it.
 pub fn round_losing<W: EventWatch>(

@@ -10,7 +10,7 @@ use rand_core::utils::NextWord;
 use rand_pcg::Lcg64Xsh32;
 use std::alloc::{AllocError, Global};
 
-/// Of a hundred deliveries so many are lost, by chance: on all networks, or on that alone which holds an address.
+/// Of a hundred deliveries so many are lost, by chance: on all networks, or on that of an address.
 #[derive(Drop)]
 pub struct Losses {
     pub(crate) percent: u8,
@@ -22,9 +22,9 @@ impl Losses {
     ghost use Rattle.std.specs.Prelude.{◌≡◌, IfOk, OnErr};
     ghost use Rattle.ospf_commands.specs.Losses.{judged, kept_from, losses_of};
 
-    /// So many in a hundred are lost, all from a hundred on: by the words of the generator of this number, a word a delivery. Where
-    /// an address is given, deliveries alone of datagrams that are sent on the network that holds it, and no word is drawn for
-    /// others.
+    /// So many in a hundred are lost, all from a hundred on: by the words of the generator of this
+    /// number, a word a delivery. Where an address is given, deliveries alone of datagrams that are
+    /// sent on the network that holds it, and no word is drawn for others.
     pub fn new(percent: u8, number: u64, network: Option<Addr>) -> Losses
         ensures { result ≡ losses_of percent number network }
     {

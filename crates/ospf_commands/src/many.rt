@@ -14,7 +14,7 @@ use std::alloc::{AllocError, Global};
 // The first DD sequence number of each router that starts with all others.
 const DD_START: u32 = 1;
 
-// That comes about at each router, one after another in the order of the configurations. What is refused is passed over.
+// That comes about at each router, by the order of configurations. What is refused is passed over.
 //
 // `NoLink` where there is no link that is meant.
 pub(crate) fn run_many<V: EventWatch>(

@@ -18,8 +18,9 @@ use std::io::Write;
 // How many datagrams a round offers at most.
 const SETTLING_OFFERS: u64 = 1_000_000;
 
-// Rounds, at most so many, until nothing that is seen has changed for as many as the longest RouterDeadInterval has seconds. How
-// many it took is printed; where that fails, a beginning of it was written.
+// Rounds, at most so many, until nothing that is seen has changed for as many as the
+// longest RouterDeadInterval has seconds. How many it took is printed; where that fails,
+// a beginning of it was written.
 pub(crate) fn settle<O: Write, V: Watch>(
     simulation: &mut Simulation,
     most: u64,
@@ -54,7 +55,7 @@ pub(crate) fn settle<O: Write, V: Watch>(
     }
 }
 
-// Rounds, at most so many, until nothing that is seen has changed for so many of them: how many there were then.
+// Rounds, at most so many, until nothing seen has changed for so many: how many there were then.
 fn pass_rounds<V: Watch>(
     simulation: &mut Simulation,
     most: u64,

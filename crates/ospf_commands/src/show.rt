@@ -32,7 +32,7 @@ impl Display for EndsShown {
     }
 }
 
-// Writes a walk, with a line above it where labels are asked for. Where that fails, a beginning of it was written.
+// Writes a walk, below a line where labels are asked for; where that fails, a beginning of it.
 pub(crate) fn write_walked<O: Write>(
     alloc: Global,
     is_labelled: bool,

@@ -30,7 +30,8 @@ config_fault_text fault.Memory = codes "C9 Memory"
 
 -- the fault of the lesser number
 abbrev pub earlier_of : Option ConfigFault → Option ConfigFault → Option ConfigFault
-earlier_of (Some f) (Some g) = if nat_lt (config_fault_number g) (config_fault_number f) then Some g else Some f
+earlier_of (Some f) (Some g) =
+    if nat_lt (config_fault_number g) (config_fault_number f) then Some g else Some f
 earlier_of (Some f) None = Some f
 earlier_of None b = b
 
@@ -40,8 +41,11 @@ IsLeastFault Holds f = faults.IsFirstHeld config_fault_number Holds f
 
 -- the least fault that holds, or none where none does
 abbrev pub IsLeastIfAny : (ConfigFault → Type 0) → Option ConfigFault → Type 0
-IsLeastIfAny Holds found = MatchOption found ((f : ConfigFault) → Holds f → ⊥) (λ f. IsLeastFault Holds f)
+IsLeastIfAny Holds found =
+    MatchOption found ((f : ConfigFault) → Holds f → ⊥) (λ f. IsLeastFault Holds f)
 
 -- the fault that is read, or none where none is
-abbrev pub IsFaultIfAny : {T : Type 0} → (Result T ConfigFault → Type 0) → Option ConfigFault → Type 0
-IsFaultIfAny Reads found = MatchOption found ((f : ConfigFault) → Reads (Err f) → ⊥) (λ f. Reads (Err f))
+abbrev pub IsFaultIfAny : {T : Type 0} → (Result T ConfigFault → Type 0) → Option ConfigFault
+    → Type 0
+IsFaultIfAny Reads found =
+    MatchOption found ((f : ConfigFault) → Reads (Err f) → ⊥) (λ f. Reads (Err f))

@@ -13,7 +13,8 @@ host_part address length = address % prefix_size length
 abbrev pub first_octet : ℕ → ℕ
 first_octet address = address / 2 ^ 24
 
--- a prefix of 1 to 30 bits, the bits behind it neither all zeros nor all ones, and a first octet of a unicast address
+-- a prefix of 1 to 30 bits, the bits behind it neither all zeros nor all ones, and a
+-- first octet of a unicast address
 pub record IsHostAddress (address prefix_length : ℕ) : Type 0 where
   pub long : 1 ≤ prefix_length
   pub short : prefix_length ≤ 30

@@ -22,7 +22,8 @@ ReadsOwnRouterId t r = Required as_str IsRouterIdText (get_member (codes "router
 abbrev pub ReadsArea : Members → Result AreaId ConfigFault → Type 0
 ReadsArea t r = Required as_str IsAreaText (get_member (codes "area") t) r
 
--- the key `stub_router`, `false` where it is not there: whether the router is a stub router (RFC 6987)
+-- the key `stub_router`, `false` where it is not there: whether the
+-- router is a stub router (RFC 6987)
 abbrev pub ReadsStubRouter : Members → Result Bool ConfigFault → Type 0
 ReadsStubRouter t r = Optional as_bool (λ b c. b ≡ c) false (get_member (codes "stub_router") t) r
 
@@ -68,11 +69,13 @@ ReadsDead t r = Optional as_integer (IsNumberIn 1 65535) 40 (get_member (codes "
 
 -- the key `retransmit`, 5 where it is not there: RxmtInterval, in seconds (C.3)
 abbrev pub ReadsRetransmit : Members → Result ℕ ConfigFault → Type 0
-ReadsRetransmit t r = Optional as_integer (IsNumberIn 1 65535) 5 (get_member (codes "retransmit") t) r
+ReadsRetransmit t r =
+    Optional as_integer (IsNumberIn 1 65535) 5 (get_member (codes "retransmit") t) r
 
 -- the key `transmit_delay`, 1 where it is not there: InfTransDelay, in seconds (C.3)
 abbrev pub ReadsTransmitDelay : Members → Result ℕ ConfigFault → Type 0
-ReadsTransmitDelay t r = Optional as_integer (IsNumberIn 1 max_age) 1 (get_member (codes "transmit_delay") t) r
+ReadsTransmitDelay t r =
+    Optional as_integer (IsNumberIn 1 max_age) 1 (get_member (codes "transmit_delay") t) r
 
 -- the key `mtu`, 1500 where it is not there: the greatest IP datagram of the interface, in bytes
 abbrev pub ReadsMtu : Members → Result ℕ ConfigFault → Type 0

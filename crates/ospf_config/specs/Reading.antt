@@ -11,12 +11,14 @@ ReadsValue Means (Some d) (Ok v) = Means d v
 ReadsValue {D} {T} Means (Some d) (Err f) = (f ≡ fault.Range) × ((v : T) → Means d v → ⊥)
 
 -- a key that has no default
-abbrev pub Required : {D T : Type 0} → (Data → Option D) → (D → T → Type 0) → Option Data → Result T ConfigFault → Type 0
+abbrev pub Required : {D T : Type 0} → (Data → Option D) → (D → T → Type 0) → Option Data
+    → Result T ConfigFault → Type 0
 Required typed Means None r = r ≡ Err fault.Missing
 Required typed Means (Some d) r = ReadsValue Means (typed d) r
 
 -- a key that has a default
-abbrev pub Optional : {D T : Type 0} → (Data → Option D) → (D → T → Type 0) → T → Option Data → Result T ConfigFault → Type 0
+abbrev pub Optional : {D T : Type 0} → (Data → Option D) → (D → T → Type 0) → T → Option Data
+    → Result T ConfigFault → Type 0
 Optional typed Means default None r = r ≡ Ok default
 Optional typed Means default (Some d) r = ReadsValue Means (typed d) r
 

@@ -97,12 +97,15 @@ keys_of (member k d ms) = k ∷ keys_of ms
 
 -- the keys that a configuration can have
 abbrev pub top_keys : List (List ℕ)
-top_keys = codes "router_id" ∷ codes "area" ∷ codes "stub_router" ∷ codes "other_lsas" ∷ codes "interface" ∷ []
+top_keys =
+    codes "router_id" ∷ codes "area" ∷ codes "stub_router" ∷ codes "other_lsas" ∷ codes "interface"
+    ∷ []
 
 -- the keys that the table of an interface can have
 abbrev pub interface_keys : List (List ℕ)
 interface_keys =
-    codes "kind" ∷ codes "address" ∷ codes "cost" ∷ codes "priority" ∷ codes "hello" ∷ codes "dead" ∷ codes "retransmit"
+    codes "kind" ∷ codes "address" ∷ codes "cost" ∷ codes "priority" ∷ codes "hello" ∷ codes "dead"
+    ∷ codes "retransmit"
     ∷ codes "transmit_delay" ∷ codes "mtu" ∷ codes "port" ∷ codes "peers" ∷ []
 
 -- the key is none of these
@@ -119,9 +122,11 @@ HasOtherKey known t = Any (IsOtherKey known) (keys_of t)
 abbrev pub HasKeyFault : Members → ConfigFault → Type 0
 HasKeyFault t f = HasTopFault t f ⊎ Any (λ i. HasInterfaceFault i f) (interface_tables t)
 
--- a table has a fault: of interfaces that are in one prefix, of an interval, of a key that is none, or of the value at a key
+-- a table has a fault: of interfaces that are in one prefix, of an interval, of a key that is
+-- none, or of the value at a key
 abbrev pub HasConfigFault : Members → ConfigFault → Type 0
 HasConfigFault t fault.SamePrefix = HaveSamePrefix (interface_tables t)
 HasConfigFault t fault.DeadNotOverHello = Any IsDeadNotOverHello (interface_tables t)
-HasConfigFault t fault.Unknown = HasOtherKey top_keys t ⊎ Any (HasOtherKey interface_keys) (interface_tables t)
+HasConfigFault t fault.Unknown =
+    HasOtherKey top_keys t ⊎ Any (HasOtherKey interface_keys) (interface_tables t)
 HasConfigFault t f = HasKeyFault t f

@@ -68,7 +68,8 @@ pub fn hello_at(table: &Table) -> Result<u16, ConfigFault>
     number_at(table, "hello", 1, 65535, 10)
 }
 
-/// RouterDeadInterval in ticks at the key `dead`, 40 where nothing is there, or the fault of the key.
+/// RouterDeadInterval in ticks at the key `dead`, 40 where nothing is
+/// there, or the fault of the key.
 pub fn dead_at(table: &Table) -> Result<u16, ConfigFault>
     ensures reads { ReadsDead (table_view table.now) result }
     ensures range { IfOk result (λ n. 1 ≤ n) }
@@ -76,7 +77,8 @@ pub fn dead_at(table: &Table) -> Result<u16, ConfigFault>
     number_at(table, "dead", 1, 65535, 40)
 }
 
-/// RxmtInterval in ticks at the key `retransmit`, 5 where nothing is there, or the fault of the key.
+/// RxmtInterval in ticks at the key `retransmit`, 5 where nothing is
+/// there, or the fault of the key.
 pub fn retransmit_at(table: &Table) -> Result<u16, ConfigFault>
     ensures reads { ReadsRetransmit (table_view table.now) result }
     ensures range { IfOk result (λ n. 1 ≤ n) }
@@ -84,7 +86,8 @@ pub fn retransmit_at(table: &Table) -> Result<u16, ConfigFault>
     number_at(table, "retransmit", 1, 65535, 5)
 }
 
-/// InfTransDelay in ticks at the key `transmit_delay`, 1 where nothing is there, or the fault of the key.
+/// InfTransDelay in ticks at the key `transmit_delay`, 1 where nothing is
+/// there, or the fault of the key.
 pub fn transmit_delay_at(table: &Table) -> Result<u16, ConfigFault>
     ensures reads { ReadsTransmitDelay (table_view table.now) result }
     ensures range { IfOk result (λ n. (1 ≤ n) × (n ≤ max_age)) }
@@ -92,7 +95,8 @@ pub fn transmit_delay_at(table: &Table) -> Result<u16, ConfigFault>
     number_at(table, "transmit_delay", 1, MAX_AGE, 1)
 }
 
-/// The largest IP datagram in bytes at the key `mtu`, 1500 where nothing is there, or the fault of the key.
+/// The largest IP datagram in bytes at the key `mtu`, 1500 where nothing is
+/// there, or the fault of the key.
 pub fn mtu_at(table: &Table) -> Result<u16, ConfigFault>
     ensures reads { ReadsMtu (table_view table.now) result }
     ensures range { IfOk result (λ n. (576 ≤ n) × (n ≤ 9000)) }

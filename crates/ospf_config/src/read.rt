@@ -59,7 +59,8 @@ fn config_of(alloc: Global, table: &Table) -> Result<Config, ConfigFault>
     }
 }
 
-// The configuration of a table whose keys have no fault, or the least fault of the rules on several.
+// The configuration of a table whose keys have no fault, or the least
+// fault of the rules on several.
 fn config_by_rules(alloc: Global, table: &Table) -> Result<Config, ConfigFault>
     requires { (f : ConfigFault) → HasKeyFault (table_view table.now) f → ⊥ }
     ensures ok { IfOk result (IsConfigOf (table_view table.now)) }

@@ -142,7 +142,8 @@ fn conflicts_with_any(address: &InterfaceAddress, others: &[InterfaceAddress]) -
     false
 }
 
-// Whether a value is the table of an interface whose RouterDeadInterval is not over its HelloInterval.
+// Whether a value is the table of an interface whose RouterDeadInterval
+// is not over its HelloInterval.
 fn is_value_dead(value: &Value) -> bool
     ensures { IsTrue result ↔ IsTableWith IsDeadNotOverHello (view value.now) }
 {

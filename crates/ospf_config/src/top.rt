@@ -33,7 +33,8 @@ pub fn area_at(table: &Table) -> Result<AreaId, ConfigFault>
     }
 }
 
-/// Whether the router is a stub router (RFC 6987), at the key `stub_router`: not where nothing is there; or the fault of the key.
+/// Whether the router is a stub router (RFC 6987), at the key `stub_router`: not where nothing is
+/// there; or the fault of the key.
 pub fn stub_router_at(table: &Table) -> Result<bool, ConfigFault>
     ensures { ReadsStubRouter (table_view table.now) result }
 {
@@ -43,8 +44,8 @@ pub fn stub_router_at(table: &Table) -> Result<bool, ConfigFault>
     }
 }
 
-/// Whether LSAs of LS types 3, 4 and 5 are passed over, at the key `other_lsas`: not where nothing is there; or the fault
-/// of the key.
+/// Whether LSAs of LS types 3, 4 and 5 are passed over, at the key `other_lsas`: not where nothing
+/// is there; or the fault of the key.
 pub fn other_lsas_at(table: &Table) -> Result<bool, ConfigFault>
     ensures { ReadsOtherLsas (table_view table.now) result }
 {

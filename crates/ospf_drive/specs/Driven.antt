@@ -13,7 +13,8 @@ abbrev pub Outcome : Type 0
 Outcome = Result (RouterValue × Known × Option Known) DriveFault
 
 -- the driver came to the end of what its wire handed over, with these
-pub record DrivesToEnd (a : Moment) (router : RouterValue) (known : Known) (told : Option Known) : Type 0 where
+pub record DrivesToEnd (a : Moment) (router : RouterValue) (known : Known) (told : Option Known)
+    : Type 0 where
   pub traffic : Carried
   pub failed : ℕ
   pub drives : Drives a (at router traffic failed known) (Ok told)

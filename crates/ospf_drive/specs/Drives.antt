@@ -16,8 +16,9 @@ abbrev pub last_told : List Table → Known → Option Known
 last_told [] known = None
 last_told (table ∷ tables) known = Some known
 
--- From one moment to the other the driver took arrivals that are no end. Each that is not passed over was a step of the
--- router. All that the steps sent went out, in order, and each table that a step changed was published, in order.
+-- From one moment to the other the driver took arrivals that are no end. Each that is not passed
+-- over was a step of the router. All that the steps sent went out, in order, and each table that a
+-- step changed was published, in order.
 pub record DriverGoesOn (a b : Moment) (told : Option Known) : Type 0 where
   pub taken : List Heard
   pub steps : List Done
@@ -74,7 +75,8 @@ pub record Stops (a b : Moment) : Type 0 where
   pub failed : b.failed ≡ a.failed
   pub known : b.known ≡ a.known
 
--- an arrival was a step that changed the table, all that it sent went out, and the table was not published
+-- an arrival was a step that changed the table, all that it sent went out,
+-- and the table was not published
 pub record FailsToPublish (a b : Moment) : Type 0 where
   pub arrival : Heard
   pub step : Done

@@ -10,7 +10,8 @@ use Rattle.ospf_router.specs.declared.router.Step.{Step}
 use Rattle.ospf_drive.specs.Traffic.{Heard, Carried}
 use Rattle.ospf_drive.specs.Traffic.Heard.{Datagram, Tick, LinkUp, LinkDown, End}
 
--- the router, the wire's traffic where it is told, how often the wire has failed, and what the writer has published
+-- the router, the wire's traffic where it is told, how often the wire has failed,
+-- and what the writer has published
 pub record Moment : Type 0 where
   pub router : RouterValue
   pub traffic : Carried
@@ -22,11 +23,13 @@ abbrev pub at : RouterValue → Carried → ℕ → Known → Moment
 at router traffic failed known =
     record { router = router; traffic = traffic; failed = failed; known = known }
 
--- the event that an arrival is to a router of so many links. It is none, and is passed over, where there is no such
--- link, and where the datagram is longer than the buffer
+-- the event that an arrival is to a router of so many links. It is none, and is passed over, where
+-- there is no such link, and where the datagram is longer than the buffer
 abbrev pub event_of : ℕ → Heard → Option Event
 event_of links (Datagram link source destination length bytes) =
-    if nat_lt link links && nat_le length 16393 then Some (Event.Datagram link source destination bytes) else None
+    if nat_lt link links && nat_le length 16393
+    then Some (Event.Datagram link source destination bytes)
+    else None
 event_of links Tick = Some Event.Tick
 event_of links (LinkUp link) = if nat_lt link links then Some (Event.LinkUp link) else None
 event_of links (LinkDown link) = if nat_lt link links then Some (Event.LinkDown link) else None

@@ -19,7 +19,8 @@ scripted script.End = End
 abbrev pub told_by_script : List Scripted → ℕ → List SentValue → Traffic
 told_by_script arrivals taken out = record { taken = map scripted (take taken arrivals); out = out }
 
--- a wire in memory: its script, how much of that was handed over, what went out, and how often it has failed
+-- a wire in memory: its script, how much of that was handed over, what went
+-- out, and how often it has failed
 pub record MemoryValue : Type 0 where
   pub arrivals : List Scripted
   pub taken : ℕ

@@ -28,7 +28,8 @@ pub record Traffic : Type 0 where
   pub taken : List Heard
   pub out : List SentValue
 
--- what a wire tells of that: all of it; only how many ticks it has handed over, and when the end comes; or nothing
+-- what a wire tells of that: all of it; only how many ticks it has handed over, and
+-- when the end comes; or nothing
 pub data Carried : Type 0 where
   Full : Traffic → Carried
   Ticks : (handed : ℕ) (span : Span) → Carried
@@ -62,8 +63,9 @@ and_goes taken out (Full t) = Full (record { taken = t.taken ++ taken; out = t.o
 and_goes taken out (Ticks handed span) = Ticks (handed + ticks_in taken) span
 and_goes taken out Untold = Untold
 
--- the end may come when so many ticks were handed over: all that there are, or no more than these where the wire may be told to
--- end; any number where it can be told and there is no last tick; and never where there is none and it cannot
+-- the end may come when so many ticks were handed over: all that there are, or no more than these
+-- where the wire may be told to end; any number where it can be told and there is no last tick; and
+-- never where there is none and it cannot
 abbrev pub MayEndAfter : Option ℕ → Bool → ℕ → Type 0
 MayEndAfter (Some ticks) false handed = handed ≡ ticks
 MayEndAfter (Some ticks) true handed = handed ≤ ticks

@@ -23,9 +23,11 @@ pub record EndsInEnd (taken : List Heard) : Type 0 where
 pub record IsLastStep (steps before : List Done) (last : Done) : Type 0 where
   pub is : steps ≡ before ++ last ∷ []
 
--- the end came last, where the wire counts its ticks after as many as its span says: each arrival that is not passed over was a step, all that these sent went out, and each table that one
--- of them changed was published. The last of these publishes is told
-pub record EndsWell (a b : Moment) (taken : List Heard) (steps : List Done) (out : List SentValue) (tables : List Table) (told : Option Known) : Type 0 where
+-- the end came last, where the wire counts its ticks after as many as its span says: each arrival
+-- that is not passed over was a step, all that these sent went out, and each table that one of them
+-- changed was published. The last of these publishes is told
+pub record EndsWell (a b : Moment) (taken : List Heard) (steps : List Done) (out : List SentValue)
+    (tables : List Table) (told : Option Known) : Type 0 where
   pub ended : EndsInEnd taken
   pub over : IsOver b.traffic
   pub events : events_done steps ≡ events_of a.router.links taken
@@ -36,7 +38,8 @@ pub record EndsWell (a b : Moment) (taken : List Heard) (steps : List Done) (out
   pub failed : b.failed ≡ a.failed
 
 -- the wire failed where it was to hand over the next arrival
-pub record EndsUnheard (a b : Moment) (taken : List Heard) (steps : List Done) (out : List SentValue) (tables : List Table) : Type 0 where
+pub record EndsUnheard (a b : Moment) (taken : List Heard) (steps : List Done)
+    (out : List SentValue) (tables : List Table) : Type 0 where
   pub no_end : HasNoEnd taken
   pub events : events_done steps ≡ events_of a.router.links taken
   pub router : b.router ≡ left_by a.router steps
@@ -45,7 +48,8 @@ pub record EndsUnheard (a b : Moment) (taken : List Heard) (steps : List Done) (
   pub failed : b.failed ≡ a.failed + 1
 
 -- the wire failed before all that the last step sent had gone out
-pub record EndsUnsent (a b : Moment) (taken : List Heard) (steps : List Done) (out : List SentValue) (tables : List Table) : Type 0 where
+pub record EndsUnsent (a b : Moment) (taken : List Heard) (steps : List Done) (out : List SentValue)
+    (tables : List Table) : Type 0 where
   pub before : List Done
   pub last : Done
   pub count : ℕ
@@ -59,7 +63,8 @@ pub record EndsUnsent (a b : Moment) (taken : List Heard) (steps : List Done) (o
   pub failed : b.failed ≡ a.failed + 1
 
 -- the router stopped at the event that came after the steps
-pub record EndsStopped (a b : Moment) (taken : List Heard) (steps : List Done) (out : List SentValue) (tables : List Table) : Type 0 where
+pub record EndsStopped (a b : Moment) (taken : List Heard) (steps : List Done)
+    (out : List SentValue) (tables : List Table) : Type 0 where
   pub event : Event
   pub no_end : HasNoEnd taken
   pub events : events_done steps ++ event ∷ [] ≡ events_of a.router.links taken
@@ -69,7 +74,8 @@ pub record EndsStopped (a b : Moment) (taken : List Heard) (steps : List Done) (
   pub failed : b.failed ≡ a.failed
 
 -- the last step changed the table, and this was not published
-pub record EndsUnpublished (a b : Moment) (taken : List Heard) (steps : List Done) (out : List SentValue) (tables : List Table) : Type 0 where
+pub record EndsUnpublished (a b : Moment) (taken : List Heard) (steps : List Done)
+    (out : List SentValue) (tables : List Table) : Type 0 where
   pub before : List Done
   pub last : Done
   pub is_last : IsLastStep steps before last
@@ -82,7 +88,8 @@ pub record EndsUnpublished (a b : Moment) (taken : List Heard) (steps : List Don
   pub failed : b.failed ≡ a.failed
 
 -- the whole call, by its result
-abbrev pub EndsAs : Moment → Moment → List Heard → List Done → List SentValue → List Table → Result (Option Known) DriveFault → Type 0
+abbrev pub EndsAs : Moment → Moment → List Heard → List Done → List SentValue → List Table
+    → Result (Option Known) DriveFault → Type 0
 EndsAs a b taken steps out tables (Ok told) = EndsWell a b taken steps out tables told
 EndsAs a b taken steps out tables (Err fault.Recv) = EndsUnheard a b taken steps out tables
 EndsAs a b taken steps out tables (Err fault.Send) = EndsUnsent a b taken steps out tables
@@ -90,8 +97,8 @@ EndsAs a b taken steps out tables (Err fault.Stopped) = EndsStopped a b taken st
 EndsAs a b taken steps out tables (Err fault.Publish) = EndsUnpublished a b taken steps out tables
 EndsAs a b taken steps out tables (Err fault.Thread) = ⊥
 
--- From one moment to the other the driver took these arrivals, the router made these steps, one after another, these datagrams
--- went out and these tables were published; and so it ended.
+-- From one moment to the other the driver took these arrivals, the router made these steps, one
+-- after another, these datagrams went out and these tables were published; and so it ended.
 pub record Whole (a b : Moment) (result : Result (Option Known) DriveFault) : Type 0 where
   pub taken : List Heard
   pub steps : List Done
@@ -105,10 +112,14 @@ pub record Whole (a b : Moment) (result : Result (Option Known) DriveFault) : Ty
 
 -- what a driver does turn by turn is that
 abbrev pub DrivesAreWhole : Type 0
-DrivesAreWhole = (a b : Moment) (result : Result (Option Known) DriveFault) → Drives a b result → Whole a b result
+DrivesAreWhole =
+    (a b : Moment) (result : Result (Option Known) DriveFault) → Drives a b result
+    → Whole a b result
 
--- where the wire counts its ticks, a driver that comes to the end has taken as many as stand before the end: all of them, and no
--- more, where the wire cannot be told to end
+-- where the wire counts its ticks, a driver that comes to the end has taken as many as stand before
+-- the end: all of them, and no more, where the wire cannot be told to end
 abbrev pub AllTicksAreTaken : Type 0
-AllTicksAreTaken = (a b : Moment) (told : Option Known) (handed : ℕ) (span : Span) (drives : Drives a b (Ok told)) → a.traffic ≡ Ticks handed span
+AllTicksAreTaken =
+    (a b : Moment) (told : Option Known) (handed : ℕ) (span : Span) (drives : Drives a b (Ok told))
+    → a.traffic ≡ Ticks handed span
     → EndsAfter span (handed + ticks_in drives.goes_on.taken)

@@ -23,8 +23,9 @@ pub type DriverJob<W, R> = (Router, W, Writer<R>);
 /// What a driver of `drive_all` gives back: the router, the writer, and what the last publish told.
 pub type Driven<R> = Result<(Router, Writer<R>, Option<Told>), DriveFault>;
 
-/// Drives each router in a thread of its own, and waits for all of them. The results are in the order of the routers: what `drive`
-/// answers, or `Thread` where a thread did not start. One that fails ends no other.
+/// Drives each router in a thread of its own, and waits for all of them. The results are in
+/// the order of the routers: what `drive` answers, or `Thread` where a thread did not
+/// start. One that fails ends no other.
 ///
 /// `AllocError` where memory runs out; then none of them ran.
 pub fn drive_all<
@@ -49,7 +50,8 @@ pub fn drive_all<
 struct DriveOf<W: Wire + Drop, R: Wait + Drop>(Snapshot<DriverJob<W, R>>);
 
 impl<W: Wire + Drop, R: Wait + Drop> Promise<Driven<R>> for DriveOf<W, R> {
-    ghost kept_by = { λ p r. IsDriven (at p.0.value.0 (W.traffic p.0.value.1) (W.failed p.0.value.1) p.0.value.2) r };
+    ghost kept_by = { λ p r. IsDriven
+        (at p.0.value.0 (W.traffic p.0.value.1) (W.failed p.0.value.1) p.0.value.2) r };
 }
 
 // A driver that runs in its thread. Proofs see where it began.
@@ -63,7 +65,8 @@ impl<W: Wire + Drop, R: Wait + Send + Drop + 'static> Model for Running<W, R> {
 
     ghost Value = { Moment };
 
-    ghost view = { λ r. moment r.handle.promise.0.value.0 (W.traffic r.handle.promise.0.value.1) (W.failed r.handle.promise.0.value.1) r.handle.promise.0.value.2 };
+    ghost view = { λ r. moment r.handle.promise.0.value.0 (W.traffic r.handle.promise.0.value.1)
+        (W.failed r.handle.promise.0.value.1) r.handle.promise.0.value.2 };
 }
 
 // Starts a driver's thread for each job, in order.

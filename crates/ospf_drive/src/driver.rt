@@ -14,13 +14,14 @@ use ospf_router::Router;
 use std::alloc::Global;
 use std::sync::Wait;
 
-/// Drives a router until the end of what the wire hands over: each arrival is a step, what it sends goes out in order,
-/// and then a changed table is published. An arrival of a link that is not there, or longer than the buffer, is passed
-/// over. At the end it answers what the last publish told, if there was any.
+/// Drives a router until the end of what the wire hands over: each arrival is a step, what it
+/// sends goes out in order, and then a changed table is published. An arrival of a link that is
+/// not there, or longer than the buffer, is passed over. At the end it answers what the last
+/// publish told, if there was any.
 ///
-/// `Recv` and `Send` where the wire fails, `Stopped` where the router met want of memory, and `Publish` where a changed table
-/// met it. Then the router and what is published are as the last step left them, or as they were before the arrival at which
-/// the router stopped.
+/// `Recv` and `Send` where the wire fails, `Stopped` where the router met want of memory, and
+/// `Publish` where a changed table met it. Then the router and what is published are as the last
+/// step left them, or as they were before the arrival at which the router stopped.
 pub fn drive<W: Wire, R: Wait + Drop, S: Wait>(
     rt: &S,
     alloc: Global,

@@ -1,4 +1,5 @@
-//! The driver of one router: arrivals of a wire are steps, what they send goes out, and a changed table is published.
+//! The driver of one router: arrivals of a wire are steps, what they send goes out,
+//! and a changed table is published.
 #![tactic(auto)]
 
 mod all;

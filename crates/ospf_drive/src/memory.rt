@@ -1,4 +1,5 @@
-//! A wire in memory: it hands over what a script says, keeps what goes out, and fails at a chosen call.
+//! A wire in memory: it hands over what a script says, keeps what goes
+//! out, and fails at a chosen call.
 
 ghost use Rattle.std.specs.Prelude.{◌≡◌, ◌≤◌, IfOk, vec_len, take, length};
 ghost use Rattle.ospf_drive.specs.Traffic.{heard_from};
@@ -49,11 +50,17 @@ impl Model for MemoryWire {
 
     ghost Value = { MemoryValue };
 
-    ghost view = { λ w. record { arrivals = w.arrivals.items; taken = w.taken; out = w.out.items; failed = w.failed } };
+    ghost view = { λ w. record {
+      arrivals = w.arrivals.items;
+      taken = w.taken;
+      out = w.out.items;
+      failed = w.failed;
+    } };
 }
 
 impl MemoryWire {
-    /// A wire that fails where the script ends without an end, and after so many good calls, if that is said.
+    /// A wire that fails where the script ends without an end, and after so
+    /// many good calls, if that is said.
     pub fn new(
         alloc: Global,
         arrivals: Vec<Scripted>,

@@ -23,8 +23,8 @@ pub(crate) enum Course {
     Over,
 }
 
-// Waits for an arrival, has the router make a step of it, shows it to the wire, sends what it puts out, and publishes the table where it
-// changed.
+// Waits for an arrival, has the router make a step of it, shows it to the wire, sends what it puts
+// out, and publishes the table where it changed.
 pub(crate) fn turn<W: Wire, R: Wait + Drop>(
     alloc: Global,
     router: &mut Router,

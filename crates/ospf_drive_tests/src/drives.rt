@@ -13,7 +13,8 @@ use std::test::Fail;
 // An address of the link.
 const NEAR: Addr = Addr(0x0a00_0002);
 
-// The link goes up, a second passes, the Hello comes, four more pass, and the link goes down: the table changes twice.
+// The link goes up, a second passes, the Hello comes, four more pass, and the link goes
+// down: the table changes twice.
 fn script(alloc: Global) -> Result<Vec<Scripted>, AllocError> {
     let mut arrivals = Vec::with_capacity(alloc, 9)?;
     arrivals.push(Scripted::LinkUp { link: 0 })?;
@@ -32,7 +33,8 @@ fn script(alloc: Global) -> Result<Vec<Scripted>, AllocError> {
     Ok(arrivals)
 }
 
-// How a drive came out: whether the router's table and the published one have a route over the link.
+// How a drive came out: whether the router's table and the published
+// one have a route over the link.
 #[derive(Drop)]
 struct Ended {
     driven: Result<bool, DriveFault>,
@@ -60,8 +62,9 @@ fn drive_all<R: Wait>(rt: &R, alloc: Global) -> Result<Ended, Fail> {
     })
 }
 
-// Whether it is as the fault says. The first step sends and brings the route, a later one sends, and the last takes the route
-// away: so as long as the drive goes on, the route is published once something was sent.
+// Whether it is as the fault says. The first step sends and brings the route, a later one
+// sends, and the last takes the route away: so as long as the drive goes on, the route is
+// published once something was sent.
 fn is_as_stated(ended: &Ended) -> bool {
     let goes_on = ended.shows_route == (ended.sent > 0);
     let failures = ended.failures;
@@ -80,7 +83,8 @@ fn is_as_stated(ended: &Ended) -> bool {
     }
 }
 
-// Where an allocation is refused, a drive says where: in a step, in a publish, or where the wire keeps what is sent.
+// Where an allocation is refused, a drive says where: in a step, in a publish, or
+// where the wire keeps what is sent.
 #[test]
 fn want_of_memory_ends_as_stated(rt: HostRuntime) -> Result<(), Fail> {
     let ended = drive_all(&rt, rt.alloc())?;

@@ -1,4 +1,5 @@
-//! What tests are given: the table of one of two routers, and a router with one link and the Hello that comes on it.
+//! What tests are given: the table of one of two routers, and a router with one link
+//! and the Hello that comes on it.
 
 use ospf_base::{Addr, Prefix, RouterId};
 use ospf_fib::Answer;
@@ -40,7 +41,8 @@ pub(crate) fn link(kind: LinkKind, id: u32, link_data: u32, metric: u16) -> Link
     }
 }
 
-// The table of the first of two routers with a link between them and a stub behind the second, at this cost.
+// The table of the first of two routers with a link between them and a stub
+// behind the second, at this cost.
 pub(crate) fn two_routers(alloc: Global, cost: u16) -> Result<RouteTable, Fail> {
     let first = [
         link(LinkKind::PointToPoint, SECOND.0, 0x0a00_0001, 10),

@@ -22,7 +22,8 @@ fn opened_one<R: Wait + Drop>(alloc: Global, rt: R) -> Result<(Writer<R>, Seat),
     }
 }
 
-// With no allocation refused it is six publishes. One that is refused changes nothing, and the next one succeeds.
+// With no allocation refused it is six publishes. One that is refused changes
+// nothing, and the next one succeeds.
 #[test]
 fn refused_publish_changes_nothing(rt: HostRuntime) -> Result<(), Fail> {
     let alloc = rt.alloc();

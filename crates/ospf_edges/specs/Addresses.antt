@@ -19,13 +19,18 @@ own_address_by router links r n = transit_address n (if router.0 == r.0 then lin
 -- the first addresses by these links of the router are there, where there was none
 abbrev pub AddsAddresses : RouterId → List Link → (ℕ → Option ℕ) → (ℕ → Option ℕ) → Type 0
 AddsAddresses router links old new =
-    (r : RouterId) (n : ℕ) → n < 2 ^ 32 → new (pair_code r.0 n) ≡ option_or (old (pair_code r.0 n)) (own_address_by router links r n)
+    (r : RouterId) (n : ℕ) → n < 2 ^ 32
+    → new (pair_code r.0 n) ≡ option_or (old (pair_code r.0 n)) (own_address_by router links r n)
 
 -- those of an LSA
 abbrev pub AddsTold : Advertisement → (ℕ → Option ℕ) → (ℕ → Option ℕ) → Type 0
 AddsTold advert old new =
-    (r : RouterId) (n : ℕ) → n < 2 ^ 32 → new (pair_code r.0 n) ≡ option_or (old (pair_code r.0 n)) (transit_address n (links_by r (advert ∷ [])))
+    (r : RouterId) (n : ℕ) → n < 2 ^ 32
+    → new (pair_code r.0 n)
+    ≡ option_or (old (pair_code r.0 n)) (transit_address n (links_by r (advert ∷ [])))
 
 -- of each router and network the first address
 abbrev pub AreAddresses : List Advertisement → (ℕ → Option ℕ) → Type 0
-AreAddresses adverts address = (r : RouterId) (n : ℕ) → n < 2 ^ 32 → address (pair_code r.0 n) ≡ transit_address n (links_by r adverts)
+AreAddresses adverts address =
+    (r : RouterId) (n : ℕ) → n < 2 ^ 32
+    → address (pair_code r.0 n) ≡ transit_address n (links_by r adverts)

@@ -17,22 +17,26 @@ NamesLinkTo links kind id = (l : Link) × Contains links l × IsTo kind id l
 
 -- the router's LSA has such a link
 abbrev pub HasLinkTo : List Advertisement → RouterId → LinkKind → ℕ → Type 0
-HasLinkTo adverts router kind id = (link_data metric : ℕ) × HasLink adverts router kind id link_data metric
+HasLinkTo adverts router kind id =
+    (link_data metric : ℕ) × HasLink adverts router kind id link_data metric
 
--- a link of router a leads where the hop does: from the hop's address to its router, which links back, or to a network that names
--- both and that the hop's router names
+-- a link of router a leads where the hop does: from the hop's address to its router, which links
+-- back, or to a network that names both and that the hop's router names
 abbrev pub Leads : List Advertisement → RouterId → NextHop → Link → Type 0
 Leads adverts a Attached l = ⊥
 Leads adverts a (PointToPoint local b) l =
-    (l.kind ≡ LinkKind.PointToPoint) × (l.id ≡ b.0) × (l.link_data ≡ local.0) × HasLinkTo adverts b LinkKind.PointToPoint a.0
+    (l.kind ≡ LinkKind.PointToPoint) × (l.id ≡ b.0) × (l.link_data ≡ local.0)
+    × HasLinkTo adverts b LinkKind.PointToPoint a.0
 Leads adverts a (Lan local b _) l =
-    (l.kind ≡ LinkKind.Transit) × (l.link_data ≡ local.0) × IsAttached adverts l.id a × IsAttached adverts l.id b × HasLinkTo adverts b LinkKind.Transit l.id
+    (l.kind ≡ LinkKind.Transit) × (l.link_data ≡ local.0) × IsAttached adverts l.id a
+    × IsAttached adverts l.id b × HasLinkTo adverts b LinkKind.Transit l.id
 
 -- the least metric of the links that the test takes, if it takes one
 abbrev pub IsLeastOf : (Link → Type 0) → List Link → Option ℕ → Type 0
 IsLeastOf P links None = (l : Link) → Contains links l → P l → ⊥
 IsLeastOf P links (Some least) =
-    ((l : Link) × Contains links l × P l × (l.metric ≡ least)) × ((l : Link) → Contains links l → P l → least ≤ l.metric)
+    ((l : Link) × Contains links l × P l × (l.metric ≡ least))
+    × ((l : Link) → Contains links l → P l → least ≤ l.metric)
 
 -- the lesser of a number and the least so far
 abbrev pub lesser_of : Option ℕ → ℕ → ℕ

@@ -19,30 +19,46 @@ Adds {X} P old new = (x : X) → Contains new x ↔ (Contains old x ⊎ P x)
 
 -- the router's LSA has a type 1 link to the other
 abbrev pub LinksTo : List Advertisement → RouterId → RouterId → Type 0
-LinksTo adverts from to = (link_data metric : ℕ) × HasLink adverts from LinkKind.PointToPoint to.0 link_data metric
+LinksTo adverts from to =
+    (link_data metric : ℕ) × HasLink adverts from LinkKind.PointToPoint to.0 link_data metric
 
 -- the edge of a link: to a router that links back, or to a network that names the router
 abbrev pub LinkGives : List Advertisement → RouterId → Link → Edge → Type 0
 LinkGives adverts a link e =
     ((link.kind ≡ LinkKind.PointToPoint) × LinksTo adverts (record { 0 = link.id }) a
-    × (e ≡ record { from = Router a; to = Router (record { 0 = link.id }); cost = link.metric; link_data = link.link_data }))
+    × (e ≡ record {
+      from = Router a;
+      to = Router (record { 0 = link.id });
+      cost = link.metric;
+      link_data = link.link_data;
+    }))
     ⊎ ((link.kind ≡ LinkKind.Transit) × IsAttached adverts link.id a
-    × (e ≡ record { from = Router a; to = Network link.id; cost = link.metric; link_data = link.link_data }))
+    × (e ≡ record {
+      from = Router a;
+      to = Network link.id;
+      cost = link.metric;
+      link_data = link.link_data;
+    }))
 
 -- the network-LSA is the one that stands for its Link State ID
 abbrev pub StandsFor : List Advertisement → ℕ → RouterId → Type 0
-StandsFor adverts n router = (r : RouterId) (m : ℕ) (others : List RouterId) → Contains adverts (network_lsa n r m others) → r.0 ≤ router.0
+StandsFor adverts n router =
+    (r : RouterId) (m : ℕ) (others : List RouterId) → Contains adverts (network_lsa n r m others)
+    → r.0 ≤ router.0
 
 -- the edge to an attached router that names the network
 abbrev pub AttachedGives : List Advertisement → ℕ → RouterId → Edge → Type 0
 AttachedGives adverts n member e =
-    (address : ℕ) × IsAddressOn adverts n member address × (e ≡ record { from = Network n; to = Router member; cost = 0; link_data = address })
+    (address : ℕ) × IsAddressOn adverts n member address
+    × (e ≡ record { from = Network n; to = Router member; cost = 0; link_data = address })
 
 -- the LSA gives this edge (16.1, step 2)
 abbrev pub EdgesOf : List Advertisement → Advertisement → Edge → Type 0
-EdgesOf adverts (router_lsa a links) e = (link : Link) × Contains links link × LinkGives adverts a link e
+EdgesOf adverts (router_lsa a links) e =
+    (link : Link) × Contains links link × LinkGives adverts a link e
 EdgesOf adverts (network_lsa n router mask attached) e =
-    StandsFor adverts n router × (member : RouterId) × Contains attached member × AttachedGives adverts n member e
+    StandsFor adverts n router × (member : RouterId) × Contains attached member
+    × AttachedGives adverts n member e
 
 -- all links of router-LSAs and attached routers of network-LSAs
 abbrev pub link_count : List Advertisement → ℕ
@@ -58,7 +74,9 @@ StubGives router link e =
 
 -- a network is an end itself: its prefix, at no further cost (16.1.1)
 abbrev pub NetworkGives : ℕ → ℕ → End → Type 0
-NetworkGives n mask e = (prefix : Prefix) × IsPrefixOf n mask prefix × (e ≡ record { prefix = prefix; vertex = Network n; cost = 0 })
+NetworkGives n mask e =
+    (prefix : Prefix) × IsPrefixOf n mask prefix
+    × (e ≡ record { prefix = prefix; vertex = Network n; cost = 0 })
 
 -- the LSA gives this end (16.1, step 4)
 abbrev pub EndsOf : List Advertisement → Advertisement → End → Type 0
@@ -67,7 +85,8 @@ EndsOf adverts (network_lsa n r mask attached) e = StandsFor adverts n r × Netw
 
 -- all ends of a listing at a vertex
 abbrev pub AreEndsAt : List Advertisement → Vertex → List End → Type 0
-AreEndsAt adverts v ends = (e : End) → Contains ends e ↔ (IsEnd adverts e.prefix e.vertex e.cost × (e.vertex ≡ v))
+AreEndsAt adverts v ends =
+    (e : End) → Contains ends e ↔ (IsEnd adverts e.prefix e.vertex e.cost × (e.vertex ≡ v))
 
 -- all edges of a listing
 abbrev pub IsEdgesOf : List Advertisement → List Edge → Type 0

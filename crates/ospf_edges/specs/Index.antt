@@ -23,15 +23,20 @@ NamedOn n router q = q ≡ pair_code router.0 n
 -- a network-LSA that stands for its network names this pair
 abbrev pub MembersOf : List Advertisement → Advertisement → ℕ → Type 0
 MembersOf adverts (router_lsa _ _) q = ⊥
-MembersOf adverts (network_lsa n router mask attached) q = StandsFor adverts n router × (member : RouterId) × Contains attached member × NamedOn n member q
+MembersOf adverts (network_lsa n router mask attached) q =
+    StandsFor adverts n router × (member : RouterId) × Contains attached member × NamedOn n member q
 
 -- exactly the pairs of routers of which the second has a type 1 link to the first
 abbrev pub AreBackLinks : List Advertisement → List ℕ → Type 0
-AreBackLinks adverts pairs = (from to : RouterId) → from.0 < 2 ^ 32 → Contains pairs (pair_code to.0 from.0) ↔ LinksTo adverts from to
+AreBackLinks adverts pairs =
+    (from to : RouterId) → from.0 < 2 ^ 32
+    → Contains pairs (pair_code to.0 from.0) ↔ LinksTo adverts from to
 
 -- exactly the pairs of a router and a network that names it
 abbrev pub AreMembers : List Advertisement → List ℕ → Type 0
-AreMembers adverts pairs = (n : ℕ) (router : RouterId) → n < 2 ^ 32 → Contains pairs (pair_code router.0 n) ↔ IsAttached adverts n router
+AreMembers adverts pairs =
+    (n : ℕ) (router : RouterId) → n < 2 ^ 32
+    → Contains pairs (pair_code router.0 n) ↔ IsAttached adverts n router
 
 -- exactly the first addresses of routers on networks
 abbrev pub AreAddressesOn : List Advertisement → (ℕ → Option ℕ) → Type 0
@@ -40,8 +45,10 @@ AreAddressesOn adverts address =
     MatchOption (address (pair_code r.0 n)) ((a : ℕ) → IsAddressOn adverts n r a → ⊥)
     (λ a. IsAddressOn adverts n r a × ((b : ℕ) → IsAddressOn adverts n r b → b ≡ a))
 
--- the pairs of all routers, of all networks, and the address of a router on a network, are those of the listing
-pub record IsIndexed (adverts : List Advertisement) (links members : List ℕ) (address : ℕ → Option ℕ) : Type 0 where
+-- the pairs of all routers, of all networks, and the address of a router on a
+-- network, are those of the listing
+pub record IsIndexed (adverts : List Advertisement) (links members : List ℕ)
+    (address : ℕ → Option ℕ) : Type 0 where
   pub links_are : AreBackLinks adverts links
   pub members_are : AreMembers adverts members
   pub addresses_are : AreAddressesOn adverts address

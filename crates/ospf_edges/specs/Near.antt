@@ -1,4 +1,5 @@
--- The edges of a listing's graph that touch a vertex, by the LSAs of the vertex and of its neighbours (RFC 2328, section 16.1).
+-- The edges of a listing's graph that touch a vertex, by the LSAs of the vertex and of its
+-- neighbours (RFC 2328, section 16.1).
 use Rattle.std.specs.Prelude.{◌≡◌, ◌↔◌, ◌⊎◌, ℕ, List, Contains, Vec, vec_items}
 use Rattle.std.specs.List.{Any}
 use Rattle.ospf_base.specs.declared.ids.RouterId.{RouterId}
@@ -20,23 +21,28 @@ AreEdgesAt adverts v edges = (e : Edge) → Contains edges e ↔ (IsEdge adverts
 -- ---- what is looked up
 
 -- the links of the one router-LSA of a router
-pub record AreLinksBy (adverts : List Advertisement) (r : RouterId) (links : List Link) : Type 0 where
+pub record AreLinksBy (adverts : List Advertisement) (r : RouterId) (links : List Link)
+    : Type 0 where
   pub listed : Contains adverts (router_lsa r links)
   pub only : (others : List Link) → Contains adverts (router_lsa r others) → others ≡ links
 
 -- the routers that the LSA of a transit network names
-pub record AreAttachedTo (adverts : List Advertisement) (n : ℕ) (attached : List RouterId) : Type 0 where
+pub record AreAttachedTo (adverts : List Advertisement) (n : ℕ) (attached : List RouterId)
+    : Type 0 where
   pub mask : ℕ
   pub network : IsNetwork adverts n mask attached
   pub only : (m : ℕ) (others : List RouterId) → IsNetwork adverts n m others → others ≡ attached
 
 -- no LSA stands for the transit network
 abbrev pub HasNoNetwork : List Advertisement → ℕ → Type 0
-HasNoNetwork adverts n = (mask : ℕ) (attached : List RouterId) → IsNetwork adverts n mask attached → ⊥
+HasNoNetwork adverts n =
+    (mask : ℕ) (attached : List RouterId) → IsNetwork adverts n mask attached → ⊥
 
 -- the one address of a router on a transit network
 abbrev pub IsFirstAddress : List Advertisement → ℕ → RouterId → ℕ → Type 0
-IsFirstAddress adverts n r address = IsAddressOn adverts n r address × ((other : ℕ) → IsAddressOn adverts n r other → other ≡ address)
+IsFirstAddress adverts n r address =
+    IsAddressOn adverts n r address
+    × ((other : ℕ) → IsAddressOn adverts n r other → other ≡ address)
 
 -- the router has no address on the transit network
 abbrev pub HasNoAddress : List Advertisement → ℕ → RouterId → Type 0
@@ -64,7 +70,8 @@ NamesRouter adverts (Network n) r = IsAttached adverts n r
 
 -- the edge of a router's link to a vertex
 abbrev pub edge_to : RouterId → Vertex → Link → Edge
-edge_to r to link = record { from = Router r; to = to; cost = link.metric; link_data = link.link_data }
+edge_to r to link =
+    record { from = Router r; to = to; cost = link.metric; link_data = link.link_data }
 
 -- the edge of a link that leads to the vertex
 abbrev pub LinkSends : RouterId → Vertex → Link → Edge → Type 0
@@ -76,7 +83,8 @@ LinksSend r to links e = (link : Link) × Contains links link × LinkSends r to 
 
 -- the edges of such links of the router's LSA
 abbrev pub SendsEdge : RouterId → Vertex → List Advertisement → Edge → Type 0
-SendsEdge r to adverts e = (links : List Link) × Contains adverts (router_lsa r links) × LinksSend r to links e
+SendsEdge r to adverts e =
+    (links : List Link) × Contains adverts (router_lsa r links) × LinksSend r to links e
 
 -- the edge from a transit network to a router with an address there
 abbrev pub MemberGives : ℕ → RouterId → List Advertisement → Edge → Type 0
@@ -90,7 +98,8 @@ Returns (Network n) r adverts e = MemberGives n r adverts e
 -- the edges between a router and the end of a link of it
 abbrev pub NearLink : RouterId → Link → List Advertisement → Edge → Type 0
 NearLink r link adverts e =
-    (to : Vertex) × LinkLeadsTo link to × NamesRouter adverts to r × ((edge_to r to link ≡ e) ⊎ Returns to r adverts e)
+    (to : Vertex) × LinkLeadsTo link to × NamesRouter adverts to r
+    × ((edge_to r to link ≡ e) ⊎ Returns to r adverts e)
 
 -- the edges between a router and the ends of links of it
 abbrev pub NearLinks : RouterId → List Link → List Advertisement → Edge → Type 0
@@ -98,16 +107,19 @@ NearLinks r links adverts e = (link : Link) × Contains links link × NearLink r
 
 -- the edges between a transit network and a router that it names
 abbrev pub NearMember : ℕ → RouterId → List Advertisement → Edge → Type 0
-NearMember n member adverts e = MemberGives n member adverts e ⊎ SendsEdge member (Network n) adverts e
+NearMember n member adverts e =
+    MemberGives n member adverts e ⊎ SendsEdge member (Network n) adverts e
 
 -- the edges between a transit network and routers that it names
 abbrev pub NearMembers : ℕ → List RouterId → List Advertisement → Edge → Type 0
-NearMembers n attached adverts e = (member : RouterId) × Contains attached member × NearMember n member adverts e
+NearMembers n attached adverts e =
+    (member : RouterId) × Contains attached member × NearMember n member adverts e
 
 -- the edges that touch a vertex
 abbrev pub EdgesNear : Vertex → List Advertisement → Edge → Type 0
 EdgesNear v adverts e = IsEdge adverts e × Touches v e
 
 -- exactly the edges that P says of a listing's LSAs are added
-abbrev pub AddsAt : {Z : Type 0} → List (List ℕ) → (List Advertisement → Edge → Type 0) → Vec Edge Z → Vec Edge Z → Type 0
+abbrev pub AddsAt : {Z : Type 0} → List (List ℕ) → (List Advertisement → Edge → Type 0) → Vec Edge Z
+    → Vec Edge Z → Type 0
 AddsAt lsas P old new = Adds (P (advertisements_of lsas)) (vec_items old) (vec_items new)

@@ -8,7 +8,8 @@ use Rattle.ospf_graph.specs.declared.graph.Vertex.TheVariants.{Router, Network}
 use Rattle.ospf_edges.specs.Given.{StandsFor}
 
 -- the one LSA of a router
-pub record IsRouterAt (adverts : List Advertisement) (r : RouterId) (a : Advertisement) : Type 0 where
+pub record IsRouterAt (adverts : List Advertisement) (r : RouterId) (a : Advertisement)
+    : Type 0 where
   pub links : List Link
   pub is : a ≡ router_lsa r links
   pub listed : Contains adverts a
@@ -22,7 +23,8 @@ pub record IsNetworkAt (adverts : List Advertisement) (n : ℕ) (a : Advertiseme
   pub is : a ≡ network_lsa n router mask attached
   pub listed : Contains adverts a
   pub stands : StandsFor adverts n router
-  pub only : (m : ℕ) (others : List RouterId) → IsNetwork adverts n m others → (m ≡ mask) × (others ≡ attached)
+  pub only : (m : ℕ) (others : List RouterId) → IsNetwork adverts n m others
+      → (m ≡ mask) × (others ≡ attached)
 
 -- the one LSA of a vertex
 abbrev pub IsLsaAt : List Advertisement → Vertex → Advertisement → Type 0

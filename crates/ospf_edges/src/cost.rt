@@ -10,8 +10,8 @@ use ospf_base::RouterId;
 use ospf_graph::NextHop;
 use ospf_lsa::{Link, LinkKind, Links, Listing};
 
-/// What a next hop costs a router: the least metric of its listed links from the hop's address to the hop's router, or to a
-/// network that this router is on. No link leads over `Attached`.
+/// What a next hop costs a router: the least metric of its listed links from the hop's address to
+/// the hop's router, or to a network that this router is on. No link leads over `Attached`.
 ///
 /// It looks at the router's own links, and finds the LSAs behind them by their keys.
 pub fn link_cost(listing: &Listing, router: RouterId, hop: &NextHop) -> Option<u16>
@@ -36,8 +36,8 @@ fn least_of(links: Links, listing: &Listing, router: RouterId, hop: &NextHop) ->
     least
 }
 
-// Whether a link of a router leads where a next hop does: from the hop's address to its router, or to a network that its router
-// is on.
+// Whether a link of a router leads where a next hop does: from the hop's address to its router, or
+// to a network that its router is on.
 fn leads(listing: &Listing, router: RouterId, hop: &NextHop, link: &Link) -> bool
     ensures { IsTrue result ↔ Leads (advertisements_of listing.now) router hop.now link.now }
 {

@@ -15,8 +15,8 @@ use ospf_graph::{Edge, Vertex};
 use ospf_lsa::{Attached, Link, LinkKind, Links, Listing, Lsa};
 use std::alloc::{AllocError, Global};
 
-/// The edges of a listing's graph (RFC 2328, section 16.1), one at most for each link and each attached
-/// router. `AllocError` where memory runs out.
+/// The edges of a listing's graph (RFC 2328, section 16.1), one at most for each link and each
+/// attached router. `AllocError` where memory runs out.
 pub fn edges_of(alloc: Global, listing: &Listing) -> Result<Vec<Edge>, AllocError>
     ensures edges { IfOk result (λ edges. IsEdgesOf (advertisements_of listing.now) edges.items) }
     ensures fit { IfOk result (λ edges. AreFitEdges edges.items) }

@@ -14,7 +14,8 @@ use ospf_graph::Vertex;
 use ospf_lsa::{Link, LinkKind, Links, Listing, Lsa};
 use std::alloc::{AllocError, Global};
 
-/// The ends of all prefixes of a listing (RFC 2328, section 16.1). `AllocError` where memory runs out.
+/// The ends of all prefixes of a listing (RFC 2328, section 16.1).
+/// `AllocError` where memory runs out.
 pub fn ends_of(alloc: Global, listing: &Listing) -> Result<Vec<End>, AllocError>
     ensures { IfOk result (λ ends. IsEndsOf (advertisements_of listing.now) ends.items) }
 {
@@ -25,8 +26,8 @@ pub fn ends_of(alloc: Global, listing: &Listing) -> Result<Vec<End>, AllocError>
     Ok(ends)
 }
 
-/// The ends at a vertex of a listing's graph (RFC 2328, section 16.1): a router's stub networks, or the
-/// prefix of a transit network. `AllocError` where memory runs out.
+/// The ends at a vertex of a listing's graph (RFC 2328, section 16.1): a router's stub networks, or
+/// the prefix of a transit network. `AllocError` where memory runs out.
 pub fn ends_at(alloc: Global, listing: &Listing, vertex: Vertex) -> Result<Vec<End>, AllocError>
     ensures { IfOk result (λ ends. AreEndsAt (advertisements_of listing.now) vertex ends.items) }
 {

@@ -17,8 +17,8 @@ use std::alloc::{AllocError, Global};
 use std::collections::HashMap;
 use std::marker::Model;
 
-/// A listing, with the pairs of routers of which the second has a type 1 link to the first, and the pairs
-/// of a router and a network that names it, and the routers' addresses.
+/// A listing, with the pairs of routers of which the second has a type 1 link to the first, and the
+/// pairs of a router and a network that names it, and the routers' addresses.
 #[derive(Drop)]
 pub(crate) struct GraphIndex<'a> {
     listing: &'a Listing,
@@ -38,7 +38,8 @@ impl<'a> Model for GraphIndex<'a> {
 
     ghost view = { λ a. advertisements_of a.listing.now };
 
-    ghost invariant = { λ a. IsIndexed (advertisements_of a.listing.now) a.links a.members (get nat_eq a.addresses) };
+    ghost invariant = { λ a. IsIndexed (advertisements_of a.listing.now) a.links a.members
+        (get nat_eq a.addresses) };
 }
 
 impl<'a> GraphIndex<'a> {

@@ -11,8 +11,8 @@ use ospf_base::{Kind, RouterId};
 use ospf_lsa::{Attached, Link, LinkKind, Links, Listing, Lsa};
 use std::alloc::{AllocError, Global};
 
-/// The items of a graph, one after the other in the order of a listing: a router, then its links of types 1
-/// and 2; a network, then its attached routers.
+/// The items of a graph, one after the other in the order of a listing: a router, then its links of
+/// types 1 and 2; a network, then its attached routers.
 #[derive(Clone, Copy, Debug, PartialEq, Eq)]
 pub enum GraphItem {
     Router(RouterId),

@@ -1,10 +1,10 @@
-//! A listing as the graph of an area (RFC 2328, section 16.1): its edges, where its prefixes stand, what of it the
-//! graph depends on, and what a next hop costs.
+//! A listing as the graph of an area (RFC 2328, section 16.1): its edges, where its prefixes stand,
+//! what of it the graph depends on, and what a next hop costs.
 //!
-//! `edges_of` and `ends_of` give all edges of a listing and all ends of its prefixes, `edges_at` and `ends_at` those
-//! at one vertex. `items_in` gives what the graph depends on, and `are_items_of` compares it with another listing.
-//! `link_cost` is the least metric of the links that lead where a hop does. What each LSA gives stands in
-//! `specs/Given`.
+//! `edges_of` and `ends_of` give all edges of a listing and all ends of its prefixes, `edges_at`
+//! and `ends_at` those at one vertex. `items_in` gives what the graph depends on, and
+//! `are_items_of` compares it with another listing. `link_cost` is the least metric of the links
+//! that lead where a hop does. What each LSA gives stands in `specs/Given`.
 #![tactic(auto)]
 
 mod addresses;

@@ -24,33 +24,47 @@ HasInstance db i = Contains (map instance_at (entries db)) i
 
 -- on the request list is only what stood there, or what the packet told (10.6)
 abbrev pub RequestsAreTold : Type 0
-RequestsAreTold = (local : Local) (sender : RouterId) (d : Description) (headers : List LsaHeader) (db : List Held) (n : NeighbourValue) (h : LsaHeader)
-    → Contains (after_dd local sender d headers db n).requests h → Contains n.requests h ⊎ Contains headers h
+RequestsAreTold =
+    (local : Local) (sender : RouterId) (d : Description) (headers : List LsaHeader)
+    (db : List Held) (n : NeighbourValue) (h : LsaHeader)
+    → Contains (after_dd local sender d headers db n).requests h
+    → Contains n.requests h ⊎ Contains headers h
 
 -- from one neighbour to another only copies of the database come on the lists that are sent
 pub record OnlyCopies (db : List Held) (n m : NeighbourValue) : Type 0 where
   pub summary : (h : LsaHeader) → Contains m.summary h → Contains n.summary h ⊎ HasHeader db h
-  pub last_dd : (h : LsaHeader) → Contains m.last_dd h → Contains n.last_dd h ⊎ (Contains n.summary h ⊎ HasHeader db h)
-  pub retransmission : (l : Listed) → Contains m.retransmission l → Contains n.retransmission l ⊎ HasInstance db l.instance
+  pub last_dd : (h : LsaHeader) → Contains m.last_dd h
+      → Contains n.last_dd h ⊎ (Contains n.summary h ⊎ HasHeader db h)
+  pub retransmission : (l : Listed) → Contains m.retransmission l
+      → Contains n.retransmission l ⊎ HasInstance db l.instance
 
 -- on the lists that are sent are only copies of the database (10.3, 10.8)
 abbrev pub ListsAreCopies : Type 0
-ListsAreCopies = (local : Local) (sender : RouterId) (d : Description) (headers : List LsaHeader) (db : List Held) (n : NeighbourValue) → OnlyCopies db n (after_dd local sender d headers db n)
+ListsAreCopies =
+    (local : Local) (sender : RouterId) (d : Description) (headers : List LsaHeader)
+    (db : List Held) (n : NeighbourValue) → OnlyCopies db n (after_dd local sender d headers db n)
 
 -- what waits for an acknowledgement waits on (13.6)
 abbrev pub ListedStay : Type 0
-ListedStay = (local : Local) (sender : RouterId) (d : Description) (headers : List LsaHeader) (db : List Held) (n : NeighbourValue) (l : Listed)
+ListedStay =
+    (local : Local) (sender : RouterId) (d : Description) (headers : List LsaHeader)
+    (db : List Held) (n : NeighbourValue) (l : Listed)
     → Contains n.retransmission l → Contains (after_dd local sender d headers db n).retransmission l
 
 -- a header of the database is that of its key's copy
 abbrev pub HeadersAreOfCopies : Type 0
-HeadersAreOfCopies = (db : List Held) (h : LsaHeader) → IsDatabase db → HasHeader db h → (e : Entry) × (entry_of db (key_in e.contents) ≡ Some e) × (header_at e ≡ h)
+HeadersAreOfCopies =
+    (db : List Held) (h : LsaHeader) → IsDatabase db → HasHeader db h
+    → (e : Entry) × (entry_of db (key_in e.contents) ≡ Some e) × (header_at e ≡ h)
 
 -- and so is an instance
 abbrev pub InstancesAreOfCopies : Type 0
-InstancesAreOfCopies = (db : List Held) (i : Instance) → IsDatabase db → HasInstance db i → (e : Entry) × (entry_of db (key_in e.contents) ≡ Some e) × (instance_at e ≡ i)
+InstancesAreOfCopies =
+    (db : List Held) (i : Instance) → IsDatabase db → HasInstance db i
+    → (e : Entry) × (entry_of db (key_in e.contents) ≡ Some e) × (instance_at e ≡ i)
 
--- a Database Description is not taken: there is no exchange and it begins none, or its MTU is over the interface's (10.6)
+-- a Database Description is not taken: there is no exchange and it begins none, or its MTU
+-- is over the interface's (10.6)
 abbrev pub is_not_taken : Result DdAnswer ExchangeFault → Bool
 is_not_taken (Ok answer.NotTaken) = true
 is_not_taken (Err fault.Mtu) = true
@@ -58,8 +72,11 @@ is_not_taken _ = false
 
 -- one that is not taken changes nothing
 abbrev pub NotTakenIsUnchanged : Type 0
-NotTakenIsUnchanged = (local : Local) (sender : RouterId) (d : Description) (headers : List LsaHeader) (db : List Held) (n : NeighbourValue)
-    → is_not_taken (dd_answer local sender d headers n) ≡ true → after_dd local sender d headers db n ≡ n
+NotTakenIsUnchanged =
+    (local : Local) (sender : RouterId) (d : Description) (headers : List LsaHeader)
+    (db : List Held) (n : NeighbourValue)
+    → is_not_taken (dd_answer local sender d headers n) ≡ true
+    → after_dd local sender d headers db n ≡ n
 
 -- it makes no other neighbour of one
 pub record KeepsRouter (n m : NeighbourValue) : Type 0 where
@@ -68,4 +85,6 @@ pub record KeepsRouter (n m : NeighbourValue) : Type 0 where
 
 -- the law: by a Database Description the neighbour stays the router that it is
 abbrev pub DescriptionsKeepRouters : Type 0
-DescriptionsKeepRouters = (local : Local) (sender : RouterId) (d : Description) (headers : List LsaHeader) (db : List Held) (n : NeighbourValue) → KeepsRouter n (after_dd local sender d headers db n)
+DescriptionsKeepRouters =
+    (local : Local) (sender : RouterId) (d : Description) (headers : List LsaHeader)
+    (db : List Held) (n : NeighbourValue) → KeepsRouter n (after_dd local sender d headers db n)

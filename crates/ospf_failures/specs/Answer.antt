@@ -1,4 +1,5 @@
--- What is printed of the failures of the area whose LSAs are the lines of an input, and how that ends.
+-- What is printed of the failures of the area whose LSAs are the lines
+-- of an input, and how that ends.
 use Rattle.std.specs.Prelude.{◌≡◌, ◌≢◌, ◌⊎◌, ◌&&◌, ℕ, Bool, true, false, List, [], ◌∷◌, ◌++◌, IfSome, Option, None, Some, String, if◌then◌else◌, codes, string_bytes, vec_items}
 use Rattle.std.specs.Io.KnownBytes.{Appends}
 use Rattle.std.specs.declared.alloc.Global.{Global}
@@ -78,7 +79,8 @@ names_of (Without root names addresses) = vec_items names
 
 -- ---- what is refused
 
--- the first router-LSA of a listing with more links than one of the largest size that is made is that of this router
+-- the first router-LSA of a listing with more links than one of the largest size that
+-- is made is that of this router
 pub record IsFirstLarge (listing : List (List ℕ)) (router : RouterId) : Type 0 where
   pub before : List (List ℕ)
   pub lsa : List ℕ
@@ -92,14 +94,19 @@ pub record IsFirstLarge (listing : List (List ℕ)) (router : RouterId) : Type 0
 abbrev pub large_line : RouterId → List ℕ
 large_line router = number_text router.0 ++ codes ": more than 1361 links\n"
 
--- what is said of an input that is refused, of its first line that is, or else of its first router of too many links; and of words that are refused,
--- of the first name of nothing in the area
-pub data IsFailuresRefusal (job : FailuresJob) (input : List ℕ) (text : List ℕ) : Status → Type 0 where
-  of_line : (number : ℕ) (fault : EntryFault) → Refuses input [] number fault → text ≡ refusal_line number fault → IsFailuresRefusal job input text status.Refused
-  of_router : (listing : List (List ℕ)) (router : RouterId) → Reads input [] listing → IsFirstLarge listing router → text ≡ large_line router
+-- what is said of an input that is refused, of its first line that is, or else of its first router
+-- of too many links; and of words that are refused, of the first name of nothing in the area
+pub data IsFailuresRefusal (job : FailuresJob) (input : List ℕ) (text : List ℕ)
+    : Status → Type 0 where
+  of_line : (number : ℕ) (fault : EntryFault) → Refuses input [] number fault
+      → text ≡ refusal_line number fault → IsFailuresRefusal job input text status.Refused
+  of_router : (listing : List (List ℕ)) (router : RouterId) → Reads input [] listing
+      → IsFirstLarge listing router → text ≡ large_line router
       → IsFailuresRefusal job input text status.Refused
-  of_name : (listing : List (List ℕ)) (name : String Global) → Reads input [] listing → (HasLarge (advertisements_of listing) → ⊥)
-      → IsFirstUnnamed (advertisements_of listing) (names_of job) name → text ≡ unnamed_line name → IsFailuresRefusal job input text status.Words
+  of_name : (listing : List (List ℕ)) (name : String Global) → Reads input [] listing
+      → (HasLarge (advertisements_of listing) → ⊥)
+      → IsFirstUnnamed (advertisements_of listing) (names_of job) name → text ≡ unnamed_line name
+      → IsFailuresRefusal job input text status.Words
 
 -- the input or the words are refused
 abbrev pub IsUnserved : Status → Type 0
@@ -113,7 +120,8 @@ changes_text form.Text each root printed = reports_text each printed
 changes_text form.Json each root printed = reports_json each root printed
 
 -- the reports of the area at the root, in a form
-pub record SaysChanges (adverts : List Advertisement) (root : RouterId) (each strict : Bool) (form : FailuresForm) (text : List ℕ) (end : FailuresStatus) : Type 0 where
+pub record SaysChanges (adverts : List Advertisement) (root : RouterId) (each strict : Bool)
+    (form : FailuresForm) (text : List ℕ) (end : FailuresStatus) : Type 0 where
   pub table : List Route
   pub is_table : IsTable adverts root table
   pub printed : List ReportValue
@@ -133,7 +141,8 @@ added_text form.Text each printed = overalls_text printed
 added_text form.Json each printed = overalls_json each printed
 
 -- what each failure changes at all routers, in a form
-pub record SaysOverall (adverts : List Advertisement) (each strict : Bool) (form : FailuresForm) (text : List ℕ) (end : FailuresStatus) : Type 0 where
+pub record SaysOverall (adverts : List Advertisement) (each strict : Bool) (form : FailuresForm)
+    (text : List ℕ) (end : FailuresStatus) : Type 0 where
   pub printed : List Overall
   pub are : AreOveralls adverts (detail_of each form) printed
   pub text_is : text ≡ added_text form each printed
@@ -141,9 +150,12 @@ pub record SaysOverall (adverts : List Advertisement) (each strict : Bool) (form
 
 -- what is asked of the area, and the status that it ends with
 abbrev pub SaysOf : FailuresJob → List Advertisement → List ℕ → FailuresStatus → Type 0
-SaysOf (Root root each strict form) adverts text end = SaysChanges adverts root each strict form text end
+SaysOf (Root root each strict form) adverts text end =
+    SaysChanges adverts root each strict form text end
 SaysOf (All each strict form) adverts text end = SaysOverall adverts each strict form text end
-SaysOf (Without root names addresses) adverts text end = IsTableWithout adverts (vec_items names) root (vec_items addresses) text × (end ≡ Ended status.Done)
+SaysOf (Without root names addresses) adverts text end =
+    IsTableWithout adverts (vec_items names) root (vec_items addresses) text
+    × (end ≡ Ended status.Done)
 
 -- what is said of the root, if there is one
 abbrev pub WarnsOf : Option RouterId → List (List ℕ) → List ℕ → Type 0
@@ -151,15 +163,18 @@ WarnsOf (Some root) listing text = IsWarning listing root text
 WarnsOf None listing text = text ≡ []
 
 -- the answer of the area whose LSAs the lines of the input are; and the warning of the root
-pub record IsFailuresAnswer (job : FailuresJob) (end : FailuresStatus) (input text warning : List ℕ) : Type 0 where
+pub record IsFailuresAnswer (job : FailuresJob) (end : FailuresStatus) (input text warning : List ℕ)
+    : Type 0 where
   pub listing : List (List ℕ)
   pub reads : Reads input [] listing
   pub small : HasLarge (advertisements_of listing) → ⊥
   pub warned : WarnsOf (root_of job) listing warning
   pub says : SaysOf job (advertisements_of listing) text end
 
--- the answer stands on standard output, its warning on standard error, and the status is that of the answer
-pub record IsFailuresAnswered (job : FailuresJob) (end : FailuresStatus) (old new : Written) (input : List ℕ) : Type 0 where
+-- the answer stands on standard output, its warning on standard error, and
+-- the status is that of the answer
+pub record IsFailuresAnswered (job : FailuresJob) (end : FailuresStatus) (old new : Written)
+    (input : List ℕ) : Type 0 where
   pub text : List ℕ
   pub warning : List ℕ
   pub is : IsFailuresAnswer job end input text warning
@@ -167,7 +182,8 @@ pub record IsFailuresAnswered (job : FailuresJob) (end : FailuresStatus) (old ne
   pub err : Appends old.err new.err warning
 
 -- the refusal stands on standard error
-pub record IsFailuresRefusalTold (job : FailuresJob) (s : Status) (err_old err_new : Option (List ℕ)) (input : List ℕ) : Type 0 where
+pub record IsFailuresRefusalTold (job : FailuresJob) (s : Status)
+    (err_old err_new : Option (List ℕ)) (input : List ℕ) : Type 0 where
   pub text : List ℕ
   pub is : IsFailuresRefusal job input text s
   pub told : Appends err_old err_new text
@@ -175,14 +191,16 @@ pub record IsFailuresRefusalTold (job : FailuresJob) (s : Status) (err_old err_n
 -- ---- what stands written where it ends early
 
 -- a beginning of the refusal
-pub record IsFailuresRefusalBegun (job : FailuresJob) (err_old err_new : Option (List ℕ)) (input : List ℕ) : Type 0 where
+pub record IsFailuresRefusalBegun (job : FailuresJob) (err_old err_new : Option (List ℕ))
+    (input : List ℕ) : Type 0 where
   pub s : Status
   pub text : List ℕ
   pub is : IsFailuresRefusal job input text s
   pub begun : IsBegun err_old err_new text
 
 -- a beginning of the warning
-pub record IsFailuresWarningBegun (job : FailuresJob) (err_old err_new : Option (List ℕ)) (input : List ℕ) : Type 0 where
+pub record IsFailuresWarningBegun (job : FailuresJob) (err_old err_new : Option (List ℕ))
+    (input : List ℕ) : Type 0 where
   pub end : FailuresStatus
   pub text : List ℕ
   pub warning : List ℕ
@@ -190,7 +208,8 @@ pub record IsFailuresWarningBegun (job : FailuresJob) (err_old err_new : Option 
   pub begun : IsBegun err_old err_new warning
 
 -- the warning, and a beginning of the answer
-pub record IsFailuresAnswerBegun (job : FailuresJob) (old new : Written) (input : List ℕ) : Type 0 where
+pub record IsFailuresAnswerBegun (job : FailuresJob) (old new : Written) (input : List ℕ)
+    : Type 0 where
   pub end : FailuresStatus
   pub text : List ℕ
   pub warning : List ℕ
@@ -198,18 +217,25 @@ pub record IsFailuresAnswerBegun (job : FailuresJob) (old new : Written) (input 
   pub err : Appends old.err new.err warning
   pub begun : IsBegun old.out new.out text
 
--- it ended by a failure: before anything was written; at the refusal; at the warning; or at the answer
-pub data FailuresEndsBy (input : Option (List ℕ)) (job : FailuresJob) (failed : FailedStreams) (old new : Written) : Failure → Type 0 where
-  unwritten : {f : Failure} → new.out ≡ old.out → new.err ≡ old.err → FailuresEndsBy input job failed old new f
-  in_refusal : {f : Failure} → (f ≡ failure.Memory) ⊎ (f ≡ failure.Error) → IsErrorFailed failed → new.out ≡ old.out → IfSome input (IsFailuresRefusalBegun job old.err new.err)
+-- it ended by a failure: before anything was written; at the refusal;
+-- at the warning; or at the answer
+pub data FailuresEndsBy (input : Option (List ℕ)) (job : FailuresJob) (failed : FailedStreams)
+    (old new : Written) : Failure → Type 0 where
+  unwritten : {f : Failure} → new.out ≡ old.out → new.err ≡ old.err
       → FailuresEndsBy input job failed old new f
-  in_warning : {f : Failure} → (f ≡ failure.Memory) ⊎ (f ≡ failure.Error) → IsErrorFailed failed → new.out ≡ old.out → IfSome input (IsFailuresWarningBegun job old.err new.err)
+  in_refusal : {f : Failure} → (f ≡ failure.Memory) ⊎ (f ≡ failure.Error) → IsErrorFailed failed
+      → new.out ≡ old.out → IfSome input (IsFailuresRefusalBegun job old.err new.err)
       → FailuresEndsBy input job failed old new f
-  in_answer : {f : Failure} → (f ≡ failure.Memory) ⊎ (f ≡ failure.Output) → IsOutputFailed failed → IfSome input (IsFailuresAnswerBegun job old new)
+  in_warning : {f : Failure} → (f ≡ failure.Memory) ⊎ (f ≡ failure.Error) → IsErrorFailed failed
+      → new.out ≡ old.out → IfSome input (IsFailuresWarningBegun job old.err new.err)
+      → FailuresEndsBy input job failed old new f
+  in_answer : {f : Failure} → (f ≡ failure.Memory) ⊎ (f ≡ failure.Output) → IsOutputFailed failed
+      → IfSome input (IsFailuresAnswerBegun job old new)
       → FailuresEndsBy input job failed old new f
 
 -- it ended by a failure, which was told last, as far as that could be written
-pub record IsFailuresCutShort (input : Option (List ℕ)) (job : FailuresJob) (failed : FailedStreams) (old new : Written) (end : FailuresStatus) : Type 0 where
+pub record IsFailuresCutShort (input : Option (List ℕ)) (job : FailuresJob) (failed : FailedStreams)
+    (old new : Written) (end : FailuresStatus) : Type 0 where
   pub cause : Failure
   pub failed_then : FailedStreams
   pub err_then : Option (List ℕ)
@@ -221,26 +247,36 @@ pub record IsFailuresCutShort (input : Option (List ℕ)) (job : FailuresJob) (f
 
 -- what is to be said of a refusal that ends with this status
 abbrev pub IsRefusalOf : Option (List ℕ) → FailuresJob → List ℕ → Status → Type 0
-IsRefusalOf input job text status.Refused = IfSome input (λ bytes. IsFailuresRefusal job bytes text status.Refused)
-IsRefusalOf input job text status.Words = (names_of job ≢ []) × IfSome input (λ bytes. IsFailuresRefusal job bytes text status.Words)
+IsRefusalOf input job text status.Refused =
+    IfSome input (λ bytes. IsFailuresRefusal job bytes text status.Refused)
+IsRefusalOf input job text status.Words =
+    (names_of job ≢ []) × IfSome input (λ bytes. IsFailuresRefusal job bytes text status.Words)
 IsRefusalOf input job text _ = ⊥
 
 -- why there is no answer
 abbrev pub IsUnreported : Option (List ℕ) → FailuresJob → Unreported → Type 0
-IsUnreported input job (fault.Refused text) = IsRefusalOf input job (string_bytes text) status.Refused
+IsUnreported input job (fault.Refused text) =
+    IsRefusalOf input job (string_bytes text) status.Refused
 IsUnreported input job (fault.Unnamed text) = IsRefusalOf input job (string_bytes text) status.Words
 IsUnreported input job (fault.Failure f) = Unit {0}
 
 -- the answer for the input
 abbrev pub IsFailuresAnswerOf : FailuresJob → FailuresAnswer → List ℕ → Type 0
-IsFailuresAnswerOf job answer input = IsFailuresAnswer job answer.said.end input (string_bytes answer.said.text) (string_bytes answer.warning)
+IsFailuresAnswerOf job answer input =
+    IsFailuresAnswer job answer.said.end input (string_bytes answer.said.text)
+    (string_bytes answer.warning)
 
 -- the answer is printed, or the refusal is told
-pub data IsFailuresSaid (input : Option (List ℕ)) (job : FailuresJob) (old new : Written) : FailuresStatus → Type 0 where
-  is_answered : {end : FailuresStatus} → IsAllPrinted end → IfSome input (IsFailuresAnswered job end old new) → IsFailuresSaid input job old new end
-  is_refused : {s : Status} → IsUnserved s → (s ≡ status.Words → names_of job ≢ []) → new.out ≡ old.out → IfSome input (IsFailuresRefusalTold job s old.err new.err)
+pub data IsFailuresSaid (input : Option (List ℕ)) (job : FailuresJob) (old new : Written)
+    : FailuresStatus → Type 0 where
+  is_answered : {end : FailuresStatus} → IsAllPrinted end
+      → IfSome input (IsFailuresAnswered job end old new) → IsFailuresSaid input job old new end
+  is_refused : {s : Status} → IsUnserved s → (s ≡ status.Words → names_of job ≢ [])
+      → new.out ≡ old.out → IfSome input (IsFailuresRefusalTold job s old.err new.err)
       → IsFailuresSaid input job old new (Ended s)
 
 -- one of these, or it ended early
-abbrev pub IsFailuresEnding : Option (List ℕ) → FailuresJob → FailedStreams → Written → Written → FailuresStatus → Type 0
-IsFailuresEnding input job failed old new end = IsFailuresSaid input job old new end ⊎ IsFailuresCutShort input job failed old new end
+abbrev pub IsFailuresEnding : Option (List ℕ) → FailuresJob → FailedStreams → Written → Written
+    → FailuresStatus → Type 0
+IsFailuresEnding input job failed old new end =
+    IsFailuresSaid input job old new end ⊎ IsFailuresCutShort input job failed old new end

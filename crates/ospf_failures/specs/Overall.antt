@@ -33,14 +33,19 @@ use Rattle.ospf_failures.specs.declared.overall.Overall.{Overall}
 -- ---- at each router
 
 -- what the failure changes in the table of the router
-pub record IsSight (adverts : List Advertisement) (failure : AreaFailure) (sight : SightValue) : Type 0 where
+pub record IsSight (adverts : List Advertisement) (failure : AreaFailure) (sight : SightValue)
+    : Type 0 where
   pub table : List Route
   pub is_table : IsTable adverts sight.0 table
   pub effect : IsEffect adverts sight.0 failure table sight.1
 
--- what it changes in the table of each router of the area but the one that fails, in the order of Router IDs
-pub record AreSights (adverts : List Advertisement) (failure : AreaFailure) (sights : List SightValue) : Type 0 where
-  pub whole : (router : RouterId) → Contains (map (λ s. s.0) sights) router ↔ (IsListed adverts router × (failure ≡ Router router → ⊥))
+-- what it changes in the table of each router of the area but the one that
+-- fails, in the order of Router IDs
+pub record AreSights (adverts : List Advertisement) (failure : AreaFailure)
+    (sights : List SightValue) : Type 0 where
+  pub whole : (router : RouterId)
+      → Contains (map (λ s. s.0) sights) router
+      ↔ (IsListed adverts router × (failure ≡ Router router → ⊥))
   pub rising : AllPairs (λ r s. r.0 < s.0) (map (λ s. s.0) sights)
   pub seen : All (IsSight adverts failure) sights
 
@@ -58,7 +63,8 @@ sums_of sights = record {
 
 -- a line for each route that changes at a router, which begins with the router
 abbrev pub sight_lines : AreaFailure → SightValue → List ℕ
-sight_lines failure sight = flat_map (λ c. number_text sight.0.0 ++ codes " " ++ change_line failure c) sight.1
+sight_lines failure sight =
+    flat_map (λ c. number_text sight.0.0 ++ codes " " ++ change_line failure c) sight.1
 
 -- the lines, where these are wanted
 abbrev pub lines_kept : RouteDetail → AreaFailure → List SightValue → List ℕ
@@ -71,7 +77,8 @@ sights_kept detail.Routes sights = sights
 sights_kept _ sights = []
 
 -- what is told of a failure, with the lines or the routes where they are wanted
-pub record IsOverall (adverts : List Advertisement) (wanted : RouteDetail) (o : Overall) : Type 0 where
+pub record IsOverall (adverts : List Advertisement) (wanted : RouteDetail) (o : Overall)
+    : Type 0 where
   pub sights : List SightValue
   pub are_sights : AreSights adverts o.failure sights
   pub sums_are : o.sums ≡ sums_of sights
@@ -87,16 +94,19 @@ sum_counts s = s.cut ∷ s.gone ∷ s.cost ∷ s.hops ∷ []
 -- as for one root
 abbrev pub overall_cmp : Overall → Overall → Ordering
 overall_cmp a b =
-    ordering_then (slice_cmp nat_cmp (sum_counts b.sums) (sum_counts a.sums)) (slice_cmp nat_cmp (failure_place a.failure) (failure_place b.failure))
+    ordering_then (slice_cmp nat_cmp (sum_counts b.sums) (sum_counts a.sums))
+    (slice_cmp nat_cmp (failure_place a.failure) (failure_place b.failure))
 
 -- the numbers that it is put in order by
 abbrev pub overall_rank : Overall → Reverse (List ℕ) × List ℕ
 overall_rank o = (record { 0 = sum_counts o.sums }, failure_place o.failure)
 
 -- what is printed over all roots: of each failure of the area what it changes, in order
-pub record AreOveralls (adverts : List Advertisement) (wanted : RouteDetail) (printed : List Overall) : Type 0 where
+pub record AreOveralls (adverts : List Advertisement) (wanted : RouteDetail)
+    (printed : List Overall) : Type 0 where
   pub overalls : List Overall
-  pub whole : (failure : AreaFailure) → Contains (map (λ o. o.failure) overalls) failure ↔ IsFailure adverts failure
+  pub whole : (failure : AreaFailure)
+      → Contains (map (λ o. o.failure) overalls) failure ↔ IsFailure adverts failure
   pub rising : AllPairs IsFailureBefore (map (λ o. o.failure) overalls)
   pub seen : All (IsOverall adverts wanted) overalls
   pub permuted : IsPermutation overalls printed
@@ -129,10 +139,12 @@ pub record IsTableBefore (adverts : List Advertisement) (b : Before) : Type 0 wh
 
 -- what a failure that leaves this of the area changes in the table of one of these routers
 abbrev pub IsSightFrom : List Advertisement → List Before → SightValue → Type 0
-IsSightFrom left befores sight = (b : Before) × Contains befores b × (b.root ≡ sight.0) × IsEffectIn left b.root b.table sight.1
+IsSightFrom left befores sight =
+    (b : Before) × Contains befores b × (b.root ≡ sight.0) × IsEffectIn left b.root b.table sight.1
 
 -- what is told so far, of some routers
-pub record IsSoFar (left : List Advertisement) (befores : List Before) (wanted : RouteDetail) (roots : List RouterId) (o : Overall) : Type 0 where
+pub record IsSoFar (left : List Advertisement) (befores : List Before) (wanted : RouteDetail)
+    (roots : List RouterId) (o : Overall) : Type 0 where
   pub sights : List SightValue
   pub routers : map (λ s. s.0) sights ≡ filter (λ r. not (is_of r o.failure)) roots
   pub seen : All (IsSightFrom left befores) sights
@@ -141,34 +153,46 @@ pub record IsSoFar (left : List Advertisement) (befores : List Before) (wanted :
   pub sights_are : o.sights.items ≡ sights_kept wanted sights
 
 -- what is found of one failure: what is told of all routers, or why not
-abbrev pub IsOverallFound : List Advertisement → List Before → RouteDetail → AreaFailure → Result Overall WithoutFault → Type 0
+abbrev pub IsOverallFound : List Advertisement → List Before → RouteDetail → AreaFailure
+    → Result Overall WithoutFault → Type 0
 IsOverallFound adverts befores wanted failure found =
-    IsFailureFound adverts (λ o. o.failure) (λ f o. IsSoFar (without f adverts) befores wanted (map (λ b. b.root) befores) o) failure found
+    IsFailureFound adverts (λ o. o.failure)
+    (λ f o. IsSoFar (without f adverts) befores wanted (map (λ b. b.root) befores) o) failure found
 
 -- what is found of these failures: each of them, in their order, or why not
-pub record AreOverallsFound (adverts : List Advertisement) (befores : List Before) (wanted : RouteDetail) (failures : List AreaFailure) (found : Result (Vec Overall Global) WithoutFault) : Type 0 where
+pub record AreOverallsFound (adverts : List Advertisement) (befores : List Before)
+    (wanted : RouteDetail) (failures : List AreaFailure)
+    (found : Result (Vec Overall Global) WithoutFault) : Type 0 where
   pub failures_are : IfOk found (λ overalls. map (λ o. o.failure) overalls.items ≡ failures)
   pub large : found ≡ Err Links → HasLarge adverts
-  pub seen : IfOk found (λ overalls. All (λ o. IsSoFar (without o.failure adverts) befores wanted (map (λ b. b.root) befores) o) overalls.items)
+  pub seen : IfOk found
+      (λ overalls. All
+      (λ o. IsSoFar (without o.failure adverts) befores wanted (map (λ b. b.root) befores) o)
+      overalls.items)
 
 -- what is kept of one router more
 pub record KeepsMore (wanted : RouteDetail) (sight : SightValue) (old new : Overall) : Type 0 where
   pub same : new.failure ≡ old.failure
   pub sums_are : new.sums ≡ old.sums
-  pub lines_are : string_bytes new.lines ≡ string_bytes old.lines ++ lines_kept wanted old.failure (sight ∷ [])
+  pub lines_are :
+      string_bytes new.lines ≡ string_bytes old.lines ++ lines_kept wanted old.failure (sight ∷ [])
   pub sights_are : new.sights.items ≡ old.sights.items ++ sights_kept wanted (sight ∷ [])
 
 -- one router more, which does not fail
-pub record SeesMore (left : List Advertisement) (before : Before) (wanted : RouteDetail) (old new : Overall) : Type 0 where
+pub record SeesMore (left : List Advertisement) (before : Before) (wanted : RouteDetail)
+    (old new : Overall) : Type 0 where
   pub changes : List RouteChange
   pub few : length changes < 2 ^ 64
   pub effect : IsEffectIn left before.root before.table changes
   pub other : is_of before.root old.failure ≡ false
   pub same : new.failure ≡ old.failure
   pub sums_are : new.sums ≡ sums_plus old.sums changes
-  pub lines_are : string_bytes new.lines ≡ string_bytes old.lines ++ lines_kept wanted old.failure ((before.root, changes) ∷ [])
-  pub sights_are : new.sights.items ≡ old.sights.items ++ sights_kept wanted ((before.root, changes) ∷ [])
+  pub lines_are : string_bytes new.lines
+      ≡ string_bytes old.lines ++ lines_kept wanted old.failure ((before.root, changes) ∷ [])
+  pub sights_are :
+      new.sights.items ≡ old.sights.items ++ sights_kept wanted ((before.root, changes) ∷ [])
 
 -- one router more, which may be what fails
 abbrev pub Sees : List Advertisement → Before → RouteDetail → Overall → Overall → Type 0
-Sees left before wanted old new = ((is_of before.root old.failure ≡ true) × (new ≡ old)) ⊎ SeesMore left before wanted old new
+Sees left before wanted old new =
+    ((is_of before.root old.failure ≡ true) × (new ≡ old)) ⊎ SeesMore left before wanted old new

@@ -43,8 +43,10 @@ abbrev pub IsOtherFailure : List Advertisement → RouterId → AreaFailure → 
 IsOtherFailure adverts root failure = IsFailure adverts failure × (failure ≡ Router root → ⊥)
 
 -- each of these once, in their order, with what it changes in the root's table
-pub record AreReports (adverts : List Advertisement) (root : RouterId) (table : List Route) (reports : List ReportValue) : Type 0 where
-  pub whole : (failure : AreaFailure) → Contains (map (λ r. r.0) reports) failure ↔ IsOtherFailure adverts root failure
+pub record AreReports (adverts : List Advertisement) (root : RouterId) (table : List Route)
+    (reports : List ReportValue) : Type 0 where
+  pub whole : (failure : AreaFailure)
+      → Contains (map (λ r. r.0) reports) failure ↔ IsOtherFailure adverts root failure
   pub rising : AllPairs IsFailureBefore (map (λ r. r.0) reports)
   pub changed : All (λ r. IsEffect adverts root r.0 table r.1) reports
 
@@ -54,7 +56,8 @@ pub record AreReports (adverts : List Advertisement) (root : RouterId) (table : 
 abbrev pub counts_of : Totals → List ℕ
 counts_of t = t.cut ∷ t.gone ∷ t.cost ∷ t.hops ∷ []
 
--- links in subnets, other links, attachments, networks, routers; those of one kind by Router IDs, and then by address
+-- links in subnets, other links, attachments, networks, routers; those of one kind by
+-- Router IDs, and then by address
 abbrev pub failure_place : AreaFailure → List ℕ
 failure_place (Link a b subnet) = 0 ∷ a.0 ∷ b.0 ∷ subnet.address.0 ∷ subnet.length ∷ []
 failure_place (Links a b) = 1 ∷ a.0 ∷ b.0 ∷ 0 ∷ 0 ∷ []
@@ -62,17 +65,20 @@ failure_place (Attachment router network) = 2 ∷ router.0 ∷ network ∷ 0 ∷
 failure_place (Network network) = 3 ∷ network ∷ 0 ∷ 0 ∷ 0 ∷ []
 failure_place (Router router) = 4 ∷ router.0 ∷ 0 ∷ 0 ∷ 0 ∷ []
 
--- first what cuts off most, then what takes most with it, then what makes most dearer, then what moves most; where all these are equal, by the failure's place
+-- first what cuts off most, then what takes most with it, then what makes most dearer, then what
+-- moves most; where all these are equal, by the failure's place
 abbrev pub report_cmp : ReportValue → ReportValue → Ordering
 report_cmp a b =
-    ordering_then (slice_cmp nat_cmp (counts_of (totals_of b.1)) (counts_of (totals_of a.1))) (slice_cmp nat_cmp (failure_place a.0) (failure_place b.0))
+    ordering_then (slice_cmp nat_cmp (counts_of (totals_of b.1)) (counts_of (totals_of a.1)))
+    (slice_cmp nat_cmp (failure_place a.0) (failure_place b.0))
 
 -- the numbers that a report is put in order by
 abbrev pub rank_of : ReportValue → Reverse (List ℕ) × List ℕ
 rank_of r = (record { 0 = counts_of (totals_of r.1) }, failure_place r.0)
 
 -- what is printed for the root: of each other failure of the area what it changes, in order
-pub record IsReported (adverts : List Advertisement) (root : RouterId) (table : List Route) (printed : List ReportValue) : Type 0 where
+pub record IsReported (adverts : List Advertisement) (root : RouterId) (table : List Route)
+    (printed : List ReportValue) : Type 0 where
   pub reports : List ReportValue
   pub are_reports : AreReports adverts root table reports
   pub permuted : IsPermutation reports printed
@@ -89,11 +95,15 @@ HasCut reports = Any (λ r. 0 < (totals_of r.1).cut) reports
 -- ---- on the way
 
 -- what is found of one failure: what is told of it, which P says, or why not
-pub record IsFailureFound {X : Type 0} (adverts : List Advertisement) (failure_of : X → AreaFailure) (P : AreaFailure → X → Type 0) (failure : AreaFailure) (found : Result X WithoutFault) : Type 0 where
+pub record IsFailureFound {X : Type 0} (adverts : List Advertisement) (failure_of : X → AreaFailure)
+    (P : AreaFailure → X → Type 0) (failure : AreaFailure) (found : Result X WithoutFault)
+    : Type 0 where
   pub same : IfOk found (λ x. failure_of x ≡ failure)
   pub large : found ≡ Err cause.Links → HasLarge adverts
   pub seen : IfOk found (P failure)
 
 -- what it changes in the root's table
-abbrev pub IsReportFound : List Advertisement → RouterId → List Route → AreaFailure → Result ReportValue WithoutFault → Type 0
-IsReportFound adverts root table failure found = IsFailureFound adverts (λ r. r.0) (λ f r. IsEffect adverts root f table r.1) failure found
+abbrev pub IsReportFound : List Advertisement → RouterId → List Route → AreaFailure
+    → Result ReportValue WithoutFault → Type 0
+IsReportFound adverts root table failure found =
+    IsFailureFound adverts (λ r. r.0) (λ f r. IsEffect adverts root f table r.1) failure found

@@ -23,7 +23,8 @@ abbrev pub IsNamedBy : List AreaFailure → String Global → AreaFailure → Ty
 IsNamedBy single name f = IsNamed single (string_bytes name) f
 
 -- the names are those of these, each of which may fail in the area
-pub record AreNamed (adverts : List Advertisement) (names : List (String Global)) (failures : List AreaFailure) : Type 0 where
+pub record AreNamed (adverts : List Advertisement) (names : List (String Global))
+    (failures : List AreaFailure) : Type 0 where
   pub single : List AreaFailure
   pub are_single : AreFailures adverts single
   pub named : AllZip (IsNamedBy single) names failures
@@ -33,7 +34,8 @@ abbrev pub IsUnnamedHere : List AreaFailure → String Global → String Global 
 IsUnnamedHere single name other = (other ≡ name) × ((f : AreaFailure) → IsNamedBy single name f → ⊥)
 
 -- the first name that is that of none of these
-pub record IsFirstAmong (single : List AreaFailure) (names : List (String Global)) (name : String Global) : Type 0 where
+pub record IsFirstAmong (single : List AreaFailure) (names : List (String Global))
+    (name : String Global) : Type 0 where
   pub before : List (String Global)
   pub after : List (String Global)
   pub names_are : names ≡ before ++ name ∷ after
@@ -42,7 +44,8 @@ pub record IsFirstAmong (single : List AreaFailure) (names : List (String Global
   pub unnamed : (f : AreaFailure) → IsNamedBy single name f → ⊥
 
 -- the first name of nothing that may fail in the area
-pub record IsFirstUnnamed (adverts : List Advertisement) (names : List (String Global)) (name : String Global) : Type 0 where
+pub record IsFirstUnnamed (adverts : List Advertisement) (names : List (String Global))
+    (name : String Global) : Type 0 where
   pub single : List AreaFailure
   pub are_single : AreFailures adverts single
   pub first : IsFirstAmong single names name
@@ -54,19 +57,22 @@ unnamed_line name = string_bytes name ++ codes ": no such element\n"
 -- why there is no table: memory ran out, or of the first name that names nothing this is to be said
 abbrev pub IsFaultOfNames : (String Global → Type 0) → Unreported → Type 0
 IsFaultOfNames IsFirst (fault.Refused text) = ⊥
-IsFaultOfNames IsFirst (fault.Unnamed text) = (name : String Global) × IsFirst name × (string_bytes text ≡ unnamed_line name)
+IsFaultOfNames IsFirst (fault.Unnamed text) =
+    (name : String Global) × IsFirst name × (string_bytes text ≡ unnamed_line name)
 IsFaultOfNames IsFirst (fault.Failure f) = f ≡ failure.Memory
 
 -- ---- the table
 
 -- the table of a router in an area, and what it says of the addresses
-pub record SaysTableOfLeft (left : List Advertisement) (root : RouterId) (addresses : List Addr) (text : List ℕ) : Type 0 where
+pub record SaysTableOfLeft (left : List Advertisement) (root : RouterId) (addresses : List Addr)
+    (text : List ℕ) : Type 0 where
   pub table : List Route
   pub is_table : IsTable left root table
   pub output : IsOutput table addresses text
 
 -- that of the area without the parts that are named
-pub record IsTableWithout (adverts : List Advertisement) (names : List (String Global)) (root : RouterId) (addresses : List Addr) (text : List ℕ) : Type 0 where
+pub record IsTableWithout (adverts : List Advertisement) (names : List (String Global))
+    (root : RouterId) (addresses : List Addr) (text : List ℕ) : Type 0 where
   pub failures : List AreaFailure
   pub are_named : AreNamed adverts names failures
   pub says : SaysTableOfLeft (without_all failures adverts) root addresses text

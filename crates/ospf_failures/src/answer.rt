@@ -116,8 +116,7 @@ impl FailuresStatus {
     }
 }
 
-// Why nothing is to be printed: the input is refused, or a name is that of nothing in the area, and this is said of it; or
-// something failed.
+// Why nothing is to be printed: the input or a name is refused, and so told; or something failed.
 #[derive(Drop)]
 pub(crate) enum Unreported {
     Refused(String),
@@ -149,19 +148,21 @@ impl From<FailuresStatus> for ExitCode {
     }
 }
 
-/// Reads LSAs, one a line in hexadecimal as `ospf_table::table_text` does, and prints what is asked of the failures of
-/// their area. For a root it is what each single failure but its own changes in the root's routing table: with `each` a
-/// line a prefix that it changes, then a line of how many there are; those that cut off most prefixes come first. Over all
-/// routers it is the same, added up, and a line of a prefix begins with the router in whose table it changes. Both are lines or
-/// JSON, as `reports_json` and `overalls_json` have it. Or it is the root's routing table in the area without the parts that
+/// Reads LSAs, one a line in hexadecimal as `ospf_table::table_text` does, and prints what is asked
+/// of the failures of their area. For a root it is what each single failure but its own changes in
+/// the root's routing table: with `each` a line a prefix that it changes, then a line of how many
+/// there are; those that cut off most prefixes come first. Over all routers it is the same, added
+/// up, and a line of a prefix begins with the router whose table it changes. Both are lines or JSON
+/// (`reports_json`, `overalls_json`). Or it is the root's table in the area without the parts that
 /// are named, with lookups, as `table_text` prints it.
 ///
-/// Where LSAs are listed and the root's router-LSA is not among them, `err` says so. The status is `Ended(Done)`, or with
-/// `strict` `CutOff` where some failure cuts a prefix off. The first line that is refused is told on `err`, or where none
-/// is the first router whose router-LSA has more than 1,361 links; then nothing is printed, with status
-/// `Ended(Refused)`. Then the first name of nothing in the area is, with status `Ended(Words)`. Status `Ended(Memory)`
-/// says that memory ran out, and `Ended(Stream)` that a read or a write failed; what it was is told on `err`, as far as
-/// that can be written. Then no more than a beginning is printed. Over all routers it is told how far the failures have come.
+/// Where LSAs are listed and the root's router-LSA is not among them, `err` says so. The status is
+/// `Ended(Done)`, or with `strict` `CutOff` where some failure cuts a prefix off. The first line
+/// that is refused is told on `err`, or where none is the first router whose router-LSA has more
+/// than 1,361 links, with status `Ended(Refused)`; else the first name of nothing in the area, with
+/// status `Ended(Words)`. Then nothing is printed. `Ended(Memory)` says that memory ran out, and
+/// `Ended(Stream)` that a read or a write failed; what it was is told on `err`, as far as that can
+/// be written, and no more than a beginning is printed. `progress` is told how far it has come.
 pub fn failures_text<R: BufRead + Drop, O: Write, E: Write, P: Progress>(
     rt: &(impl AllocGlobal + Threads + Sync),
     job: &FailuresJob,

@@ -1,4 +1,4 @@
-//! What each single failure of an area changes in the tables of its routers, as text or JSON, and tables without parts of it.
+//! What each failure of an area changes in its routers' tables, and tables without parts of it.
 //!
 //! `failures_text` is the whole: it reads, calculates and prints.
 #![tactic(auto)]

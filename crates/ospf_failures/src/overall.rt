@@ -30,7 +30,7 @@ use std::cmp::Reverse;
 use std::marker::Model;
 use std::thread::Threads;
 
-// In so many parts failures are gone through, behind each of which it is told how far they have come.
+// In so many parts failures are gone through; behind each it is told how far they have come.
 const PARTS: usize = 16;
 
 /// What is kept of the routes that a failure changes, beside how many they are.
@@ -68,9 +68,9 @@ pub struct Overall {
     sights: Vec<Sight>,
 }
 
-/// What each failure of an area changes in the tables of all its routers but the one that fails, in the order in which it is
-/// printed: as `reports` has it for one root, by the sums over the routers. What it has of the routes that change, the detail
-/// tells. Somebody is told how far the failures have come.
+/// What each failure of an area changes in the tables of all its routers but the one that fails,
+/// in the order in which it is printed: as `reports` has it for one root, by the sums over the
+/// routers, with the routes that the detail asks for. It is told how far the failures have come.
 ///
 /// `Links` or `Memory` as `Outage::of` has it.
 pub fn overalls<P: Progress>(
@@ -107,9 +107,8 @@ pub fn overalls_text(alloc: Global, overalls: &[Overall]) -> Result<String, Allo
     Ok(text)
 }
 
-/// What is told of all failures as one value of JSON on a line, as `reports_json` has it: the numbers are added up over the
-/// routers, and `routers` is at how many of them anything changes. With `each` it has `routes`, which are those that were
-/// kept.
+/// What is told of all failures as one value of JSON on a line, as `reports_json` has it, added up:
+/// `routers` is at how many anything changes, and with `each`, `routes` are those that were kept.
 ///
 /// `AllocError` where memory runs out.
 pub fn overalls_json(alloc: Global, overalls: &[Overall], each: bool) -> Result<String, AllocError>

@@ -115,9 +115,10 @@ impl Report {
     }
 }
 
-/// What each failure of an area but that of the root changes in the root's table, in the order in which it is printed: first
-/// what cuts off most, then what takes most with it, then what makes most dearer, then what moves most; where these are
-/// equal, links in subnets, other links, attachments, networks and routers, each by Router IDs and addresses.
+/// What each failure of an area but that of the root changes in the root's table, in the order in
+/// which it is printed: first what cuts off most, then what takes most with it, then what makes
+/// most dearer, then what moves most; where these are equal, links in subnets, other links,
+/// attachments, networks and routers, each by Router IDs and addresses.
 ///
 /// `Links` or `Memory` as `Outage::of` has it.
 pub fn reports(
@@ -153,10 +154,11 @@ pub fn reports_text(alloc: Global, reports: &[Report], each: bool) -> Result<Str
     Ok(text)
 }
 
-/// Reports for a root as one value of JSON on a line: an array, in their order, of an object each, with the name of the
-/// `failure`, its `kind`, and how many prefixes it changes, as `cut`, `gone`, `cost` and `hops`. With `each` it has
-/// `routes`, an array of an object a route that changes: the `router` in whose table it is, its `prefix`, the `loss` by one
-/// of these four words, and its cost and hops `before` and, where there are any, `after`.
+/// Reports for a root as one value of JSON on a line: an array, in their order, of an object each,
+/// with the name of the `failure`, its `kind`, and how many prefixes it changes, as `cut`, `gone`,
+/// `cost` and `hops`. With `each` it has `routes`, an array of an object a route that changes: the
+/// `router` in whose table it is, its `prefix`, the `loss` by one of these four words, and its cost
+/// and hops `before` and, where there are any, `after`.
 ///
 /// `AllocError` where memory runs out.
 pub fn reports_json(

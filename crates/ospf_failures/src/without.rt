@@ -14,8 +14,7 @@ use ospf_table::{find_failure, output_text};
 use ospf_whatif::{AreaFailure, single_failures, without_all};
 use std::alloc::{AllocError, Global};
 
-// What is printed of the table of a router in the area of a listing, without the parts that are named, and of addresses
-// that are looked up in it.
+// What is printed of a router's table without the parts that are named, and of lookups in it.
 pub(crate) fn text_without(
     alloc: Global,
     listing: Listing,
@@ -101,8 +100,7 @@ fn unnamed(alloc: Global, name: &String) -> Unreported
     }
 }
 
-// What is printed of the table of a router in the area of a listing without these parts, and of addresses that are looked up in
-// it.
+// What is printed of a router's table in the area without these parts, and of lookups in it.
 fn table_without(
     alloc: Global,
     listing: Listing,

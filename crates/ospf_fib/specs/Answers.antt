@@ -10,10 +10,13 @@ use Rattle.ospf_fib.specs.Versions.{IsLastTable}
 
 -- no route's prefix holds the address
 abbrev pub IsUnreached : Table → Addr → Type 0
-IsUnreached table address = (route : Route) → Contains table route → Holds route.prefix address.0 → ⊥
+IsUnreached table address =
+    (route : Route) → Contains table route → Holds route.prefix address.0 → ⊥
 
--- the answer of a table under its version: the route of longest prefix, with the hop that the choice picks
-pub record IsFound (table : Table) (version : ℕ) (address : Addr) (choice : ℕ) (answer : Answer) : Type 0 where
+-- the answer of a table under its version: the route of longest prefix,
+-- with the hop that the choice picks
+pub record IsFound (table : Table) (version : ℕ) (address : Addr) (choice : ℕ) (answer : Answer)
+    : Type 0 where
   pub route : Route
   pub best : IsBest table address.0 route
   pub version_is : answer.version ≡ version
@@ -24,10 +27,12 @@ pub record IsFound (table : Table) (version : ℕ) (address : Addr) (choice : �
 
 -- what a lookup in one table answers
 abbrev pub IsAnswer : Table → ℕ → Addr → ℕ → Option Answer → Type 0
-IsAnswer table version address choice answer = MatchOption answer (IsUnreached table address) (IsFound table version address choice)
+IsAnswer table version address choice answer =
+    MatchOption answer (IsUnreached table address) (IsFound table version address choice)
 
 -- the answer of the table that was published last
-pub record IsAnswerOfLast (tables : List Table) (address : Addr) (choice : ℕ) (answer : Option Answer) : Type 0 where
+pub record IsAnswerOfLast (tables : List Table) (address : Addr) (choice : ℕ)
+    (answer : Option Answer) : Type 0 where
   pub version : ℕ
   pub table : Table
   pub last : IsLastTable tables version table

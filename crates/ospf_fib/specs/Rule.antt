@@ -9,7 +9,9 @@ use Rattle.ospf_fib.specs.declared.rule.Knows.{Knows}
 
 -- each place that knows a list knows that of the table that is shown
 abbrev pub IsOneList : ShownTable → List Knows → Type 0
-IsOneList shown views = (place : ℕ) (v : Knows) → get_elem? views place ≡ some v → IsTrue v.named → v.counter ≡ counter_of shown.known.fib
+IsOneList shown views =
+    (place : ℕ) (v : Knows) → get_elem? views place ≡ some v → IsTrue v.named
+    → v.counter ≡ counter_of shown.known.fib
 
 -- what a place knows: whether it knows a list, and which
 abbrev pub knows : Bool → Book → Knows
@@ -21,7 +23,8 @@ newcomer = knows false (record { number = 0; log_name = 0; cells_name = 0 })
 
 -- an entry leaves what the place knows, and what it finds is of the list that the place knows
 abbrev pub FindsItsList : Knows → ShownTable → ShownTable → Knows → Type 0
-FindsItsList before was found after = (after ≡ before) × (IsTrue before.named → before.counter ≡ counter_of found.known.fib)
+FindsItsList before was found after =
+    (after ≡ before) × (IsTrue before.named → before.counter ≡ counter_of found.known.fib)
 
 -- the swap lets the writer's place know the list of what is shown from then on
 abbrev pub NamesTheList : Knows → ShownTable → ShownTable → Knows → Type 0

@@ -16,7 +16,8 @@ EndsWith tables table = (before : List Table) × (tables ≡ before ++ table ∷
 
 -- a list with one table more: its last one with these changes
 abbrev pub AddsEdited : List Table → List Change → List Table → Type 0
-AddsEdited old changes new = (last : Table) × EndsWith old last × (new ≡ old ++ edited last changes ∷ [])
+AddsEdited old changes new =
+    (last : Table) × EndsWith old last × (new ≡ old ++ edited last changes ∷ [])
 
 -- what a list ends with where it is live, and else the table itself
 abbrev pub found_of : Bool → Table → List Table → Option Table

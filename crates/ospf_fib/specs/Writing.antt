@@ -12,11 +12,29 @@ IsListShown shown known = (shown.live ≡ true) × (shown.known ≡ known)
 
 -- what is shown, as the writer and the readers have it in common
 abbrev pub common_of : ShownTable → Common
-common_of shown = record { table = shown.table; list = record { fib = shown.known.fib; tables = shown_tables shown.live shown.table shown.known.tables } }
+common_of shown =
+    record {
+      table = shown.table;
+      list =
+          record {
+            fib = shown.known.fib;
+            tables = shown_tables shown.live shown.table shown.known.tables;
+          };
+    }
 
 -- what is shown once the changes that were handed over are made
 abbrev pub shown_after : Common → HandedOver → Common
-shown_after was next = record { table = edited_by next.is_opening was.table next.changes; list = record { fib = next.known.fib; tables = after_of next.is_opening (edited_by next.is_opening was.table next.changes) next.known.tables } }
+shown_after was next =
+    record {
+      table = edited_by next.is_opening was.table next.changes;
+      list =
+          record {
+            fib = next.known.fib;
+            tables =
+                after_of next.is_opening (edited_by next.is_opening was.table next.changes)
+                next.known.tables;
+          };
+    }
 
 -- what is shown comes to this, once all that waits is absorbed
 abbrev pub shown_end : ShownTable → List HandedOver → Common

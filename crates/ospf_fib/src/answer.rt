@@ -8,7 +8,8 @@ use ospf_base::{Addr, Prefix};
 use ospf_graph::NextHop;
 use ospf_index::IndexedTable;
 
-/// The route of longest prefix that holds an address (RFC 2328, section 11.1), with one of its hops.
+/// The route of longest prefix that holds an address (RFC 2328,
+/// section 11.1), with one of its hops.
 #[derive(Clone, Copy, Debug, PartialEq, Eq)]
 pub struct Answer {
     /// The place of the table that answers in the list of published tables, modulo 2^64.

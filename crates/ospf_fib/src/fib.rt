@@ -28,8 +28,8 @@ pub const MAX_SEATS: usize = 64;
 pub struct Fib;
 
 impl Fib {
-    /// A writer and so many seats. They know the opening table, which is empty and has version 0. The writer
-    /// waits by the handle `rt`.
+    /// A writer and so many seats. They know the opening table, which is empty and has version 0.
+    /// The writer waits by the handle `rt`.
     ///
     /// `OpenRefused` where memory runs out, or there is no place for a seat.
     pub fn open<R: Wait + Drop>(
@@ -93,7 +93,8 @@ impl<T: Drop> From<AllocFailed<T>> for OpenRefused {
     }
 }
 
-// Two copies of the opening table, with places for so many seats. The writer's place knows the list.
+// Two copies of the opening table, with places for so many seats. The
+// writer's place knows the list.
 fn opening_copies<R: Wait>(
     alloc: Global,
     rt: &R,

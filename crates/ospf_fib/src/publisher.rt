@@ -49,7 +49,8 @@ impl Model for Publisher {
 
     ghost invariant = { λ d. IsKnownBook (view_of d.copies.desk.place) d.list.fib
         × IsListShown d.copies.desk.shown.value d.list
-        × ((shown_end d.copies.desk.shown.value (drop d.copies.behind d.copies.log.items)).table ≡ d.handed)
+        × ((shown_end d.copies.desk.shown.value (drop d.copies.behind d.copies.log.items)).table
+        ≡ d.handed)
         × ((arc_value d.tries).counter ≡ counter_of d.list.fib) };
 }
 
@@ -78,7 +79,8 @@ impl Publisher {
         }
     }
 
-    /// Publishes the last table with these changes. At `Err` what readers find and the list are as they were.
+    /// Publishes the last table with these changes. At `Err` what readers find
+    /// and the list are as they were.
     pub fn publish_changes<R: Wait>(
         self,
         rt: &R,
@@ -95,7 +97,8 @@ impl Publisher {
         }
     }
 
-    // Opens the list. The publisher comes back as it was where the list has no room for three steps more.
+    // Opens the list. The publisher comes back as it was where the list
+    // has no room for three steps more.
     fn opened(self) -> Result<OpenPublisher, Publisher>
         ensures opened { IfOk result (λ opened. opened.list ≡ self) }
         ensures full { IfErr result (λ publisher. publisher ≡ self) }
@@ -194,11 +197,15 @@ impl Model for OpenPublisher {
 
     ghost Value = { Offer };
 
-    ghost view = { λ d. record { list = d.opened; end = shown_end d.copies.desk.shown.value (drop d.copies.behind d.copies.log.items) } };
+    ghost view = { λ d. record {
+      list = d.opened;
+      end = shown_end d.copies.desk.shown.value (drop d.copies.behind d.copies.log.items);
+    } };
 
     ghost invariant = { λ d. IsKnownBook (view_of d.copies.desk.place) d.opened.fib
         × IsListShown d.copies.desk.shown.value d.opened
-        × ((shown_end d.copies.desk.shown.value (drop d.copies.behind d.copies.log.items)).table ≡ d.handed)
+        × ((shown_end d.copies.desk.shown.value (drop d.copies.behind d.copies.log.items)).table
+        ≡ d.handed)
         × ((arc_value d.tries).counter ≡ counter_of d.opened.fib) };
 }
 
@@ -335,7 +342,8 @@ impl OpenPublisher {
         ensures told { IfOk result.1 (λ told. told ≡ result.0) }
         ensures refused { OnErr result.1 (result.0.tables ≡ self.list.tables) }
     {
-        // What was refused still waits, and is handed over with what comes next. Then the whole table is needed.
+        // What was refused still waits, and is handed over with what comes next.
+        // Then the whole table is needed.
         if self.copies.has_pending_operations() {
             return self.publish_edited(rt, changes);
         }
@@ -461,8 +469,8 @@ fn wait_forever<R: Wait>(rt: &R)
     unreachable!()
 }
 
-// The list that what is shown ends is closed again. The table was added to it before it was shown, which is
-// not proved.
+// The list that what is shown ends is closed again. The table was added to it before it
+// was shown, which is not proved.
 fn closed_shown<R: Wait>(rt: &R, shown: &ShownTable, counter: &Counter) -> ClosedList
     requires { counter.now ≡ counter_of shown.now.known.fib }
     ensures live { shown.now.live ≡ true }

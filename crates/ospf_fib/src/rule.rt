@@ -1,5 +1,5 @@
-//! The rule of the shared table: all that read it and write it mean one list of published tables. It is
-//! for proofs alone, and nothing here has bytes.
+//! The rule of the shared table: all that read it and write it mean one list of published tables.
+//! It is for proofs alone, and nothing here has bytes.
 
 use crate::shown::ShownTable;
 use atomic_table::{Join, Split};

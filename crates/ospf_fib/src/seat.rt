@@ -67,8 +67,8 @@ impl Told {
     }
 }
 
-/// A thread's place at a forwarding table. Proofs see the tables that it knows to be published; it keeps
-/// no table and no answer.
+/// A thread's place at a forwarding table. Proofs see the tables that it knows to be published;
+/// it keeps no table and no answer.
 pub struct Seat {
     reader: Reader<ShownTable, Knows, OneList>,
     pub(crate) known: Published,
@@ -94,9 +94,9 @@ impl Drop for Seat {
 }
 
 impl Seat {
-    /// The answer of the table that was published last: its route of longest prefix that holds the address
-    /// (RFC 2328, section 11.1), with the hop at `choice` modulo the number of hops; `None` where no route's
-    /// prefix holds it. It waits for nobody and takes no memory.
+    /// The answer of the table that was published last: its route of longest prefix that holds the
+    /// address (RFC 2328, section 11.1), with the hop at `choice` modulo the number of hops; `None`
+    /// where no route's prefix holds it. It waits for nobody and takes no memory.
     ///
     /// `Closed` where the writer is gone.
     pub fn lookup(&mut self, address: Addr, choice: u32) -> Result<Option<Answer>, Closed>
@@ -115,8 +115,8 @@ impl Seat {
         answer
     }
 
-    /// Takes in what a publish told: lookups from here on answer from its table or a later one. It waits for
-    /// nobody and takes no memory. The seat and what it is told are of one `Fib::open`.
+    /// Takes in what a publish told: lookups from here on answer from its table or a later one. It
+    /// waits for nobody and takes no memory. The seat and what it is told are of one `Fib::open`.
     pub fn learn(&mut self, told: Told)
         requires { told.fib ≡ self.old.fib }
         // It stays a seat of the same table, and forgets nothing.
@@ -137,8 +137,8 @@ impl Seat {
     }
 }
 
-// Enters, and looks the address up in what is shown. That is live and no earlier than what was known, which
-// is not proved: else the answer is `Closed`.
+// Enters, and looks the address up in what is shown. That is live and no earlier than what was
+// known, which is not proved: else the answer is `Closed`.
 fn look_up(
     reader: Reader<ShownTable, Knows, OneList>,
     known: Published,

@@ -14,15 +14,16 @@ use std::alloc::{AllocError, Global};
 use std::sync::Arc;
 use std::sync::atomic::{AtomicU64, Ordering};
 
-/// What the writer shares with the changes that it hands over: the counter of the list, and the number of
-/// its present try to publish.
+/// What the writer shares with the changes that it hands over: the counter of the list, and the
+/// number of its present try to publish.
 #[derive(Drop)]
 pub(crate) struct Tries {
     pub counter: Counter,
     pub present: AtomicU64,
 }
 
-/// A table, and the published list that it ends. Where it is not live, the list is what was published before.
+/// A table, and the published list that it ends. Where it is not live, the
+/// list is what was published before.
 #[derive(Drop)]
 pub(crate) struct ShownTable {
     pub live: bool,
@@ -36,9 +37,25 @@ impl Absorb<HandedOver> for ShownTable {
 
     type State = Common;
 
-    ghost state = { λ shown. record { table = shown.table; list = record { fib = shown.known.fib; tables = shown_tables shown.live shown.table shown.known.tables } } };
+    ghost state = { λ shown. record {
+      table = shown.table;
+      list =
+          record {
+            fib = shown.known.fib;
+            tables = shown_tables shown.live shown.table shown.known.tables;
+          };
+    } };
 
-    ghost applied = { λ was next. record { table = edited_by next.is_opening was.table next.changes; list = record { fib = next.known.fib; tables = after_of next.is_opening (edited_by next.is_opening was.table next.changes) next.known.tables } } };
+    ghost applied = { λ was next. record {
+      table = edited_by next.is_opening was.table next.changes;
+      list =
+          record {
+            fib = next.known.fib;
+            tables =
+                after_of next.is_opening (edited_by next.is_opening was.table next.changes)
+                next.known.tables;
+          };
+    } };
 
     fn absorb_first(
         &mut self,
@@ -54,8 +71,8 @@ impl Absorb<HandedOver> for ShownTable {
     }
 }
 
-/// Changes that are handed over in the try of this number, with all that was published before it. The
-/// opening leaves the list as it is.
+/// Changes that are handed over in the try of this number, with all that was published before it.
+/// The opening leaves the list as it is.
 #[derive(Drop)]
 pub(crate) struct HandedOver {
     pub is_opening: bool,
@@ -81,8 +98,9 @@ impl HandedOver {
         table.edit(self.alloc, self.changes.as_slice())
     }
 
-    // All that is published with this table. It comes to stand in the list here, after all that may be
-    // refused for memory, and in the present try alone: changes that were refused are absorbed by the next one.
+    // All that is published with this table. It comes to stand in the list here, after all
+    // that may be refused for memory, and in the present try alone: changes that were
+    // refused are absorbed by the next one.
     fn announced(&self, table: &RouteTable) -> (bool, Opened)
         ensures fib { result.1.fib ≡ self.now.known.fib }
         ensures tables { result.1.tables ≡ added_of result.0 table.now self.now.known.tables }

@@ -15,8 +15,9 @@ use std::alloc::AllocError;
 use std::marker::Model;
 use std::sync::Wait;
 
-/// The one that publishes tables. Proofs see the list of those that it has published: while no publish runs,
-/// readers find the last of them. Its end closes the forwarding table, and waits for lookups that are under way.
+/// The one that publishes tables. Proofs see the list of those that it has published: while no
+/// publish runs, readers find the last of them. Its end closes the forwarding table, and waits
+/// for lookups that are under way.
 pub struct Writer<R: Wait + Drop> {
     pub(crate) publisher: Publisher,
     pub(crate) rt: R,
@@ -45,8 +46,8 @@ impl<R: Wait + Drop> Drop for Writer<R> {
 }
 
 impl<R: Wait + Drop> Writer<R> {
-    /// Publishes the table as the next version, all of it at once: each lookup answers from it or from what
-    /// was published before. It may wait for lookups that are under way.
+    /// Publishes the table as the next version, all of it at once: each lookup answers from it or
+    /// from what was published before. It may wait for lookups that are under way.
     ///
     /// `AllocError` where memory runs out; then what is published is unchanged.
     pub fn publish(&mut self, table: &RouteTable) -> Result<Told, AllocError>
@@ -60,9 +61,10 @@ impl<R: Wait + Drop> Writer<R> {
         })
     }
 
-    /// Publishes the table that was published last with these changes, which are in the order of tables, as the
-    /// next version. Where they are few, and each puts a route in the place of one to the same prefix, mostly no
-    /// other route is looked at. It may wait for lookups that are under way.
+    /// Publishes the table that was published last with these changes, which are in the
+    /// order of tables, as the next version. Where they are few, and each puts a route in
+    /// the place of one to the same prefix, mostly no other route is looked at. It may wait
+    /// for lookups that are under way.
     ///
     /// `AllocError` where memory runs out; then what is published is unchanged.
     pub fn publish_changes(&mut self, changes: &[Change]) -> Result<Told, AllocError>
@@ -90,7 +92,8 @@ impl<R: Wait + Drop> Writer<R> {
         self.publisher.shown()
     }
 
-    /// All that a seat knows to be published was published by this writer. The seat is of the same `Fib::open`.
+    /// All that a seat knows to be published was published by this writer. The
+    /// seat is of the same `Fib::open`.
     pub fn covers(&mut self, seat: &Seat)
         requires { seat.now.fib ≡ self.old.fib }
         ensures same { self.new ≡ self.old }
@@ -101,7 +104,8 @@ impl<R: Wait + Drop> Writer<R> {
             .covers(&self.publisher.tries.counter, &seat.known);
     }
 
-    /// All that a publish told was published by this writer. What was told is of the same `Fib::open`.
+    /// All that a publish told was published by this writer. What was
+    /// told is of the same `Fib::open`.
     pub fn covers_told(&mut self, told: &Told)
         requires { told.now.fib ≡ self.old.fib }
         ensures same { self.new ≡ self.old }

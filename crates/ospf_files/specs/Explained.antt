@@ -42,7 +42,8 @@ keys_at_top = router_id_key ∷ area_key ∷ stub_router_key ∷ other_lsas_key 
 -- the keys of an interface, in the order in which they are told
 abbrev pub keys_of_interface : List KnownKey
 keys_of_interface =
-    kind_key ∷ address_key ∷ cost_key ∷ priority_key ∷ hello_key ∷ dead_key ∷ retransmit_key ∷ transmit_delay_key ∷ mtu_key
+    kind_key ∷ address_key ∷ cost_key ∷ priority_key ∷ hello_key ∷ dead_key ∷ retransmit_key
+    ∷ transmit_delay_key ∷ mtu_key
     ∷ port_key ∷ peers_key ∷ []
 
 -- the key itself
@@ -72,7 +73,8 @@ wanted_at stub_router_key = codes "true or false"
 wanted_at other_lsas_key = codes "\"refuse\" or \"pass over\""
 wanted_at interface_key = codes "1 to 32 tables [[interface]]"
 wanted_at kind_key = codes "\"point-to-point\" or \"broadcast\""
-wanted_at address_key = codes "a host's address with the length of its prefix, 1 to 30, as \"10.0.0.1/30\","
+wanted_at address_key =
+    codes "a host's address with the length of its prefix, 1 to 30, as \"10.0.0.1/30\","
 wanted_at cost_key = codes "1 to 65535"
 wanted_at priority_key = codes "0 to 255"
 wanted_at hello_key = codes "1 to 65535"
@@ -123,7 +125,8 @@ IsFoundText (Some d) None = ⊥
 IsFoundText (Some d) (Some text) = IsValueText d text
 
 -- the place of a key: the number of its interface, if any, what belongs there and what stood there
-pub record IsKeyPlace (number : Option ℕ) (t : Members) (key wanted : List ℕ) (e : Explained) : Type 0 where
+pub record IsKeyPlace (number : Option ℕ) (t : Members) (key wanted : List ℕ) (e : Explained)
+    : Type 0 where
   pub place : KeyExplained
   pub is_key : e ≡ said.Key place
   pub number_is : place.interface ≡ number
@@ -142,10 +145,13 @@ IsUnknownPlace number t key e = IsKeyPlace number t key (codes "a known key") e
 -- ---- the places of a table
 
 -- the places of those keys for which the fact holds, in order
-pub data ArePlacesOf {K : Type 0} (Has : K → Type 0) (IsPlace : K → Explained → Type 0) : List K → List Explained → Type 0 where
+pub data ArePlacesOf {K : Type 0} (Has : K → Type 0) (IsPlace : K → Explained → Type 0)
+    : List K → List Explained → Type 0 where
   no_key : ArePlacesOf Has IsPlace [] []
-  taken : {k : K} {ks : List K} {e : Explained} {es : List Explained} → Has k → IsPlace k e → ArePlacesOf Has IsPlace ks es → ArePlacesOf Has IsPlace (k ∷ ks) (e ∷ es)
-  passed : {k : K} {ks : List K} {es : List Explained} → (Has k → ⊥) → ArePlacesOf Has IsPlace ks es → ArePlacesOf Has IsPlace (k ∷ ks) es
+  taken : {k : K} {ks : List K} {e : Explained} {es : List Explained} → Has k → IsPlace k e
+      → ArePlacesOf Has IsPlace ks es → ArePlacesOf Has IsPlace (k ∷ ks) (e ∷ es)
+  passed : {k : K} {ks : List K} {es : List Explained} → (Has k → ⊥) → ArePlacesOf Has IsPlace ks es
+      → ArePlacesOf Has IsPlace (k ∷ ks) es
 
 -- one place where the fact holds, and none where it does not
 pub data IsPlaceWhere (Fact : Type 0) (IsPlace : Explained → Type 0) : List Explained → Type 0 where
@@ -154,7 +160,8 @@ pub data IsPlaceWhere (Fact : Type 0) (IsPlace : Explained → Type 0) : List Ex
 
 -- the places at the top
 abbrev pub AreTopPlaces : Members → ConfigFault → List Explained → Type 0
-AreTopPlaces t fault.Unknown es = ArePlacesOf (IsOtherKey top_keys) (IsUnknownPlace None t) (keys_of t) es
+AreTopPlaces t fault.Unknown es =
+    ArePlacesOf (IsOtherKey top_keys) (IsUnknownPlace None t) (keys_of t) es
 AreTopPlaces t f es = ArePlacesOf (KeyHas t f) (IsKnownPlace None t) keys_at_top es
 
 -- both interfaces have an address, and these are in conflict
@@ -168,15 +175,22 @@ pub record AreInConflict (first second : Members) : Type 0 where
 -- the places of the interface of this number, where the interfaces before it have these tables
 abbrev pub AreInterfacePlaces : ℕ → List Members → Members → ConfigFault → List Explained → Type 0
 AreInterfacePlaces n before t fault.SamePrefix es =
-    IsPlaceWhere (Any (λ first. AreInConflict first t) before) (IsKeyPlace (Some n) t (codes "address") (codes "a prefix and an address that no interface before has")) es
-AreInterfacePlaces n before t fault.DeadNotOverHello es = IsPlaceWhere (IsDeadNotOverHello t) (IsKeyPlace (Some n) t (codes "dead") (codes "more than `hello`")) es
-AreInterfacePlaces n before t fault.Unknown es = ArePlacesOf (IsOtherKey interface_keys) (IsUnknownPlace (Some n) t) (keys_of t) es
-AreInterfacePlaces n before t f es = ArePlacesOf (KeyHas t f) (IsKnownPlace (Some n) t) keys_of_interface es
+    IsPlaceWhere (Any (λ first. AreInConflict first t) before)
+    (IsKeyPlace (Some n) t (codes "address")
+    (codes "a prefix and an address that no interface before has")) es
+AreInterfacePlaces n before t fault.DeadNotOverHello es =
+    IsPlaceWhere (IsDeadNotOverHello t)
+    (IsKeyPlace (Some n) t (codes "dead") (codes "more than `hello`")) es
+AreInterfacePlaces n before t fault.Unknown es =
+    ArePlacesOf (IsOtherKey interface_keys) (IsUnknownPlace (Some n) t) (keys_of t) es
+AreInterfacePlaces n before t f es =
+    ArePlacesOf (KeyHas t f) (IsKnownPlace (Some n) t) keys_of_interface es
 
 -- the places of the interfaces of these tables, one interface after the other
 pub data AreAllPlaces (f : ConfigFault) : List Members → List Explained → Type 0 where
   no_interface : AreAllPlaces f [] []
-  one_more : {before : List Members} (t : Members) (own : List Explained) {es : List Explained} → AreAllPlaces f before es → AreInterfacePlaces (length before) before t f own
+  one_more : {before : List Members} (t : Members) (own : List Explained) {es : List Explained}
+      → AreAllPlaces f before es → AreInterfacePlaces (length before) before t f own
       → AreAllPlaces f (before ++ t ∷ []) (es ++ own)
 
 -- the places of a table: those at the top, and then those of its interfaces
@@ -220,7 +234,10 @@ interface_text (Some n) = codes "interface " ++ decimal n ++ codes ": "
 
 -- as `interface 0: mtu: 576 to 9000 wanted, 100 found`
 abbrev pub key_explained_text : KeyExplained → List ℕ
-key_explained_text p = interface_text p.interface ++ (string_bytes p.key ++ codes ": " ++ p.wanted.now ++ codes " wanted, ") ++ found_here_text p.found
+key_explained_text p =
+    interface_text p.interface
+    ++ (string_bytes p.key ++ codes ": " ++ p.wanted.now ++ codes " wanted, ")
+    ++ found_here_text p.found
 
 -- what is printed of a place
 abbrev pub explained_text : Explained → List ℕ

@@ -27,7 +27,9 @@ pub record IsConfigIn (bytes : List ℕ) (config : Config) : Type 0 where
 
 -- the bytes are not UTF-8, and so no TOML, or this is the least fault of the text
 abbrev pub IsRefusedFor : List ℕ → ConfigFault → Type 0
-IsRefusedFor bytes fault = ((IsUtf8 bytes → ⊥) × (fault ≡ NotToml)) ⊎ (IsUtf8 bytes × IsLeastFault (TextHasFault bytes) fault)
+IsRefusedFor bytes fault =
+    ((IsUtf8 bytes → ⊥) × (fault ≡ NotToml))
+    ⊎ (IsUtf8 bytes × IsLeastFault (TextHasFault bytes) fault)
 
 -- the line of a file that could not be read
 abbrev pub unread_line : NamedFile → List ℕ
@@ -35,7 +37,8 @@ unread_line file = string_bytes file.name ++ codes ": not read\n"
 
 -- the line of a file that is refused
 abbrev pub refused_line : NamedFile → ConfigFault → List ℕ
-refused_line file fault = string_bytes file.name ++ (codes ": " ++ (config_fault_text fault ++ codes "\n"))
+refused_line file fault =
+    string_bytes file.name ++ (codes ": " ++ (config_fault_text fault ++ codes "\n"))
 
 -- the line of a file of this name that could not be written
 abbrev pub unwritten : List ℕ → List ℕ

@@ -1,4 +1,5 @@
--- Lines of a text, with their numbers: a line ends with a line feed, before which a carriage return may stand, or with the text.
+-- Lines of a text, with their numbers: a line ends with a line feed, before which a carriage
+-- return may stand, or with the text.
 use Rattle.std.specs.Prelude.{◌==◌, ℕ, List, map, take}
 use Rattle.std.specs.List.{enumerate_from, position_or_len}
 use Rattle.std.specs.Str.Lines as std

@@ -26,10 +26,14 @@ AreConfigs files configs = AllZip (λ file config. IsConfigIn (text_in file) con
 -- a file holds a configuration, or it is told why it does not
 abbrev pub ConfigComes : NamedFile → Option Config → Option (List ℕ) → Option (List ℕ) → Type 0
 ConfigComes file (Some config) old new = IsConfigIn (text_in file) config × (new ≡ old)
-ConfigComes file None old new = (fault : ConfigFault) × IsRefusedFor (text_in file) fault × Appends old new (refused_line file fault)
+ConfigComes file None old new =
+    (fault : ConfigFault) × IsRefusedFor (text_in file) fault
+    × Appends old new (refused_line file fault)
 
--- this file holds no configuration, for the fault of least number, and those before it hold one each
-pub record IsFirstRefused (file : NamedFile) (fault : ConfigFault) (files : List NamedFile) : Type 0 where
+-- this file holds no configuration, for the fault of least number, and those before it hold one
+-- each
+pub record IsFirstRefused (file : NamedFile) (fault : ConfigFault) (files : List NamedFile)
+    : Type 0 where
   pub before : List NamedFile
   pub configs : List Config
   pub after : List NamedFile
@@ -45,7 +49,8 @@ pub record IsRefusalTold (files : List NamedFile) (old new : Option (List ℕ)) 
   pub told : Appends old new (refused_line file fault)
 
 -- the files hold these configurations, or it is told which is the first that holds none, and why
-abbrev pub ConfigsCome : List NamedFile → Option (List Config) → Option (List ℕ) → Option (List ℕ) → Type 0
+abbrev pub ConfigsCome : List NamedFile → Option (List Config) → Option (List ℕ) → Option (List ℕ)
+    → Type 0
 ConfigsCome files (Some configs) old new = AreConfigs files configs × (new ≡ old)
 ConfigsCome files None old new = IsRefusalTold files old new
 

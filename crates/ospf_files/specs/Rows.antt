@@ -1,4 +1,5 @@
--- How places are found and gathered: rows of keys with their faults, and lists that grow at their end.
+-- How places are found and gathered: rows of keys with their faults,
+-- and lists that grow at their end.
 use Rattle.std.specs.Prelude.{◌≡◌, List, ◌++◌, MatchOption}
 use Rattle.toml.specs.Data.{Members}
 use Rattle.ospf_files.specs.declared.explained.Explained.{Explained}

@@ -38,8 +38,10 @@ abbrev pub with_error : FailedStreams → FailedStreams
 with_error streams = record streams { error = true }
 
 -- the text was told, or standard error failed behind a beginning of it
-abbrev pub IsTold : FailedStreams → FailedStreams → Option (List ℕ) → Option (List ℕ) → List ℕ → Type 0
-IsTold before after old new text = ((after ≡ before) × Appends old new text) ⊎ ((after ≡ with_error before) × IsBegun old new text)
+abbrev pub IsTold : FailedStreams → FailedStreams → Option (List ℕ) → Option (List ℕ) → List ℕ
+    → Type 0
+IsTold before after old new text =
+    ((after ≡ before) × Appends old new text) ⊎ ((after ≡ with_error before) × IsBegun old new text)
 
 -- what a failed write to standard output, or a flush of it, is
 abbrev pub IsOfOutput : Failure → Type 0
@@ -53,12 +55,14 @@ IsOfError f = (f ≡ failure.Memory) ⊎ (f ≡ failure.Error)
 abbrev pub IsOfInput : Failure → Type 0
 IsOfInput f = (f ≡ failure.Memory) ⊎ (f ≡ failure.Input)
 
--- why a text is not whole on standard output: memory ran out before a write, or standard output is noted as failed
+-- why a text is not whole on standard output: memory ran out before a write, or
+-- standard output is noted as failed
 pub data IsOutputCut (failed : FailedStreams) : Failure → Type 0 where
   no_room : IsOutputCut failed failure.Memory
   no_output : {f : Failure} → IsOutputFailed failed → IsOfOutput f → IsOutputCut failed f
 
--- why a text is not whole on standard error: memory ran out before a write, or standard error is noted as failed
+-- why a text is not whole on standard error: memory ran out before a write, or
+-- standard error is noted as failed
 pub data IsErrorCut (failed : FailedStreams) : Failure → Type 0 where
   no_text : IsErrorCut failed failure.Memory
   no_error : {f : Failure} → IsErrorFailed failed → IsOfError f → IsErrorCut failed f

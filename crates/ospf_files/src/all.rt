@@ -21,8 +21,9 @@ pub struct FaultExplained {
     pub places: Vec<Explained>,
 }
 
-/// All faults of a text, in the order of their numbers, each once and with each of its places. Nothing where the text is
-/// accepted; of one that is no TOML that alone, since nothing else can be read.
+/// All faults of a text, in the order of their numbers, each once and with each of its
+/// places. Nothing where the text is accepted; of one that is no TOML that alone,
+/// since nothing else can be read.
 ///
 /// `AllocError` where memory runs out.
 pub fn explain_all(alloc: Global, text: &str) -> Result<Vec<FaultExplained>, AllocError>

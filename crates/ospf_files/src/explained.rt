@@ -62,8 +62,9 @@ impl Display for KeyExplained {
     }
 }
 
-/// What to do about a text that `Config::from_text` refuses: each place that has the fault which that tells, first
-/// those at the top, then those of the interfaces in order. Nothing where it is accepted.
+/// What to do about a text that `Config::from_text` refuses: each place that has the
+/// fault which that tells, first those at the top, then those of the interfaces in
+/// order. Nothing where it is accepted.
 ///
 /// `AllocError` where memory runs out.
 pub fn explain(alloc: Global, text: &str) -> Result<Vec<Explained>, AllocError>

@@ -36,8 +36,8 @@ impl NamedFile {
 
 /// The configuration that bytes are.
 ///
-/// The error is `NotToml` where they are not UTF-8, else the fault of least number that the text has, or `Memory` where
-/// memory ran out.
+/// The error is `NotToml` where they are not UTF-8, else the fault of least number that the text
+/// has, or `Memory` where memory ran out.
 pub fn config_in(alloc: Global, bytes: &[u8]) -> Result<Config, ConfigFault>
     ensures ok { IfOk result (IsConfigIn bytes.now) }
     ensures fault { IfErr result (λ f. (f ≡ Memory) ⊎ IsRefusedFor bytes.now f) }

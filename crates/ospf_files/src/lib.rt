@@ -1,11 +1,13 @@
-//! What the programs have in common: files that were named, the configurations in them and what is wrong with one, lines
-//! of texts and of routes, and how a program ends.
+//! What the programs have in common: files that were named, the configurations in them and what is
+//! wrong with one, lines of texts and of routes, and how a program ends.
 //!
-//! `read_files` and `write_file` read and write files whole, and `config_in` finds the configuration in a file's
-//! bytes. `explain` tells the places of the fault of least number of a text that holds none, and `explain_all` those of each
-//! fault that holds (`specs/Explained`, `specs/AllFaults`). `lines` gives the lines of a text, with their numbers and without
-//! comments. `print_routes` and `print_lookup` print a table and what a lookup found (RFC 2328, section 11), as `specs/Shown`
-//! has it. `FailedStreams` notes which stream failed, and `Failure::tell` tells why a program ends early (`specs/Status`).
+//! `read_files` and `write_file` read and write files whole, and `config_in` finds the
+//! configuration in a file's bytes. `explain` tells the places of the fault of least number of a
+//! text that holds none, and `explain_all` those of each fault that holds (`specs/Explained`,
+//! `specs/AllFaults`). `lines` gives the lines of a text, with their numbers and without comments.
+//! `print_routes` and `print_lookup` print a table and what a lookup found (RFC 2328, section 11),
+//! as `specs/Shown` has it. `FailedStreams` notes which stream failed, and `Failure::tell` tells
+//! why a program ends early (`specs/Status`).
 #![tactic(auto)]
 
 mod all;

@@ -16,7 +16,8 @@ pub struct Line<'a> {
     pub text: &'a [u8],
 }
 
-/// The first line of a text, without its end, and what stands behind it; `None` of a text that is empty.
+/// The first line of a text, without its end, and what stands behind it;
+/// `None` of a text that is empty.
 ///
 /// A line ends with a line feed, before which a carriage return may stand, or with the text.
 pub fn first_line(text: &[u8]) -> Option<(&[u8], &[u8])>

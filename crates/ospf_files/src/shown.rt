@@ -1,4 +1,5 @@
-//! Lines that show routes: those of a routing table, and what a lookup in the shared table found for an address.
+//! Lines that show routes: those of a routing table, and what a lookup in the
+//! shared table found for an address.
 
 ghost use Rattle.std.specs.Prelude.{◌≡◌, IfErr, IfOk, OnErr, OnOk, string_bytes};
 ghost use Rattle.std.specs.Io.KnownBytes.{Appends};
@@ -13,8 +14,8 @@ use ospf_graph::Route;
 use std::alloc::{AllocError, Global};
 use std::io::Write;
 
-/// Prints routes in their order, a line each, which standard output may keep until it is flushed. Where that fails, a
-/// beginning of the lines was written.
+/// Prints routes in their order, a line each, which standard output may keep until it is flushed.
+/// Where that fails, a beginning of the lines was written.
 pub fn print_routes<O: Write>(
     alloc: Global,
     routes: &[Route],
@@ -36,8 +37,8 @@ pub fn print_routes<O: Write>(
     Ok(())
 }
 
-/// Prints the line of an address that was looked up: the prefix, the cost and the hop that were found for it, or `none`.
-/// Where that fails, a beginning of the line was written.
+/// Prints the line of an address that was looked up: the prefix, the cost and the hop that were
+/// found for it, or `none`. Where that fails, a beginning of the line was written.
 pub fn print_lookup<O: Write>(
     alloc: Global,
     address: Addr,

@@ -95,8 +95,8 @@ impl Failure {
         }
     }
 
-    /// Tells the failure on `err`, as far as that can be written, and notes in `streams` where it cannot. The answer is
-    /// the status to end with.
+    /// Tells the failure on `err`, as far as that can be written, and notes in `streams` where it
+    /// cannot. The answer is the status to end with.
     pub fn tell<E: Write>(self, err: &mut E, streams: &mut FailedStreams) -> Status
         ensures status { result ≡ failure_status self }
         ensures told { IsTold streams.old streams.new (E.contents err.old) (E.contents err.new)

@@ -26,14 +26,18 @@ IsElsewhere v e = (e.from ≡ v → ⊥) × (e.to ≡ v → ⊥)
 -- an edge that does not touch the vertex is an edge of both listings
 abbrev pub ElsewhereLaw : Type 0
 ElsewhereLaw =
-    (v : Vertex) (A B : List Advertisement) → AreSameBut v A B → (e : Edge) → IsElsewhere v e → IsEdge A e ↔ IsEdge B e
+    (v : Vertex) (A B : List Advertisement) → AreSameBut v A B → (e : Edge) → IsElsewhere v e
+    → IsEdge A e ↔ IsEdge B e
 
 -- where the vertex keeps its edges, each edge stays
 abbrev pub EdgesStay : Type 0
 EdgesStay =
-    (v : Vertex) (A B : List Advertisement) → AreSameBut v A B → ((e : Edge) → Touches v e → IsEdge A e → IsEdge B e) →
+    (v : Vertex) (A B : List Advertisement) → AreSameBut v A B
+    → ((e : Edge) → Touches v e → IsEdge A e → IsEdge B e) →
     (e : Edge) → IsEdge A e → IsEdge B e
 
 -- an edge that comes touches the vertex
 abbrev pub EdgesCome : Type 0
-EdgesCome = (v : Vertex) (A B : List Advertisement) → AreSameBut v A B → (e : Edge) → IsEdge B e → IsEdge A e ⊎ Touches v e
+EdgesCome =
+    (v : Vertex) (A B : List Advertisement) → AreSameBut v A B → (e : Edge) → IsEdge B e
+    → IsEdge A e ⊎ Touches v e

@@ -11,11 +11,13 @@ use Rattle.ospf_graph.specs.Tree.{AreLeast, IsTree}
 
 -- the paths, told in lists, are a tree over the edges
 abbrev pub IsTreeOver : List Edge → Vertex → ShortestPaths → Type 0
-IsTreeOver edges root t = IsTree (Contains edges) root (AtIn t.settled.items) (StartsIn t.starts.items)
+IsTreeOver edges root t =
+    IsTree (Contains edges) root (AtIn t.settled.items) (StartsIn t.starts.items)
 
 -- they are the least over the edges
 abbrev pub AreLeastOver : List Edge → Vertex → ShortestPaths → Type 0
-AreLeastOver edges root t = AreLeast (Contains edges) root (AtIn t.settled.items) (StartsIn t.starts.items)
+AreLeastOver edges root t =
+    AreLeast (Contains edges) root (AtIn t.settled.items) (StartsIn t.starts.items)
 
 -- distances in the order of their vertices
 abbrev pub AreSettledInOrder : List Settled → Type 0

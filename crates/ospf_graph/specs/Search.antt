@@ -25,13 +25,16 @@ vertex_eq (Network _) (Router _) = false
 abbrev pub candidates_from : Vertex → ℕ → List Edge → List SpfCandidate
 candidates_from v d [] = []
 candidates_from v d (e ∷ rest) =
-    cond (vertex_eq e.from v) (record { edge = e; distance = d + e.cost } ∷ candidates_from v d rest) (candidates_from v d rest)
+    cond (vertex_eq e.from v)
+    (record { edge = e; distance = d + e.cost } ∷ candidates_from v d rest)
+    (candidates_from v d rest)
 
 -- the same edges leave the vertex, in order
 abbrev pub HaveSameFrom : Vertex → List Edge → List Edge → Type 0
 HaveSameFrom v edges some = (d : ℕ) → candidates_from v d edges ≡ candidates_from v d some
 
--- the distance at which a vertex is reached, a start that it has, and an edge that waits at a distance
+-- the distance at which a vertex is reached, a start that it has, and
+-- an edge that waits at a distance
 abbrev pub AtIn : List Settled → Vertex → ℕ → Type 0
 AtIn settled v d = Contains settled (record { vertex = v; distance = d })
 
@@ -55,20 +58,27 @@ vertex_code (Network n) = 2 * n + 1
 
 -- a nearer way to its end is noted
 abbrev pub IsUndercut : (ℕ → Option ℕ) → SpfCandidate → Type 0
-IsUndercut nearest c = (near : ℕ) × (nearest (vertex_code c.edge.to) ≡ Some near) × (near < c.distance)
+IsUndercut nearest c =
+    (near : ℕ) × (nearest (vertex_code c.edge.to) ≡ Some near) × (near < c.distance)
 
--- where a distance is noted for a vertex, it is reached as near, or a candidate leads there at that distance
+-- where a distance is noted for a vertex, it is reached as near, or a
+-- candidate leads there at that distance
 abbrev pub AreNoted : (ℕ → Option ℕ) → List Settled → List SpfCandidate → Type 0
-AreNoted nearest settled candidates = (v : Vertex) (near : ℕ) → nearest (vertex_code v) ≡ Some near →
-    ((d : ℕ) × (d ≤ near) × AtIn settled v d) ⊎ ((e : Edge) × (e.to ≡ v) × WaitsAmong candidates e near)
+AreNoted nearest settled candidates =
+    (v : Vertex) (near : ℕ) → nearest (vertex_code v) ≡ Some near →
+    ((d : ℕ) × (d ≤ near) × AtIn settled v d)
+    ⊎ ((e : Edge) × (e.to ≡ v) × WaitsAmong candidates e near)
 
--- these candidates wait too, but for those that a nearer one undercuts (RFC 2328, section 16.1, step 2d)
-pub record Joins (more : List SpfCandidate) (nearest nearest' : ℕ → Option ℕ) (old new : List SpfCandidate) : Type 0 where
+-- these candidates wait too, but for those that a nearer one undercuts
+-- (RFC 2328, section 16.1, step 2d)
+pub record Joins (more : List SpfCandidate) (nearest nearest' : ℕ → Option ℕ)
+    (old new : List SpfCandidate) : Type 0 where
   pub kept : (c : SpfCandidate) → Contains old c → Contains new c
   pub only : (c : SpfCandidate) → Contains new c → Contains old c ⊎ Contains more c
   pub joined : (c : SpfCandidate) → Contains more c → Contains new c ⊎ IsUndercut nearest' c
   pub falls : (q near : ℕ) → nearest q ≡ Some near → (d : ℕ) × (d ≤ near) × (nearest' q ≡ Some d)
-  pub noted : (settled : List Settled) → AreNoted nearest settled old → AreNoted nearest' settled new
+  pub noted : (settled : List Settled) → AreNoted nearest settled old
+      → AreNoted nearest' settled new
   pub few : length new ≤ length old + length more
 
 -- the start is there, at the end where it was not there before
@@ -81,28 +91,36 @@ pub record BringsStarts (edge : Edge) (old new : List VertexStart) : Type 0 wher
   pub brought : (x : Start) → Contains old (record { vertex = edge.from; start = x }) →
       Contains new (record { vertex = edge.to; start = extend x edge.to edge.link_data })
   pub only : (b : VertexStart) → Contains new b → Contains old b ⊎
-      ((b.vertex ≡ edge.to) × (y : Start) × Contains old (record { vertex = edge.from; start = y }) × (b.start ≡ extend y edge.to edge.link_data))
+      ((b.vertex ≡ edge.to) × (y : Start) × Contains old (record { vertex = edge.from; start = y })
+      × (b.start ≡ extend y edge.to edge.link_data))
 
--- the candidate's vertex is new: it is reached, its edges become candidates where they are not undercut, and the edge brings its starts
-pub record ReachesVertex (c : SpfCandidate) (edges : List Edge) (settled settled' : List Settled) (starts starts' : List VertexStart)
+-- the candidate's vertex is new: it is reached, its edges become candidates where they are not
+-- undercut, and the edge brings its starts
+pub record ReachesVertex (c : SpfCandidate) (edges : List Edge) (settled settled' : List Settled)
+    (starts starts' : List VertexStart)
     (nearest nearest' : ℕ → Option ℕ) (candidates candidates' : List SpfCandidate) : Type 0 where
   pub fresh : (d : ℕ) → Contains settled (record { vertex = c.edge.to; distance = d }) → ⊥
   pub settled_is : settled' ≡ settled ++ record { vertex = c.edge.to; distance = c.distance } ∷ []
-  pub candidates_are : Joins (candidates_from c.edge.to c.distance edges) nearest nearest' candidates candidates'
+  pub candidates_are :
+      Joins (candidates_from c.edge.to c.distance edges) nearest nearest' candidates candidates'
   pub brings : BringsStarts c.edge starts starts'
 
 -- it was reached before: the edge brings its starts if it leads there as near
-pub record SeesAgain (c : SpfCandidate) (settled settled' : List Settled) (starts starts' : List VertexStart)
+pub record SeesAgain (c : SpfCandidate) (settled settled' : List Settled)
+    (starts starts' : List VertexStart)
     (nearest nearest' : ℕ → Option ℕ) (candidates candidates' : List SpfCandidate) : Type 0 where
   pub near : ℕ
   pub at : Contains settled (record { vertex = c.edge.to; distance = near })
   pub settled_is : settled' ≡ settled
   pub candidates_is : candidates' ≡ candidates
   pub nearest_is : nearest' ≡ nearest
-  pub brings : ((near ≡ c.distance) × BringsStarts c.edge starts starts') ⊎ ((near ≢ c.distance) × (starts' ≡ starts))
+  pub brings : ((near ≡ c.distance) × BringsStarts c.edge starts starts')
+      ⊎ ((near ≢ c.distance) × (starts' ≡ starts))
 
 -- a candidate is taken: its vertex is new, or was reached before (16.1, steps 2 and 3)
-abbrev pub TakesCandidate : SpfCandidate → List Edge → (settled settled' : List Settled) (starts starts' : List VertexStart) (nearest nearest' : ℕ → Option ℕ)
+abbrev pub TakesCandidate : SpfCandidate → List Edge
+    → (settled settled' : List Settled) (starts starts' : List VertexStart)
+    (nearest nearest' : ℕ → Option ℕ)
     (candidates candidates' : List SpfCandidate) → Type 0
 TakesCandidate c edges settled settled' starts starts' nearest nearest' candidates candidates' =
     ReachesVertex c edges settled settled' starts starts' nearest nearest' candidates candidates'

@@ -33,7 +33,8 @@ pub struct VertexStart {
     pub start: Start,
 }
 
-/// What a search has reached, the place of each vertex there, and how often it looked at the candidates.
+/// What a search has reached, the place of each vertex there, and how
+/// often it looked at the candidates.
 #[derive(Drop)]
 pub struct Searched {
     pub reached: Vec<Reached>,
@@ -41,8 +42,9 @@ pub struct Searched {
     looks: u64,
 }
 
-/// The vertices that a root reaches, each with its distance, the starts of their least paths, and how often
-/// the search looked at a candidate: put one among those that wait, or asked for the next.
+/// The vertices that a root reaches, each with its distance, the starts of their
+/// least paths, and how often the search looked at a candidate: put one among those
+/// that wait, or asked for the next.
 #[derive(Debug, Drop)]
 pub struct ShortestPaths {
     pub settled: Vec<Settled>,
@@ -172,8 +174,9 @@ pub fn listed(alloc: Global, reached: &[Reached], looks: u64) -> Result<Shortest
     })
 }
 
-/// The shortest paths from a root over a list of edges (RFC 2328, section 16.1): of each vertex that some
-/// path reaches the least distance, and the starts of all paths of that length, in the order of vertices.
+/// The shortest paths from a root over a list of edges (RFC 2328, section 16.1): of each
+/// vertex that some path reaches the least distance, and the starts of all paths of that
+/// length, in the order of vertices.
 ///
 /// `AllocError` where memory runs out.
 pub fn shortest_paths(
@@ -308,8 +311,8 @@ fn is_undercut(nearest: &HashMap<u64, u64>, end: u64, distance: u64) -> bool
     }
 }
 
-// Takes a candidate: its vertex is reached, if it is new, and gets the starts that come over the candidate's
-// edge, if no shorter path reached it.
+// Takes a candidate: its vertex is reached, if it is new, and gets the starts that come over the
+// candidate's edge, if no shorter path reached it.
 fn take(
     alloc: Global,
     edges: &[Edge],

@@ -10,7 +10,8 @@ use Rattle.ospf_headline.specs.Sound.{HeldAnywhere, WasIssued, AgreeUnlessIssued
 use Rattle.ospf_headline.specs.Walks.{adverts, AllListedAgree, RunningWalksArrive, ChosenWalksArrive}
 
 -- these events led here from a world in which nothing ran and nothing had happened
-pub record IsReachedBy (is_dropped : Event → AreaValue → Bool) (events : List WorldEvent) (w : World) : Type 0 where
+pub record IsReachedBy (is_dropped : Event → AreaValue → Bool) (events : List WorldEvent)
+    (w : World) : Type 0 where
   pub start : World
   pub new : IsNewWorld start
   pub runs : RunsEvents is_dropped events start w
@@ -23,14 +24,20 @@ IsReached is_dropped w = (events : List WorldEvent) × IsReachedBy is_dropped ev
 pub record Headline (before after : World) : Type 0 where
   -- what is held anywhere was issued, at whatever age
   pub were_issued : (lsa : List ℕ) → HeldAnywhere after lsa → WasIssued after.issued (contents lsa)
-  -- LSAs of one instance have equal contents, unless both contents were issued, in two runs, the second a low one
-  pub held_agree : (a b : List ℕ) → HeldAnywhere before a → HeldAnywhere after b → AgreeUnlessIssuedAgain after.issued a b
-  pub held_agree_now : (a b : List ℕ) → HeldAnywhere after a → HeldAnywhere after b → AgreeUnlessIssuedAgain after.issued a b
-  -- each running router has a route to each prefix that it has a way to by its own listing, and no other: at the least
-  -- cost, and with exactly the next hops of the least ways that count
-  pub tables : (r : RouterId) (x : Running) → router_at after r ≡ Some x → IsTable (adverts x) r x.table
+  -- LSAs of one instance have equal contents, unless both contents were issued, in
+  -- two runs, the second a low one
+  pub held_agree : (a b : List ℕ) → HeldAnywhere before a → HeldAnywhere after b
+      → AgreeUnlessIssuedAgain after.issued a b
+  pub held_agree_now : (a b : List ℕ) → HeldAnywhere after a → HeldAnywhere after b
+      → AgreeUnlessIssuedAgain after.issued a b
+  -- each running router has a route to each prefix that it has a way to by its own listing, and no
+  -- other: at the least cost, and with exactly the next hops of the least ways that count
+  pub tables : (r : RouterId) (x : Running) → router_at after r ≡ Some x
+      → IsTable (adverts x) r x.table
   -- where nothing issued collides and all listed routers run and list the same, each walk arrives
-  pub walks : (r : RouterId) (x : Running) → NoCollision after.issued → router_at after r ≡ Some x → AllListedAgree after x → RunningWalksArrive after r x
-  pub chosen : (r : RouterId) (x : Running) → NoCollision after.issued → router_at after r ≡ Some x → AllListedAgree after x → ChosenWalksArrive after r x
+  pub walks : (r : RouterId) (x : Running) → NoCollision after.issued → router_at after r ≡ Some x
+      → AllListedAgree after x → RunningWalksArrive after r x
+  pub chosen : (r : RouterId) (x : Running) → NoCollision after.issued → router_at after r ≡ Some x
+      → AllListedAgree after x → ChosenWalksArrive after r x
   -- high floors exclude collisions
   pub no_collision : BasesAreHigh after.issued → NoCollision after.issued

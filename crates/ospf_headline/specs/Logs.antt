@@ -13,7 +13,8 @@ use Rattle.ospf_lsa.specs.Lsa.{instance_of, key_of}
 use Rattle.ospf_lsdb.specs.Moments.{among}
 use Rattle.ospf_update.specs.Removal.{lowest_number}
 
--- all datagrams ever sent, all LSAs ever issued, and who ever installed, issued or acknowledged which instance
+-- all datagrams ever sent, all LSAs ever issued, and who ever installed, issued
+-- or acknowledged which instance
 pub record LogsValue : Type 0 where
   pub datagrams : List Datagram
   pub issued : List Issued
@@ -32,7 +33,11 @@ run_in first later key = run_or first (find (λ e. same_key e.0 key) later)
 
 -- the runs of the keys that ended begin again, named by how many LSAs are issued by now
 abbrev pub BeginAgain : ℕ → List LsaKey → List (LsaKey × Run) → List (LsaKey × Run) → Type 0
-BeginAgain name ended later later' = (first : Run) (key : LsaKey) → run_in first later' key ≡ (if among ended key then record { name = name; base = lowest_number } else run_in first later key)
+BeginAgain name ended later later' =
+    (first : Run) (key : LsaKey)
+    → run_in first later' key
+    ≡ (if among ended key then record { name = name; base = lowest_number }
+    else run_in first later key)
 
 -- ---- what logs grow by
 
@@ -53,10 +58,12 @@ abbrev pub issued_in : Run → List (LsaKey × Run) → List ℕ → Issued
 issued_in first later lsa = record { lsa = lsa; run = run_in first later (key_of lsa) }
 
 -- the logs grow by exactly these outputs of router r, whose keys are in these runs
-pub record LogsTake (before after : LogsValue) (r : RouterId) (first : Run) (later : List (LsaKey × Run)) (out : OutputsValue) : Type 0 where
+pub record LogsTake (before after : LogsValue) (r : RouterId) (first : Run)
+    (later : List (LsaKey × Run)) (out : OutputsValue) : Type 0 where
   pub datagrams : after.datagrams ≡ before.datagrams ++ map (sent_as_datagram r) out.sent
   pub issued : after.issued ≡ before.issued ++ map (issued_in first later) out.issued
-  pub held : after.held ≡ before.held ++ (map (held_by r) out.taken ++ map (holdings_by r) out.issued)
+  pub held :
+      after.held ≡ before.held ++ (map (held_by r) out.taken ++ map (holdings_by r) out.issued)
 
 -- the logs begin as they were
 pub record StillHave (before after : LogsValue) : Type 0 where

@@ -18,8 +18,8 @@ use Rattle.ospf_router.specs.Starts.{IsAreaOf}
 use Rattle.ospf_router.specs.Steps.{IsLawful}
 use Rattle.ospf_headline.specs.Logs.{BeginAgain, LogsTake, LogsValue}
 
--- a router, the run of its keys since its start, the later runs of single keys, the latest first, and what it dropped since its
--- start, by links
+-- a router, the run of its keys since its start, the later runs of single keys, the latest first,
+-- and what it dropped since its start, by links
 pub record RunningValue : Type 0 where
   pub router : RouterValue
   pub first : Run
@@ -38,22 +38,27 @@ running_of v = option_map (runs_in v) v.router.area
 abbrev pub Lives : RunningValue → Type 0
 Lives v = (s : AreaValue) × (v.router.area ≡ Some s)
 
--- it is exactly as a router of this configuration starts, with this first number of a description above the floor; and where
--- these LSAs were issued before, its first run begins now
-pub record StartsAs (config : Config) (dd_start : ℕ) (floor : ℤ) (issued : List Issued) (x : Running) : Type 0 where
+-- it is exactly as a router of this configuration starts, with this first number of a description
+-- above the floor; and where these LSAs were issued before, its first run begins now
+pub record StartsAs (config : Config) (dd_start : ℕ) (floor : ℤ) (issued : List Issued)
+    (x : Running) : Type 0 where
   pub area : IsAreaOf config dd_start floor x.state
   pub table : x.table ≡ []
   pub begins : IsRunningStarted issued config.router_id floor x
 
 -- it has just started, where so many LSAs were issued before
-pub record Begins (config : Config) (dd_start issued : ℕ) (floor : ℤ) (v : RunningValue) : Type 0 where
+pub record Begins (config : Config) (dd_start issued : ℕ) (floor : ℤ) (v : RunningValue)
+    : Type 0 where
   pub area : AreaValue
   pub runs : v.router.area ≡ Some area
-  pub started : (log : List Issued) → length log ≡ issued → StartsAs config dd_start floor log (runs_in v area)
+  pub started : (log : List Issued) → length log ≡ issued
+      → StartsAs config dd_start floor log (runs_in v area)
   pub drops : v.drops ≡ none_dropped_on config.interfaces.items
 
--- the router takes the exact step of the event, dropped for this cause if it is dropped, which is counted; its runs are as before
-pub record TakesStep (e : Event) (before : RunningValue) (out : OutputsValue) (after : RunningValue) : Type 0 where
+-- the router takes the exact step of the event, dropped for this cause if it is dropped, which is
+-- counted; its runs are as before
+pub record TakesStep (e : Event) (before : RunningValue) (out : OutputsValue) (after : RunningValue)
+    : Type 0 where
   pub area : AreaValue
   pub next : AreaValue
   pub was : before.router.area ≡ Some area
@@ -66,15 +71,18 @@ pub record TakesStep (e : Event) (before : RunningValue) (out : OutputsValue) (a
   pub drops : after.drops ≡ with_dropped e dropped before.drops
 
 -- the logs grow by exactly these outputs, and the runs that have ended begin again
-pub record SettlesLogs (r : RouterId) (before : RunningValue) (out : OutputsValue) (logs : LogsValue) (after : RunningValue) (logs' : LogsValue) : Type 0 where
+pub record SettlesLogs (r : RouterId) (before : RunningValue) (out : OutputsValue)
+    (logs : LogsValue) (after : RunningValue) (logs' : LogsValue) : Type 0 where
   pub router : after.router ≡ before.router
   pub first : after.first ≡ before.first
   pub takes : LogsTake logs logs' r before.first before.later out
   pub again : BeginAgain (length logs'.issued) out.ended before.later after.later
   pub drops : after.drops ≡ before.drops
 
--- a running router takes the exact step of the event, and the logs grow by exactly its outputs; that it is dropped is counted
-pub record Fed (r : RouterId) (e : Event) (before : RunningValue) (logs : LogsValue) (after : RunningValue) (logs' : LogsValue) : Type 0 where
+-- a running router takes the exact step of the event, and the logs grow by exactly its
+-- outputs; that it is dropped is counted
+pub record Fed (r : RouterId) (e : Event) (before : RunningValue) (logs : LogsValue)
+    (after : RunningValue) (logs' : LogsValue) : Type 0 where
   pub area : AreaValue
   pub next : AreaValue
   pub out : OutputsValue

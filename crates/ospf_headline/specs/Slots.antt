@@ -22,7 +22,8 @@ use Rattle.ospf_router.specs.Steps.{IsLawful}
 use Rattle.ospf_headline.specs.Logs.{LogsTake, LogsValue}
 use Rattle.ospf_headline.specs.Running.{Lives, RunningValue, StartsAs, delivery, running_of}
 
--- how a router is configured, how it runs, if it does, and what it dropped since it started, by links
+-- how a router is configured, how it runs, if it does, and what it
+-- dropped since it started, by links
 pub record SlotValue : Type 0 where
   pub config : Config
   pub running : Option Running
@@ -35,7 +36,8 @@ drops_in (Some v) = v.drops
 
 -- the router of a configuration, which may not run
 abbrev pub slot_of : Config → Option RunningValue → SlotValue
-slot_of config v = record { config = config; running = option_and_then running_of v; drops = drops_in v }
+slot_of config v =
+    record { config = config; running = option_and_then running_of v; drops = drops_in v }
 
 -- what is in a slot has not stopped
 abbrev pub IsSlot : Option RunningValue → Type 0
@@ -44,7 +46,8 @@ IsSlot (Some v) = Lives v
 
 -- as the laws of worlds have it
 abbrev pub member_of : SlotValue → Member
-member_of s = record { router = s.config.router_id; links = vec_len s.config.interfaces; running = s.running }
+member_of s =
+    record { router = s.config.router_id; links = vec_len s.config.interfaces; running = s.running }
 
 -- the router runs so, and has dropped this
 abbrev pub with_running : SlotValue → Option Running → List DropCounts → SlotValue
@@ -86,9 +89,10 @@ fed_by sent (LinkUp r l) = Some (Event.LinkUp l)
 fed_by sent (LinkDown r l) = Some (Event.LinkDown l)
 fed_by sent (Deliver d r l) = option_map (delivery l) (slice_get sent d)
 
--- the slot's router takes the exact step of the event, dropped for this cause if it is dropped, which is counted, and the logs grow
--- by exactly its outputs
-pub record SlotGoesOn (e : Event) (before : SlotValue) (logs : LogsValue) (after : SlotValue) (logs' : LogsValue) : Type 0 where
+-- the slot's router takes the exact step of the event, dropped for this cause if it is dropped,
+-- which is counted, and the logs grow by exactly its outputs
+pub record SlotGoesOn (e : Event) (before : SlotValue) (logs : LogsValue) (after : SlotValue)
+    (logs' : LogsValue) : Type 0 where
   pub x : Running
   pub x' : Running
   pub out : OutputsValue
@@ -100,45 +104,88 @@ pub record SlotGoesOn (e : Event) (before : SlotValue) (logs : LogsValue) (after
   pub takes : LogsTake logs logs' before.config.router_id x.first x.later out
   pub runs : RunsGoOn logs'.issued out.ended x x'
 
--- the slot's router, if it runs, is stepped with the event: it goes on, or memory ran out, it is stopped, and no log grows
-pub data Feeds (e : Event) (before : SlotValue) (logs : LogsValue) (result : Result (Unit {0}) WorldFault) (after : SlotValue) (logs' : LogsValue) : Type 0 where
-  NotRunning : before.running ≡ None → result ≡ Err fault.NotRunning → after ≡ before → logs' ≡ logs → Feeds e before logs result after logs'
-  Goes : result ≡ Ok tt → SlotGoesOn e before logs after logs' → Feeds e before logs result after logs'
-  MemoryStops : (x : Running) → before.running ≡ Some x → result ≡ Err (fault.Memory true) → after ≡ with_running before None [] → logs' ≡ logs → Feeds e before logs result after logs'
+-- the slot's router, if it runs, is stepped with the event: it goes on, or memory ran out,
+-- it is stopped, and no log grows
+pub data Feeds (e : Event) (before : SlotValue) (logs : LogsValue)
+    (result : Result (Unit {0}) WorldFault) (after : SlotValue) (logs' : LogsValue) : Type 0 where
+  NotRunning : before.running ≡ None → result ≡ Err fault.NotRunning → after ≡ before → logs' ≡ logs
+      → Feeds e before logs result after logs'
+  Goes : result ≡ Ok tt → SlotGoesOn e before logs after logs'
+      → Feeds e before logs result after logs'
+  MemoryStops : (x : Running) → before.running ≡ Some x → result ≡ Err (fault.Memory true)
+      → after ≡ with_running before None [] → logs' ≡ logs → Feeds e before logs result after logs'
 
 -- the same on a link, if the router has it
-pub data FeedsOn (l : ℕ) (e : Event) (before : SlotValue) (logs : LogsValue) (result : Result (Unit {0}) WorldFault) (after : SlotValue) (logs' : LogsValue) : Type 0 where
-  NoLink : nat_lt l (vec_len before.config.interfaces) ≡ false → result ≡ Err fault.NoLink → after ≡ before → logs' ≡ logs → FeedsOn l e before logs result after logs'
-  OnLink : nat_lt l (vec_len before.config.interfaces) ≡ true → Feeds e before logs result after logs' → FeedsOn l e before logs result after logs'
+pub data FeedsOn (l : ℕ) (e : Event) (before : SlotValue) (logs : LogsValue)
+    (result : Result (Unit {0}) WorldFault) (after : SlotValue) (logs' : LogsValue) : Type 0 where
+  NoLink : nat_lt l (vec_len before.config.interfaces) ≡ false → result ≡ Err fault.NoLink
+      → after ≡ before → logs' ≡ logs → FeedsOn l e before logs result after logs'
+  OnLink : nat_lt l (vec_len before.config.interfaces) ≡ true
+      → Feeds e before logs result after logs' → FeedsOn l e before logs result after logs'
 
 -- and with a datagram, if it was sent
-pub data DeliversOn (l : ℕ) (sent : Option Datagram) (before : SlotValue) (logs : LogsValue) (result : Result (Unit {0}) WorldFault) (after : SlotValue) (logs' : LogsValue) : Type 0 where
-  NoLink : nat_lt l (vec_len before.config.interfaces) ≡ false → result ≡ Err fault.NoLink → after ≡ before → logs' ≡ logs → DeliversOn l sent before logs result after logs'
-  NoDatagram : nat_lt l (vec_len before.config.interfaces) ≡ true → sent ≡ None → result ≡ Err fault.NoDatagram → after ≡ before → logs' ≡ logs → DeliversOn l sent before logs result after logs'
-  Delivers : nat_lt l (vec_len before.config.interfaces) ≡ true → (g : Datagram) → sent ≡ Some g → Feeds (delivery l g) before logs result after logs' → DeliversOn l sent before logs result after logs'
+pub data DeliversOn (l : ℕ) (sent : Option Datagram) (before : SlotValue) (logs : LogsValue)
+    (result : Result (Unit {0}) WorldFault) (after : SlotValue) (logs' : LogsValue) : Type 0 where
+  NoLink : nat_lt l (vec_len before.config.interfaces) ≡ false → result ≡ Err fault.NoLink
+      → after ≡ before → logs' ≡ logs → DeliversOn l sent before logs result after logs'
+  NoDatagram : nat_lt l (vec_len before.config.interfaces) ≡ true → sent ≡ None
+      → result ≡ Err fault.NoDatagram → after ≡ before → logs' ≡ logs
+      → DeliversOn l sent before logs result after logs'
+  Delivers : nat_lt l (vec_len before.config.interfaces) ≡ true → (g : Datagram) → sent ≡ Some g
+      → Feeds (delivery l g) before logs result after logs'
+      → DeliversOn l sent before logs result after logs'
 
 -- its router is to start above the floor, as its configuration and this number say
-pub data StartsSlot (issued : List Issued) (dd_start : ℕ) (floor : ℤ) (before : SlotValue) (result : Result (Unit {0}) WorldFault) (after : SlotValue) : Type 0 where
-  IsRunning : (x : Running) → before.running ≡ Some x → result ≡ Err fault.Running → after ≡ before → StartsSlot issued dd_start floor before result after
-  AtFloor : before.running ≡ None → floor ≡ max_sequence_number → result ≡ Err fault.Floor → after ≡ before → StartsSlot issued dd_start floor before result after
-  NotDone : before.running ≡ None → int_eq floor max_sequence_number ≡ false → result ≡ Err (fault.Memory false) → after ≡ before → StartsSlot issued dd_start floor before result after
-  Begins : before.running ≡ None → int_eq floor max_sequence_number ≡ false → (x : Running) → result ≡ Ok tt → after ≡ with_running before (Some x) (none_dropped_on before.config.interfaces.items) → StartsAs before.config dd_start floor issued x → StartsSlot issued dd_start floor before result after
+pub data StartsSlot (issued : List Issued) (dd_start : ℕ) (floor : ℤ) (before : SlotValue)
+    (result : Result (Unit {0}) WorldFault) (after : SlotValue) : Type 0 where
+  IsRunning : (x : Running) → before.running ≡ Some x → result ≡ Err fault.Running → after ≡ before
+      → StartsSlot issued dd_start floor before result after
+  AtFloor : before.running ≡ None → floor ≡ max_sequence_number → result ≡ Err fault.Floor
+      → after ≡ before → StartsSlot issued dd_start floor before result after
+  NotDone : before.running ≡ None → int_eq floor max_sequence_number ≡ false
+      → result ≡ Err (fault.Memory false) → after ≡ before
+      → StartsSlot issued dd_start floor before result after
+  Begins : before.running ≡ None → int_eq floor max_sequence_number ≡ false → (x : Running)
+      → result ≡ Ok tt
+      → after ≡ with_running before (Some x) (none_dropped_on before.config.interfaces.items)
+      → StartsAs before.config dd_start floor issued x
+      → StartsSlot issued dd_start floor before result after
 
 -- its router is to stop
-pub data StopsSlot (before : SlotValue) (result : Result (Unit {0}) WorldFault) (after : SlotValue) : Type 0 where
-  IsStopped : before.running ≡ None → result ≡ Err fault.NotRunning → after ≡ before → StopsSlot before result after
-  Ends : (x : Running) → before.running ≡ Some x → result ≡ Ok tt → after ≡ with_running before None [] → StopsSlot before result after
+pub data StopsSlot (before : SlotValue) (result : Result (Unit {0}) WorldFault) (after : SlotValue)
+    : Type 0 where
+  IsStopped : before.running ≡ None → result ≡ Err fault.NotRunning → after ≡ before
+      → StopsSlot before result after
+  Ends : (x : Running) → before.running ≡ Some x → result ≡ Ok tt
+      → after ≡ with_running before None [] → StopsSlot before result after
 
--- what an event that is not refused comes to: memory is wanting, before anything is done or so that the router stops; or
--- the router starts exactly as it is configured, stops, or takes the exact step of what the event feeds it
-pub data SlotTakes (event : WorldEvent) (before : SlotValue) (logs : LogsValue) (result : Result (Unit {0}) WorldFault) (after : SlotValue) (logs' : LogsValue) : Type 0 where
-  NotDone : result ≡ Err (fault.Memory false) → after ≡ before → logs' ≡ logs → SlotTakes event before logs result after logs'
-  MemoryStops : (e : Event) → fed_by logs.datagrams event ≡ Some e → result ≡ Err (fault.Memory true) → after ≡ with_running before None [] → logs' ≡ logs → SlotTakes event before logs result after logs'
-  Starts : (r : RouterId) (dd_start : ℕ) (floor : ℤ) (x : Running) → event ≡ Start r dd_start floor → result ≡ Ok tt → before.running ≡ None → after ≡ with_running before (Some x) (none_dropped_on before.config.interfaces.items) → StartsAs before.config dd_start floor logs.issued x → logs' ≡ logs → SlotTakes event before logs result after logs'
-  Stops : (r : RouterId) → event ≡ Stop r → result ≡ Ok tt → after ≡ with_running before None [] → logs' ≡ logs → SlotTakes event before logs result after logs'
-  Stepped : (e : Event) → fed_by logs.datagrams event ≡ Some e → result ≡ Ok tt → SlotGoesOn e before logs after logs' → SlotTakes event before logs result after logs'
+-- what an event that is not refused comes to: memory is wanting, before anything is done or so that
+-- the router stops; or the router starts exactly as it is configured, stops, or takes the exact
+-- step of what the event feeds it
+pub data SlotTakes (event : WorldEvent) (before : SlotValue) (logs : LogsValue)
+    (result : Result (Unit {0}) WorldFault) (after : SlotValue) (logs' : LogsValue) : Type 0 where
+  NotDone : result ≡ Err (fault.Memory false) → after ≡ before → logs' ≡ logs
+      → SlotTakes event before logs result after logs'
+  MemoryStops : (e : Event) → fed_by logs.datagrams event ≡ Some e
+      → result ≡ Err (fault.Memory true) → after ≡ with_running before None [] → logs' ≡ logs
+      → SlotTakes event before logs result after logs'
+  Starts : (r : RouterId) (dd_start : ℕ) (floor : ℤ) (x : Running) → event ≡ Start r dd_start floor
+      → result ≡ Ok tt → before.running ≡ None
+      → after ≡ with_running before (Some x) (none_dropped_on before.config.interfaces.items)
+      → StartsAs before.config dd_start floor logs.issued x → logs' ≡ logs
+      → SlotTakes event before logs result after logs'
+  Stops : (r : RouterId) → event ≡ Stop r → result ≡ Ok tt → after ≡ with_running before None []
+      → logs' ≡ logs → SlotTakes event before logs result after logs'
+  Stepped : (e : Event) → fed_by logs.datagrams event ≡ Some e → result ≡ Ok tt
+      → SlotGoesOn e before logs after logs' → SlotTakes event before logs result after logs'
 
--- what an event comes to at its router's slot: it is refused, with the first fault that holds, exactly where one does
-pub data SlotSteps (event : WorldEvent) (before : SlotValue) (logs : LogsValue) (result : Result (Unit {0}) WorldFault) (after : SlotValue) (logs' : LogsValue) : Type 0 where
-  Refused : (f : WorldFault) → refused_by logs.datagrams event (member_of before) ≡ Some f → result ≡ Err f → after ≡ before → logs' ≡ logs → SlotSteps event before logs result after logs'
-  Taken : refused_by logs.datagrams event (member_of before) ≡ None → SlotTakes event before logs result after logs' → SlotSteps event before logs result after logs'
+-- what an event comes to at its router's slot: it is refused, with the first fault
+-- that holds, exactly where one does
+pub data SlotSteps (event : WorldEvent) (before : SlotValue) (logs : LogsValue)
+    (result : Result (Unit {0}) WorldFault) (after : SlotValue) (logs' : LogsValue) : Type 0 where
+  Refused : (f : WorldFault) → refused_by logs.datagrams event (member_of before) ≡ Some f
+      → result ≡ Err f → after ≡ before → logs' ≡ logs
+      → SlotSteps event before logs result after logs'
+  Taken : refused_by logs.datagrams event (member_of before) ≡ None
+      → SlotTakes event before logs result after logs'
+      → SlotSteps event before logs result after logs'

@@ -35,8 +35,10 @@ pub record WasIssued (issued : List Issued) (content : List ℕ) : Type 0 where
 
 -- the LSA stands in the database of a running router, or in an Update ever sent
 pub data HeldAnywhere (w : World) (lsa : List ℕ) : Type 0 where
-  InDatabase : (r : RouterId) (x : Running) → router_at w r ≡ Some x → HasCopy x.state lsa → HeldAnywhere w lsa
-  InUpdate : (g : Datagram) (p : Meaning) → Contains w.datagrams g → packet_of g.sent.bytes ≡ Some p → Contains (lsas_of p.body) lsa → HeldAnywhere w lsa
+  InDatabase : (r : RouterId) (x : Running) → router_at w r ≡ Some x → HasCopy x.state lsa
+      → HeldAnywhere w lsa
+  InUpdate : (g : Datagram) (p : Meaning) → Contains w.datagrams g → packet_of g.sent.bytes ≡ Some p
+      → Contains (lsas_of p.body) lsa → HeldAnywhere w lsa
 
 -- a run is low where its first number is at or below one that was issued for its key when it began
 pub record IsLow (issued : List Issued) (e : Issued) : Type 0 where
@@ -61,21 +63,29 @@ pub record IssuedAgain (issued : List Issued) (a b : List ℕ) : Type 0 where
   pub other_run : first.run ≢ second.run
   pub low : IsLow issued second
 
--- two LSAs of one instance have equal contents, unless both contents were issued, in two runs, the second a low one
+-- two LSAs of one instance have equal contents, unless both contents were issued, in
+-- two runs, the second a low one
 abbrev pub AgreeUnlessIssuedAgain : List Issued → List ℕ → List ℕ → Type 0
 AgreeUnlessIssuedAgain issued a b =
-    instance_of a ≡ instance_of b → (contents a ≡ contents b) ⊎ (IssuedAgain issued a b ⊎ IssuedAgain issued b a)
+    instance_of a ≡ instance_of b
+    → (contents a ≡ contents b) ⊎ (IssuedAgain issued a b ⊎ IssuedAgain issued b a)
 
 -- no two LSAs of one instance were issued with different contents
 abbrev pub NoCollision : List Issued → Type 0
-NoCollision issued = (i j : ℕ) (e f : Issued) → IssuedAt issued i e → IssuedAt issued j f → instance_of e.lsa ≡ instance_of f.lsa → contents e.lsa ≡ contents f.lsa
+NoCollision issued =
+    (i j : ℕ) (e f : Issued) → IssuedAt issued i e → IssuedAt issued j f
+    → instance_of e.lsa ≡ instance_of f.lsa → contents e.lsa ≡ contents f.lsa
 
 -- the base of each run is at least each number that its router had issued when the run began
 abbrev pub BasesAreHigh : List Issued → Type 0
-BasesAreHigh issued = (i j : ℕ) (e f : Issued) → IssuedAt issued i e → IssuedAt issued j f → i < f.run.name → (key_of e.lsa).router ≡ (key_of f.lsa).router → (instance_of e.lsa).number ≤ℤ f.run.base
+BasesAreHigh issued =
+    (i j : ℕ) (e f : Issued) → IssuedAt issued i e → IssuedAt issued j f → i < f.run.name
+    → (key_of e.lsa).router ≡ (key_of f.lsa).router → (instance_of e.lsa).number ≤ℤ f.run.base
 
--- the run began at one of the events that led here: at a start of the router that was done, with the run's base as floor
-pub record HasBegun (is_dropped : Event → AreaValue → Bool) (start : World) (events : List WorldEvent) (end : World) (r : RouterId) (run : Run) : Type 0 where
+-- the run began at one of the events that led here: at a start of the router that was
+-- done, with the run's base as floor
+pub record HasBegun (is_dropped : Event → AreaValue → Bool) (start : World)
+    (events : List WorldEvent) (end : World) (r : RouterId) (run : Run) : Type 0 where
   pub earlier : List WorldEvent
   pub later : List WorldEvent
   pub dd_start : ℕ
@@ -95,7 +105,9 @@ NoneLargest issued = (k : ℕ) (e : Issued) → IssuedAt issued k e → number_i
 
 -- the base of each run is the floor of the very start at which it began
 abbrev pub BasesAreFloors : (Event → AreaValue → Bool) → World → List WorldEvent → World → Type 0
-BasesAreFloors is_dropped start events end = (k : ℕ) (e : Issued) → IssuedAt end.issued k e → HasBegun is_dropped start events end (key_of e.lsa).router e.run
+BasesAreFloors is_dropped start events end =
+    (k : ℕ) (e : Issued) → IssuedAt end.issued k e
+    → HasBegun is_dropped start events end (key_of e.lsa).router e.run
 
 -- q itself installed, issued or acknowledged an instance that covers i: the log of holdings has it
 pub record HasToldOf (w : World) (q : RouterId) (i : Instance) : Type 0 where
@@ -103,20 +115,32 @@ pub record HasToldOf (w : World) (q : RouterId) (i : Instance) : Type 0 where
   pub told : Contains w.held (record { router = q; instance = held })
   pub covers : Covers held i
 
--- sound acknowledgement, for a router that went from s to s' by this event with these outputs: what it no longer waits
--- for, and what it never waited for, the neighbour told of, unless a newer LSA took the place of what had waited, or the
--- neighbour is below Exchange
-pub record IsSoundFor (after : World) (e : Event) (s : AreaValue) (out : OutputsValue) (s' : AreaValue) : Type 0 where
-  pub left : (l : ℕ) (q : RouterId) (i : Instance) → Awaits s l q i → Awaits s' l q i ⊎ (HasToldOf after q i ⊎ (IsReplaced (heard_in e) s out i ⊎ (is_exchanging (state_in (neighbour s' l q)) ≡ false)))
-  pub listed : (l : ℕ) (q : RouterId) (i : Instance) → Brings out i → HoldsInstance s' i → is_exchanging (state_in (neighbour s' l q)) ≡ true → Awaits s' l q i ⊎ HasToldOf after q i
+-- sound acknowledgement, for a router that went from s to s' by this event with these outputs: what
+-- it no longer waits for, and what it never waited for, the neighbour told of, unless a newer LSA
+-- took the place of what had waited, or the neighbour is below Exchange
+pub record IsSoundFor (after : World) (e : Event) (s : AreaValue) (out : OutputsValue)
+    (s' : AreaValue) : Type 0 where
+  pub left : (l : ℕ) (q : RouterId) (i : Instance) → Awaits s l q i
+      → Awaits s' l q i
+      ⊎ (HasToldOf after q i
+      ⊎ (IsReplaced (heard_in e) s out i ⊎ (is_exchanging (state_in (neighbour s' l q)) ≡ false)))
+  pub listed : (l : ℕ) (q : RouterId) (i : Instance) → Brings out i → HoldsInstance s' i
+      → is_exchanging (state_in (neighbour s' l q)) ≡ true → Awaits s' l q i ⊎ HasToldOf after q i
 
--- nothing was done; or the event steps another router than r, or none, and r, running as x before, runs on so; or it
--- stepped r, which runs as x' after, and r's acknowledgements are sound for the outputs by which the logs grew
-pub data SoundFor (event : WorldEvent) (before after : World) (r : RouterId) (x x' : Running) : Type 0 where
+-- nothing was done; or the event steps another router than r, or none, and r, running as x before,
+-- runs on so; or it stepped r, which runs as x' after, and r's acknowledgements are sound for the
+-- outputs by which the logs grew
+pub data SoundFor (event : WorldEvent) (before after : World) (r : RouterId) (x x' : Running)
+    : Type 0 where
   NothingDone : after ≡ before → SoundFor event before after r x x'
-  OfAnother : ((e : Event) → stepped_by before event ≢ Some (r, e)) → x' ≡ x → SoundFor event before after r x x'
-  SteppedWith : (e : Event) (out : OutputsValue) → stepped_by before event ≡ Some (r, e) → LogsGrow before after r x out → IsSoundFor after e x.state out x'.state → SoundFor event before after r x x'
+  OfAnother : ((e : Event) → stepped_by before event ≢ Some (r, e)) → x' ≡ x
+      → SoundFor event before after r x x'
+  SteppedWith : (e : Event) (out : OutputsValue) → stepped_by before event ≡ Some (r, e)
+      → LogsGrow before after r x out → IsSoundFor after e x.state out x'.state
+      → SoundFor event before after r x x'
 
 -- sound acknowledgement at an event, of each router that runs before and after
 abbrev pub IsSoundAcknowledgement : WorldEvent → World → World → Type 0
-IsSoundAcknowledgement event before after = (r : RouterId) (x x' : Running) → router_at before r ≡ Some x → router_at after r ≡ Some x' → SoundFor event before after r x x'
+IsSoundAcknowledgement event before after =
+    (r : RouterId) (x x' : Running) → router_at before r ≡ Some x → router_at after r ≡ Some x'
+    → SoundFor event before after r x x'

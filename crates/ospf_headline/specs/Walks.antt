@@ -29,11 +29,14 @@ table_at w r = table_in (router_at w r)
 
 -- each router whose router-LSA is listed by x runs, and lists the same instances
 abbrev pub AllListedAgree : World → Running → Type 0
-AllListedAgree w x = (r : RouterId) → IsListed (adverts x) r → (y : Running) × (router_at w r ≡ Some y) × ListTheSame (listing x) (listing y)
+AllListedAgree w x =
+    (r : RouterId) → IsListed (adverts x) r
+    → (y : Running) × (router_at w r ≡ Some y) × ListTheSame (listing x) (listing y)
 
 -- ---- walks, for every choice at every router
 
--- one step: router a runs, and some hop of its best route for the address names b, at the link's cost in a's own listing
+-- one step: router a runs, and some hop of its best route for the address names b, at the
+-- link's cost in a's own listing
 pub record StepsOn (w : World) (address : ℕ) (a b : RouterId) (cost : ℕ) : Type 0 where
   pub running : Running
   pub runs : router_at w a ≡ Some running
@@ -42,11 +45,15 @@ pub record StepsOn (w : World) (address : ℕ) (a b : RouterId) (cost : ℕ) : T
 -- a walk from a through these routers, as far as it has come: to b, with what its links cost
 abbrev pub WalksOn : World → ℕ → RouterId → List RouterId → RouterId → ℕ → Type 0
 WalksOn w address a [] b paid = (a ≡ b) × (paid ≡ 0)
-WalksOn w address a (c ∷ rest) b paid = (cost left : ℕ) × StepsOn w address a c cost × WalksOn w address c rest b left × (paid ≡ cost + left)
+WalksOn w address a (c ∷ rest) b paid =
+    (cost left : ℕ) × StepsOn w address a c cost × WalksOn w address c rest b left
+    × (paid ≡ cost + left)
 
--- where a walk stands that began with this route: its router runs, and has a route to the same prefix, at the cost that
--- is left. By each of its hops the walk ends there, with the first route's cost paid, or goes on to a router that runs
-pub record StandsOnWay (w : World) (address : ℕ) (first : Route) (b : RouterId) (paid : ℕ) : Type 0 where
+-- where a walk stands that began with this route: its router runs, and has a route to the same
+-- prefix, at the cost that is left. By each of its hops the walk ends there, with the first route's
+-- cost paid, or goes on to a router that runs
+pub record StandsOnWay (w : World) (address : ℕ) (first : Route) (b : RouterId) (paid : ℕ)
+    : Type 0 where
   pub running : Running
   pub runs : router_at w b ≡ Some running
   pub route : Route
@@ -55,26 +62,30 @@ pub record StandsOnWay (w : World) (address : ℕ) (first : Route) (b : RouterId
   pub cost_left : paid + route.cost ≡ first.cost
   pub has_hop : 0 < length route.hops
   pub goes_on : (hop : NextHop) → Contains route.hops hop →
-      (hop ≡ Attached) ⊎ ((c : RouterId) × (cost : ℕ) × IsNext hop c × IsLinkCost (adverts running) b hop cost × (y : Running) × (router_at w c ≡ Some y))
+      (hop ≡ Attached)
+      ⊎ ((c : RouterId) × (cost : ℕ) × IsNext hop c × IsLinkCost (adverts running) b hop cost
+      × (y : Running) × (router_at w c ≡ Some y))
 
 -- the walk, as far as it has come, goes on to where one arrives, or has arrived
-pub record GoesOnToEnd (w : World) (address : ℕ) (a : RouterId) (first : Route) (routers : List RouterId) : Type 0 where
+pub record GoesOnToEnd (w : World) (address : ℕ) (a : RouterId) (first : Route)
+    (routers : List RouterId) : Type 0 where
   pub more : List RouterId
   pub last : RouterId
   pub total : ℕ
   pub walk : WalksOn w address a (routers ++ more) last total
   pub arrives : graph.Arrives (table_at w) address first last total
 
--- what is true of a walk from a, which runs as x: it stands on the way of the first route, meets no router twice, so it
--- has fewer steps than x lists routers, and goes on to where it arrives
-pub record StaysOnWay (w : World) (x : Running) (address : ℕ) (a : RouterId) (first : Route) (routers : List RouterId) (b : RouterId) (paid : ℕ) : Type 0 where
+-- what is true of a walk from a, which runs as x: it stands on the way of the first route, meets no
+-- router twice, so it has fewer steps than x lists routers, and goes on to where it arrives
+pub record StaysOnWay (w : World) (x : Running) (address : ℕ) (a : RouterId) (first : Route)
+    (routers : List RouterId) (b : RouterId) (paid : ℕ) : Type 0 where
   pub stands : StandsOnWay w address first b paid
   pub once : AllPairs (λ q r. q ≢ r) (a ∷ routers)
   pub short : length routers < length (listed_routers (adverts x))
   pub ends : GoesOnToEnd w address a first routers
 
--- of one router that runs as x: all walks from it stay on the prefix of its best route, pay that route's cost, meet no
--- router twice, and arrive
+-- of one router that runs as x: all walks from it stay on the prefix of its best route, pay that
+-- route's cost, meet no router twice, and arrive
 abbrev pub RunningWalksArrive : World → RouterId → Running → Type 0
 RunningWalksArrive w a x = (address : ℕ) (first : Route) → IsBest x.table address first →
     (routers : List RouterId) (b : RouterId) (paid : ℕ) → WalksOn w address a routers b paid →
@@ -96,25 +107,42 @@ other_choices (c ∷ choices) = choices
 abbrev pub HasNoRoute : List Route → ℕ → Type 0
 HasNoRoute routes address = (route : Route) → Contains routes route → Holds route.prefix address → ⊥
 
--- what comes of a walk at one router: the routers met from there, what is paid, and the end. GoesOn says the same of the
--- walk from the next router
-pub data WalksBy (w : World) (address choice : ℕ) (GoesOn : RouterId → List RouterId → ℕ → WalkEnd → Type 0) (at : RouterId) (routers : List RouterId) (paid : ℕ) (end : WalkEnd) : Type 0 where
-  Stops : router_at w at ≡ None → routers ≡ at ∷ [] → paid ≡ 0 → end ≡ NotRunning → WalksBy w address choice GoesOn at routers paid end
-  Strays : (x : Running) → router_at w at ≡ Some x → HasNoRoute x.table address → routers ≡ at ∷ [] → paid ≡ 0 → end ≡ NoRoute → WalksBy w address choice GoesOn at routers paid end
-  Arrives : (x : Running) (route : Route) → router_at w at ≡ Some x → IsBest x.table address route → slice_get route.hops (choice % length route.hops) ≡ Some Attached → routers ≡ at ∷ [] → paid ≡ route.cost → end ≡ Arrived → WalksBy w address choice GoesOn at routers paid end
-  Hops : (x : Running) (route : Route) (hop : NextHop) (next : RouterId) (link : ℕ) (rest : List RouterId) (left : ℕ) → router_at w at ≡ Some x → IsBest x.table address route → slice_get route.hops (choice % length route.hops) ≡ Some hop → IsNext hop next → IsLinkCost (adverts x) at hop link → GoesOn next rest left end → routers ≡ at ∷ rest → paid ≡ link + left → WalksBy w address choice GoesOn at routers paid end
+-- what comes of a walk at one router: the routers met from there, what is paid, and the end. GoesOn
+-- says the same of the walk from the next router
+pub data WalksBy (w : World) (address choice : ℕ)
+    (GoesOn : RouterId → List RouterId → ℕ → WalkEnd → Type 0) (at : RouterId)
+    (routers : List RouterId) (paid : ℕ) (end : WalkEnd) : Type 0 where
+  Stops : router_at w at ≡ None → routers ≡ at ∷ [] → paid ≡ 0 → end ≡ NotRunning
+      → WalksBy w address choice GoesOn at routers paid end
+  Strays : (x : Running) → router_at w at ≡ Some x → HasNoRoute x.table address → routers ≡ at ∷ []
+      → paid ≡ 0 → end ≡ NoRoute → WalksBy w address choice GoesOn at routers paid end
+  Arrives : (x : Running) (route : Route) → router_at w at ≡ Some x → IsBest x.table address route
+      → slice_get route.hops (choice % length route.hops) ≡ Some Attached → routers ≡ at ∷ []
+      → paid ≡ route.cost → end ≡ Arrived → WalksBy w address choice GoesOn at routers paid end
+  Hops : (x : Running) (route : Route) (hop : NextHop) (next : RouterId) (link : ℕ)
+      (rest : List RouterId) (left : ℕ) → router_at w at ≡ Some x → IsBest x.table address route
+      → slice_get route.hops (choice % length route.hops) ≡ Some hop → IsNext hop next
+      → IsLinkCost (adverts x) at hop link → GoesOn next rest left end → routers ≡ at ∷ rest
+      → paid ≡ link + left → WalksBy w address choice GoesOn at routers paid end
 
--- a walk with so many hops at most: at each router the hop at `choice mod hops` of its best route, and a missing choice is 0
+-- a walk with so many hops at most: at each router the hop at `choice mod hops` of its best
+-- route, and a missing choice is 0
 abbrev pub IsWalkOf : World → ℕ → ℕ → List ℕ → RouterId → List RouterId → ℕ → WalkEnd → Type 0
-IsWalkOf w address zero choices at routers paid end = (routers ≡ at ∷ []) × (paid ≡ 0) × (end ≡ Turns)
-IsWalkOf w address (suc left) choices at routers paid end = WalksBy w address (choice_of choices) (IsWalkOf w address left (other_choices choices)) at routers paid end
+IsWalkOf w address zero choices at routers paid end =
+    (routers ≡ at ∷ []) × (paid ≡ 0) × (end ≡ Turns)
+IsWalkOf w address (suc left) choices at routers paid end =
+    WalksBy w address (choice_of choices) (IsWalkOf w address left (other_choices choices)) at
+    routers paid end
 
 -- what a walk comes to that may have as many hops as the world has routers
 abbrev pub WorldWalk : World → ℕ → List ℕ → RouterId → List RouterId → ℕ → WalkEnd → Type 0
-WorldWalk w address choices at routers paid end = IsWalkOf w address (length w.routers) choices at routers paid end
+WorldWalk w address choices at routers paid end =
+    IsWalkOf w address (length w.routers) choices at routers paid end
 
--- the walk has arrived on the prefix of its first route, has paid that route's cost, and met no router twice
-pub record HasArrived (w : World) (address : ℕ) (first : Route) (at : RouterId) (routers : List RouterId) (paid : ℕ) (end : WalkEnd) : Type 0 where
+-- the walk has arrived on the prefix of its first route, has paid that
+-- route's cost, and met no router twice
+pub record HasArrived (w : World) (address : ℕ) (first : Route) (at : RouterId)
+    (routers : List RouterId) (paid : ℕ) (end : WalkEnd) : Type 0 where
   pub arrived : end ≡ Arrived
   pub cost : paid ≡ first.cost
   pub apart : AllPairs (λ q r. q ≢ r) routers
@@ -128,4 +156,5 @@ pub record HasArrived (w : World) (address : ℕ) (first : Route) (at : RouterId
 -- of one router that runs as x: whatever hops are chosen, each walk from it arrives
 abbrev pub ChosenWalksArrive : World → RouterId → Running → Type 0
 ChosenWalksArrive w a x = (address : ℕ) (first : Route) → IsBest x.table address first →
-    (choices : List ℕ) (routers : List RouterId) (paid : ℕ) (end : WalkEnd) → WorldWalk w address choices a routers paid end → HasArrived w address first a routers paid end
+    (choices : List ℕ) (routers : List RouterId) (paid : ℕ) (end : WalkEnd)
+    → WorldWalk w address choices a routers paid end → HasArrived w address first a routers paid end

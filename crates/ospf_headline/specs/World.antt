@@ -28,8 +28,8 @@ pub use Rattle.ospf_headline.specs.declared.logs.Holding.{Holding}
 use Rattle.ospf_headline.specs.declared.event.WorldEvent.TheVariants.{Start, Stop, Tick as TickOf, LinkUp as LinkUpOf, LinkDown as LinkDownOf, Deliver}
 use Rattle.ospf_headline.specs.declared.event.WorldFault.TheVariants as fault
 
--- a running router with its routing table, the run of its keys since its start, and the later runs of single keys, the
--- latest first
+-- a running router with its routing table, the run of its keys since its start, and the later runs
+-- of single keys, the latest first
 pub record Running : Type 0 where
   pub state : AreaValue
   pub table : List Route
@@ -44,14 +44,15 @@ listing x = listed x.state.database
 unfoldable pub run_of : Running → LsaKey → Run
 run_of x key = elim (find (λ e. same_key e.0 key) x.later) [ None ↦ x.first | Some e ↦ e.1 ]
 
--- a router of a world: its Router ID, how many links its configuration has, and how it runs, if it does
+-- a router of a world: its Router ID, how many links its configuration
+-- has, and how it runs, if it does
 pub record Member : Type 0 where
   pub router : RouterId
   pub links : ℕ
   pub running : Option Running
 
--- a world: its routers, stopped or running, all datagrams ever sent, all LSAs ever issued, and who ever installed, issued
--- or acknowledged which instance
+-- a world: its routers, stopped or running, all datagrams ever sent, all LSAs ever issued, and who
+-- ever installed, issued or acknowledged which instance
 pub record World : Type 0 where
   pub routers : List Member
   pub datagrams : List Datagram
@@ -69,7 +70,9 @@ stepped_by w (Stop r) = None
 stepped_by w (TickOf r) = Some (r, Tick)
 stepped_by w (LinkUpOf r l) = Some (r, LinkUp l)
 stepped_by w (LinkDownOf r l) = Some (r, LinkDown l)
-stepped_by w (Deliver d r l) = option_map (λ g. (r, Event.Datagram l g.sent.source g.sent.destination g.sent.bytes)) (slice_get w.datagrams d)
+stepped_by w (Deliver d r l) =
+    option_map (λ g. (r, Event.Datagram l g.sent.source g.sent.destination g.sent.bytes))
+    (slice_get w.datagrams d)
 
 -- ---- what is refused
 
@@ -79,7 +82,10 @@ unless_stopped m = if is_some m.running then None else Some fault.NotRunning
 
 -- what one takes that does not run: a start, whose first number is above the floor (12.1.6)
 abbrev pub unless_running : ℤ → Member → Option WorldFault
-unless_running floor m = if is_some m.running then Some fault.Running else if int_eq floor max_sequence_number then Some fault.Floor else None
+unless_running floor m =
+    if is_some m.running then Some fault.Running
+    else if int_eq floor max_sequence_number then Some fault.Floor
+    else None
 
 -- what it takes on one of its links
 abbrev pub fault_on_link : ℕ → Member → Option WorldFault
@@ -103,8 +109,8 @@ of_member test (Some m) = test m
 abbrev pub member : World → RouterId → Option Member
 member w r = find (λ m. m.router.0 == r.0) w.routers
 
--- why a world refuses an event, if it does: the first of no such router, no such link, no such datagram, and how the
--- router runs
+-- why a world refuses an event, if it does: the first of no such router, no such link, no such
+-- datagram, and how the router runs
 abbrev pub refusal : World → WorldEvent → Option WorldFault
 refusal w (Start r dd floor) = of_member (unless_running floor) (member w r)
 refusal w (Stop r) = of_member unless_stopped (member w r)
@@ -138,7 +144,8 @@ pub record HasItsTable (x : Running) : Type 0 where
   pub is_table : IsTable (advertisements_of (listing x)) x.state.router x.table
 
 -- a router as it starts: it can name nothing and asks for nothing, and its first run begins now
-pub record IsRunningStarted (issued : List Issued) (r : RouterId) (floor : ℤ) (x : Running) : Type 0 where
+pub record IsRunningStarted (issued : List Issued) (r : RouterId) (floor : ℤ) (x : Running)
+    : Type 0 where
   pub router : x.state.router ≡ r
   pub first : x.first ≡ record { name = length issued; base = floor }
   pub later : x.later ≡ []
@@ -149,19 +156,29 @@ pub record IsRunningStarted (issued : List Issued) (r : RouterId) (floor : ℤ) 
   pub table : HasItsTable x
 
 -- the logs grow by exactly these outputs of router r
-pub record LogsGrow (before after : World) (r : RouterId) (x : Running) (out : OutputsValue) : Type 0 where
-  pub datagrams : after.datagrams ≡ before.datagrams ++ map (λ s. record { router = r; sent = s }) out.sent
-  pub issued : after.issued ≡ before.issued ++ map (λ lsa. record { lsa = lsa; run = run_of x (key_of lsa) }) out.issued
-  pub held : after.held ≡ before.held ++ (map (λ i. record { router = r; instance = i }) out.taken ++ map (λ lsa. record { router = r; instance = instance_of lsa }) out.issued)
+pub record LogsGrow (before after : World) (r : RouterId) (x : Running) (out : OutputsValue)
+    : Type 0 where
+  pub datagrams :
+      after.datagrams ≡ before.datagrams ++ map (λ s. record { router = r; sent = s }) out.sent
+  pub issued : after.issued
+      ≡ before.issued ++ map (λ lsa. record { lsa = lsa; run = run_of x (key_of lsa) }) out.issued
+  pub held : after.held
+      ≡ before.held
+      ++ (map (λ i. record { router = r; instance = i }) out.taken
+      ++ map (λ lsa. record { router = r; instance = instance_of lsa }) out.issued)
 
 -- the keys whose run ended begin again, from what is issued by now
 pub record RunsGoOn (issued : List Issued) (ended : List LsaKey) (x x' : Running) : Type 0 where
   pub first : x'.first ≡ x.first
-  pub runs : (key : LsaKey) → run_of x' key ≡ (if among ended key then record { name = length issued; base = lowest_number } else run_of x key)
+  pub runs : (key : LsaKey)
+      → run_of x' key
+      ≡ (if among ended key then record { name = length issued; base = lowest_number }
+      else run_of x key)
 
--- router r, running as x, is stepped with the event, puts out out and runs on as x'. Which events are dropped is the
--- router's to say
-pub record StepsRouter (is_dropped : Event → AreaValue → Bool) (before after : World) (r : RouterId) (event : Event) (x x' : Running) (out : OutputsValue) : Type 0 where
+-- router r, running as x, is stepped with the event, puts out out and runs on as x'. Which events
+-- are dropped is the router's to say
+pub record StepsRouter (is_dropped : Event → AreaValue → Bool) (before after : World) (r : RouterId)
+    (event : Event) (x x' : Running) (out : OutputsValue) : Type 0 where
   pub was : router_at before r ≡ Some x
   pub changes : RouterBecomes before after r (Some x')
   pub laws : StepLaws is_dropped event x.state out x'.state
@@ -169,24 +186,42 @@ pub record StepsRouter (is_dropped : Event → AreaValue → Bool) (before after
   pub logs : LogsGrow before after r x out
   pub runs : RunsGoOn after.issued out.ended x x'
 
--- what a world event comes to, and what is answered: it is refused, with the first fault that holds, exactly where one does;
--- or memory is wanting, before anything is done or so that the router stops; or the router starts, stops, or takes a step
-pub data Comes (is_dropped : Event → AreaValue → Bool) (event : WorldEvent) (before : World) (result : Result (Unit {0}) WorldFault) (after : World) : Type 0 where
-  Refused : (f : WorldFault) → refusal before event ≡ Some f → result ≡ Err f → after ≡ before → Comes is_dropped event before result after
-  NotDone : refusal before event ≡ None → result ≡ Err (fault.Memory false) → after ≡ before → Comes is_dropped event before result after
-  MemoryStops : refusal before event ≡ None → result ≡ Err (fault.Memory true) → (r : RouterId) (e : Event) → stepped_by before event ≡ Some (r, e) → RouterBecomes before after r None → SameLogs before after → Comes is_dropped event before result after
-  Starts : refusal before event ≡ None → result ≡ Ok tt → (r : RouterId) (dd : ℕ) (floor : ℤ) (x : Running) → event ≡ Start r dd floor → router_at before r ≡ None → RouterBecomes before after r (Some x) → IsRunningStarted before.issued r floor x → SameLogs before after → Comes is_dropped event before result after
-  Stops : refusal before event ≡ None → result ≡ Ok tt → (r : RouterId) → event ≡ Stop r → RouterBecomes before after r None → SameLogs before after → Comes is_dropped event before result after
-  Stepped : refusal before event ≡ None → result ≡ Ok tt → (r : RouterId) (e : Event) (x x' : Running) (out : OutputsValue) → stepped_by before event ≡ Some (r, e) → StepsRouter is_dropped before after r e x x' out → Comes is_dropped event before result after
+-- what a world event comes to, and what is answered: it is refused, with the first fault that
+-- holds, exactly where one does; or memory is wanting, before anything is done or so that the
+-- router stops; or the router starts, stops, or takes a step
+pub data Comes (is_dropped : Event → AreaValue → Bool) (event : WorldEvent) (before : World)
+    (result : Result (Unit {0}) WorldFault) (after : World) : Type 0 where
+  Refused : (f : WorldFault) → refusal before event ≡ Some f → result ≡ Err f → after ≡ before
+      → Comes is_dropped event before result after
+  NotDone : refusal before event ≡ None → result ≡ Err (fault.Memory false) → after ≡ before
+      → Comes is_dropped event before result after
+  MemoryStops : refusal before event ≡ None → result ≡ Err (fault.Memory true)
+      → (r : RouterId) (e : Event) → stepped_by before event ≡ Some (r, e)
+      → RouterBecomes before after r None → SameLogs before after
+      → Comes is_dropped event before result after
+  Starts : refusal before event ≡ None → result ≡ Ok tt
+      → (r : RouterId) (dd : ℕ) (floor : ℤ) (x : Running) → event ≡ Start r dd floor
+      → router_at before r ≡ None → RouterBecomes before after r (Some x)
+      → IsRunningStarted before.issued r floor x → SameLogs before after
+      → Comes is_dropped event before result after
+  Stops : refusal before event ≡ None → result ≡ Ok tt → (r : RouterId) → event ≡ Stop r
+      → RouterBecomes before after r None → SameLogs before after
+      → Comes is_dropped event before result after
+  Stepped : refusal before event ≡ None → result ≡ Ok tt
+      → (r : RouterId) (e : Event) (x x' : Running) (out : OutputsValue)
+      → stepped_by before event ≡ Some (r, e) → StepsRouter is_dropped before after r e x x' out
+      → Comes is_dropped event before result after
 
 -- whatever is answered
 abbrev pub Happens : (Event → AreaValue → Bool) → WorldEvent → World → World → Type 0
-Happens is_dropped event before after = (result : Result (Unit {0}) WorldFault) × Comes is_dropped event before result after
+Happens is_dropped event before after =
+    (result : Result (Unit {0}) WorldFault) × Comes is_dropped event before result after
 
 -- a whole list of events
 abbrev pub RunsEvents : (Event → AreaValue → Bool) → List WorldEvent → World → World → Type 0
 RunsEvents is_dropped [] before after = after ≡ before
-RunsEvents is_dropped (event ∷ events) before after = (mid : World) × Happens is_dropped event before mid × RunsEvents is_dropped events mid after
+RunsEvents is_dropped (event ∷ events) before after =
+    (mid : World) × Happens is_dropped event before mid × RunsEvents is_dropped events mid after
 
 -- a world in which nothing runs and nothing has happened
 pub record IsNewWorld (w : World) : Type 0 where

@@ -22,8 +22,8 @@ pub fn held_lsas_were_issued()
         WasIssued end.issued (contents lsa) }
 {}
 
-/// LSAs of one instance held anywhere, at one moment or at two, have equal contents unless their originator issued
-/// both, the second in a low run.
+/// LSAs of one instance held anywhere, at one moment or at two, have equal contents unless their
+/// originator issued both, the second in a low run.
 pub fn held_lsas_agree()
     ensures { (is_dropped : Event → AreaValue → Bool) (events later : List WorldEvent)
         (start mid end : World) (a b : List ℕ) →
@@ -40,8 +40,9 @@ pub fn tables_are_exact()
         IsTable (adverts x) r x.table }
 {}
 
-/// Where nothing issued collides, and all listed routers run and list the same instances, every walk along next hops
-/// ends on the prefix of its first route at that route's cost, and meets no router twice.
+/// Where nothing issued collides, and all listed routers run and list the same
+/// instances, every walk along next hops ends on the prefix of its first route at that
+/// route's cost, and meets no router twice.
 pub fn walks_arrive()
     ensures { (is_dropped : Event → AreaValue → Bool) (events : List WorldEvent) (start end : World)
         (a : RouterId) (x : Running) →
@@ -61,7 +62,8 @@ pub fn chosen_walks_arrive()
     walk_law()
 }
 
-/// With floors that are high enough, no two LSAs of one instance are ever issued with different contents.
+/// With floors that are high enough, no two LSAs of one instance are ever
+/// issued with different contents.
 pub fn high_floors_exclude_collisions()
     ensures { (is_dropped : Event → AreaValue → Bool) (events : List WorldEvent)
         (start end : World) →
@@ -69,7 +71,8 @@ pub fn high_floors_exclude_collisions()
         NoCollision end.issued }
 {}
 
-/// Where MaxSequenceNumber was never issued, the base of each run is the floor of the start at which it began.
+/// Where MaxSequenceNumber was never issued, the base of each run is the floor
+/// of the start at which it began.
 pub fn bases_are_floors()
     ensures { (is_dropped : Event → AreaValue → Bool) (events : List WorldEvent)
         (start end : World) →
@@ -77,8 +80,8 @@ pub fn bases_are_floors()
         BasesAreFloors is_dropped start events end }
 {}
 
-/// A neighbour that a router no longer waits for has told of the instance, or a later one, to somebody, unless a newer
-/// LSA took the instance's place or the neighbour is below Exchange.
+/// A neighbour that a router no longer waits for has told of the instance, or a later one, to
+/// somebody, unless a newer LSA took the instance's place or the neighbour is below Exchange.
 pub fn acknowledgement_is_sound()
     ensures { (is_dropped : Event → AreaValue → Bool) (events : List WorldEvent)
         (event : WorldEvent) (start before after : World) →

@@ -1,7 +1,8 @@
-//! Many routers: what may happen in a world of them, what they hold and acknowledge, and where their next hops lead.
+//! Many routers: what may happen in a world of them, what they hold and acknowledge,
+//! and where their next hops lead.
 //!
-//! A `Slot` is a router's place in a world: its configuration, the router where it runs, and its numbering runs; `Logs`
-//! are all that was sent, issued and held.
+//! A `Slot` is a router's place in a world: its configuration, the router where it runs, and its
+//! numbering runs; `Logs` are all that was sent, issued and held.
 #![tactic(auto)]
 
 mod drops;

@@ -13,7 +13,8 @@ use ospf_lsa::Lsa;
 use std::alloc::{AllocError, Global};
 use std::marker::Model;
 
-/// A numbering run, named by how many LSAs the world had issued when it began. Its numbers are above its base.
+/// A numbering run, named by how many LSAs the world had issued when it began.
+/// Its numbers are above its base.
 #[derive(Clone, Copy, Debug, PartialEq, Eq)]
 pub struct Run {
     pub name: usize,
@@ -41,7 +42,8 @@ pub struct Holding {
     pub instance: Instance,
 }
 
-/// All datagrams ever sent, all LSAs ever issued, and who ever installed, issued or acknowledged which instance.
+/// All datagrams ever sent, all LSAs ever issued, and who ever installed, issued
+/// or acknowledged which instance.
 #[derive(Drop)]
 pub struct Logs {
     datagrams: Vec<Datagram>,
@@ -54,7 +56,11 @@ impl Model for Logs {
 
     ghost Value = { LogsValue };
 
-    ghost view = { λ l. record { datagrams = l.datagrams.items; issued = l.issued.items; held = l.held.items } };
+    ghost view = { λ l. record {
+      datagrams = l.datagrams.items;
+      issued = l.issued.items;
+      held = l.held.items;
+    } };
 }
 
 impl Logs {
@@ -93,7 +99,8 @@ impl Logs {
         &self.held
     }
 
-    /// The logs grow by what a router put out, and the runs of the keys that have ended begin again.
+    /// The logs grow by what a router put out, and the runs of the
+    /// keys that have ended begin again.
     ///
     /// `AllocError` where memory runs out: then the logs are as before.
     pub(crate) fn take(

@@ -16,8 +16,8 @@ use ospf_step::DropCounts;
 use std::alloc::Global;
 use std::marker::Model;
 
-/// A running router, the run of its keys since its start, the later runs of single keys, the latest first, and what it dropped
-/// since its start, by links.
+/// A running router, the run of its keys since its start, the later runs of single keys, the latest
+/// first, and what it dropped since its start, by links.
 #[derive(Drop)]
 pub(crate) struct RunningRouter {
     router: Router,
@@ -31,13 +31,19 @@ impl Model for RunningRouter {
 
     ghost Value = { RunningValue };
 
-    ghost view = { λ x. record { router = x.router; first = x.first; later = x.later.items; drops = x.drops } };
+    ghost view = { λ x. record {
+      router = x.router;
+      first = x.first;
+      later = x.later.items;
+      drops = x.drops;
+    } };
 }
 
 impl RunningRouter {
     /// A router that starts, where so many LSAs were issued before.
     ///
-    /// `StartFault::Floor` where no number is above the floor, else `StartFault::Memory` where memory runs out.
+    /// `StartFault::Floor` where no number is above the floor, else
+    /// `StartFault::Memory` where memory runs out.
     pub(crate) fn start(
         config: &Config,
         issued: usize,

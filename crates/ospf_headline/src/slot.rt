@@ -80,8 +80,9 @@ impl Slot {
 
     /// What an event at this router comes to; the logs grow by what the router puts out.
     ///
-    /// The first fault that holds, of `NoLink`, `NoDatagram`, `Running` and `NotRunning`, and `Floor`: then nothing is changed.
-    /// `Memory` where memory runs out: a router that had begun the step is stopped, and no log has grown.
+    /// The first fault that holds, of `NoLink`, `NoDatagram`, `Running` and `NotRunning`, and
+    /// `Floor`: then nothing is changed. `Memory` where memory runs out: a router that had begun
+    /// the step is stopped, and no log has grown.
     pub fn step(
         &mut self,
         event: &WorldEvent,
@@ -144,7 +145,8 @@ impl Slot {
         Ok(())
     }
 
-    // The router is stepped, if it runs, where it stands: it is large, and moving it would take a good part of the step.
+    // The router is stepped, if it runs, where it stands: it is large, and moving it
+    // would take a good part of the step.
     fn feed(&mut self, event: Event<'_>, logs: &mut Logs, alloc: Global) -> Result<(), WorldFault>
         ensures { Feeds (happening event.entry) self.old logs.old result self.new logs.new }
     {
@@ -175,7 +177,8 @@ impl Slot {
         }
     }
 
-    // A datagram comes in on a link, if there is the link, the datagram was sent, and the router runs.
+    // A datagram comes in on a link, if there is the link, the datagram
+    // was sent, and the router runs.
     fn deliver(
         &mut self,
         place: usize,

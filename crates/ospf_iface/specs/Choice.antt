@@ -12,8 +12,11 @@ BelongsTo standing.DeclaresBackup c = DeclaresBackup c
 BelongsTo standing.MayBeBackup c = MayBeBackup c
 
 -- the best so far stays, or the next candidate takes its place
-pub data BestOr (Set : Candidate → Type 0) (best : Option Candidate) (c : Candidate) (result : Option Candidate) : Type 0 where
+pub data BestOr (Set : Candidate → Type 0) (best : Option Candidate) (c : Candidate)
+    (result : Option Candidate) : Type 0 where
   Outside : (Set c → ⊥) → result ≡ best → BestOr Set best c result
-  Stays : (b : Candidate) → best ≡ Some b → (Outranks c b → ⊥) → result ≡ best → BestOr Set best c result
+  Stays : (b : Candidate) → best ≡ Some b → (Outranks c b → ⊥) → result ≡ best
+      → BestOr Set best c result
   First : best ≡ None → Set c → result ≡ Some c → BestOr Set best c result
-  Follows : (b : Candidate) → best ≡ Some b → Set c → Outranks c b → result ≡ Some c → BestOr Set best c result
+  Follows : (b : Candidate) → best ≡ Some b → Set c → Outranks c b → result ≡ Some c
+      → BestOr Set best c result

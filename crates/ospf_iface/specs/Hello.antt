@@ -11,14 +11,16 @@ use Rattle.ospf_iface.specs.declared.machine.Iface.{Iface}
 use Rattle.ospf_iface.specs.declared.machine.IfaceState.TheVariants.{Down}
 use Rattle.ospf_base.specs.declared.interface.InterfaceKind.TheVariants.{PointToPoint, Broadcast}
 
--- a Hello agrees in HelloInterval, RouterDeadInterval and the E bit, and on broadcast links in the mask (10.5)
+-- a Hello agrees in HelloInterval, RouterDeadInterval and the E bit, and on
+-- broadcast links in the mask (10.5)
 pub record Agrees (i : Iface) (h : Hello) : Type 0 where
   pub interval : h.hello_interval ≡ i.settings.hello
   pub dead : h.dead_interval ≡ i.settings.dead
   pub e_bit : bit_and h.options router_options ≡ router_options
   pub mask : (h.mask ≡ i.settings.mask) ⊎ (i.settings.kind ≡ PointToPoint)
 
--- the fields of the Hello that an interface sends: it declares the DR and the Backup, and none where the link has two ends (9.5)
+-- the fields of the Hello that an interface sends: it declares the DR and the Backup, and none
+-- where the link has two ends (9.5)
 pub record AreFieldsOf (i : Iface) (h : Hello) : Type 0 where
   pub mask : h.mask ≡ i.settings.mask
   pub interval : h.hello_interval ≡ i.settings.hello
@@ -36,7 +38,8 @@ pub record IsHelloOf (i : Iface) (neighbours : List RouterId) (body : BodyValue)
   pub fields_are : AreFieldsOf i fields
   pub body_is : body_meant body ≡ hello fields neighbours
 
--- the next tick brings a Hello: the interface is not Down, and no more than that tick is left of HelloInterval (9.5)
+-- the next tick brings a Hello: the interface is not Down, and no more than that tick
+-- is left of HelloInterval (9.5)
 pub record IsHelloDue (i : Iface) : Type 0 where
   pub up : i.state ≢ Down
   pub ends : i.hello_in ≤ 1

@@ -10,7 +10,8 @@ use Rattle.ospf_iface.specs.Machine.{own_candidate, CanElect}
 -- the order of the candidates does not matter, nor does one that stands twice
 abbrev pub OrderDoesNotMatter : Type 0
 OrderDoesNotMatter = (candidates others : List Candidate) (me : RouterId) (e : Elected)
-    → ((c : Candidate) → Contains candidates c ↔ Contains others c) → IsElected candidates me e → IsElected others me e
+    → ((c : Candidate) → Contains candidates c ↔ Contains others c) → IsElected candidates me e
+    → IsElected others me e
 
 -- no other result is the election's
 abbrev pub OneResult : Type 0
@@ -20,9 +21,11 @@ OneResult = (candidates : List Candidate) (me : RouterId) (e f : Elected)
 -- a router beside others, whose Router IDs rise, can be elected from among them, as itself
 abbrev pub OwnBesideOthers : Type 0
 OwnBesideOthers = (own : Candidate) (others : List Candidate)
-    → AreCandidatesRising others → AreOthers own.id others → AreDistinct (own ∷ others) × HasMe (own ∷ others) own.id
+    → AreCandidatesRising others → AreOthers own.id others
+    → AreDistinct (own ∷ others) × HasMe (own ∷ others) own.id
 
 -- the own router beside others, whose Router IDs rise, can be elected from among them
 abbrev pub OwnMayBeElected : Type 0
 OwnMayBeElected = (i : Iface) (others : List Candidate)
-    → AreCandidatesRising others → AreOthers i.settings.router others → CanElect (own_candidate i ∷ others) i
+    → AreCandidatesRising others → AreOthers i.settings.router others
+    → CanElect (own_candidate i ∷ others) i

@@ -45,11 +45,16 @@ action _ _ = Action.Ignore
 
 -- the state in which an interface starts (9.3, InterfaceUp)
 abbrev pub first_state : IfaceSettings → IfaceState
-first_state s = elim s.kind [ kind.PointToPoint ↦ PointToPoint | kind.Broadcast ↦ (if s.priority == 0 then DrOther else Waiting) ]
+first_state s =
+    elim s.kind [
+      | kind.PointToPoint ↦ PointToPoint
+      | kind.Broadcast ↦ (if s.priority == 0 then DrOther else Waiting)
+    ]
 
 -- the state in which an election leaves it (9.4, step 5)
 abbrev pub elected_state : Addr → Elected → IfaceState
-elected_state own e = if e.dr.0 == own.0 then Dr else if e.backup.0 == own.0 then Backup else DrOther
+elected_state own e =
+    if e.dr.0 == own.0 then Dr else if e.backup.0 == own.0 then Backup else DrOther
 
 -- another DR or another Backup than before (9.4, step 7)
 abbrev pub is_changed : Iface → Elected → Bool
@@ -57,7 +62,15 @@ is_changed i e = not ((e.dr.0 == i.dr.0) && (e.backup.0 == i.backup.0))
 
 -- what is told of the interface as it is now
 abbrev pub change_of : Iface → Bool → Bool → Bool → IfaceChange
-change_of i adj_ok kills hello = record { state = i.state; dr = i.dr; backup = i.backup; adj_ok = adj_ok; kills = kills; hello = hello }
+change_of i adj_ok kills hello =
+    record {
+      state = i.state;
+      dr = i.dr;
+      backup = i.backup;
+      adj_ok = adj_ok;
+      kills = kills;
+      hello = hello;
+    }
 
 -- the interface becomes operational; Waiting lasts RouterDeadInterval (9.1; 9.3, InterfaceUp)
 abbrev pub started : Iface → Iface
@@ -71,7 +84,8 @@ started i = record i {
 
 -- the interface after an election (9.4, steps 5 and 6)
 abbrev pub elected : Elected → Iface → Iface
-elected e i = record i { state = elected_state i.settings.address e; dr = e.dr; backup = e.backup; wait = 0 }
+elected e i =
+    record i { state = elected_state i.settings.address e; dr = e.dr; backup = e.backup; wait = 0 }
 
 -- the interface is reset (9.3, InterfaceDown)
 abbrev pub iface_stopped : Iface → Iface
@@ -79,10 +93,19 @@ iface_stopped i = record i { state = Down; dr = nowhere; backup = nowhere; wait 
 
 -- the interface's own router, as it takes part in an election (9.4, step 1)
 abbrev pub own_candidate : Iface → Candidate
-own_candidate i = record { id = i.settings.router; address = i.settings.address; priority = i.settings.priority; dr = i.dr; backup = i.backup }
+own_candidate i =
+    record {
+      id = i.settings.router;
+      address = i.settings.address;
+      priority = i.settings.priority;
+      dr = i.dr;
+      backup = i.backup;
+    }
 
--- the election's result is the interface's DR and Backup, and AdjOK? is due where they are others than before (9.4)
-pub record Elects (candidates : List Candidate) (before after : Iface) (change : IfaceChange) : Type 0 where
+-- the election's result is the interface's DR and Backup, and AdjOK? is due where
+-- they are others than before (9.4)
+pub record Elects (candidates : List Candidate) (before after : Iface) (change : IfaceChange)
+    : Type 0 where
   pub result : Elected
   pub is_elected : IsElected candidates before.settings.router result
   pub state : after ≡ elected result before
@@ -90,10 +113,13 @@ pub record Elects (candidates : List Candidate) (before after : Iface) (change :
 
 -- what an action makes of an interface, and what it tells: AdjOK?, KillNbr, a Hello
 abbrev pub DoesAction : Action → Iface → Iface → IfaceChange → Type 0
-DoesAction Action.Start before after change = (after ≡ started before) × (change ≡ change_of after false false true)
+DoesAction Action.Start before after change =
+    (after ≡ started before) × (change ≡ change_of after false false true)
 DoesAction (Action.Elect candidates) before after change = Elects candidates before after change
-DoesAction Action.Stop before after change = (after ≡ iface_stopped before) × (change ≡ change_of after false true false)
-DoesAction Action.Ignore before after change = (after ≡ before) × (change ≡ change_of after false false false)
+DoesAction Action.Stop before after change =
+    (after ≡ iface_stopped before) × (change ≡ change_of after false true false)
+DoesAction Action.Ignore before after change =
+    (after ≡ before) × (change ≡ change_of after false false false)
 
 -- the own router is among the candidates, whose Router IDs differ
 abbrev pub CanElect : List Candidate → Iface → Type 0

@@ -9,8 +9,9 @@ use ospf_base::{Addr, RouterId};
 
 /// The elected Designated Router and Backup, as the router `me` finds them (RFC 2328, section 9.4).
 ///
-/// The candidates are the router itself and its neighbours in 2-Way or above. Those of priority 0 are never
-/// elected. The router's own entry declares what the interface had before the election. No memory is taken.
+/// The candidates are the router itself and its neighbours in 2-Way or above. Those of
+/// priority 0 are never elected. The router's own entry declares what the interface had before
+/// the election. No memory is taken.
 pub fn elect(candidates: &[Candidate], me: RouterId) -> Elected
     requires distinct { AreDistinct candidates.now }
     requires me { HasMe candidates.now me }

@@ -9,8 +9,8 @@ impl Iface {
     ghost use Rattle.std.specs.Prelude.{◌↔◌, IfOk, IsTrue};
     ghost use Rattle.ospf_iface.specs.Hello.{Agrees, AreFieldsOf, IsHelloOf};
 
-    /// Whether a Hello agrees with the interface (section 10.5): in HelloInterval, RouterDeadInterval and the E bit,
-    /// and on a broadcast link in the mask. No memory is taken.
+    /// Whether a Hello agrees with the interface (section 10.5): in HelloInterval,
+    /// RouterDeadInterval and the E bit, and on a broadcast link in the mask. No memory is taken.
     pub fn agrees(&self, hello: &Hello) -> bool
         ensures { IsTrue result ↔ Agrees self.now hello.now }
     {
@@ -20,7 +20,8 @@ impl Iface {
             && (hello.mask == self.settings.mask || self.settings.is_point_to_point())
     }
 
-    /// The Hello that the interface sends (section 9.5), where it has heard of these neighbours, in rising Router ID.
+    /// The Hello that the interface sends (section 9.5), where it has heard of these
+    /// neighbours, in rising Router ID.
     ///
     /// `AllocError` where memory runs out.
     pub fn hello(&self, alloc: Global, neighbours: &[RouterId]) -> Result<BodyValue, AllocError>

@@ -17,7 +17,8 @@ pub fn own_stands_beside_others()
     ensures { OwnBesideOthers }
 {}
 
-/// The router itself, and others whose Router IDs rise and are not its own, are candidates that `Iface::event` takes.
+/// The router itself, and others whose Router IDs rise and are not its own, are
+/// candidates that `Iface::event` takes.
 pub fn own_may_be_elected()
     ensures { OwnMayBeElected }
 {}

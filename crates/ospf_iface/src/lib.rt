@@ -1,5 +1,5 @@
-//! An interface: its state machine, the election of the network's Designated Router and Backup, and the Hellos that it
-//! sends and agrees with (RFC 2328, section 9).
+//! An interface: its state machine, the election of the network's Designated Router and Backup, and
+//! the Hellos that it sends and agrees with (RFC 2328, section 9).
 #![tactic(auto)]
 
 mod candidate;

@@ -98,8 +98,9 @@ impl Iface {
         fires
     }
 
-    /// One tick of the Hello timer; whether a Hello is due (RFC 2328, section 9.5). As a Hello is due the timer starts
-    /// again at HelloInterval, and while the interface is Down it stands still.
+    /// One tick of the Hello timer; whether a Hello is due (RFC 2328, section 9.5).
+    /// As a Hello is due the timer starts again at HelloInterval, and while the
+    /// interface is Down it stands still.
     pub fn hello_tick(&mut self) -> bool
         ensures due { IsTrue result ↔ IsHelloDue self.old }
         ensures again { OnTrue result (self.new
@@ -186,8 +187,8 @@ impl Iface {
     }
 }
 
-/// What happens to an interface (section 9.2). An event that elects brings the candidates, the router itself among
-/// them.
+/// What happens to an interface (section 9.2). An event that elects brings the
+/// candidates, the router itself among them.
 #[derive(Clone, Copy, Debug)]
 pub enum IfaceEvent<'a> {
     InterfaceUp,

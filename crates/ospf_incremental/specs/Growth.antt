@@ -14,31 +14,38 @@ use Rattle.ospf_graph.specs.Search.{AtIn, StartsIn, vertex_code}
 use Rattle.ospf_graph.specs.Tree.{extend, start_from, IsTree}
 use Rattle.ospf_graph.specs.Waiting.{Waiting}
 
--- the edge's end is reached nearer than the edge leads, or as near, with all starts that the edge brings
+-- the edge's end is reached nearer than the edge leads, or as near, with
+-- all starts that the edge brings
 abbrev pub IsRelaxed : (Vertex → ℕ → Type 0) → (Vertex → Start → Type 0) → Edge → ℕ → Type 0
 IsRelaxed At Starts e d =
     ((near : ℕ) × (near < d + e.cost) × At e.to near)
-    ⊎ (At e.to (d + e.cost) × ((x : Start) → Starts e.from x → Starts e.to (extend x e.to e.link_data)))
+    ⊎ (At e.to (d + e.cost)
+    × ((x : Start) → Starts e.from x → Starts e.to (extend x e.to e.link_data)))
 
 -- the edge waits, or owes nothing
-abbrev pub IsOwed : (Vertex → ℕ → Type 0) → (Vertex → Start → Type 0) → (Edge → Type 0) → Edge → ℕ → Type 0
+abbrev pub IsOwed : (Vertex → ℕ → Type 0) → (Vertex → Start → Type 0) → (Edge → Type 0) → Edge → ℕ
+    → Type 0
 IsOwed At Starts Waits e d = Waits e ⊎ IsRelaxed At Starts e d
 
 -- a tree, but for the edges that wait
-pub record IsGrowing (is_edge : Edge → Type 0) (root : Vertex) (At : Vertex → ℕ → Type 0) (Starts : Vertex → Start → Type 0)
+pub record IsGrowing (is_edge : Edge → Type 0) (root : Vertex) (At : Vertex → ℕ → Type 0)
+    (Starts : Vertex → Start → Type 0)
     (Waits : Edge → Type 0) : Type 0 where
   pub one : (v : Vertex) (d k : ℕ) → At v d → At v k → d ≡ k
   pub root_at : At root 0
   pub root_start : Starts root Here
-  pub path_of : (v : Vertex) (d : ℕ) → At v d → (path : List Edge) × IsPath is_edge root path v × (path_cost path ≡ d)
+  pub path_of : (v : Vertex) (d : ℕ) → At v d
+      → (path : List Edge) × IsPath is_edge root path v × (path_cost path ≡ d)
   pub path_with : (v : Vertex) (x : Start) → Starts v x →
-      (path : List Edge) × IsPath is_edge root path v × At v (path_cost path) × (start_from Here path ≡ x)
+      (path : List Edge) × IsPath is_edge root path v × At v (path_cost path)
+      × (start_from Here path ≡ x)
   pub waiting : (e : Edge) → Waits e → is_edge e
   pub owed : (e : Edge) (d : ℕ) → is_edge e → At e.from d → IsOwed At Starts Waits e d
 
--- the edge's end is as near as the edge leads from d, and no nearer than before, with its starts as far as they are of that distance
--- and those that the edge brings; all else is as before
-pub record Improves (e : Edge) (d : ℕ) (At At' : Vertex → ℕ → Type 0) (Starts Starts' : Vertex → Start → Type 0) : Type 0 where
+-- the edge's end is as near as the edge leads from d, and no nearer than before, with its starts as
+-- far as they are of that distance and those that the edge brings; all else is as before
+pub record Improves (e : Edge) (d : ℕ) (At At' : Vertex → ℕ → Type 0)
+    (Starts Starts' : Vertex → Start → Type 0) : Type 0 where
   pub from : At e.from d
   pub farther : (j : ℕ) → At e.to j → d + e.cost ≤ j
   pub end : At' e.to (d + e.cost)
@@ -50,20 +57,23 @@ pub record Improves (e : Edge) (d : ℕ) (At At' : Vertex → ℕ → Type 0) (S
   pub kept : (x : Start) → At e.to (d + e.cost) → Starts e.to x → Starts' e.to x
   pub brought : (x : Start) → Starts e.from x → Starts' e.to (extend x e.to e.link_data)
   pub only : (x : Start) → Starts' e.to x →
-      (At e.to (d + e.cost) × Starts e.to x) ⊎ ((y : Start) × Starts e.from y × (x ≡ extend y e.to e.link_data))
+      (At e.to (d + e.cost) × Starts e.to x)
+      ⊎ ((y : Start) × Starts e.from y × (x ≡ extend y e.to e.link_data))
 
 -- some candidate waits with the edge
 abbrev pub HasEdge : List SpfCandidate → Edge → Type 0
 HasEdge candidates e = (k : ℕ) × Contains candidates (record { edge = e; distance = k })
 
 -- each of these edges waits now, or owes nothing
-pub record Offers (some : List Edge) (At : Vertex → ℕ → Type 0) (Starts : Vertex → Start → Type 0) (old new : List SpfCandidate) : Type 0 where
+pub record Offers (some : List Edge) (At : Vertex → ℕ → Type 0) (Starts : Vertex → Start → Type 0)
+    (old new : List SpfCandidate) : Type 0 where
   pub kept : (e : Edge) → HasEdge old e → HasEdge new e
   pub only : (e : Edge) → HasEdge new e → HasEdge old e ⊎ Contains some e
   pub owed : (e : Edge) (d : ℕ) → Contains some e → At e.from d → IsOwed At Starts (HasEdge new) e d
 
 -- the vertex is at this distance now, with no start; all else is as before
-pub record IsResetAt (v : Vertex) (way : ℕ) (At At' : Vertex → ℕ → Type 0) (Starts Starts' : Vertex → Start → Type 0) : Type 0 where
+pub record IsResetAt (v : Vertex) (way : ℕ) (At At' : Vertex → ℕ → Type 0)
+    (Starts Starts' : Vertex → Start → Type 0) : Type 0 where
   pub end : At' v way
   pub end_only : (j : ℕ) → At' v j → j ≡ way
   pub at_in : (w : Vertex) (j : ℕ) → w ≢ v → At w j → At' w j
@@ -84,19 +94,26 @@ HasStart rs = StartsIn (starts_of rs)
 abbrev pub AreNear : List Reached → Type 0
 AreNear rs = All (λ x. x.distance < 2 ^ 63) (settled_of rs)
 
--- the edge waits no more, and what it owed is paid: what is a tree but for the edges that waited is one but for those that wait now
-abbrev pub PaysFor : List Edge → Edge → List Reached → List Reached → List SpfCandidate → List SpfCandidate → Type 0
+-- the edge waits no more, and what it owed is paid: what is a tree but for the edges that waited is
+-- one but for those that wait now
+abbrev pub PaysFor : List Edge → Edge → List Reached → List Reached → List SpfCandidate
+    → List SpfCandidate → Type 0
 PaysFor edges edge old new waited waits =
-    (root : Vertex) (before : List SpfCandidate) → IsGrowing (Contains edges) root (IsAt old) (HasStart old) (HasEdge before) → HasEdge before edge
-    → ((f : Edge) → HasEdge before f → HasEdge waited f ⊎ (f ≡ edge)) → ((f : Edge) → HasEdge waited f → HasEdge before f)
+    (root : Vertex) (before : List SpfCandidate)
+    → IsGrowing (Contains edges) root (IsAt old) (HasStart old) (HasEdge before)
+    → HasEdge before edge
+    → ((f : Edge) → HasEdge before f → HasEdge waited f ⊎ (f ≡ edge))
+    → ((f : Edge) → HasEdge waited f → HasEdge before f)
     → IsGrowing (Contains edges) root (IsAt new) (HasStart new) (HasEdge waits)
 
 -- what is not among these vertices is as before
 pub record Spares (changed : List Vertex) (old new : List Reached) : Type 0 where
   pub at_in : (v : Vertex) (d : ℕ) → (Contains changed v → ⊥) → IsAt old v d → IsAt new v d
   pub at_out : (v : Vertex) (d : ℕ) → (Contains changed v → ⊥) → IsAt new v d → IsAt old v d
-  pub starts_in : (v : Vertex) (x : Start) → (Contains changed v → ⊥) → HasStart old v x → HasStart new v x
-  pub starts_out : (v : Vertex) (x : Start) → (Contains changed v → ⊥) → HasStart new v x → HasStart old v x
+  pub starts_in : (v : Vertex) (x : Start) → (Contains changed v → ⊥) → HasStart old v x
+      → HasStart new v x
+  pub starts_out : (v : Vertex) (x : Start) → (Contains changed v → ⊥) → HasStart new v x
+      → HasStart old v x
 
 -- where the answer is yes, P holds
 abbrev pub OnTrue : {E : Type 0} → Result Bool E → Type 0 → Type 0
@@ -117,7 +134,8 @@ found_place f v = get nat_eq f.places (vertex_code v)
 -- what the edge brings to its end, from this distance
 abbrev pub ImprovesIn : Edge → ℕ → FoundPaths → FoundPaths → Type 0
 ImprovesIn e d old new =
-    Improves e d (IsAt old.reached.items) (IsAt new.reached.items) (HasStart old.reached.items) (HasStart new.reached.items)
+    Improves e d (IsAt old.reached.items) (IsAt new.reached.items) (HasStart old.reached.items)
+    (HasStart new.reached.items)
 
 -- the edge owes nothing to what is found
 abbrev pub IsRelaxedIn : FoundPaths → Edge → ℕ → Type 0
@@ -126,7 +144,8 @@ IsRelaxedIn f e d = IsRelaxed (IsAt f.reached.items) (HasStart f.reached.items) 
 -- the vertex is found at this distance now, with no start
 abbrev pub IsResetIn : Vertex → ℕ → FoundPaths → FoundPaths → Type 0
 IsResetIn v way old new =
-    IsResetAt v way (IsAt old.reached.items) (IsAt new.reached.items) (HasStart old.reached.items) (HasStart new.reached.items)
+    IsResetAt v way (IsAt old.reached.items) (IsAt new.reached.items) (HasStart old.reached.items)
+    (HasStart new.reached.items)
 
 -- the vertex at this place is
 abbrev pub ResetsAt : ℕ → ℕ → FoundPaths → FoundPaths → Type 0
@@ -134,7 +153,8 @@ ResetsAt place way old new = (v : Vertex) → found_place old v ≡ Some place �
 
 -- each of these edges waits now, or owes nothing to what is found
 abbrev pub OffersIn : FoundPaths → List Edge → Waiting → Waiting → Type 0
-OffersIn f some old new = Offers some (IsAt f.reached.items) (HasStart f.reached.items) old.list new.list
+OffersIn f some old new =
+    Offers some (IsAt f.reached.items) (HasStart f.reached.items) old.list new.list
 
 -- each of these starts, one edge further, is there
 abbrev pub AreThere : Edge → List Start → List Start → Type 0
@@ -143,11 +163,13 @@ AreThere e starts there = All (λ x. Contains there (extend x e.to e.link_data))
 -- the edge brings no start that its end has not
 abbrev pub BringsNothing : FoundPaths → Edge → Type 0
 BringsNothing f e =
-    (x : Start) → HasStart f.reached.items e.from x → HasStart f.reached.items e.to (extend x e.to e.link_data)
+    (x : Start) → HasStart f.reached.items e.from x
+    → HasStart f.reached.items e.to (extend x e.to e.link_data)
 
 -- the edge waits no more, and what it owed is paid in what is found
 abbrev pub Pays : List Edge → Edge → FoundPaths → FoundPaths → Waiting → Waiting → Type 0
-Pays edges e old new waited waits = PaysFor edges e old.reached.items new.reached.items waited.list waits.list
+Pays edges e old new waited waits =
+    PaysFor edges e old.reached.items new.reached.items waited.list waits.list
 
 -- what is found away from these vertices is as before
 abbrev pub SparesIn : List Vertex → FoundPaths → FoundPaths → Type 0
@@ -156,7 +178,9 @@ SparesIn changed old new = Spares changed old.reached.items new.reached.items
 -- what was a tree but for the edges that waited is a tree
 abbrev pub SettlesTree : List Edge → Waiting → FoundPaths → FoundPaths → Type 0
 SettlesTree edges waited old new =
-    (root : Vertex) → IsGrowing (Contains edges) root (IsAt old.reached.items) (HasStart old.reached.items) (HasEdge waited.list)
+    (root : Vertex)
+    → IsGrowing (Contains edges) root (IsAt old.reached.items) (HasStart old.reached.items)
+    (HasEdge waited.list)
     → IsTree (Contains edges) root (IsAt new.reached.items) (HasStart new.reached.items)
 
 -- what was among these is among those

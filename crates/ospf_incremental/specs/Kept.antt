@@ -11,7 +11,8 @@ use Rattle.ospf_incremental.specs.Growth.{AreNear, HasPlaces, HasStart, IsAt}
 use Rattle.ospf_graph.specs.Search.{AreEdgesInOrder, AtIn, AreFitEdges, StartsIn, vertex_id}
 use Rattle.ospf_graph.specs.Tree.{IsTree}
 
--- their root, the edges, and of each vertex that is reached its distance and the starts of its least paths
+-- their root, the edges, and of each vertex that is reached its distance
+-- and the starts of its least paths
 pub record KeptTree : Type 0 where
   pub root : Vertex
   pub edges : List Edge
@@ -45,9 +46,12 @@ AddsEdges more old new = (e : Edge) → Contains new e ↔ (Contains old e ⊎ C
 
 -- those without the one part, and the other part
 abbrev pub ChangesEdges : List Edge → List Edge → List Edge → List Edge → Type 0
-ChangesEdges less more old new = (e : Edge) → Contains new e ↔ ((Contains old e × (Contains less e → ⊥)) ⊎ Contains more e)
+ChangesEdges less more old new =
+    (e : Edge) → Contains new e ↔ ((Contains old e × (Contains less e → ⊥)) ⊎ Contains more e)
 
 -- a vertex that is not among these has its distance and its starts as before
 pub record IsSameBut (changed : List Vertex) (old new : KeptTree) : Type 0 where
-  pub distance : (v : Vertex) (d : ℕ) → (Contains changed v → ⊥) → AtIn old.settled v d ↔ AtIn new.settled v d
-  pub starts : (v : Vertex) (x : Start) → (Contains changed v → ⊥) → StartsIn old.starts v x ↔ StartsIn new.starts v x
+  pub distance : (v : Vertex) (d : ℕ) → (Contains changed v → ⊥)
+      → AtIn old.settled v d ↔ AtIn new.settled v d
+  pub starts : (v : Vertex) (x : Start) → (Contains changed v → ⊥)
+      → StartsIn old.starts v x ↔ StartsIn new.starts v x

@@ -68,7 +68,8 @@ pub(crate) fn starts_of(found: &FoundPaths, vertex: Vertex) -> &[Start]
     }
 }
 
-/// Puts an edge among those that wait, if it begins where something is reached and its end is not nearer.
+/// Puts an edge among those that wait, if it begins where something is
+/// reached and its end is not nearer.
 pub(crate) fn offer(
     edge: Edge,
     found: &FoundPaths,
@@ -108,8 +109,8 @@ pub(crate) fn offer_all(
     Ok(())
 }
 
-/// Takes edges that wait until none does, or these many were taken, or one leads too far. Whether none is left.
-/// The vertices that are reached nearer or from more starts are put behind `changed`.
+/// Takes edges that wait until none does, or these many were taken, or one leads too far. Whether
+/// none is left. The vertices that are reached nearer or from more starts are put behind `changed`.
 pub(crate) fn settle(
     alloc: Global,
     edges: &[Edge],
@@ -185,7 +186,8 @@ fn take_edge(
     Ok(true)
 }
 
-// Takes an edge that waited, and offers the edges from its end, if that is reached nearer or from more starts.
+// Takes an edge that waited, and offers the edges from its end, if that is
+// reached nearer or from more starts.
 fn step(
     alloc: Global,
     edges: &[Edge],

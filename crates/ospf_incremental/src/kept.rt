@@ -17,8 +17,8 @@ use ospf_graph::{
 use std::alloc::{AllocError, Global};
 use std::marker::Model;
 
-/// The shortest paths from a root over a list of edges, kept so that edges can come and go (RFC 2328, section
-/// 16.1).
+/// The shortest paths from a root over a list of edges, kept so that edges can come
+/// and go (RFC 2328, section 16.1).
 #[derive(Drop)]
 pub struct KeptPaths {
     root: Vertex,
@@ -32,7 +32,12 @@ impl Model for KeptPaths {
 
     ghost Value = { KeptTree };
 
-    ghost view = { λ k. record { root = k.root; edges = k.edges.items; settled = settled_of k.found.reached.items; starts = starts_of k.found.reached.items } };
+    ghost view = { λ k. record {
+      root = k.root;
+      edges = k.edges.items;
+      settled = settled_of k.found.reached.items;
+      starts = starts_of k.found.reached.items;
+    } };
 
     ghost invariant = { λ k. AreKeptPaths k.root k.edges.items k.found };
 }
@@ -84,8 +89,8 @@ impl KeptPaths {
         starts_of(&self.found, vertex)
     }
 
-    /// What `shortest_paths` finds over the edges, in the order of vertices, without a search: no candidate
-    /// was looked at.
+    /// What `shortest_paths` finds over the edges, in the order of vertices, without a
+    /// search: no candidate was looked at.
     ///
     /// `AllocError` where memory runs out.
     pub fn shortest(&self, alloc: Global) -> Result<ShortestPaths, AllocError>
@@ -105,12 +110,14 @@ impl KeptPaths {
         Ok(paths)
     }
 
-    /// The shortest paths with more edges. What was found is kept, and only what the new edges bring nearer, or
-    /// from more starts, is gone through. Those vertices are put behind `changed`, some perhaps more than once.
-    /// Where it goes on for as many steps as there are edges, or a way is too long, the paths are searched for
-    /// anew, and all vertices that are reached are put there.
+    /// The shortest paths with more edges. What was found is kept, and only what the new
+    /// edges bring nearer, or from more starts, is gone through. Those vertices are put
+    /// behind `changed`, some perhaps more than once. Where it goes on for as many steps as
+    /// there are edges, or a way is too long, the paths are searched for anew, and all
+    /// vertices that are reached are put there.
     ///
-    /// `AllocError` where memory runs out: the paths are gone then, and `changed` may have got some vertices.
+    /// `AllocError` where memory runs out: the paths are gone then, and
+    /// `changed` may have got some vertices.
     pub fn grow(
         self,
         alloc: Global,
@@ -142,12 +149,14 @@ impl KeptPaths {
         Ok(paths)
     }
 
-    /// The shortest paths without some edges. Only what some least path reached over one of them goes, and grows
-    /// again from what is left. Those vertices are put behind `changed`, some perhaps more than once, and some
-    /// perhaps with the distance and the starts that they had. Where it goes on for as many steps as there are
-    /// edges, or a way is too long, the paths are searched for anew, and all that was reached is put there.
+    /// The shortest paths without some edges. Only what some least path reached over one of them
+    /// goes, and grows again from what is left. Those vertices are put behind `changed`, some
+    /// perhaps more than once, and some perhaps with the distance and the starts that they had.
+    /// Where it goes on for as many steps as there are edges, or a way is too long, the paths are
+    /// searched for anew, and all that was reached is put there.
     ///
-    /// `AllocError` where memory runs out: the paths are gone then, and `changed` may have got some vertices.
+    /// `AllocError` where memory runs out: the paths are gone then, and
+    /// `changed` may have got some vertices.
     pub fn shrink(
         self,
         alloc: Global,
@@ -185,9 +194,11 @@ impl KeptPaths {
         Ok(paths)
     }
 
-    /// The shortest paths without some edges and with others: `shrink`, if there are edges that go, and `grow`.
+    /// The shortest paths without some edges and with others: `shrink`, if there
+    /// are edges that go, and `grow`.
     ///
-    /// `AllocError` where memory runs out: the paths are gone then, and `changed` may have got some vertices.
+    /// `AllocError` where memory runs out: the paths are gone then, and
+    /// `changed` may have got some vertices.
     pub fn change(
         self,
         alloc: Global,

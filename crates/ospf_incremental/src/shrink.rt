@@ -1,4 +1,5 @@
-//! Shortest paths from which edges go: what is behind them goes too, and grows again from what is left.
+//! Shortest paths from which edges go: what is behind them goes too, and
+//! grows again from what is left.
 
 ghost use Rattle.std.specs.Prelude.{◌≡◌, ◌↔◌, ◌∷◌, [], All, Contains, IsFalse, IsTrue, IfOk, OnOk};
 ghost use Rattle.ospf_incremental.specs.Growth.{AreNear, HasPlaces, HoldsAll};
@@ -26,8 +27,8 @@ pub(crate) fn left_of(alloc: Global, edges: &[Edge], less: &[Edge]) -> Result<Ve
     Ok(left)
 }
 
-/// The vertices behind edges that go, in their order: those that some least path reaches over one. Nothing is promised of
-/// them but the order, since `is_closed` tests what is needed.
+/// The vertices behind edges that go, in their order: those that some least path reaches over one.
+/// Nothing is promised of them but the order, since `is_closed` tests what is needed.
 pub(crate) fn behind(
     alloc: Global,
     edges: &[Edge],
@@ -44,8 +45,8 @@ pub(crate) fn behind(
     Ok(gone)
 }
 
-/// Whether these vertices are closed: all that is behind an edge that goes, or behind one of them, is among
-/// them, and the root is not.
+/// Whether these vertices are closed: all that is behind an edge that goes, or behind one of them,
+/// is among them, and the root is not.
 pub(crate) fn is_closed(
     found: &FoundPaths,
     edges: &[Edge],

@@ -13,25 +13,34 @@ route_of found = record { prefix = found.prefix; cost = found.cost; hops = found
 
 -- what the route says, whose set of hops has this number
 abbrev pub IsEntryOf : Route → ℕ → Entry → Type 0
-IsEntryOf route number entry = (entry.prefix ≡ route.prefix) × (entry.cost ≡ route.cost) × (entry.set ≡ number)
+IsEntryOf route number entry =
+    (entry.prefix ≡ route.prefix) × (entry.cost ≡ route.cost) × (entry.set ≡ number)
 
 -- what the route at this place says; behind the last route there is no hop
 abbrev pub IsEntryAt : List Route → List ℕ → ℕ → Entry → Type 0
 IsEntryAt routes numbers place entry =
-    (place < length routes → (d : Route) → IsEntryOf (slice_index_or routes place d) (get_or numbers place 0) entry) × (length routes ≤ place → entry.set ≡ 0)
+    (place < length routes → (d : Route)
+    → IsEntryOf (slice_index_or routes place d) (get_or numbers place 0) entry)
+    × (length routes ≤ place → entry.set ≡ 0)
 
 -- what the routes at these places say
-pub record AreEntries (routes : List Route) (numbers places : List ℕ) (entries : List Entry) : Type 0 where
+pub record AreEntries (routes : List Route) (numbers places : List ℕ) (entries : List Entry)
+    : Type 0 where
   pub same_length : length entries ≡ length places
-  pub exact : (i : ℕ) (d : Entry) → i < length places → IsEntryAt routes numbers (get_or places i 0) (slice_index_or entries i d)
+  pub exact : (i : ℕ) (d : Entry) → i < length places
+      → IsEntryAt routes numbers (get_or places i 0) (slice_index_or entries i d)
 
 -- what the route of longest prefix that holds the address says; where none does, there is no hop
-pub record IsEntryFor (routes : List Route) (sets : HopSets) (address : ℕ) (entry : Entry) : Type 0 where
+pub record IsEntryFor (routes : List Route) (sets : HopSets) (address : ℕ) (entry : Entry)
+    : Type 0 where
   pub place : ℕ
   pub answers : IsPlaceFor routes address place
   pub stand : AreSets sets
   pub within : entry.set < length sets.sets.items
-  pub prefix_is : place < length routes → (d : Route) → entry.prefix ≡ (slice_index_or routes place d).prefix
-  pub cost_is : place < length routes → (d : Route) → entry.cost ≡ (slice_index_or routes place d).cost
-  pub hops_are : place < length routes → (d : Route) → hops_of sets entry.set ≡ (slice_index_or routes place d).hops
+  pub prefix_is : place < length routes → (d : Route)
+      → entry.prefix ≡ (slice_index_or routes place d).prefix
+  pub cost_is : place < length routes → (d : Route)
+      → entry.cost ≡ (slice_index_or routes place d).cost
+  pub hops_are : place < length routes → (d : Route)
+      → hops_of sets entry.set ≡ (slice_index_or routes place d).hops
   pub none : length routes ≤ place → hops_of sets entry.set ≡ []

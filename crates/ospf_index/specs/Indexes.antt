@@ -6,7 +6,8 @@ use Rattle.ospf_index.specs.Ranges.{HasRanges, IsDirectory}
 use Rattle.ospf_index.specs.Sets.{AreNumbersOf}
 use Rattle.ospf_index.specs.declared.index.Index.{Index}
 
--- the ranges of the routes, what they answer with the sets of hops, and the directory of these ranges
+-- the ranges of the routes, what they answer with the sets of hops,
+-- and the directory of these ranges
 pub record IsIndexOf (routes : List Route) (index : Index) : Type 0 where
   pub places : List ℕ
   pub numbers : List ℕ

@@ -11,7 +11,8 @@ Table = List Route
 abbrev pub opening : List Table
 opening = [] ∷ []
 
--- which forwarding table it is, and the tables that are known to be published there, version by version
+-- which forwarding table it is, and the tables that are known to be
+-- published there, version by version
 pub record Known : Type 0 where
   pub fib : Book
   pub tables : List Table

@@ -1,4 +1,5 @@
--- Changes that put routes in the places of others to the same prefixes, and the index after them (RFC 2328, section 11).
+-- Changes that put routes in the places of others to the same prefixes, and the index
+-- after them (RFC 2328, section 11).
 use Rattle.std.specs.Prelude.{◌≡◌, ◌≤◌, ◌<◌, ◌+◌, ◌/◌, ◌^◌, ◌++◌, ◌∷◌, [], ℕ, List, All, get_or, length, slice_index_or, sum_by, vec_capacity, vec_len}
 use Rattle.ospf_base.specs.declared.prefix.Prefix.{Prefix}
 use Rattle.ospf_base.specs.Prefixes.{IsPrefixBefore}
@@ -36,8 +37,10 @@ pub record AreSetsLonger (old : HopSets) (route : Route) (new : HopSets) : Type 
 
 -- so many routes stand before the prefix, and none of the others does
 pub record AreRoutesBefore (routes : List Route) (prefix : Prefix) (count : ℕ) : Type 0 where
-  pub before : (k : ℕ) (d : Route) → k < count → k < length routes → IsPrefixBefore (slice_index_or routes k d).prefix prefix
-  pub behind : (k : ℕ) (d : Route) → count ≤ k → k < length routes → IsPrefixBefore (slice_index_or routes k d).prefix prefix → ⊥
+  pub before : (k : ℕ) (d : Route) → k < count → k < length routes
+      → IsPrefixBefore (slice_index_or routes k d).prefix prefix
+  pub behind : (k : ℕ) (d : Route) → count ≤ k → k < length routes
+      → IsPrefixBefore (slice_index_or routes k d).prefix prefix → ⊥
 
 -- so many ranges begin before the address
 pub record AreBefore (starts : List ℕ) (address count : ℕ) : Type 0 where
@@ -49,14 +52,19 @@ pub record AreBefore (starts : List ℕ) (address count : ℕ) : Type 0 where
 abbrev pub answered_entry : Route → ℕ → Entry
 answered_entry route number = record { prefix = route.prefix; cost = route.cost; set = number }
 
--- of these ranges each that a route to the entry's prefix answered is answered by the entry, and no other range is answered anew
+-- of these ranges each that a route to the entry's prefix answered is answered by the entry, and
+-- no other range is answered anew
 pub record AreAnsweredAnew (old new : List Entry) (from to : ℕ) (entry : Entry) : Type 0 where
   pub same_length : length new ≡ length old
-  pub anew : (i : ℕ) (d : Entry) → from ≤ i → i < to → (slice_index_or old i d).prefix ≡ entry.prefix → 0 < (slice_index_or old i d).set → slice_index_or new i d ≡ entry
-  pub others : (i : ℕ) (d : Entry) → ((slice_index_or old i d).prefix ≡ entry.prefix → (slice_index_or old i d).set ≡ 0) → slice_index_or new i d ≡ slice_index_or old i d
+  pub anew : (i : ℕ) (d : Entry) → from ≤ i → i < to
+      → (slice_index_or old i d).prefix ≡ entry.prefix → 0 < (slice_index_or old i d).set
+      → slice_index_or new i d ≡ entry
+  pub others : (i : ℕ) (d : Entry)
+      → ((slice_index_or old i d).prefix ≡ entry.prefix → (slice_index_or old i d).set ≡ 0)
+      → slice_index_or new i d ≡ slice_index_or old i d
 
--- the index with a route in the place of the one to its prefix: its hops come behind all other sets, and the ranges within its prefix that
--- the route to this prefix answered are answered by it
+-- the index with a route in the place of the one to its prefix: its hops come behind all other
+-- sets, and the ranges within its prefix that the route to this prefix answered are answered by it
 pub record IsRoutePut (old : Index) (route : Route) (new : Index) : Type 0 where
   pub addresses : All (λ start. start < 2 ^ 32) old.starts.items
   pub starts : new.starts.items ≡ old.starts.items
@@ -67,4 +75,5 @@ pub record IsRoutePut (old : Index) (route : Route) (new : Index) : Type 0 where
   pub to : ℕ
   pub first : AreBefore old.starts.items route.prefix.address.0 from
   pub last : AreBefore old.starts.items (end_of route.prefix) to
-  pub entries : AreAnsweredAnew old.entries.items new.entries.items from to (answered_entry route (length old.sets.sets.items))
+  pub entries : AreAnsweredAnew old.entries.items new.entries.items from to
+      (answered_entry route (length old.sets.sets.items))

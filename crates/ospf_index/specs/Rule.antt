@@ -44,9 +44,12 @@ pen_cell false = []
 
 -- the cells of the book in which the events are counted
 abbrev pub cells_of : List ListEvent → List Cell
-cells_of log = (length log, true) ∷ (0, true) ∷ (replicate (opens log) (0, true) ++ pen_cell (closed false log))
+cells_of log =
+    (length log, true) ∷ (0, true)
+    ∷ (replicate (opens log) (0, true) ++ pen_cell (closed false log))
 
--- the first word of the book is the number of events; each opening leaves a cell, and a pen is out while the list is closed
+-- the first word of the book is the number of events; each opening leaves a cell, and a pen
+-- is out while the list is closed
 pub record IsCounted (cells : List Cell) (log : List ListEvent) : Type 0 where
   pub words : cells ≡ cells_of log
   pub legal : legal false log ≡ true
@@ -57,11 +60,15 @@ counter_of book = record { tracked = true; key = 0; book = book }
 
 -- where the count was the expected one, the event stands after all that was known
 abbrev pub AddsWhereCounted : Step ListEvent → View ListEvent ℕ → ℕ → View ListEvent ℕ → Type 0
-AddsWhereCounted s before found after = MatchBool (found == s.old) (after.0 ≡ before.0 ++ s.ask ∷ []) ⊤
+AddsWhereCounted s before found after =
+    MatchBool (found == s.old) (after.0 ≡ before.0 ++ s.ask ∷ []) ⊤
 
 -- and there is a pen
 abbrev pub ClosesWhereCounted : Step ListEvent → View ListEvent ℕ → ℕ → View ListEvent ℕ → Type 0
-ClosesWhereCounted s before found after = MatchBool (found == s.old) ((after.0 ≡ before.0 ++ s.ask ∷ []) × (after.1.0 ≡ (nib may_make (suc (suc (opens before.0))) 0))) ⊤
+ClosesWhereCounted s before found after =
+    MatchBool (found == s.old)
+    ((after.0 ≡ before.0 ++ s.ask ∷ [])
+    × (after.1.0 ≡ (nib may_make (suc (suc (opens before.0))) 0))) ⊤
 
 -- the event stands after all that was known
 abbrev pub OpensAlways : Step ListEvent → View ListEvent ℕ → ℕ → View ListEvent ℕ → Type 0
@@ -69,4 +76,6 @@ OpensAlways s before found after = after.0 ≡ before.0 ++ s.ask ∷ []
 
 -- it was opened as often as the pen says, and the pen stays
 abbrev pub ProvesWhole : Step ListEvent → View ListEvent ℕ → ℕ → View ListEvent ℕ → Type 0
-ProvesWhole s before found after = (suc (suc (opens after.0)) ≡ before.1.0.key) × (legal false after.0 ≡ true) × (after.1.0 ≡ before.1.0)
+ProvesWhole s before found after =
+    (suc (suc (opens after.0)) ≡ before.1.0.key) × (legal false after.0 ≡ true)
+    × (after.1.0 ≡ before.1.0)

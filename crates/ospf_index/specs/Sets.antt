@@ -24,17 +24,20 @@ pub record AreNumbersOf (routes : List Route) (sets : HopSets) (numbers : List �
   pub none : hops_of sets 0 ≡ []
   pub same_length : length numbers ≡ length routes
   pub within : (k : ℕ) → k < length routes → get_or numbers k 0 < length sets.sets.items
-  pub exact : (k : ℕ) (d : Route) → k < length routes → hops_of sets (get_or numbers k 0) ≡ (get_or routes k d).hops
+  pub exact : (k : ℕ) (d : Route) → k < length routes
+      → hops_of sets (get_or numbers k 0) ≡ (get_or routes k d).hops
 
 -- each chain leads from its last set to those of lower numbers
 pub record AreChained (n : SetNumbers) : Type 0 where
   pub stand : AreSets n.sets
   pub as_many : length n.links.items ≡ length n.sets.sets.items
   pub some : 0 < length n.chains.items
-  pub chains : (k : ℕ) → k < length n.chains.items → get_or n.chains.items k 0 ≤ length n.sets.sets.items
+  pub chains : (k : ℕ) → k < length n.chains.items
+      → get_or n.chains.items k 0 ≤ length n.sets.sets.items
   pub links : (k : ℕ) → k < length n.links.items → get_or n.links.items k 0 ≤ k
 
--- there is the set of no hop alone, and room for those of so many routes, which have so many hops in all
+-- there is the set of no hop alone, and room for those of so many routes,
+-- which have so many hops in all
 pub record IsBegunFor (routes hops : ℕ) (n : SetNumbers) : Type 0 where
   pub chained : AreChained n
   pub none : hops_of n.sets 0 ≡ []

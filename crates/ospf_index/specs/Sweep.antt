@@ -26,7 +26,8 @@ BlockHas b k address = (b.first k ≤ address) × (address < b.end k)
 -- the number is that of the longest block that has the address, or of no block where none has it
 abbrev pub IsLongest : Blocks → ℕ → ℕ → Type 0
 IsLongest b address t =
-    (t < b.count → BlockHas b t address × ((k : ℕ) → k < b.count → BlockHas b k address → b.long k ≤ b.long t))
+    (t < b.count
+    → BlockHas b t address × ((k : ℕ) → k < b.count → BlockHas b k address → b.long k ≤ b.long t))
     × (b.count ≤ t → (k : ℕ) → k < b.count → BlockHas b k address → ⊥)
 
 -- the last start, which is where the sweep stands
@@ -40,34 +41,45 @@ top count opened = get_or opened (length opened - 1) count
 -- a range begins where the last one does, in the place of that
 abbrev pub IsRenamed : List ℕ → List ℕ → ℕ → ℕ → List ℕ → List ℕ → Type 0
 IsRenamed starts places start place next_starts next_places =
-    (0 < length starts) × (here starts ≡ start) × (next_starts ≡ starts) × (next_places ≡ take (length places - 1) places ++ place ∷ [])
+    (0 < length starts) × (here starts ≡ start) × (next_starts ≡ starts)
+    × (next_places ≡ take (length places - 1) places ++ place ∷ [])
 
 -- a range begins behind the last one
 abbrev pub IsRangeAdded : List ℕ → List ℕ → ℕ → ℕ → List ℕ → List ℕ → Type 0
 IsRangeAdded starts places start place next_starts next_places =
-    (0 < length starts → here starts ≡ start → ⊥) × (next_starts ≡ starts ++ start ∷ []) × (next_places ≡ places ++ place ∷ [])
+    (0 < length starts → here starts ≡ start → ⊥) × (next_starts ≡ starts ++ start ∷ [])
+    × (next_places ≡ places ++ place ∷ [])
 
 -- a range begins, and the last one is left out where it has no address
 abbrev pub IsRangeBegun : List ℕ → List ℕ → ℕ → ℕ → List ℕ → List ℕ → Type 0
 IsRangeBegun starts places start place next_starts next_places =
-    IsRenamed starts places start place next_starts next_places ⊎ IsRangeAdded starts places start place next_starts next_places
+    IsRenamed starts places start place next_starts next_places
+    ⊎ IsRangeAdded starts places start place next_starts next_places
 
--- so many blocks were begun. Those that are open lie in one another, all others have ended, and each range but the last has its answer
+-- so many blocks were begun. Those that are open lie in one another, all others have ended, and
+-- each range but the last has its answer
 pub record IsSwept (b : Blocks) (begun : ℕ) (opened starts places : List ℕ) : Type 0 where
   pub within : begun ≤ b.count
   pub same_length : length places ≡ length starts
   pub some : 0 < length starts
   pub from_first : get_or starts 0 0 ≡ 0
   pub in_order : AreStartsRising starts
-  pub exact : (i address : ℕ) → i + 1 < length starts → get_or starts i 0 ≤ address → address < get_or starts (i + 1) 0 → IsLongest b address (get_or places i 0)
+  pub exact : (i address : ℕ) → i + 1 < length starts → get_or starts i 0 ≤ address
+      → address < get_or starts (i + 1) 0 → IsLongest b address (get_or places i 0)
   pub current : get_or places (length starts - 1) 0 ≡ top b.count opened
-  pub open_here : (s : ℕ) → s < length opened → (get_or opened s 0 < begun) × (b.first (get_or opened s 0) ≤ here starts) × (here starts ≤ b.end (get_or opened s 0))
-  pub nested : (s t : ℕ) → s < t → t < length opened → (b.end (get_or opened t 0) ≤ b.end (get_or opened s 0)) × (b.long (get_or opened s 0) < b.long (get_or opened t 0))
+  pub open_here : (s : ℕ) → s < length opened
+      → (get_or opened s 0 < begun) × (b.first (get_or opened s 0) ≤ here starts)
+      × (here starts ≤ b.end (get_or opened s 0))
+  pub nested : (s t : ℕ) → s < t → t < length opened
+      → (b.end (get_or opened t 0) ≤ b.end (get_or opened s 0))
+      × (b.long (get_or opened s 0) < b.long (get_or opened t 0))
   pub ended : (k : ℕ) → k < begun → Contains opened k ⊎ (b.end k ≤ here starts)
   pub ahead : (k : ℕ) → begun ≤ k → k < b.count → here starts ≤ b.first k
 
--- blocks stand in the order of their first addresses, and one that begins before an earlier one ends lies in it and is longer
+-- blocks stand in the order of their first addresses, and one that begins before an earlier
+-- one ends lies in it and is longer
 pub record AreNested (b : Blocks) : Type 0 where
   pub in_order : (k l : ℕ) → k ≤ l → l < b.count → b.first k ≤ b.first l
-  pub nested : (k l : ℕ) → k < l → l < b.count → b.first l < b.end k → (b.end l ≤ b.end k) × (b.long k < b.long l)
+  pub nested : (k l : ℕ) → k < l → l < b.count → b.first l < b.end k
+      → (b.end l ≤ b.end k) × (b.long k < b.long l)
   pub not_empty : (k : ℕ) → k < b.count → b.first k < b.end k

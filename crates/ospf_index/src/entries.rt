@@ -7,8 +7,8 @@ use ospf_base::{Addr, Prefix};
 use ospf_graph::{NextHop, Route};
 use std::alloc::Global;
 
-/// What a range's route says: its prefix, its cost, and the number of its set of hops. Where no route answers for
-/// the range, that is the set of no hop.
+/// What a range's route says: its prefix, its cost, and the number of its set of hops. Where no
+/// route answers for the range, that is the set of no hop.
 #[derive(Clone, Copy)]
 pub(crate) struct Entry {
     pub prefix: Prefix,

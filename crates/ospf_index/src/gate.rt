@@ -11,10 +11,12 @@ use logbook::{Offer, Pen, Seen, Start, Word};
 use ospf_spf::RouteTable;
 use std::marker::Model;
 
-// The last count of steps at which a list is opened: opening, a table and closing still fit behind it.
+// The last count of steps at which a list is opened: opening, a table
+// and closing still fit behind it.
 const LAST_OPENING: u64 = u64::MAX - 3;
 
-/// The whole list at some time while it was open. Whoever has this may add a table, unless another was faster.
+/// The whole list at some time while it was open. Whoever has this may add a
+/// table, unless another was faster.
 #[derive(Drop)]
 pub struct Opened {
     count: u64,
@@ -31,7 +33,8 @@ impl Model for Opened {
 
     ghost view = { λ p. record { fib = p.seen.book; tables = tables_of p.seen.log } };
 
-    ghost invariant = { λ p. (p.count ≡ length (tables_of p.seen.log)) × (p.events ≡ length p.seen.log) × (closed false p.seen.log ≡ false) };
+    ghost invariant = { λ p. (p.count ≡ length (tables_of p.seen.log))
+        × (p.events ≡ length p.seen.log) × (closed false p.seen.log ≡ false) };
 }
 
 impl Opened {
@@ -78,8 +81,8 @@ impl Opened {
         }
     }
 
-    /// Adds a table: in one step it stands at the end of the list. `None` where another was faster, or the
-    /// list has 2^64 - 1 tables.
+    /// Adds a table: in one step it stands at the end of the list. `None` where another was faster,
+    /// or the list has 2^64 - 1 tables.
     pub fn added(&self, counter: &Counter, table: &RouteTable) -> Option<Opened>
         requires { counter.now ≡ counter_of self.now.fib }
         ensures fib { IfSome result (λ after. after.fib ≡ self.now.fib) }
@@ -109,8 +112,8 @@ impl Opened {
 }
 
 impl Opened {
-    /// Closes the list in one step: nobody else adds a table from here on. `None` where something was added
-    /// meanwhile, or 2^64 - 1 steps were made.
+    /// Closes the list in one step: nobody else adds a table from here on. `None` where something
+    /// was added meanwhile, or 2^64 - 1 steps were made.
     pub fn close(&self, counter: &Counter) -> Option<ClosedList>
         requires { counter.now ≡ counter_of self.now.fib }
         ensures { IfSome result (λ list. list ≡ self.now) }
@@ -157,13 +160,15 @@ impl Model for ClosedList {
 
     ghost view = { λ p. record { fib = p.seen.book; tables = tables_of p.seen.log } };
 
-    ghost invariant = { λ p. (p.count ≡ length (tables_of p.seen.log)) × (p.events ≡ length p.seen.log) × (closed false p.seen.log ≡ true)
-        × (p.pen.book ≡ p.seen.book) × (p.pen.nib ≡ (nib may_write (suc (suc (opens p.seen.log))) 0)) };
+    ghost invariant = { λ p. (p.count ≡ length (tables_of p.seen.log))
+        × (p.events ≡ length p.seen.log) × (closed false p.seen.log ≡ true)
+        × (p.pen.book ≡ p.seen.book)
+        × (p.pen.nib ≡ (nib may_write (suc (suc (opens p.seen.log))) 0)) };
 }
 
 impl ClosedList {
-    /// Opens the list. The list is whole, so nobody was faster. It comes back where there is no room for three
-    /// steps more among the 2^64 that the list counts.
+    /// Opens the list. The list is whole, so nobody was faster. It comes back where there is no
+    /// room for three steps more among the 2^64 that the list counts.
     pub fn open(self, counter: &Counter) -> Result<Opened, ClosedList>
         requires { counter.now ≡ counter_of self.fib }
         ensures opened { IfOk result (λ opened. opened ≡ self) }

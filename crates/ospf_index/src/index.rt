@@ -29,8 +29,9 @@ const ADDRESSES: u64 = 1 << 32;
 
 const ADDRESS_BITS: u32 = 32;
 
-/// Where the ranges of a table's routes begin, what each of them answers, with the sets of hops, and for each block
-/// of addresses, and for what stands behind the last one, the range in which it begins.
+/// Where the ranges of a table's routes begin, what each of them answers, with the
+/// sets of hops, and for each block of addresses, and for what stands behind the last
+/// one, the range in which it begins.
 #[derive(Drop)]
 pub(crate) struct Index {
     pub starts: Vec<u32>,
@@ -71,8 +72,8 @@ impl Index {
         }
     }
 
-    /// What the route of longest prefix that holds an address says; the set of no hop where no route's prefix
-    /// does.
+    /// What the route of longest prefix that holds an address says; the set of no
+    /// hop where no route's prefix does.
     pub fn entry(&self, routes: &[Route], address: u32) -> Entry
         requires { IsIndexOf routes.now self.now }
         ensures { IsEntryFor routes.now self.now.sets address result }
@@ -135,7 +136,8 @@ fn directory_of(starts: &[u32], room: Vec<u32>) -> Vec<u32>
     directory
 }
 
-// How many blocks begin before this range does; all, and what stands behind them, where it is behind the last one.
+// How many blocks begin before this range does; all, and what stands behind them,
+// where it is behind the last one.
 fn blocks_before(starts: &[u32], range: usize) -> usize
     ensures few { result ≤ 65537 }
     ensures all { length starts.now ≤ range → result ≡ 65537 }
@@ -171,8 +173,8 @@ fn name_before(directory: &mut Vec<u32>, past: usize, range: u32)
     }
 }
 
-// The range that has an address, which lies from one range on and up to another. Prefixes are mostly spread
-// evenly over a block, so it is first looked for where it would stand then.
+// The range that has an address, which lies from one range on and up to another. Prefixes are
+// mostly spread evenly over a block, so it is first looked for where it would stand then.
 fn range_near(starts: &[u32], from: usize, last: usize, address: u32) -> usize
     // The ranges stand in order, and the address lies within these.
     requires in_order { AreStartsRising starts.now }
@@ -222,8 +224,8 @@ fn range_between(starts: &[u32], from: usize, to: usize, address: u32) -> usize
     low
 }
 
-// `many`, where the start is the address or before it, else 0. It does the same work for both, so that no
-// processor has to guess which it is.
+// `many`, where the start is the address or before it, else 0. It does the same work for both, so
+// that no processor has to guess which it is.
 fn step_to(start: u32, address: u32, many: usize) -> usize
     ensures { ((start ≤ address) × (result ≡ many)) ⊎ ((address < start) × (result ≡ 0)) }
 {

@@ -8,8 +8,8 @@ use crate::rule::{CountsEvents, ListEvent};
 use logbook::Seen;
 use std::marker::Model;
 
-/// The tables published up to some version, from the opening table on. Proofs see their list, of which
-/// the code has the length alone.
+/// The tables published up to some version, from the opening table on. Proofs see their list, of
+/// which the code has the length alone.
 #[derive(Drop)]
 pub struct Published {
     pub(crate) count: u64,
@@ -57,7 +57,8 @@ impl Published {
         other.count >= self.count
     }
 
-    /// Keeps the longer list of its own and the other's, which belongs to the same forwarding table.
+    /// Keeps the longer list of its own and the other's, which belongs to the same forwarding
+    /// table.
     pub fn take_later(&mut self, other: &Published)
         requires { other.now.fib ≡ self.old.fib }
         // It is a list of the same forwarding table, and one of the two.

@@ -1,6 +1,6 @@
-//! The table that threads share: a routing table with the index that lookups go through, the ranges of
-//! addresses that one route answers for (RFC 2328, section 11.1), and the list of the tables that one
-//! forwarding table has published, as each thread knows it.
+//! The table that threads share: a routing table with the index that lookups go through, the ranges
+//! of addresses that one route answers for (RFC 2328, section 11.1), and the list of the tables
+//! that one forwarding table has published, as each thread knows it.
 #![tactic(auto)]
 
 mod counts;

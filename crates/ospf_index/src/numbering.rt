@@ -10,7 +10,8 @@ use std::alloc::{AllocError, Global};
 // What numbers are multiplied by where they are mixed: 2^32 over the golden ratio.
 const MIXER: u32 = 0x9e37_79b1;
 
-/// The sets that were found so far, and what finds them again: chains of those whose hops mix to the same.
+/// The sets that were found so far, and what finds them again: chains of
+/// those whose hops mix to the same.
 #[derive(Drop)]
 pub(crate) struct SetNumbers {
     pub sets: HopSets,

@@ -2,8 +2,8 @@
 
 use std::alloc::Global;
 
-/// Ranges of addresses: where each begins, and the place of the route that answers for it. Where none does, the
-/// place is behind the last route.
+/// Ranges of addresses: where each begins, and the place of the route that answers for it. Where
+/// none does, the place is behind the last route.
 #[derive(Drop)]
 pub(crate) struct Ranges {
     pub starts: Vec<u32>,

@@ -1,4 +1,5 @@
-//! Changes that put routes in the places of others to the same prefixes. No other route is looked at for them.
+//! Changes that put routes in the places of others to the same prefixes. No
+//! other route is looked at for them.
 
 ghost use Rattle.std.specs.Prelude.{◌≡◌, ◌≤◌, ◌<◌, ◌^◌, ◌↔◌, All, AllPairs, IsTrue, length};
 ghost use Rattle.ospf_graph.specs.Routes.{IsRouteBefore};
@@ -18,10 +19,12 @@ use std::alloc::Global;
 use std::collections::VecDeque;
 use std::mem;
 
-// From one change for so many routes on, one pass over the table takes less time than a search for each change.
+// From one change for so many routes on, one pass over the table takes less time
+// than a search for each change.
 const ROUTES_FOR_A_CHANGE: usize = 8;
 
-/// Whether to make changes in place: each puts a route in the place of one to the same prefix, and they are few.
+/// Whether to make changes in place: each puts a route in the place of one to the
+/// same prefix, and they are few.
 pub fn can_replace(routes: &[Route], changes: &[Change]) -> bool
     requires { AllPairs IsRouteBefore routes.now }
     ensures { IsTrue result
@@ -70,7 +73,8 @@ impl Index {
         }
     }
 
-    /// Follows changes of the routes, each of which puts a route in the place of one to the same prefix.
+    /// Follows changes of the routes, each of which puts a route in the
+    /// place of one to the same prefix.
     pub fn replace(&mut self, routes: &[Route], changes: &[Change])
         // The index is that of a table, and has room for the sets of hops.
         requires table { IsInOrder routes.now }

@@ -1,4 +1,5 @@
-//! The rule that ties the list of published tables to the word that counts them, and to the one that may add.
+//! The rule that ties the list of published tables to the word that counts
+//! them, and to the one that may add.
 
 use logbook::{Gain, Plain, Play, Rule, Word};
 use ospf_spf::RouteTable;

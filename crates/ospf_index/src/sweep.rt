@@ -1,4 +1,5 @@
-//! The sweep over the routes of a table, which finds the ranges of addresses that one route answers for.
+//! The sweep over the routes of a table, which finds the ranges of
+//! addresses that one route answers for.
 
 ghost use Rattle.std.specs.Prelude.{◌≡◌, ◌≤◌, ◌<◌, ◌+◌, ◌-◌, ◌*◌, ◌++◌, ◌∷◌, [], ℕ, AllPairs, IfOk, IfSome, MatchOption, get_or, length, vec_len, vec_capacity};
 ghost use Rattle.ospf_graph.specs.Routes.{IsRouteBefore};
@@ -11,7 +12,8 @@ use ospf_base::Prefix;
 use ospf_graph::Route;
 use std::alloc::{AllocError, Global};
 
-/// How far a sweep has come: the ranges that have begun, and the places of the routes that have not ended.
+/// How far a sweep has come: the ranges that have begun, and the places of
+/// the routes that have not ended.
 #[derive(Drop)]
 pub(crate) struct Sweep {
     pub ranges: Ranges,

@@ -78,8 +78,9 @@ impl IndexedTable {
         Ok(())
     }
 
-    /// Makes changes, which are in the order of tables. Where they are few, and each puts a route in the place of one
-    /// to the same prefix, mostly no other route is looked at; else it is one pass over the table, and a new index.
+    /// Makes changes, which are in the order of tables. Where they are few, and each puts a route
+    /// in the place of one to the same prefix, mostly no other route is looked at; else it is one
+    /// pass over the table, and a new index.
     ///
     /// `AllocError` where memory runs out; then the table is as it was.
     pub fn edit(&mut self, alloc: Global, changes: &[Change]) -> Result<(), AllocError>
@@ -103,8 +104,8 @@ impl IndexedTable {
         Ok(())
     }
 
-    /// The route of longest prefix that holds an address (RFC 2328, section 11.1); `None` where no route's
-    /// prefix does.
+    /// The route of longest prefix that holds an address (RFC 2328, section 11.1);
+    /// `None` where no route's prefix does.
     pub fn lookup(&self, address: Addr) -> Option<FoundRoute<'_>>
         ensures found { IfSome result (λ r. IsBest self.now address.0 (route_of r)) }
         ensures hop { IfSome result (λ r. 0 < length r.hops.now) }

@@ -45,7 +45,8 @@ Says (Lsas f) listing text = SaysLsas f listing text
 Says Drawing listing text = text ≡ graph_text listing [] []
 Says (Tables f) listing text = SaysTables f listing text
 Says (Table router) listing text = SaysTableInJson (advertisements_of listing) router.0 text
-Says (Path from address choices) listing text = SaysPath (advertisements_of listing) from address.0 (vec_items choices) (length listing) text
+Says (Path from address choices) listing text =
+    SaysPath (advertisements_of listing) from address.0 (vec_items choices) (length listing) text
 
 -- the warning of the router whose table it is, or that a way begins at
 abbrev pub Warns : InspectJob → List (List ℕ) → List ℕ → Type 0
@@ -92,32 +93,41 @@ pub record IsInspectRefusalBegun (err_old err_new : Option (List ℕ)) (input : 
   pub begun : IsBegun err_old err_new text
 
 -- a beginning of the warning
-pub record IsInspectWarningBegun (job : InspectJob) (err_old err_new : Option (List ℕ)) (input : List ℕ) : Type 0 where
+pub record IsInspectWarningBegun (job : InspectJob) (err_old err_new : Option (List ℕ))
+    (input : List ℕ) : Type 0 where
   pub text : List ℕ
   pub warning : List ℕ
   pub is : IsInspectAnswer job text warning input
   pub begun : IsBegun err_old err_new warning
 
 -- the warning, and a beginning of the answer
-pub record IsInspectAnswerBegun (job : InspectJob) (old new : Written) (input : List ℕ) : Type 0 where
+pub record IsInspectAnswerBegun (job : InspectJob) (old new : Written) (input : List ℕ)
+    : Type 0 where
   pub text : List ℕ
   pub warning : List ℕ
   pub is : IsInspectAnswer job text warning input
   pub err : Appends old.err new.err warning
   pub begun : IsBegun old.out new.out text
 
--- it ended by a failure: before anything was written; at the refusal; at the warning; or at the answer
-pub data InspectEndsBy (input : Option (List ℕ)) (job : InspectJob) (failed : FailedStreams) (old new : Written) : Failure → Type 0 where
-  unwritten : {f : Failure} → new.out ≡ old.out → new.err ≡ old.err → InspectEndsBy input job failed old new f
-  in_refusal : {f : Failure} → (f ≡ failure.Memory) ⊎ (f ≡ failure.Error) → IsErrorFailed failed → new.out ≡ old.out → IfSome input (IsInspectRefusalBegun old.err new.err)
+-- it ended by a failure: before anything was written; at the refusal;
+-- at the warning; or at the answer
+pub data InspectEndsBy (input : Option (List ℕ)) (job : InspectJob) (failed : FailedStreams)
+    (old new : Written) : Failure → Type 0 where
+  unwritten : {f : Failure} → new.out ≡ old.out → new.err ≡ old.err
       → InspectEndsBy input job failed old new f
-  in_warning : {f : Failure} → (f ≡ failure.Memory) ⊎ (f ≡ failure.Error) → IsErrorFailed failed → new.out ≡ old.out → IfSome input (IsInspectWarningBegun job old.err new.err)
+  in_refusal : {f : Failure} → (f ≡ failure.Memory) ⊎ (f ≡ failure.Error) → IsErrorFailed failed
+      → new.out ≡ old.out → IfSome input (IsInspectRefusalBegun old.err new.err)
       → InspectEndsBy input job failed old new f
-  in_answer : {f : Failure} → (f ≡ failure.Memory) ⊎ (f ≡ failure.Output) → IsOutputFailed failed → IfSome input (IsInspectAnswerBegun job old new)
+  in_warning : {f : Failure} → (f ≡ failure.Memory) ⊎ (f ≡ failure.Error) → IsErrorFailed failed
+      → new.out ≡ old.out → IfSome input (IsInspectWarningBegun job old.err new.err)
+      → InspectEndsBy input job failed old new f
+  in_answer : {f : Failure} → (f ≡ failure.Memory) ⊎ (f ≡ failure.Output) → IsOutputFailed failed
+      → IfSome input (IsInspectAnswerBegun job old new)
       → InspectEndsBy input job failed old new f
 
 -- it ended by a failure, which was told last, as far as that could be written
-pub record IsInspectCutShort (input : Option (List ℕ)) (job : InspectJob) (failed : FailedStreams) (old new : Written) (end : Status) : Type 0 where
+pub record IsInspectCutShort (input : Option (List ℕ)) (job : InspectJob) (failed : FailedStreams)
+    (old new : Written) (end : Status) : Type 0 where
   pub cause : Failure
   pub failed_then : FailedStreams
   pub err_then : Option (List ℕ)
@@ -134,13 +144,19 @@ IsUnanswered input (fault.Failure f) = Unit {0}
 
 -- the answer for the input
 abbrev pub IsInspectAnswerOf : InspectJob → InspectAnswer → List ℕ → Type 0
-IsInspectAnswerOf job answer input = IsInspectAnswer job (string_bytes answer.text) (string_bytes answer.warning) input
+IsInspectAnswerOf job answer input =
+    IsInspectAnswer job (string_bytes answer.text) (string_bytes answer.warning) input
 
 -- the answer is printed, or the refusal is told
-pub data IsInspectSaid (input : Option (List ℕ)) (job : InspectJob) (old new : Written) : Status → Type 0 where
-  is_answered : IfSome input (IsInspectAnswered job old new) → IsInspectSaid input job old new status.Done
-  is_refused : new.out ≡ old.out → IfSome input (IsInspectRefusalTold old.err new.err) → IsInspectSaid input job old new status.Refused
+pub data IsInspectSaid (input : Option (List ℕ)) (job : InspectJob) (old new : Written)
+    : Status → Type 0 where
+  is_answered : IfSome input (IsInspectAnswered job old new)
+      → IsInspectSaid input job old new status.Done
+  is_refused : new.out ≡ old.out → IfSome input (IsInspectRefusalTold old.err new.err)
+      → IsInspectSaid input job old new status.Refused
 
 -- one of these, or it ended early
-abbrev pub IsInspectEnding : Option (List ℕ) → InspectJob → FailedStreams → Written → Written → Status → Type 0
-IsInspectEnding input job failed old new end = IsInspectSaid input job old new end ⊎ IsInspectCutShort input job failed old new end
+abbrev pub IsInspectEnding : Option (List ℕ) → InspectJob → FailedStreams → Written → Written
+    → Status → Type 0
+IsInspectEnding input job failed old new end =
+    IsInspectSaid input job old new end ⊎ IsInspectCutShort input job failed old new end

@@ -11,7 +11,8 @@ json_line d = compact_text d ++ codes "\n"
 -- a value for each of these in turn, which P says of it
 pub data AreValues {X : Type 0} (P : X → Data → Type 0) : List X → List Data → Type 0 where
   no_values : AreValues P [] []
-  more_values : {x : X} {xs : List X} {d : Data} {ds : List Data} → P x d → AreValues P xs ds → AreValues P (x ∷ xs) (d ∷ ds)
+  more_values : {x : X} {xs : List X} {d : Data} {ds : List Data} → P x d → AreValues P xs ds
+      → AreValues P (x ∷ xs) (d ∷ ds)
 
 -- an array of such values
 abbrev pub IsArray : {X : Type 0} → (X → Data → Type 0) → List X → Data → Type 0

@@ -1,4 +1,5 @@
--- The LSAs of a listing in words (RFC 2328, sections 12.1, 12.4.1 and 12.4.2), and which of their links lead one way alone.
+-- The LSAs of a listing in words (RFC 2328, sections 12.1, 12.4.1 and 12.4.2), and which of
+-- their links lead one way alone.
 use Rattle.std.specs.Prelude.{◌≡◌, ◌⊎◌, ℕ, List, [], ◌++◌, Contains, codes, decimal}
 use Rattle.ospf_base.specs.Text.{number_text}
 use Rattle.ospf_base.specs.declared.ids.Instance.{Instance}
@@ -42,7 +43,8 @@ unused = codes " unused"
 abbrev pub AreJoinedBy : List Edge → Vertex → Vertex → Type 0
 AreJoinedBy edges v w = (e : Edge) × Contains edges e × (e.from ≡ v) × (e.to ≡ w)
 
--- an edge of the graph leads there: the LSAs at both ends name each other (section 16.1, step 2 (b))
+-- an edge of the graph leads there: the LSAs at both ends name each
+-- other (section 16.1, step 2 (b))
 abbrev pub AreJoined : List Advertisement → Vertex → Vertex → Type 0
 AreJoined adverts v w = (cost link_data : ℕ) × IsEdgeBetween adverts v w cost link_data
 
@@ -50,11 +52,14 @@ AreJoined adverts v w = (cost link_data : ℕ) × IsEdgeBetween adverts v w cost
 
 -- where a link of type 1 or 2 leads, the address that it is from, and its cost
 abbrev pub way_of : Link → LinkWay
-way_of link = record { to = record { 0 = link.id }; from = record { 0 = link.link_data }; cost = link.metric }
+way_of link =
+    record { to = record { 0 = link.id }; from = record { 0 = link.link_data }; cost = link.metric }
 
 -- a link's other end, the router's own address on it, and its cost
 abbrev pub way_text : LinkWay → List ℕ
-way_text way = number_text way.to.0 ++ codes " from " ++ number_text way.from.0 ++ codes " cost " ++ decimal way.cost
+way_text way =
+    number_text way.to.0 ++ codes " from " ++ number_text way.from.0 ++ codes " cost "
+    ++ decimal way.cost
 
 -- a link to a router or a transit network, and its mark
 abbrev pub link_line : List ℕ → LinkWay → List ℕ → List ℕ
@@ -62,19 +67,26 @@ link_line what way mark = codes "  " ++ what ++ codes " " ++ way_text way ++ mar
 
 -- the line of a link to a stub network (12.4.1)
 abbrev pub stub_text : Link → List ℕ
-stub_text link = codes "  stub " ++ prefix_under link.id link.link_data ++ codes " cost " ++ decimal link.metric ++ codes "\n"
+stub_text link =
+    codes "  stub " ++ prefix_under link.id link.link_data ++ codes " cost " ++ decimal link.metric
+    ++ codes "\n"
 
 -- the line of a virtual link, which leads nowhere within one area
 abbrev pub virtual_text : ℕ → List ℕ
 virtual_text to = codes "  virtual " ++ number_text to ++ codes " unused\n"
 
--- what a link says by its kind: where it leads, marked where no edge does; a stub network; or a virtual link, which is not used
+-- what a link says by its kind: where it leads, marked where no edge does; a stub network; or a
+-- virtual link, which is not used
 abbrev pub SaysOfKind : List Advertisement → RouterId → Link → LinkKind → List ℕ → Type 0
 SaysOfKind adverts router link PointToPoint line =
-    (mark : List ℕ) × IsMarkUnless (AreJoined adverts (vertex.Router router) (vertex.Router (record { 0 = link.id }))) one_way mark
+    (mark : List ℕ)
+    × IsMarkUnless
+    (AreJoined adverts (vertex.Router router) (vertex.Router (record { 0 = link.id }))) one_way mark
     × (line ≡ link_line (codes "router") (way_of link) mark)
 SaysOfKind adverts router link Transit line =
-    (mark : List ℕ) × IsMarkUnless (AreJoined adverts (vertex.Router router) (vertex.Network link.id)) one_way mark × (line ≡ link_line (codes "network") (way_of link) mark)
+    (mark : List ℕ)
+    × IsMarkUnless (AreJoined adverts (vertex.Router router) (vertex.Network link.id)) one_way mark
+    × (line ≡ link_line (codes "network") (way_of link) mark)
 SaysOfKind adverts router link Stub line = line ≡ stub_text link
 SaysOfKind adverts router link Virtual line = line ≡ virtual_text link.id
 
@@ -91,40 +103,57 @@ member_text router mark = codes "  router " ++ number_text router.0 ++ mark ++ c
 -- a router that a network names, marked where no edge leads there
 abbrev pub SaysOfAttached : List Advertisement → ℕ → RouterId → List ℕ → Type 0
 SaysOfAttached adverts n router line =
-    (mark : List ℕ) × IsMarkUnless (AreJoined adverts (vertex.Network n) (vertex.Router router)) one_way mark × (line ≡ member_text router mark)
+    (mark : List ℕ)
+    × IsMarkUnless (AreJoined adverts (vertex.Network n) (vertex.Router router)) one_way mark
+    × (line ≡ member_text router mark)
 
 -- ---- an LSA
 
 -- its age, number and sum
 abbrev pub instance_text : ℕ → Instance → List ℕ
-instance_text age i = codes " age " ++ decimal age ++ codes " number " ++ floor_text i.number ++ codes " sum " ++ hexadecimal 4 i.sum
+instance_text age i =
+    codes " age " ++ decimal age ++ codes " number " ++ floor_text i.number ++ codes " sum "
+    ++ hexadecimal 4 i.sum
 
 -- a router-LSA: whose it is
 abbrev pub router_line : RouterId → ℕ → Instance → List ℕ
-router_line router age instance = codes "router " ++ number_text router.0 ++ instance_text age instance ++ codes "\n"
+router_line router age instance =
+    codes "router " ++ number_text router.0 ++ instance_text age instance ++ codes "\n"
 
 -- what names a network-LSA: its Link State ID, mask and router
 abbrev pub network_name_of : List ℕ → NetworkName
-network_name_of lsa = record { id = record { 0 = (key_of lsa).id }; mask = network_mask_of lsa; router = (key_of lsa).router }
+network_name_of lsa =
+    record {
+      id = record { 0 = (key_of lsa).id };
+      mask = network_mask_of lsa;
+      router = (key_of lsa).router;
+    }
 
 -- a network: its prefix, and the network-LSA that tells of it
 abbrev pub network_name_text : NetworkName → List ℕ
-network_name_text name = prefix_under name.id.0 name.mask ++ codes " of " ++ number_text name.id.0 ++ codes " by " ++ number_text name.router.0
+network_name_text name =
+    prefix_under name.id.0 name.mask ++ codes " of " ++ number_text name.id.0 ++ codes " by "
+    ++ number_text name.router.0
 
 -- a network-LSA: its name, age, number and sum, and its mark
 abbrev pub network_line : NetworkName → ℕ → Instance → List ℕ → List ℕ
-network_line name age instance mark = codes "network " ++ network_name_text name ++ instance_text age instance ++ mark ++ codes "\n"
+network_line name age instance mark =
+    codes "network " ++ network_name_text name ++ instance_text age instance ++ mark ++ codes "\n"
 
 -- and its links in their order
 abbrev pub SaysOfRouter : List Advertisement → List ℕ → List ℕ → Type 0
 SaysOfRouter adverts lsa text =
-    (lines : List ℕ) × AreLines (SaysOfLink adverts (key_of lsa).router) (links_of lsa) lines × (text ≡ router_line (key_of lsa).router (header_of lsa).age (instance_of lsa) ++ lines)
+    (lines : List ℕ) × AreLines (SaysOfLink adverts (key_of lsa).router) (links_of lsa) lines
+    × (text ≡ router_line (key_of lsa).router (header_of lsa).age (instance_of lsa) ++ lines)
 
 -- marked where another of its Link State ID stands for the network, and the routers that it names
 abbrev pub SaysOfNetwork : List Advertisement → List ℕ → List ℕ → Type 0
 SaysOfNetwork adverts lsa text =
-    (mark lines : List ℕ) × IsMarkUnless (StandsFor adverts (key_of lsa).id (key_of lsa).router) unused mark
-    × AreLines (SaysOfAttached adverts (key_of lsa).id) (attached_of lsa) lines × (text ≡ network_line (network_name_of lsa) (header_of lsa).age (instance_of lsa) mark ++ lines)
+    (mark lines : List ℕ)
+    × IsMarkUnless (StandsFor adverts (key_of lsa).id (key_of lsa).router) unused mark
+    × AreLines (SaysOfAttached adverts (key_of lsa).id) (attached_of lsa) lines
+    × (text
+    ≡ network_line (network_name_of lsa) (header_of lsa).age (instance_of lsa) mark ++ lines)
 
 -- the lines say what an LSA of this kind tells
 abbrev pub SaysOfLsaKind : List Advertisement → List ℕ → Kind → List ℕ → Type 0

@@ -15,14 +15,24 @@ use Rattle.ospf_inspect.specs.declared.path.PathLeg.{PathLeg}
 
 -- ---- lines
 
--- a router, the hop that it takes, what that costs, and which of a route's hops it is, from 0, of how many
+-- a router, the hop that it takes, what that costs, and which of a route's
+-- hops it is, from 0, of how many
 abbrev pub leg_of : RouterId → ℕ → Route → NextHop → ℕ → PathLeg
-leg_of at choice route hop cost = record { at = at; hop = hop; cost = cost; place = choice % length route.hops; count = length route.hops }
+leg_of at choice route hop cost =
+    record {
+      at = at;
+      hop = hop;
+      cost = cost;
+      place = choice % length route.hops;
+      count = length route.hops;
+    }
 
--- a leg of the way: the router, the hop that it takes, what that costs, and which of the route's hops it is
+-- a leg of the way: the router, the hop that it takes, what that costs, and
+-- which of the route's hops it is
 abbrev pub leg_text : PathLeg → List ℕ
 leg_text leg =
-    number_text leg.at.0 ++ codes " " ++ hop_text leg.hop ++ codes " cost " ++ decimal leg.cost ++ codes " "
+    number_text leg.at.0 ++ codes " " ++ hop_text leg.hop ++ codes " cost " ++ decimal leg.cost
+    ++ codes " "
     ++ (codes "hop " ++ decimal leg.place ++ codes " of " ++ decimal leg.count)
 
 -- the line of a leg
@@ -57,8 +67,10 @@ abbrev pub later_choices : List ℕ → List ℕ
 later_choices [] = []
 later_choices (_ ∷ choices) = choices
 
--- the router's best route for the address, by its table, and the hop of it that the choice takes (section 11.1)
-pub record TakesHop (adverts : List Advertisement) (address choice : ℕ) (at : RouterId) (route : Route) (hop : NextHop) : Type 0 where
+-- the router's best route for the address, by its table, and the hop of it that
+-- the choice takes (section 11.1)
+pub record TakesHop (adverts : List Advertisement) (address choice : ℕ) (at : RouterId)
+    (route : Route) (hop : NextHop) : Type 0 where
   pub table : List Route
   pub is_table : IsTable adverts at table
   pub best : IsBest table address route
@@ -70,20 +82,31 @@ pub record HasNoRouteFor (adverts : List Advertisement) (address : ℕ) (at : Ro
   pub is_table : IsTable adverts at table
   pub none : (route : Route) → Contains table route → Holds route.prefix address → ⊥
 
--- what is said of the way from a router, where so much is paid already and so many routers more may be met: it ends there without a
--- route; it has arrived; it goes on at the router that the hop names, over a link of least cost; or where as many were met as may be,
--- it turns in a circle
-pub data SaysWay (adverts : List Advertisement) (address : ℕ) : ℕ → List ℕ → RouterId → ℕ → List ℕ → Type 0 where
-  strays : {most : ℕ} {choices : List ℕ} {at : RouterId} {paid : ℕ} → HasNoRouteFor adverts address at → SaysWay adverts address most choices at paid (no_route_line at)
-  arrives : {most : ℕ} {choices : List ℕ} {at : RouterId} {paid : ℕ} (route : Route) → TakesHop adverts address (first_choice choices) at route Attached
-      → SaysWay adverts address most choices at paid (leg_line (leg_of at (first_choice choices) route Attached route.cost) ++ arrived_line route.prefix (paid + route.cost))
-  goes_on : {most : ℕ} {choices : List ℕ} {at : RouterId} {paid : ℕ} {text : List ℕ} (route : Route) (hop : NextHop) (next : RouterId) (link : ℕ)
-      → TakesHop adverts address (first_choice choices) at route hop → IsNext hop next → IsLinkCost adverts at hop link
+-- what is said of the way from a router, where so much is paid already and so many routers more may
+-- be met: it ends there without a route; it has arrived; it goes on at the router that the hop
+-- names, over a link of least cost; or where as many were met as may be, it turns in a circle
+pub data SaysWay (adverts : List Advertisement) (address : ℕ)
+    : ℕ → List ℕ → RouterId → ℕ → List ℕ → Type 0 where
+  strays : {most : ℕ} {choices : List ℕ} {at : RouterId} {paid : ℕ}
+      → HasNoRouteFor adverts address at
+      → SaysWay adverts address most choices at paid (no_route_line at)
+  arrives : {most : ℕ} {choices : List ℕ} {at : RouterId} {paid : ℕ} (route : Route)
+      → TakesHop adverts address (first_choice choices) at route Attached
+      → SaysWay adverts address most choices at paid
+      (leg_line (leg_of at (first_choice choices) route Attached route.cost)
+      ++ arrived_line route.prefix (paid + route.cost))
+  goes_on : {most : ℕ} {choices : List ℕ} {at : RouterId} {paid : ℕ} {text : List ℕ} (route : Route)
+      (hop : NextHop) (next : RouterId) (link : ℕ)
+      → TakesHop adverts address (first_choice choices) at route hop → IsNext hop next
+      → IsLinkCost adverts at hop link
       → SaysWay adverts address most (later_choices choices) next (paid + link) text
-      → SaysWay adverts address (suc most) choices at paid (leg_line (leg_of at (first_choice choices) route hop link) ++ text)
-  turns : {choices : List ℕ} {at : RouterId} {paid : ℕ} (route : Route) (hop : NextHop) (next : RouterId) → TakesHop adverts address (first_choice choices) at route hop
+      → SaysWay adverts address (suc most) choices at paid
+      (leg_line (leg_of at (first_choice choices) route hop link) ++ text)
+  turns : {choices : List ℕ} {at : RouterId} {paid : ℕ} (route : Route) (hop : NextHop)
+      (next : RouterId) → TakesHop adverts address (first_choice choices) at route hop
       → IsNext hop next → SaysWay adverts address 0 choices at paid (turns_line at)
 
--- what is said of the way from a router at its start: no more routers may be met than LSAs are listed
+-- what is said of the way from a router at its start: no more routers
+-- may be met than LSAs are listed
 abbrev pub SaysPath : List Advertisement → RouterId → ℕ → List ℕ → ℕ → List ℕ → Type 0
 SaysPath adverts from address choices most text = SaysWay adverts address most choices from 0 text

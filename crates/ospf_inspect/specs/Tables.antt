@@ -21,7 +21,9 @@ router_heading router = codes "router " ++ number_text router ++ codes "\n"
 
 -- a router's table below a line that says whose it is
 abbrev pub SaysTable : List Advertisement → ℕ → List ℕ → Type 0
-SaysTable adverts router text = (table : List Route) × IsTable adverts (record { 0 = router }) table × (text ≡ router_heading router ++ routes_text table)
+SaysTable adverts router text =
+    (table : List Route) × IsTable adverts (record { 0 = router }) table
+    × (text ≡ router_heading router ++ routes_text table)
 
 -- of a router-LSA the table of its router, and of a network-LSA nothing
 abbrev pub SaysTableOfKind : List Advertisement → List ℕ → Kind → List ℕ → Type 0
@@ -45,7 +47,8 @@ hops_data hops = array (items_of (map hop_data hops))
 -- what a route costs, its hops, and the prefix that it leads to
 abbrev pub route_data : Route → Data
 route_data r =
-    object (member (codes "cost") (number (unsigned r.cost)) (member (codes "hops") (hops_data r.hops)
+    object
+    (member (codes "cost") (number (unsigned r.cost)) (member (codes "hops") (hops_data r.hops)
     (member (codes "prefix") (string (prefix_text r.prefix)) no_members)))
 
 -- the routes in their order
@@ -54,15 +57,20 @@ routes_data routes = array (items_of (map route_data routes))
 
 -- a router's table
 abbrev pub TellsTable : List Advertisement → ℕ → Data → Type 0
-TellsTable adverts router d = (table : List Route) × IsTable adverts (record { 0 = router }) table × (d ≡ routes_data table)
+TellsTable adverts router d =
+    (table : List Route) × IsTable adverts (record { 0 = router }) table × (d ≡ routes_data table)
 
 -- and whose it is
 abbrev pub root_data : ℕ → Data → Data
-root_data router routes = object (member (codes "root") (string (number_text router)) (member (codes "routes") routes no_members))
+root_data router routes =
+    object
+    (member (codes "root") (string (number_text router))
+    (member (codes "routes") routes no_members))
 
 -- the value tells a router and its table
 abbrev pub TellsRoot : List Advertisement → ℕ → Data → Type 0
-TellsRoot adverts router d = (routes : Data) × TellsTable adverts router routes × (d ≡ root_data router routes)
+TellsRoot adverts router d =
+    (routes : Data) × TellsTable adverts router routes × (d ≡ root_data router routes)
 
 -- the value tells the router of an LSA and its table
 abbrev pub TellsRootOf : List Advertisement → List ℕ → Data → Type 0
@@ -75,11 +83,13 @@ is_router kind.Network = false
 
 -- the table of each router whose router-LSA is listed
 abbrev pub TellsTables : List Advertisement → List (List ℕ) → Data → Type 0
-TellsTables adverts lsas d = IsArray (TellsRootOf adverts) (filter (λ lsa. is_router (kind_of lsa)) lsas) d
+TellsTables adverts lsas d =
+    IsArray (TellsRootOf adverts) (filter (λ lsa. is_router (kind_of lsa)) lsas) d
 
 -- each as a value on a line
 abbrev pub SaysTableInJson : List Advertisement → ℕ → List ℕ → Type 0
-SaysTableInJson adverts router text = (d : Data) × TellsTable adverts router d × (text ≡ json_line d)
+SaysTableInJson adverts router text =
+    (d : Data) × TellsTable adverts router d × (text ≡ json_line d)
 
 -- the text is one line of JSON with the tables of all routers
 abbrev pub SaysTablesInJson : List Advertisement → List (List ℕ) → List ℕ → Type 0

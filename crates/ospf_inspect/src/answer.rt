@@ -68,12 +68,14 @@ impl From<AllocError> for Unanswered {
     }
 }
 
-/// Reads LSAs, one a line in hexadecimal as `ospf_table::table_text` does, and prints what is asked of them: each in words or as
-/// JSON, a drawing of all, the routing table of each router or of one, or the way from a router to an address.
+/// Reads LSAs, one a line in hexadecimal as `ospf_table::table_text` does, and prints what is asked
+/// of them: each in words or as JSON, a drawing of all, the routing table of each router or of one,
+/// or the way from a router to an address.
 ///
-/// Where LSAs are listed and the router-LSA of the router whose table it is, or that a way begins at, is not among them, `err`
-/// says so. The first line that is refused is told on `err`; then nothing is printed, with status `Refused`. Status `Memory`
-/// says that memory ran out, and `Stream` that a read or a write failed; what it was is told on `err`, as far as that can be
+/// Where LSAs are listed and the router-LSA of the router whose table it is, or that a way begins
+/// at, is not among them, `err` says so. The first line that is refused is told on `err`; then
+/// nothing is printed, with status `Refused`. Status `Memory` says that memory ran out, and
+/// `Stream` that a read or a write failed; what it was is told on `err`, as far as that can be
 /// written. Then no more than a beginning is printed.
 pub fn inspect_text<R: BufRead + Drop, O: Write, E: Write>(
     alloc: Global,

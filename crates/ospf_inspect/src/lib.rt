@@ -1,9 +1,9 @@
-//! What the LSAs of an area say, as text: each LSA in words, a drawing of them, the routing tables of all routers, and the way from one
-//! to an address.
+//! What the LSAs of an area say, as text: each LSA in words, a drawing of them, the routing tables
+//! of all routers, and the way from one to an address.
 //!
-//! `inspect_text` is the whole: it reads lines of LSAs, and prints. `lsas_text`, `tables_text` and `path_text` are what it prints of
-//! a listing, `lsas_json`, `tables_json` and `table_json` the same as values of JSON, and a drawing is what a `Graph` of
-//! `ospf_records` prints.
+//! `inspect_text` is the whole: it reads lines of LSAs, and prints. `lsas_text`, `tables_text` and
+//! `path_text` are what it prints of a listing, `lsas_json`, `tables_json` and `table_json` the
+//! same as values of JSON, and a drawing is what a `Graph` of `ospf_records` prints.
 #![tactic(auto)]
 
 mod answer;

@@ -22,14 +22,16 @@ use ospf_script::FloorShown;
 use std::alloc::{AllocError, Global};
 use std::fmt::{self, Display, Formatter, Write};
 
-// What is said of a link whose other end does not name its router, and of an LSA that another stands for.
+// What is said of a link whose other end does not name its router, and of
+// an LSA that another stands for.
 const ONE_WAY: &str = " one-way";
 
 const UNUSED: &str = " unused";
 
-/// The LSAs of a listing in words, in their order: whose each is, its age, LS sequence number and checksum, and below it a line
-/// for each link or attached router (RFC 2328, appendix A.4). A link or an attached router is `one-way` where no edge of the graph
-/// leads there, so that no path goes over it: the LSA at its other end does not name it back (section 16.1). A network-LSA is
+/// The LSAs of a listing in words, in their order: whose each is, its age, LS sequence number and
+/// checksum, and below it a line for each link or attached router (RFC 2328, appendix A.4). A link
+/// or an attached router is `one-way` where no edge of the graph leads there, so that no path goes
+/// over it: the LSA at its other end does not name it back (section 16.1). A network-LSA is
 /// `unused` where one of a larger Advertising Router has its Link State ID.
 ///
 /// `AllocError` where memory runs out.

@@ -14,9 +14,10 @@ use ospf_spf::RouteTable;
 use std::alloc::{AllocError, Global};
 use std::fmt::{self, Display, Formatter, Write};
 
-/// The way from a router to an address, where each router sends by the table that it makes of the listing (RFC 2328, section
-/// 11.1): a line a router, with the hop at the choice modulo the number of hops, the first where choices are missing, and the
-/// cost of its link; then the prefix and what all of it cost. A router without a route ends it.
+/// The way from a router to an address, where each router sends by the table that it makes of the
+/// listing (RFC 2328, section 11.1): a line a router, with the hop at the choice modulo the number
+/// of hops, the first where choices are missing, and the cost of its link; then the prefix and what
+/// all of it cost. A router without a route ends it.
 ///
 /// `AllocError` where memory runs out.
 pub fn path_text(
@@ -40,7 +41,8 @@ pub fn path_text(
     Ok(text)
 }
 
-// Where a way stands: at which router, what it has paid, the choices that are left, and how many more routers it may meet.
+// Where a way stands: at which router, what it has paid, the choices that are left, and how
+// many more routers it may meet.
 #[derive(Clone, Copy)]
 struct PathState<'a> {
     at: RouterId,
@@ -135,7 +137,8 @@ fn next_of(hop: &NextHop) -> Option<RouterId>
     }
 }
 
-// A router on a way: the hop that it takes, what that costs, and which of how many hops it is, from 0.
+// A router on a way: the hop that it takes, what that costs, and which
+// of how many hops it is, from 0.
 #[derive(Clone, Copy)]
 pub(crate) struct PathLeg {
     at: RouterId,

@@ -16,8 +16,8 @@ use serde_json::{Value, json};
 use std::alloc::{AllocError, Global};
 use std::fmt::Write;
 
-/// The routing table of each router whose router-LSA is listed, in the order of Router IDs, each below a line `router R`
-/// (RFC 2328, section 16.1).
+/// The routing table of each router whose router-LSA is listed, in the order of Router IDs, each
+/// below a line `router R` (RFC 2328, section 16.1).
 ///
 /// `AllocError` where memory runs out.
 pub fn tables_text(alloc: Global, listing: &Listing) -> Result<String, AllocError>
@@ -31,8 +31,9 @@ pub fn tables_text(alloc: Global, listing: &Listing) -> Result<String, AllocErro
     Ok(text)
 }
 
-/// The routing table of each router whose router-LSA is listed, as one value of JSON on a line: an array, in the order of Router
-/// IDs, of an object each with the router as `root` and its `routes`, as `table_json` has them.
+/// The routing table of each router whose router-LSA is listed, as one value of JSON on a line: an
+/// array, in the order of Router IDs, of an object each with the router as `root` and its
+/// `routes`, as `table_json` has them.
 ///
 /// `AllocError` where memory runs out.
 pub fn tables_json(alloc: Global, listing: &Listing) -> Result<String, AllocError>
@@ -43,8 +44,8 @@ pub fn tables_json(alloc: Global, listing: &Listing) -> Result<String, AllocErro
     json_line(alloc, &value)
 }
 
-/// The routing table of a router as one value of JSON on a line: an array of an object a route, with its prefix, its cost and its
-/// hops, in the order of the table (RFC 2328, section 11).
+/// The routing table of a router as one value of JSON on a line: an array of an object a route,
+/// with its prefix, its cost and its hops, in the order of the table (RFC 2328, section 11).
 ///
 /// `AllocError` where memory runs out.
 pub fn table_json(alloc: Global, listing: &Listing, router: RouterId) -> Result<String, AllocError>

@@ -58,15 +58,19 @@ state_change link q before now =
 
 -- what changed of a neighbour that is there
 abbrev pub standing_change : ℕ → List SeenNeighbour → SeenNeighbour → List RouterChange
-standing_change link before n = state_change link n.router (seen_state (seen_as before n.router)) n.state
+standing_change link before n =
+    state_change link n.router (seen_state (seen_as before n.router)) n.state
 
 -- one that was there is no more
 abbrev pub gone_change : ℕ → List SeenNeighbour → SeenNeighbour → List RouterChange
-gone_change link now n = if is_some (seen_as now n.router) then [] else state_change link n.router n.state state.Down
+gone_change link now n =
+    if is_some (seen_as now n.router) then [] else state_change link n.router n.state state.Down
 
--- the neighbours of a link whose state is another one: those that are there, and then those that are gone, each by Router ID
+-- the neighbours of a link whose state is another one: those that are there, and then those
+-- that are gone, each by Router ID
 abbrev pub link_changes : ℕ → (before now : List SeenNeighbour) → List RouterChange
-link_changes link before now = flat_map (standing_change link before) now ++ flat_map (gone_change link now) before
+link_changes link before now =
+    flat_map (standing_change link before) now ++ flat_map (gone_change link now) before
 
 -- those of the first so many links
 abbrev pub links_changes : (before now : List SeenLinkValue) → ℕ → List RouterChange
@@ -100,7 +104,8 @@ iface_on links link = iface_of_link (slice_get links link)
 
 -- the two are alike in state, Designated Router and Backup
 abbrev pub is_same_iface : SeenIface → SeenIface → Bool
-is_same_iface a b = (iface_place a.state == iface_place b.state) && (a.dr.0 == b.dr.0) && (a.backup.0 == b.backup.0)
+is_same_iface a b =
+    (iface_place a.state == iface_place b.state) && (a.dr.0 == b.dr.0) && (a.backup.0 == b.backup.0)
 
 -- its state, the Designated Router or the Backup is another one
 abbrev pub iface_change : ℕ → (before now : SeenIface) → List RouterChange
@@ -142,15 +147,18 @@ held_before (Some o) = o.is_held
 
 -- that it was issued, if it was
 abbrev pub issue_change : Option SeenOwn → SeenOwn → List RouterChange
-issue_change before o = if is_issued (issued_before before) o.issued_at then change.Issued o.key o.number ∷ [] else []
+issue_change before o =
+    if is_issued (issued_before before) o.issued_at then change.Issued o.key o.number ∷ [] else []
 
 -- it came to MaxAge (14.1)
 abbrev pub flush_change : Option SeenOwn → SeenOwn → List RouterChange
-flush_change before o = if o.is_flushed && not (flushed_before before) then change.Flushed o.key o.number ∷ [] else []
+flush_change before o =
+    if o.is_flushed && not (flushed_before before) then change.Flushed o.key o.number ∷ [] else []
 
 -- it left the database (14)
 abbrev pub removal_change : Option SeenOwn → SeenOwn → List RouterChange
-removal_change before o = if held_before before && not o.is_held then change.Removed o.key ∷ [] else []
+removal_change before o =
+    if held_before before && not o.is_held then change.Removed o.key ∷ [] else []
 
 -- what became of the LSA: issued, flushed, gone from the database
 abbrev pub change_of_own : Option SeenOwn → SeenOwn → List RouterChange
@@ -185,19 +193,24 @@ abbrev pub drop_change : Option DroppedAt → List RouterChange
 drop_change None = []
 drop_change (Some dropped) = change.Dropped dropped ∷ []
 
--- all but the routes: the datagram that is dropped, the neighbours whose state is another one, link by link, then the interfaces, and then the own LSAs
+-- all but the routes: the datagram that is dropped, the neighbours whose state is another one, link
+-- by link, then the interfaces, and then the own LSAs
 abbrev pub standing_changes : (before now : SeenValue) → Option DroppedAt → List RouterChange
 standing_changes before now dropped =
-    drop_change dropped ++ links_changes before.links now.links (max (length before.links) (length now.links))
+    drop_change dropped
+    ++ links_changes before.links now.links (max (length before.links) (length now.links))
     ++ ifaces_changes before.links now.links (max (length before.links) (length now.links))
     ++ own_changes before.own now.own
 
 -- the changes of a table go on from these changes to those
-pub record LeadsAlong (before now : List Route) (changes changes' : List RouterChange) : Type 0 where
+pub record LeadsAlong (before now : List Route) (changes changes' : List RouterChange)
+    : Type 0 where
   pub routes : List spf.Change
   pub leads : LeadsOn before now routes
   pub all : changes' ≡ changes ++ map route_change routes
 
--- the changes of a step that leads from the one to the other: these, and behind them the routes that are others
+-- the changes of a step that leads from the one to the other: these, and behind
+-- them the routes that are others
 abbrev pub AreChanges : (before now : SeenValue) → Option DroppedAt → List RouterChange → Type 0
-AreChanges before now dropped changes = LeadsAlong before.table now.table (standing_changes before now dropped) changes
+AreChanges before now dropped changes =
+    LeadsAlong before.table now.table (standing_changes before now dropped) changes

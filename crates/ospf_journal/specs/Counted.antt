@@ -10,16 +10,20 @@ use Rattle.ospf_step.specs.declared.dropped.Dropped.TheVariants as dropped
 -- the causes, in the order of their numbers
 abbrev pub causes : List Dropped
 causes =
-    dropped.Packet ∷ dropped.Area ∷ dropped.OwnPacket ∷ dropped.Destination ∷ dropped.Subnet ∷ dropped.HelloMismatch
+    dropped.Packet ∷ dropped.Area ∷ dropped.OwnPacket ∷ dropped.Destination ∷ dropped.Subnet
+    ∷ dropped.HelloMismatch
     ∷ dropped.NoNeighbour ∷ dropped.WrongRouter ∷ dropped.State ∷ []
 
 -- so many were dropped on a link for a cause
 abbrev pub drops_text : ℕ → Dropped → ℕ → List ℕ
-drops_text link cause count = codes "drops " ++ decimal link ++ codes " " ++ dropped_text cause ++ codes " " ++ decimal count
+drops_text link cause count =
+    codes "drops " ++ decimal link ++ codes " " ++ dropped_text cause ++ codes " " ++ decimal count
 
 -- the line of a link and a cause, if some were dropped
 abbrev pub cause_line : ℕ × DropCounts → Dropped → List ℕ
-cause_line l cause = if drops_for cause l.1 == 0 then [] else drops_text l.0 cause (drops_for cause l.1) ++ codes "\n"
+cause_line l cause =
+    if drops_for cause l.1 == 0 then []
+    else drops_text l.0 cause (drops_for cause l.1) ++ codes "\n"
 
 -- the lines of a link
 abbrev pub link_lines : ℕ × DropCounts → List ℕ

@@ -43,21 +43,29 @@ elected_text i = codes " dr " ++ number_text i.dr.0 ++ codes " backup " ++ numbe
 
 -- a neighbour of a link
 unfoldable pub neighbour_on : ℕ → RouterId → List ℕ
-neighbour_on link q = codes "link " ++ decimal link ++ codes " neighbour " ++ number_text q.0 ++ codes " "
+neighbour_on link q =
+    codes "link " ++ decimal link ++ codes " neighbour " ++ number_text q.0 ++ codes " "
 
 -- what changed
 abbrev pub change_text : RouterChange → List ℕ
 change_text (change.Dropped d) =
-    codes "link " ++ decimal d.link ++ codes " dropped " ++ dropped_text d.cause ++ codes " " ++ number_text d.source.0
-change_text (change.Neighbour link router before now) = neighbour_on link router ++ states_text before now
+    codes "link " ++ decimal d.link ++ codes " dropped " ++ dropped_text d.cause ++ codes " "
+    ++ number_text d.source.0
+change_text (change.Neighbour link router before now) =
+    neighbour_on link router ++ states_text before now
 change_text (change.Interface link before now) =
-    codes "link " ++ decimal link ++ codes " interface " ++ iface_states_text before now.state ++ elected_text now
-change_text (change.Issued key number) = codes "issued " ++ own_text key ++ codes " " ++ floor_text number
-change_text (change.Flushed key number) = codes "flushed " ++ own_text key ++ codes " " ++ floor_text number
+    codes "link " ++ decimal link ++ codes " interface " ++ iface_states_text before now.state
+    ++ elected_text now
+change_text (change.Issued key number) =
+    codes "issued " ++ own_text key ++ codes " " ++ floor_text number
+change_text (change.Flushed key number) =
+    codes "flushed " ++ own_text key ++ codes " " ++ floor_text number
 change_text (change.Removed key) = codes "removed " ++ own_text key
 change_text (change.Route route) = codes "route " ++ route_text route
 change_text (change.NoRoute prefix) = codes "no route " ++ prefix_text prefix
 
 -- a line: the tick, the router, and what changed
 abbrev pub line_text : JournalLine → List ℕ
-line_text line = decimal line.tick ++ codes " " ++ number_text line.router.0 ++ codes " " ++ change_text line.change.now
+line_text line =
+    decimal line.tick ++ codes " " ++ number_text line.router.0 ++ codes " "
+    ++ change_text line.change.now

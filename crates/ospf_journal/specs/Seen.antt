@@ -1,4 +1,5 @@
--- What a journal keeps of a router: of each link its interface and its neighbours, its own LSAs, and its routing table.
+-- What a journal keeps of a router: of each link its interface and its neighbours, its
+-- own LSAs, and its routing table.
 use Rattle.std.specs.Prelude.{Bool, false, not, List, [], Option, None, Some, is_some, map}
 use Rattle.ospf_area.specs.State.{AreaValue, LinkValue}
 use Rattle.ospf_area.specs.declared.state.Numbering.{Numbering}
@@ -36,14 +37,16 @@ seen_iface i = record { state = i.state; dr = i.dr; backup = i.backup }
 
 -- what is kept of a link
 abbrev pub seen_link : LinkValue → SeenLinkValue
-seen_link link = record { iface = seen_iface link.iface; neighbours = map seen_neighbour link.neighbours }
+seen_link link =
+    record { iface = seen_iface link.iface; neighbours = map seen_neighbour link.neighbours }
 
 -- an entry that may not be there is at MaxAge (14)
 abbrev pub is_flushed_in : Option Entry → Bool
 is_flushed_in None = false
 is_flushed_in (Some e) = not (is_fresh e)
 
--- an own LSA that was numbered: the tick of its last issue, its number, and whether the database has it, and at MaxAge (12.1.6, 14)
+-- an own LSA that was numbered: the tick of its last issue, its number, and whether the database
+-- has it, and at MaxAge (12.1.6, 14)
 abbrev pub seen_own : List Held → Numbering → SeenOwn
 seen_own db n = record {
   key = n.key;

@@ -10,9 +10,9 @@ use ospf_base::Addr;
 use ospf_router::Router;
 use ospf_step::{Dropped, receive};
 
-/// Why a router drops a datagram that came from `source` on a link and is for `destination`, as its step does: the first cause
-/// that applies (RFC 2328, section 8.2). `None` where it takes it, and where it has stopped. Nothing changes, and no
-/// memory is taken.
+/// Why a router drops a datagram that came from `source` on a link and is for `destination`, as its
+/// step does: the first cause that applies (RFC 2328, section 8.2). `None` where it takes it, and
+/// where it has stopped. Nothing changes, and no memory is taken.
 pub fn dropped_of(
     router: &Router,
     link: usize,

@@ -39,8 +39,8 @@ impl Display for DropsShown {
     }
 }
 
-/// How many datagrams a router dropped that came in on its links: a line for each link and cause of which there were some, in
-/// the order of links, and then of causes (RFC 2328, section 8.2).
+/// How many datagrams a router dropped that came in on its links: a line for each link and cause of
+/// which there were some, in the order of links, and then of causes (RFC 2328, section 8.2).
 ///
 /// `AllocError` where memory runs out.
 pub fn drop_lines(alloc: Global, links: &[DropCounts]) -> Result<String, AllocError>

@@ -1,9 +1,10 @@
 //! A journal of routers: what changes of one in a step, a line a change.
 //!
-//! A `Seen` is what is kept of a router from step to step. `Seen::follow` tells what changed of it (`RouterChange`), in the
-//! order that `specs/Changes` states, and `JournalLine` and `Object` write a change as a line of text and as a JSON object
-//! (`specs/Lines`, `specs/Objects`). `dropped_of` tells why a router drops a datagram that comes to it, and `drop_lines` how many it
-//! dropped (`specs/Counted`).
+//! A `Seen` is what is kept of a router from step to step. `Seen::follow` tells what changed of
+//! it (`RouterChange`), in the order that `specs/Changes` states, and `JournalLine` and
+//! `Object` write a change as a line of text and as a JSON object (`specs/Lines`,
+//! `specs/Objects`). `dropped_of` tells why a router drops a datagram that comes to it, and
+//! `drop_lines` how many it dropped (`specs/Counted`).
 #![tactic(auto)]
 
 mod cause;

@@ -23,7 +23,8 @@ pub struct SeenNeighbour {
     pub state: NeighbourState,
 }
 
-/// What is kept of an interface. The Designated Router and the Backup are addresses, 0.0.0.0 where there is none.
+/// What is kept of an interface. The Designated Router and the Backup are
+/// addresses, 0.0.0.0 where there is none.
 #[derive(Clone, Copy, Debug, PartialEq, Eq)]
 pub struct SeenIface {
     pub state: IfaceState,
@@ -31,8 +32,8 @@ pub struct SeenIface {
     pub backup: Addr,
 }
 
-/// What is kept of an LSA of the router's own: the number and the tick of its last issue, whether the database has it, and
-/// whether it stands there at `MAX_AGE`.
+/// What is kept of an LSA of the router's own: the number and the tick of its last issue, whether
+/// the database has it, and whether it stands there at `MAX_AGE`.
 #[derive(Clone, Copy, Debug, PartialEq, Eq)]
 pub struct SeenOwn {
     pub key: LsaKey,
@@ -101,8 +102,8 @@ impl Seen {
         Ok(Seen { links, own, table })
     }
 
-    /// What changed of the router since it was seen, with the datagram that it dropped meanwhile, if it did; it is seen as it
-    /// is from now on.
+    /// What changed of the router since it was seen, with the datagram that it dropped meanwhile,
+    /// if it did; it is seen as it is from now on.
     ///
     /// `AllocError` where memory runs out; then it is seen as before.
     pub fn follow(

@@ -9,9 +9,12 @@ use Rattle.ospf_area.specs.declared.sending.Own.{Own}
 use Rattle.ospf_area.specs.Posting.{posted_all}
 
 -- the election of a link on which one is due, and AdjOK? (9.4)
-pub record ElectsOnLink (mtu tick next : ℕ) (before after : LinkValue) (next' : ℕ) (sent : List Parcel) : Type 0 where
-  pub elects : ElectsOn mtu tick before.iface before.neighbours next sent after.iface after.neighbours next'
-  pub rest : after ≡ record before { iface = after.iface; neighbours = after.neighbours; elects = false }
+pub record ElectsOnLink (mtu tick next : ℕ) (before after : LinkValue) (next' : ℕ)
+    (sent : List Parcel) : Type 0 where
+  pub elects :
+      ElectsOn mtu tick before.iface before.neighbours next sent after.iface after.neighbours next'
+  pub rest :
+      after ≡ record before { iface = after.iface; neighbours = after.neighbours; elects = false }
 
 -- where an election is due, one comes about
 pub record IsReady (link : LinkValue) : Type 0 where
@@ -25,14 +28,16 @@ AreReady links = (l : ℕ) (link : LinkValue) → slice_get links l ≡ Some lin
 -- the election of a link, if one is due
 abbrev pub ElectsIf : Bool → Own → ℕ → LinkValue → LinkValue → ℕ → List Parcel → Type 0
 ElectsIf false own next link link' next' sent = (link' ≡ link) × (next' ≡ next) × (sent ≡ [])
-ElectsIf true own next link link' next' sent = ElectsOnLink link.settings.mtu own.tick next link link' next' sent
+ElectsIf true own next link link' next' sent =
+    ElectsOnLink link.settings.mtu own.tick next link link' next' sent
 
 -- that of link l, which may not be there
 abbrev pub ElectsAt : ℕ → AreaValue → OutputsValue → AreaValue → OutputsValue → Type 0
 ElectsAt l before out after out' = elim (slice_get before.links l) [
   | None ↦ (after ≡ before) × (out' ≡ out)
   | Some link ↦
-      (link' : LinkValue) × (next' : ℕ) × (sent : List Parcel) × ElectsIf link.elects (own_of before) before.next_dd link link' next' sent
+      (link' : LinkValue) × (next' : ℕ) × (sent : List Parcel)
+      × ElectsIf link.elects (own_of before) before.next_dd link link' next' sent
       × (after ≡ record before { links = set before.links l link'; next_dd = next' })
       × (out' ≡ and_sends out (posted_all (own_of before) l link.iface sent))
 ]
@@ -40,7 +45,9 @@ ElectsAt l before out after out' = elim (slice_get before.links l) [
 -- those of the first links, in their order
 abbrev pub ElectsFrom : ℕ → AreaValue → OutputsValue → AreaValue → OutputsValue → Type 0
 ElectsFrom zero before out after out' = (after ≡ before) × (out' ≡ out)
-ElectsFrom (suc l) before out after out' = (mid : AreaValue) × (mid_out : OutputsValue) × ElectsFrom l before out mid mid_out × ElectsAt l mid mid_out after out'
+ElectsFrom (suc l) before out after out' =
+    (mid : AreaValue) × (mid_out : OutputsValue) × ElectsFrom l before out mid mid_out
+    × ElectsAt l mid mid_out after out'
 
 -- the elections of all links
 abbrev pub ElectsAll : AreaValue → OutputsValue → AreaValue → OutputsValue → Type 0

@@ -1,4 +1,5 @@
--- What each part of a step makes of one link, and what goes out of it (RFC 2328, sections 9.3, 9.5, 10.2, 10.5 and 10.6).
+-- What each part of a step makes of one link, and what goes out of it (RFC 2328, sections
+-- 9.3, 9.5, 10.2, 10.5 and 10.6).
 use Rattle.std.specs.Prelude.{◌||◌, ℕ, Bool, false, List, [], Option, None, Some, if◌then◌else◌}
 use Rattle.ospf_base.specs.declared.ids.LsaKey.{LsaKey}
 use Rattle.ospf_base.specs.declared.ids.RouterId.{RouterId}
@@ -24,7 +25,8 @@ use Rattle.ospf_area.specs.Posting.{PostValue, local_of, posted_all}
 
 -- the link's neighbours as a part finds them: nothing has gone out yet
 abbrev pub neighbourhood_of : LinkValue → ℕ → Neighbourhood
-neighbourhood_of link next = record { neighbours = link.neighbours; elects = link.elects; next = next; sent = [] }
+neighbourhood_of link next =
+    record { neighbours = link.neighbours; elects = link.elects; next = next; sent = [] }
 
 -- and where some has
 abbrev pub neighbourhood_at : LinkValue → PostValue → Neighbourhood
@@ -50,44 +52,59 @@ abbrev pub hello_part : Own → Origin → Hello → Bool → ℕ → LinkValue 
 hello_part own f h named next link =
     hello_on link.iface (local_of own link) f.router f.address h named (neighbourhood_of link next)
 
--- a Database Description of router q, which may be no neighbour; in Init it may bring an election about (10.6)
-abbrev pub description_on : Iface → Local → RouterId → Description → List LsaHeader → List Held → Neighbourhood → Neighbourhood
+-- a Database Description of router q, which may be no neighbour; in Init it may
+-- bring an election about (10.6)
+abbrev pub description_on : Iface → Local → RouterId → Description → List LsaHeader → List Held
+    → Neighbourhood → Neighbourhood
 description_on i local q d headers db x = elim (neighbour_of x.neighbours q) [
   | None ↦ x
   | Some n ↦
-      put_back (elects_by_change i.state n (description_turn i local q d headers db (turn_of n x)).neighbour)
+      put_back
+      (elects_by_change i.state n (description_turn i local q d headers db (turn_of n x)).neighbour)
       (description_turn i local q d headers db (turn_of n x)) x
 ]
 
 -- a Database Description that comes on a link
-abbrev pub description_comes : Own → Origin → Description → List LsaHeader → List Held → PostValue → LinkValue
+abbrev pub description_comes : Own → Origin → Description → List LsaHeader → List Held → PostValue
+    → LinkValue
     → Neighbourhood
 description_comes own f d headers db p link =
     description_on link.iface (local_of own link) f.router d headers db (neighbourhood_at link p)
 
 -- where nothing has gone out yet
-abbrev pub description_part : Own → Origin → Description → List LsaHeader → List Held → ℕ → LinkValue → Neighbourhood
-description_part own f d headers db next link = description_on link.iface (local_of own link) f.router d headers db (neighbourhood_of link next)
+abbrev pub description_part : Own → Origin → Description → List LsaHeader → List Held → ℕ
+    → LinkValue → Neighbourhood
+description_part own f d headers db next link =
+    description_on link.iface (local_of own link) f.router d headers db (neighbourhood_of link next)
 
 -- a Request of router q, which may be no neighbour (10.7)
-abbrev pub request_on : Iface → Local → RouterId → ℕ → List Held → List RequestEntry → Neighbourhood → Neighbourhood
+abbrev pub request_on : Iface → Local → RouterId → ℕ → List Held → List RequestEntry → Neighbourhood
+    → Neighbourhood
 request_on i local q delay db entries x =
-    elim (neighbour_of x.neighbours q) [ None ↦ x | Some n ↦ put_back false (answer_turn i local delay db entries (turn_of n x)) x ]
+    elim (neighbour_of x.neighbours q) [
+      | None ↦ x
+      | Some n ↦ put_back false (answer_turn i local delay db entries (turn_of n x)) x
+    ]
 
 -- a Request that comes on a link
-abbrev pub request_at : Own → Origin → List Held → List RequestEntry → PostValue → LinkValue → Neighbourhood
+abbrev pub request_at : Own → Origin → List Held → List RequestEntry → PostValue → LinkValue
+    → Neighbourhood
 request_at own f db entries p link =
     request_on link.iface (local_of own link) f.router link.settings.transmit_delay db entries
     (neighbourhood_at link p)
 
 -- where nothing has gone out yet
-abbrev pub request_part : Own → Origin → List Held → List RequestEntry → ℕ → LinkValue → Neighbourhood
-request_part own f db entries next link = request_on link.iface (local_of own link) f.router link.settings.transmit_delay db entries (neighbourhood_of link next)
+abbrev pub request_part : Own → Origin → List Held → List RequestEntry → ℕ → LinkValue
+    → Neighbourhood
+request_part own f db entries next link =
+    request_on link.iface (local_of own link) f.router link.settings.transmit_delay db entries
+    (neighbourhood_of link next)
 
 -- the keys whose copies answer a Request of router q on a link, where both are there (10.7)
 abbrev pub answered_on : Option LinkValue → RouterId → List Held → List RequestEntry → List LsaKey
 answered_on None q db entries = []
-answered_on (Some link) q db entries = elim (neighbour_of link.neighbours q) [ None ↦ [] | Some n ↦ answered_keys db entries ]
+answered_on (Some link) q db entries =
+    elim (neighbour_of link.neighbours q) [ None ↦ [] | Some n ↦ answered_keys db entries ]
 
 -- ---- links that go up and down
 
@@ -97,11 +114,15 @@ link_up link = record link { iface = up link.iface }
 
 -- its first Hello (9.5)
 abbrev pub up_parcels : LinkValue → List Parcel
-up_parcels link = parcel_if (is_down link.iface.state) (hello_parcel (up link.iface) link.neighbours)
+up_parcels link =
+    parcel_if (is_down link.iface.state) (hello_parcel (up link.iface) link.neighbours)
 
--- a link that goes down, where it is up: its neighbours get KillNbr, and no acknowledgement and no election waits any more (9.3)
+-- a link that goes down, where it is up: its neighbours get KillNbr, and no acknowledgement and
+-- no election waits any more (9.3)
 abbrev pub link_down : LinkValue → LinkValue
-link_down link = if is_down link.iface.state then link else record link { iface = down link.iface; neighbours = []; delayed = []; elects = false }
+link_down link =
+    if is_down link.iface.state then link
+    else record link { iface = down link.iface; neighbours = []; delayed = []; elects = false }
 
 -- ---- ticks
 
@@ -119,4 +140,6 @@ hello_sent link = record link { iface = hello_ticked link.iface }
 
 -- the Hello that goes out of link l, if one is due (9.5)
 abbrev pub hello_out : Own → ℕ → LinkValue → List SentValue
-hello_out own l link = posted_all own l (hello_ticked link.iface) (parcel_if (is_hello_due link.iface) (hello_parcel link.iface link.neighbours))
+hello_out own l link =
+    posted_all own l (hello_ticked link.iface)
+    (parcel_if (is_hello_due link.iface) (hello_parcel link.iface link.neighbours))

@@ -1,4 +1,5 @@
--- What is sent again in a tick, and the marks of what was sent (RFC 2328, sections 10.8, 10.9, 13 and 13.6).
+-- What is sent again in a tick, and the marks of what was sent (RFC 2328,
+-- sections 10.8, 10.9, 13 and 13.6).
 use Rattle.std.specs.Prelude.{ℕ, List, [], fold, map, true}
 use Rattle.std.specs.List.{flat_map}
 use Rattle.ospf_base.specs.declared.ids.LsaKey.{LsaKey}
@@ -22,10 +23,13 @@ marked_all keys sent = fold (λ sent key. marked key true sent) sent keys
 
 -- what is sent again to a neighbour, and the neighbour then
 abbrev pub repeats_for : Own → Iface → LinkSettings → List Held → NeighbourValue → Turn
-repeats_for own i settings db n = repeats_turn i (local_by own settings) settings.retransmit settings.transmit_delay db (record { neighbour = n; next = 0; sent = [] })
+repeats_for own i settings db n =
+    repeats_turn i (local_by own settings) settings.retransmit settings.transmit_delay db
+    (record { neighbour = n; next = 0; sent = [] })
 
 -- the neighbour then
-abbrev pub neighbour_repeated : Own → Iface → LinkSettings → List Held → NeighbourValue → NeighbourValue
+abbrev pub neighbour_repeated : Own → Iface → LinkSettings → List Held → NeighbourValue
+    → NeighbourValue
 neighbour_repeated own i settings db n = (repeats_for own i settings db n).neighbour
 
 -- what goes out of link l to it
@@ -36,11 +40,15 @@ repeats_to own l i settings db n = posted_all own l i (repeats_for own i setting
 
 -- the link's neighbours after what is sent again to each
 abbrev pub link_repeated : Own → List Held → LinkValue → LinkValue
-link_repeated own db link = record link { neighbours = map (neighbour_repeated own link.iface link.settings db) link.neighbours }
+link_repeated own db link =
+    record link {
+      neighbours = map (neighbour_repeated own link.iface link.settings db) link.neighbours;
+    }
 
 -- what is sent again to the neighbours of a link
 abbrev pub link_repeats_out : Own → List Held → ℕ → LinkValue → List SentValue
-link_repeats_out own db l link = flat_map (repeats_to own l link.iface link.settings db) link.neighbours
+link_repeats_out own db l link =
+    flat_map (repeats_to own l link.iface link.settings db) link.neighbours
 
 -- the keys of the LSAs that are sent again on a link
 abbrev pub keys_out : Own → List Held → LinkValue → List LsaKey

@@ -12,13 +12,19 @@ use Rattle.ospf_area.specs.Posting.{posted_all}
 
 -- ---- parts on the neighbours of a link
 
--- the router and its link l as the part leaves them, and what goes out of the link. Where there is no such link nothing happens
-abbrev pub WorksOn : (LinkValue → Neighbourhood) → ℕ → AreaValue → OutputsValue → OutputsValue → AreaValue → Type 0
+-- the router and its link l as the part leaves them, and what goes out of the link. Where there
+-- is no such link nothing happens
+abbrev pub WorksOn : (LinkValue → Neighbourhood) → ℕ → AreaValue → OutputsValue → OutputsValue
+    → AreaValue → Type 0
 WorksOn part l before out out' after =
     Becomes
     (elim (slice_get before.links l) [
       | None ↦ before
-      | Some link ↦ record before { links = set before.links l (with_neighbourhood (part link) link); next_dd = (part link).next }
+      | Some link ↦
+          record before {
+            links = set before.links l (with_neighbourhood (part link) link);
+            next_dd = (part link).next;
+          }
     ])
     (and_sends out (elim (slice_get before.links l) [
       | None ↦ []
@@ -29,7 +35,11 @@ WorksOn part l before out out' after =
 
 -- the router after a change of link l
 abbrev pub link_changed : (LinkValue → LinkValue) → ℕ → AreaValue → AreaValue
-link_changed change l s = elim (slice_get s.links l) [ None ↦ s | Some link ↦ record s { links = set s.links l (change link) } ]
+link_changed change l s =
+    elim (slice_get s.links l) [
+      | None ↦ s
+      | Some link ↦ record s { links = set s.links l (change link) }
+    ]
 
 -- the first Hello of a link that goes up, if it is there (9.5)
 abbrev pub up_out_on : Option LinkValue → Own → ℕ → List SentValue

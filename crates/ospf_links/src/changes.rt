@@ -12,7 +12,8 @@ use ospf_adjacency::{go_down, go_up, send_hello};
 use ospf_area::{Area, AreaLink, Outputs, Own, Post, own_of};
 use std::alloc::{AllocError, Global};
 
-/// A link of the router goes up (RFC 2328, section 9.3): where it was down its first Hello goes out.
+/// A link of the router goes up (RFC 2328, section 9.3): where it was
+/// down its first Hello goes out.
 ///
 /// `AllocError` where memory runs out.
 pub fn take_up(
@@ -32,7 +33,8 @@ pub fn take_up(
     }
 }
 
-/// A link of the router goes down (RFC 2328, section 9.3): its neighbours are gone. No memory is taken.
+/// A link of the router goes down (RFC 2328, section 9.3): its
+/// neighbours are gone. No memory is taken.
 pub fn take_down(area: &mut Area, number: usize, alloc: Global)
     ensures { area.new ≡ link_changed link_down number area.old }
 {

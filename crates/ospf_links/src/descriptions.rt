@@ -17,8 +17,8 @@ use ospf_neighbour::Neighbour;
 use ospf_packet::{Description, Headers};
 use std::alloc::{AllocError, Global};
 
-/// Takes a Database Description that comes on a link of the router (RFC 2328, section 10.6). One that is dropped, or whose
-/// sender or link is not there, changes nothing.
+/// Takes a Database Description that comes on a link of the router (RFC 2328, section 10.6). One
+/// that is dropped, or whose sender or link is not there, changes nothing.
 ///
 /// `AllocError` where memory runs out.
 pub fn take_description(

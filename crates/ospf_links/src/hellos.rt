@@ -14,8 +14,9 @@ use ospf_area::{Area, AreaLink, OnLink, Origin, Outputs, Own, Post, own_of};
 use ospf_packet::{Hello, Neighbours};
 use std::alloc::{AllocError, Global};
 
-/// Takes a Hello that comes on a link of the router (RFC 2328, section 10.5) and is not dropped: its sender is a neighbour, or
-/// there is room for one more. Where there is no such link nothing is done.
+/// Takes a Hello that comes on a link of the router (RFC 2328, section 10.5) and is
+/// not dropped: its sender is a neighbour, or there is room for one more. Where there
+/// is no such link nothing is done.
 ///
 /// `AllocError` where memory runs out.
 pub fn take_hello(

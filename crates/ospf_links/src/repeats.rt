@@ -19,8 +19,9 @@ use ospf_neighbour::Neighbour;
 use std::alloc::{AllocError, Global};
 use std::collections::BTreeSet;
 
-/// What is due on all links is sent again (RFC 2328, sections 10.8, 10.9 and 13.6): Database Descriptions, Requests, and the
-/// copies of what waits on retransmission lists, whose keys are marked as sent.
+/// What is due on all links is sent again (RFC 2328, sections 10.8, 10.9 and 13.6):
+/// Database Descriptions, Requests, and the copies of what waits on retransmission lists,
+/// whose keys are marked as sent.
 ///
 /// `AllocError` where memory runs out; then the router is to be stopped.
 pub fn repeat_all(

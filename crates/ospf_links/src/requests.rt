@@ -23,8 +23,9 @@ use ospf_packet::Requests;
 use std::alloc::{AllocError, Global};
 use std::collections::BTreeSet;
 
-/// Takes a Request that comes on a link of the router (RFC 2328, section 10.7) from a neighbour in Exchange or above: the keys
-/// whose copies answer it are marked as sent in this tick. Where its sender or the link is not there nothing is done.
+/// Takes a Request that comes on a link of the router (RFC 2328, section 10.7) from a neighbour in
+/// Exchange or above: the keys whose copies answer it are marked as sent in this tick. Where its
+/// sender or the link is not there nothing is done.
 ///
 /// `AllocError` where memory runs out; then the router is to be stopped.
 pub fn take_request(

@@ -12,7 +12,8 @@ use ospf_area::{AreaLink, Outputs, Own, Post};
 use ospf_neighbour::Neighbour;
 use std::alloc::{AllocError, Global};
 
-/// A tick of the wait timers and the inactivity timers of all links (RFC 2328, sections 9.3 and 10.3). No memory is taken.
+/// A tick of the wait timers and the inactivity timers of all links (RFC 2328, sections 9.3
+/// and 10.3). No memory is taken.
 pub fn count_timers(links: &mut [AreaLink], alloc: Global)
     ensures { links.new ≡ map link_timed links.old }
 {

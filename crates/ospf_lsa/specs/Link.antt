@@ -22,7 +22,8 @@ pub record LinkEntry : Type 0 where
 -- the bytes of a link, with what stands behind it of other TOS
 abbrev pub entry_bytes : LinkEntry → List ℕ
 entry_bytes e =
-    number_bytes 4 e.link.id ++ number_bytes 4 e.link.link_data ++ (kind_byte e.link.kind ∷ e.tos_count ∷ number_bytes 2 e.link.metric)
+    number_bytes 4 e.link.id ++ number_bytes 4 e.link.link_data
+    ++ (kind_byte e.link.kind ∷ e.tos_count ∷ number_bytes 2 e.link.metric)
     ++ e.tos
 
 -- a link without TOS metrics
@@ -55,7 +56,8 @@ pub record AreLinks (count : ℕ) (bytes : List ℕ) : Type 0 where
 
 -- ---- reading
 
--- the type of a number (appendix A.4.2): 4 is Virtual, and as it are read 0 and those above 4, that no link has
+-- the type of a number (appendix A.4.2): 4 is Virtual, and as it are read 0 and
+-- those above 4, that no link has
 abbrev pub link_kind : ℕ → LinkKind
 link_kind zero = Virtual
 link_kind (suc zero) = PointToPoint
@@ -78,7 +80,12 @@ link_length bytes = 12 + 4 * slice_index bytes 9
 
 -- the same with its TOS metrics
 abbrev pub entry_at : List ℕ → LinkEntry
-entry_at bytes = record { link = link_at bytes; tos_count = slice_index bytes 9; tos = take (4 * slice_index bytes 9) (drop 12 bytes) }
+entry_at bytes =
+    record {
+      link = link_at bytes;
+      tos_count = slice_index bytes 9;
+      tos = take (4 * slice_index bytes 9) (drop 12 bytes);
+    }
 
 -- so many links with their TOS metrics, one after the other
 abbrev pub entries_in : ℕ → List ℕ → List LinkEntry

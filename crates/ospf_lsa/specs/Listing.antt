@@ -1,4 +1,5 @@
--- The LSAs that a database lists (RFC 2328, section 12.2; those of age MaxAge take no part, section 14).
+-- The LSAs that a database lists (RFC 2328, section 12.2; those of age
+-- MaxAge take no part, section 14).
 use Rattle.std.specs.Prelude.{◌≡◌, ◌≢◌, ◌↔◌, ◌⊎◌, ℕ, ◌<◌, ◌≤◌, List, [], ◌∷◌, ◌++◌, length, map, take, drop, slice_index_or}
 use Rattle.std.specs.List.{Any, AllByRecursion, Contains}
 use Rattle.ospf_base.specs.Bytes.{number_at}
@@ -10,7 +11,8 @@ use Rattle.ospf_lsa.specs.Lsa.{IsLsa, IsNetworkLsa, key_of}
 -- the keys rise, so no two are the same
 abbrev pub IsRising : List (List ℕ) → Type 0
 IsRising [] = Unit {0}
-IsRising (lsa ∷ lsas) = AllByRecursion (λ other. Precedes (key_of lsa) (key_of other)) lsas × IsRising lsas
+IsRising (lsa ∷ lsas) =
+    AllByRecursion (λ other. Precedes (key_of lsa) (key_of other)) lsas × IsRising lsas
 
 -- an LSA that may be listed, the numbers of its header being those of its fields
 abbrev pub IsListable : List ℕ → Type 0
@@ -43,7 +45,8 @@ pub record IsInserted (lsa : List ℕ) (old new : List (List ℕ)) : Type 0 wher
 
 -- the new list has this LSA, and of the others those of another key
 abbrev pub IsPut : List ℕ → List (List ℕ) → List (List ℕ) → Type 0
-IsPut lsa old new = (x : List ℕ) → Contains new x ↔ ((x ≡ lsa) ⊎ (Contains old x × (key_of x ≢ key_of lsa)))
+IsPut lsa old new =
+    (x : List ℕ) → Contains new x ↔ ((x ≡ lsa) ⊎ (Contains old x × (key_of x ≢ key_of lsa)))
 
 -- an LSA of this key belongs in front of place `at`
 pub record IsPlace (lsas : List (List ℕ)) (key : LsaKey) (at : ℕ) : Type 0 where
@@ -55,14 +58,17 @@ pub record IsPlace (lsas : List (List ℕ)) (key : LsaKey) (at : ℕ) : Type 0 w
 pub record IsCount (lsas : List (List ℕ)) (key : LsaKey) (n : ℕ) : Type 0 where
   pub within : n ≤ length lsas
   pub before : (k : ℕ) (d : List ℕ) → k < n → Precedes key (key_of (slice_index_or lsas k d)) → ⊥
-  pub after : (k : ℕ) (d : List ℕ) → n ≤ k → k < length lsas → Precedes key (key_of (slice_index_or lsas k d))
+  pub after : (k : ℕ) (d : List ℕ) → n ≤ k → k < length lsas
+      → Precedes key (key_of (slice_index_or lsas k d))
 
 -- a network-LSA of this Link State ID
 abbrev pub IsOfNetwork : ℕ → List ℕ → Type 0
 IsOfNetwork id lsa = IsNetworkLsa lsa × (number_at 4 4 lsa ≡ id)
 
--- the listed network-LSA of this Link State ID; of several the one of the largest Advertising Router
+-- the listed network-LSA of this Link State ID; of several the one of
+-- the largest Advertising Router
 pub record IsNetworkOf (lsas : List (List ℕ)) (id : ℕ) (lsa : List ℕ) : Type 0 where
   pub listed : Contains lsas lsa
   pub of : IsOfNetwork id lsa
-  pub largest : (other : List ℕ) → Contains lsas other → IsOfNetwork id other → number_at 8 4 other ≤ number_at 8 4 lsa
+  pub largest : (other : List ℕ) → Contains lsas other → IsOfNetwork id other
+      → number_at 8 4 other ≤ number_at 8 4 lsa

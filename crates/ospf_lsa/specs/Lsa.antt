@@ -31,7 +31,8 @@ IsRouterLsa lsa = type_of lsa ≡ 1
 abbrev pub IsNetworkLsa : List ℕ → Type 0
 IsNetworkLsa lsa = type_of lsa ≡ 2
 
--- the kind by the LS type (appendix A.4.1): network for 2, router for any other, of which an LSA has only 1
+-- the kind by the LS type (appendix A.4.1): network for 2, router for any
+-- other, of which an LSA has only 1
 abbrev pub kind_of : List ℕ → Kind
 kind_of lsa = if type_of lsa == 2 then Network else Router
 
@@ -88,7 +89,9 @@ IsFreeOf fault.Length lsa = length lsa ≤ number_at 18 2 lsa
 IsFreeOf fault.Sum lsa = HasRightSum lsa
 IsFreeOf fault.Kind lsa = IsRouterLsa lsa ⊎ IsNetworkLsa lsa
 IsFreeOf fault.Links lsa = (IsRouterLsa lsa → HasLinks lsa) × (IsNetworkLsa lsa → HasRouters lsa)
-IsFreeOf fault.Mask lsa = (IsRouterLsa lsa → All HasMask (links_of lsa)) × (IsNetworkLsa lsa → IsMask (network_mask_of lsa))
+IsFreeOf fault.Mask lsa =
+    (IsRouterLsa lsa → All HasMask (links_of lsa))
+    × (IsNetworkLsa lsa → IsMask (network_mask_of lsa))
 IsFreeOf fault.ZeroMetric lsa = IsRouterLsa lsa → All HasCost (links_of lsa)
 IsFreeOf fault.IdMismatch lsa = IsRouterLsa lsa → number_at 4 4 lsa ≡ number_at 8 4 lsa
 IsFreeOf fault.Number lsa = number_at 12 4 lsa ≢ 0x8000_0000

@@ -162,8 +162,8 @@ impl Listing {
     /// Puts an LSA in the place of the one of its key, or in where its key belongs if none is
     /// listed (RFC 2328, section 12.2).
     ///
-    /// `MaxAge` where its age is `MAX_AGE`, else `Memory` where none of its key is listed and memory
-    /// runs out. The listing is unchanged by each.
+    /// `MaxAge` where its age is `MAX_AGE`, else `Memory` where none of its key is listed and
+    /// memory runs out. The listing is unchanged by each.
     pub fn put(&mut self, lsa: Lsa) -> Result<(), ListingFault>
         // The LSA stands in its place; where it is refused the listing is unchanged.
         ensures ok { OnOk result (IsPut lsa self.old self.new) }

@@ -84,7 +84,8 @@ impl<'a> LsaView<'a> {
         }
     }
 
-    /// What tells it from other LSAs: LS type, Link State ID and Advertising Router (RFC 2328, section 12.1).
+    /// What tells it from other LSAs: LS type, Link State ID and Advertising
+    /// Router (RFC 2328, section 12.1).
     pub fn key(&self) -> LsaKey
         ensures { result ≡ key_of self.now }
     {

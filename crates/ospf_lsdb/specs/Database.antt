@@ -13,8 +13,8 @@ use Rattle.ospf_lsa.specs.declared.header.LsaHeader.{LsaHeader}
 
 -- ---- entries
 
--- an entry: the LSA as its age and the bytes behind it, the tick in which it was installed, and whether it came by
--- flooding
+-- an entry: the LSA as its age and the bytes behind it, the tick in which it was installed,
+-- and whether it came by flooding
 pub record Entry : Type 0 where
   pub age : ℕ
   pub contents : List ℕ
@@ -52,7 +52,13 @@ key_at h = key_in h.entry.contents
 
 -- the entry that an LSA begins as. An age field above MaxAge means MaxAge
 unfoldable pub entry_from : List ℕ → ℕ → Bool → Entry
-entry_from lsa tick by_flooding = record { age = (header_of lsa).age; contents = sums.contents lsa; tick = tick; by_flooding = by_flooding }
+entry_from lsa tick by_flooding =
+    record {
+      age = (header_of lsa).age;
+      contents = sums.contents lsa;
+      tick = tick;
+      by_flooding = by_flooding;
+    }
 
 -- ---- the map
 
@@ -80,13 +86,15 @@ pub record IsDatabase (db : List Held) : Type 0 where
 
 -- the entry of one key is another, which may be none, and all else is as it was
 abbrev pub Puts : LsaKey → Option Held → List Held → List Held → Type 0
-Puts key held before after = (k : LsaKey) → held_of after k ≡ (if same_key key k then held else held_of before k)
+Puts key held before after =
+    (k : LsaKey) → held_of after k ≡ (if same_key key k then held else held_of before k)
 
 -- ---- what the calls do
 
 -- an entry takes the place of its key's (section 13.2)
 abbrev pub Installs : Entry → List Held → List Held → Type 0
-Installs e before after = Puts (key_in e.contents) (Some (record { entry = e; reached = false })) before after
+Installs e before after =
+    Puts (key_in e.contents) (Some (record { entry = e; reached = false })) before after
 
 -- LSRefreshTime: the age at which a router issues its own LSA again (appendix B)
 abbrev pub ls_refresh_time : ℕ
@@ -103,16 +111,22 @@ aged e = if is_fresh e then record e { age = e.age + 1 } else e
 -- an entry a tick later: an age below MaxAge is one more (section 14)
 unfoldable pub older : Held → Held
 older h = if is_fresh h.entry
-    then record { entry = record h.entry { age = h.entry.age + 1 }; reached = is_told (h.entry.age + 1) }
+    then record {
+      entry = record h.entry { age = h.entry.age + 1 };
+      reached = is_told (h.entry.age + 1);
+    }
     else record h { reached = false }
 
 -- all entries a tick later
 abbrev pub Ages : List Held → List Held → Type 0
 Ages before after = (k : LsaKey) → held_of after k ≡ option_map older (held_of before k)
 
--- an entry brought to MaxAge before its time: the contents, the tick and the origin stay (section 14.1)
+-- an entry brought to MaxAge before its time: the contents, the tick and
+-- the origin stay (section 14.1)
 unfoldable pub expired : Held → Held
-expired h = if is_fresh h.entry then record { entry = record h.entry { age = max_age }; reached = false } else h
+expired h =
+    if is_fresh h.entry then record { entry = record h.entry { age = max_age }; reached = false }
+    else h
 
 -- whether there is an entry, and it passes the test
 abbrev pub is_some_and : (Held → Bool) → Option Held → Bool

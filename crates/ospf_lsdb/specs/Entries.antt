@@ -7,7 +7,13 @@ use Rattle.ospf_lsdb.specs.declared.dated.Stored.{Stored}
 
 -- a stored entry as it is at a moment
 abbrev pub entry_now : ℕ → Stored → Entry
-entry_now clock s = record { age = age_at clock s.timer; contents = s.lsa; tick = s.tick; by_flooding = s.by_flooding }
+entry_now clock s =
+    record {
+      age = age_at clock s.timer;
+      contents = s.lsa;
+      tick = s.tick;
+      by_flooding = s.by_flooding;
+    }
 
 -- it is not older than MaxAge
 abbrev pub AgeFits : ℕ → Stored → Type 0

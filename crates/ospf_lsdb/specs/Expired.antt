@@ -12,7 +12,8 @@ pub record KeysValue : Type 0 where
 
 -- from now on a key is in the list, or not, and all else is as it was
 abbrev pub SetsKey : LsaKey → Bool → List LsaKey → List LsaKey → Type 0
-SetsKey key is_in before after = (k : LsaKey) → among after k ≡ (if same_key key k then is_in else among before k)
+SetsKey key is_in before after =
+    (k : LsaKey) → among after k ≡ (if same_key key k then is_in else among before k)
 
 -- the list has the keys of the entries at MaxAge, in order, and room for those of all
 pub record IsIndex (db : List Held) (list : KeysValue) : Type 0 where

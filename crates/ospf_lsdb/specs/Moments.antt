@@ -31,7 +31,8 @@ ahead clock moment = (moment + (ring - clock)) % ring
 
 -- nothing is due before so many moments from now
 pub record IsIdleUntil (clock count : ℕ) (dues : List AgeDue) : Type 0 where
-  pub none_before : (d : AgeDue) → d.moment < ring → has_due dues d ≡ true → count ≤ ahead clock d.moment
+  pub none_before : (d : AgeDue) → d.moment < ring → has_due dues d ≡ true
+      → count ≤ ahead clock d.moment
 
 -- something is due in so many moments from now
 abbrev pub ComesIn : ℕ → ℕ → List AgeDue → Type 0
@@ -43,7 +44,9 @@ coming clock age told key = record { moment = (clock + (told - age)) % ring; age
 
 -- what an entry of this key, which now is of this age, comes to
 unfoldable pub is_coming : ℕ → ℕ → LsaKey → AgeDue → Bool
-is_coming clock age key q = (nat_lt age ls_refresh_time && same_due (coming clock age ls_refresh_time key) q) || (nat_lt age max_age && same_due (coming clock age max_age key) q)
+is_coming clock age key q =
+    (nat_lt age ls_refresh_time && same_due (coming clock age ls_refresh_time key) q)
+    || (nat_lt age max_age && same_due (coming clock age max_age key) q)
 
 -- at this moment the entry of a key comes to an age
 abbrev pub due_at : ℕ → ℕ → LsaKey → AgeDue

@@ -1,4 +1,5 @@
--- Entries as they are stored: how old each is follows from a moment on a ring (RFC 2328, section 14).
+-- Entries as they are stored: how old each is follows from a moment on
+-- a ring (RFC 2328, section 14).
 use Rattle.std.specs.Prelude.{◌≡◌, ℕ, ◌+◌, ◌<◌, ◌≤◌, Bool, true, List, [], ◌∷◌, Option, Some, option_map, if◌then◌else◌}
 use Rattle.std.specs.List.{AllByRecursion}
 use Rattle.std.specs.Map.{lookup, keys_of}
@@ -20,7 +21,13 @@ age_at clock Expired = max_age
 -- a stored entry as it is at a moment
 abbrev pub held_at : ℕ → List AgeDue → LsaKey × Stored → Held
 held_at clock due e = record {
-  entry = record { age = age_at clock e.1.timer; contents = e.1.lsa; tick = e.1.tick; by_flooding = e.1.by_flooding };
+  entry =
+      record {
+        age = age_at clock e.1.timer;
+        contents = e.1.lsa;
+        tick = e.1.tick;
+        by_flooding = e.1.by_flooding;
+      };
   reached = has_due due (record { moment = clock; age = age_at clock e.1.timer; key = e.0 });
 }
 
@@ -34,7 +41,10 @@ timer_stopped s = record s { timer = Expired }
 
 -- the entries of these keys come to MaxAge, and all others stay
 abbrev pub StopsTimers : (LsaKey → Bool) → List (LsaKey × Stored) → List (LsaKey × Stored) → Type 0
-StopsTimers test before after = (q : LsaKey) → stored_of after q ≡ (if test q then option_map timer_stopped (stored_of before q) else stored_of before q)
+StopsTimers test before after =
+    (q : LsaKey)
+    → stored_of after q
+    ≡ (if test q then option_map timer_stopped (stored_of before q) else stored_of before q)
 
 -- the present age of the entry of a key
 abbrev pub age_of : ℕ → List (LsaKey × Stored) → LsaKey → Option ℕ
@@ -48,14 +58,18 @@ pub record ComesToAge (clock : ℕ) (present : Option ℕ) (d : AgeDue) : Type 0
   pub is : present ≡ Some age
   pub then_is : age + ahead clock d.moment ≡ d.age
 
--- what is due is what entries come to; what has come to pass may stay until the next tick, as long as it is so
+-- what is due is what entries come to; what has come to pass may stay until the
+-- next tick, as long as it is so
 pub record AreDue (clock : ℕ) (entries : List (LsaKey × Stored)) (due : List AgeDue) : Type 0 where
   pub sound : (d : AgeDue) → has_due due d ≡ true → ComesToAge clock (age_of clock entries d.key) d
-  pub whole : (d : AgeDue) → 0 < ahead clock d.moment → ComesToAge clock (age_of clock entries d.key) d → has_due due d ≡ true
+  pub whole : (d : AgeDue) → 0 < ahead clock d.moment
+      → ComesToAge clock (age_of clock entries d.key) d → has_due due d ≡ true
 
 -- each entry stands at its key, and its timer runs below MaxAge
 abbrev pub IsStored : ℕ → LsaKey × Stored → Type 0
-IsStored clock e = (key_in e.1.lsa ≡ e.0) × (age_at clock e.1.timer ≤ max_age) × (age_at clock e.1.timer ≡ max_age → e.1.timer ≡ Expired)
+IsStored clock e =
+    (key_in e.1.lsa ≡ e.0) × (age_at clock e.1.timer ≤ max_age)
+    × (age_at clock e.1.timer ≡ max_age → e.1.timer ≡ Expired)
 
 -- the keys rise
 abbrev pub KeysRise : List LsaKey → Type 0
@@ -63,13 +77,15 @@ KeysRise [] = Unit {0}
 KeysRise (k ∷ ks) = AllByRecursion (λ o. Precedes k o) ks × KeysRise ks
 
 -- a database as it is stored, at this moment, and the ages that its entries are yet to come to
-pub record AreKeptEntries (clock : ℕ) (entries : List (LsaKey × Stored)) (due : List AgeDue) : Type 0 where
+pub record AreKeptEntries (clock : ℕ) (entries : List (LsaKey × Stored)) (due : List AgeDue)
+    : Type 0 where
   pub on_ring : clock < 65536
   pub stored : AllByRecursion (IsStored clock) entries
   pub rising : KeysRise (keys_of entries)
   pub are_due : AreDue clock entries due
 
 -- what is stored at a moment, and the moment before which nothing is due
-pub record IsRunning (clock next : ℕ) (entries : List (LsaKey × Stored)) (due : List AgeDue) : Type 0 where
+pub record IsRunning (clock next : ℕ) (entries : List (LsaKey × Stored)) (due : List AgeDue)
+    : Type 0 where
   pub kept : AreKeptEntries clock entries due
   pub quiet : IsIdleUntil clock (ahead clock next) due

@@ -1,4 +1,5 @@
-//! The entries of a database: a map of entries, whose ages follow from the moment that a ring has come to.
+//! The entries of a database: a map of entries, whose ages follow from the
+//! moment that a ring has come to.
 
 ghost use Rattle.std.specs.Prelude.{◌≡◌, ◌≤◌, ◌<◌, ◌⊎◌, ◌+◌, ◌-◌, ℕ, List, [], length, map, ◌^◌, OnOk, OnErr, IfOk, option_map, if◌then◌else◌};
 ghost use Rattle.ospf_base.specs.Constants.{max_age};
@@ -42,7 +43,8 @@ impl Stored {
     }
 }
 
-/// The entries of a database, whose ages follow from the moments at which they began (RFC 2328, sections 12.2 and 14).
+/// The entries of a database, whose ages follow from the moments at which they began
+/// (RFC 2328, sections 12.2 and 14).
 #[derive(Drop)]
 pub(crate) struct Dated {
     clock: u16,
@@ -148,8 +150,9 @@ impl Dated {
 
     /// A tick passes: each age below `MAX_AGE` is one more (RFC 2328, section 14).
     ///
-    /// Answers how many entries it looked at: those that came to `MAX_AGE`. The moments that the last tick told of are
-    /// dropped as well, each once; that looks at no entry, and is not counted.
+    /// Answers how many entries it looked at: those that came to `MAX_AGE`. The
+    /// moments that the last tick told of are dropped as well, each once; that looks
+    /// at no entry, and is not counted.
     pub(crate) fn tick(&mut self) -> u64
         ensures ages { Ages self.old self.new }
         ensures looks { result ≡ length (reached_at max_age self.new) }

@@ -32,7 +32,12 @@ impl<'a> Model for EntryView<'a> {
 
     ghost Value = { Entry };
 
-    ghost view = { λ e. record { age = e.age; contents = e.lsa.now; tick = e.tick; by_flooding = e.by_flooding } };
+    ghost view = { λ e. record {
+      age = e.age;
+      contents = e.lsa.now;
+      tick = e.tick;
+      by_flooding = e.by_flooding;
+    } };
 
     ghost invariant = { λ e. e.age ≤ max_age };
 }

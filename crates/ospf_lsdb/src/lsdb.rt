@@ -78,7 +78,8 @@ impl Lsdb {
         self.expired.len()
     }
 
-    /// The keys of the entries at `MAX_AGE`, in order. They are known without a look at the entries.
+    /// The keys of the entries at `MAX_AGE`, in order. They are known
+    /// without a look at the entries.
     pub fn expired_keys(&self) -> &[LsaKey]
         ensures keys { result.now ≡ map key_at (filter is_expired self.now) }
         ensures database { IsDatabase self.now }
@@ -111,8 +112,9 @@ impl Lsdb {
 
     /// A tick passes: each age below `MAX_AGE` is one more (RFC 2328, section 14).
     ///
-    /// Answers how many entries it looked at: those that came to `MAX_AGE`. The moments that the last tick told of are
-    /// dropped as well, each once; that looks at no entry, and is not counted.
+    /// Answers how many entries it looked at: those that came to `MAX_AGE`. The
+    /// moments that the last tick told of are dropped as well, each once; that looks
+    /// at no entry, and is not counted.
     pub fn tick(&mut self) -> u64
         ensures ages { Ages self.old self.new }
         ensures looks { result ≡ length (reached_at max_age self.new) }

@@ -17,4 +17,5 @@ AsksOnce (h ∷ hs) = AllByRecursion (λ o. is_of_one_lsa h o ≡ false) hs × A
 -- no two entries of a retransmission list are of one key
 abbrev pub IsAloneOfKeys : List Listed → Type 0
 IsAloneOfKeys [] = Unit {0}
-IsAloneOfKeys (l ∷ ls) = AllByRecursion (λ o. same_key l.instance.key o.instance.key ≡ false) ls × IsAloneOfKeys ls
+IsAloneOfKeys (l ∷ ls) =
+    AllByRecursion (λ o. same_key l.instance.key o.instance.key ≡ false) ls × IsAloneOfKeys ls

@@ -45,8 +45,8 @@ pub struct Exchanging {
     pub accepted: Option<Accepted>,
 }
 
-/// A neighbour (RFC 2328, section 10). Below Exchange its lists are empty, and neither its request list nor its
-/// retransmission list has two entries of one LSA.
+/// A neighbour (RFC 2328, section 10). Below Exchange its lists are empty, and neither its request
+/// list nor its retransmission list has two entries of one LSA.
 #[derive(Drop)]
 pub struct Neighbour {
     router: RouterId,
@@ -68,9 +68,23 @@ impl Model for Neighbour {
 
     ghost Value = { NeighbourValue };
 
-    ghost view = { λ n. record { router = n.router; address = n.address; declared = n.declared; state = n.state; inactivity = n.inactivity; exchanging = n.exchanging; summary = n.summary.items; last_dd = n.last_dd.items; requests = n.requests; asked = n.asked; asked_at = n.asked_at; retransmission = n.retransmission } };
+    ghost view = { λ n. record {
+      router = n.router;
+      address = n.address;
+      declared = n.declared;
+      state = n.state;
+      inactivity = n.inactivity;
+      exchanging = n.exchanging;
+      summary = n.summary.items;
+      last_dd = n.last_dd.items;
+      requests = n.requests;
+      asked = n.asked;
+      asked_at = n.asked_at;
+      retransmission = n.retransmission;
+    } };
 
-    ghost invariant = { λ n. IsSoundNeighbour n.state n.summary.items n.last_dd.items n.requests n.asked n.retransmission };
+    ghost invariant = { λ n. IsSoundNeighbour n.state n.summary.items n.last_dd.items n.requests
+        n.asked n.retransmission };
 }
 
 impl Neighbour {
@@ -173,7 +187,8 @@ impl Neighbour {
         self.requests.entries()
     }
 
-    /// How many of these, from the front, the last Request named, and when it was sent, in ticks of the router.
+    /// How many of these, from the front, the last Request named, and when it
+    /// was sent, in ticks of the router.
     pub fn asked(&self) -> (usize, u64)
         ensures { result ≡ (self.now.asked, self.now.asked_at) }
     {
@@ -187,7 +202,8 @@ impl Neighbour {
         &self.requests.entries()[..self.asked]
     }
 
-    /// Whether it is in Exchange or above. Below, its lists are empty. No list has two entries of one LSA.
+    /// Whether it is in Exchange or above. Below, its lists are empty. No
+    /// list has two entries of one LSA.
     pub fn is_exchanging(&self) -> bool
         ensures value { result ≡ is_exchanging self.now.state }
         ensures lists { IsSoundNeighbour self.now.state self.now.summary self.now.last_dd
@@ -206,7 +222,8 @@ impl Neighbour {
         self.retransmission.entries()
     }
 
-    /// Takes an event (section 10.3). `dead` is the interface's RouterDeadInterval, in ticks. No memory is taken.
+    /// Takes an event (section 10.3). `dead` is the interface's
+    /// RouterDeadInterval, in ticks. No memory is taken.
     pub fn event(&mut self, event: NbrEvent, dead: u32) -> NbrChange
         ensures tells { result ≡ transition self.old.state event (is_empty self.old.requests) }
         ensures becomes { self.new ≡ effected result dead self.old }
@@ -230,7 +247,8 @@ impl Neighbour {
         self.retransmission.is_key_listed(key)
     }
 
-    /// Puts an instance on the retransmission list (section 13.3), sent at this tick, in place of all others of its key.
+    /// Puts an instance on the retransmission list (section 13.3), sent at this tick, in
+    /// place of all others of its key.
     ///
     /// `AllocError` where memory runs out; then the neighbour is as it was.
     pub fn relist(&mut self, instance: Instance, tick: u64) -> Result<(), AllocError>
@@ -252,15 +270,16 @@ impl Neighbour {
         self.retransmission.remove_instance(instance);
     }
 
-    /// Takes all instances of a key off the retransmission list (section 13, step 5). No memory is taken.
+    /// Takes all instances of a key off the retransmission list (section
+    /// 13, step 5). No memory is taken.
     pub fn unlist_key(&mut self, key: &LsaKey)
         ensures { self.new ≡ key_unlisted key.now self.old }
     {
         self.retransmission.remove_key(key);
     }
 
-    /// An instance was sent to the neighbour at this tick; it counts where the instance is on the retransmission list
-    /// (section 13.6). No memory is taken.
+    /// An instance was sent to the neighbour at this tick; it counts where the instance is on the
+    /// retransmission list (section 13.6). No memory is taken.
     pub fn resend(&mut self, instance: &Instance, tick: u64)
         ensures { self.new ≡ resent instance.now tick self.old }
     {
@@ -274,8 +293,8 @@ impl Neighbour {
         self.requests.request_of(key)
     }
 
-    /// Takes the entry of a key off the request list; of those that the last Request named, the others are still asked
-    /// for (section 13.3). No memory is taken.
+    /// Takes the entry of a key off the request list; of those that the last Request named, the
+    /// others are still asked for (section 13.3). No memory is taken.
     pub fn remove_request(&mut self, key: &LsaKey)
         ensures { self.new ≡ unrequested key.now self.old }
     {
@@ -293,8 +312,9 @@ impl Neighbour {
         self.exchanging = exchanging;
     }
 
-    /// NegotiationDone (section 10.3), with the headers that are to be described and the instances that go on the
-    /// retransmission list, at most one a key. Want of memory changes nothing that is told.
+    /// NegotiationDone (section 10.3), with the headers that are to be described and
+    /// the instances that go on the retransmission list, at most one a key. Want of
+    /// memory changes nothing that is told.
     pub fn begin_exchange(&mut self, is_master: bool, summary: Vec<LsaHeader>, listed: Vec<Listed>)
         requires state { self.old.state ≡ NeighbourState.ExStart }
         requires alone { IsAloneOfKeys listed.items }
@@ -312,8 +332,8 @@ impl Neighbour {
         self.retransmission.replace(listed);
     }
 
-    /// Puts headers on the request list (section 10.6), in turn: each takes the place of the entry of its LSA, if there
-    /// is one, and else the last place.
+    /// Puts headers on the request list (section 10.6), in turn: each takes the place of the entry
+    /// of its LSA, if there is one, and else the last place.
     ///
     /// `AllocError` where memory runs out; then the neighbour is as it was.
     pub fn add_requests(&mut self, headers: &[LsaHeader]) -> Result<(), AllocError>
@@ -324,8 +344,8 @@ impl Neighbour {
         self.requests.put(headers)
     }
 
-    /// The next headers of the summary list, `next`, are described in the last DD packet, and leave the list
-    /// (section 10.8). No memory is taken.
+    /// The next headers of the summary list, `next`, are described in the last DD packet, and leave
+    /// the list (section 10.8). No memory is taken.
     pub fn describe(&mut self, next: Vec<LsaHeader>)
         requires state { IsTrue (is_exchanging self.old.state) }
         requires few { length next.items ≤ length self.old.summary }
@@ -336,7 +356,8 @@ impl Neighbour {
         self.last_dd = next;
     }
 
-    /// The first `count` headers of the request list are named in a Request (section 10.9), sent at this tick.
+    /// The first `count` headers of the request list are named in a Request
+    /// (section 10.9), sent at this tick.
     pub fn ask(&mut self, count: usize, tick: u64)
         requires { count ≤ length self.old.requests }
         ensures { self.new ≡ record self.old { asked = count; asked_at = tick } }

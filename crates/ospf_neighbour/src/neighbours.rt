@@ -55,7 +55,8 @@ impl Display for NeighbourFault {
 /// The neighbours of an interface, at most `MAX_NEIGHBOURS`, in rising Router ID.
 #[derive(Drop)]
 pub struct Neighbours {
-    /// All of them, to be changed in place: a function that leaves other Router IDs, or another order, is not proved.
+    /// All of them, to be changed in place: a function that leaves other Router IDs,
+    /// or another order, is not proved.
     pub all: Vec<Neighbour>,
 }
 
@@ -117,8 +118,8 @@ impl Neighbours {
         self.all.iter().any(|n| n.is_key_listed(key))
     }
 
-    /// Takes all instances of a key off the retransmission lists of all neighbours (RFC 2328, section 13, step 5). No
-    /// memory is taken.
+    /// Takes all instances of a key off the retransmission lists of all neighbours (RFC 2328,
+    /// section 13, step 5). No memory is taken.
     pub fn unlist_key(&mut self, key: &LsaKey)
         ensures { self.new ≡ map (key_unlisted key.now) self.old }
     {
@@ -149,8 +150,8 @@ impl Neighbours {
 
     /// Puts a neighbour in where its Router ID belongs, which none of them has.
     ///
-    /// `Full` where there are `MAX_NEIGHBOURS`, else `Memory` where memory runs out. The neighbours are as they
-    /// were after each.
+    /// `Full` where there are `MAX_NEIGHBOURS`, else `Memory` where memory runs out. The
+    /// neighbours are as they were after each.
     pub fn add(&mut self, neighbour: Neighbour) -> Result<(), NeighbourFault>
         requires { HasNeighbour self.old neighbour.router → ⊥ }
         ensures ok { OnOk result (IsAdded neighbour self.old self.new) }

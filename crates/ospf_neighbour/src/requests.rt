@@ -1,4 +1,5 @@
-//! A request list and what names the LSAs of its entries, by which most look-ups need not go over it.
+//! A request list and what names the LSAs of its entries, by which
+//! most look-ups need not go over it.
 
 ghost use Rattle.std.specs.Prelude.{◌≡◌, ◌+◌, ◌<◌, ◌≤◌, OnOk, OnErr, position, vec_len, vec_capacity};
 ghost use Rattle.std.specs.HashSet.{contains, spare};
@@ -20,7 +21,8 @@ pub(crate) struct LsaName {
     router: RouterId,
 }
 
-// Headers, in the order in which they were put. The list is long, and an LSA that is looked for is mostly not on it.
+// Headers, in the order in which they were put. The list is long, and an LSA that is
+// looked for is mostly not on it.
 #[derive(Drop)]
 pub(crate) struct Requests {
     entries: Vec<LsaHeader>,

@@ -11,12 +11,14 @@ use std::alloc::{AllocError, Global};
 use std::collections::HashSet;
 use std::marker::Model;
 
-// Entries, in the order in which they were put. The list is long, and a key that is looked for is mostly not on it.
+// Entries, in the order in which they were put. The list is long, and a key that is
+// looked for is mostly not on it.
 #[derive(Drop)]
 pub(crate) struct Retransmissions {
     entries: Vec<Listed>,
     keys: HashSet<LsaKey>,
-    // Whether `keys` are those of the entries. Where there was no memory for them, the entries are gone over.
+    // Whether `keys` are those of the entries. Where there was no memory for
+    // them, the entries are gone over.
     is_keyed: bool,
 }
 
@@ -30,7 +32,8 @@ impl Model for Retransmissions {
 
     ghost view = { λ r. r.entries.items };
 
-    ghost invariant = { λ r. r.is_keyed ≡ true → TellsListedKeys (contains key_eq r.keys) r.entries.items };
+    ghost invariant = { λ r. r.is_keyed ≡ true
+        → TellsListedKeys (contains key_eq r.keys) r.entries.items };
 }
 
 impl Retransmissions {
@@ -137,7 +140,8 @@ impl Retransmissions {
         }
     }
 
-    // Puts other entries in place of all. No memory is wanted: where there is none, their keys are not kept.
+    // Puts other entries in place of all. No memory is wanted: where there is
+    // none, their keys are not kept.
     pub(crate) fn replace(&mut self, entries: Vec<Listed>)
         ensures { self.new ≡ entries.items }
     {

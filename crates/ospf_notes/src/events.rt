@@ -8,8 +8,9 @@ use std::alloc::{AllocError, Global};
 use std::collections::BTreeMap;
 use std::io::Write;
 
-/// Writes a journal of the routers of a simulation, if one is wanted. The tick of a line is the most that a router has taken by
-/// then, so that lines of routers that started at several times are told apart by it.
+/// Writes a journal of the routers of a simulation, if one is wanted. The tick of a line is
+/// the most that a router has taken by then, so that lines of routers that started at
+/// several times are told apart by it.
 #[derive(Drop)]
 pub struct Events<F: Write + Drop> {
     alloc: Global,
@@ -48,8 +49,8 @@ impl<F: Write + Drop> Events<F> {
         }
     }
 
-    // What changed of a router by an event there. One that was refused is no tick and no drop, but a router stops where
-    // memory ran out.
+    // What changed of a router by an event there. One that was refused is no tick and no drop, but
+    // a router stops where memory ran out.
     fn follow(
         &mut self,
         world: &World,

@@ -28,7 +28,8 @@ impl<F: Write + Drop> Journal<F> {
         self.is_written
     }
 
-    // Writes what changed of a router that has taken so many ticks, up to the first line that fails; none where that is not known.
+    // Writes what changed of a router that has taken so many ticks, up to the first line that
+    // fails; none where that is not known.
     pub(crate) fn write(
         &mut self,
         alloc: Global,

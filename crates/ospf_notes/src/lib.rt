@@ -1,11 +1,12 @@
 //! What is kept and shown of routers while they run.
 //!
-//! `Notes` is a tap of `ospf_run`: it writes what the routers send into a capture, whose packets are those of `ospf_records`;
-//! prints their tables from time to time, each as `ospf_run` prints it; counts what they drop; and tells on standard error how far
-//! the run has come, where that is a terminal, and which neighbours describe LSAs that their router refuses. `Events` and
-//! `Recording` write the journal and the capture of a simulation as it goes. What they write
-//! goes to files and a terminal under one lock, of which no contract can say anything; that they give back to the run, and
-//! that nothing wraps, is proved.
+//! `Notes` is a tap of `ospf_run`: it writes what the routers send into a capture, whose packets
+//! are those of `ospf_records`; prints their tables from time to time, each as `ospf_run` prints
+//! it; counts what they drop; and tells on standard error how far the run has come, where that is a
+//! terminal, and which neighbours describe LSAs that their router refuses. `Events` and `Recording`
+//! write the journal and the capture of a simulation as it goes. What they write goes to files and
+//! a terminal under one lock, of which no contract can say anything; that they give back to the
+//! run, and that nothing wraps, is proved.
 #![tactic(auto)]
 
 mod dropped;

@@ -1,4 +1,5 @@
-//! Standard error while something runs: messages, and on a terminal a line that tells how far it has come.
+//! Standard error while something runs: messages, and on a terminal a line
+//! that tells how far it has come.
 
 use std::io::Write;
 use std::time::{Clock, Duration};
@@ -6,8 +7,8 @@ use std::time::{Clock, Duration};
 // How much time goes by between two lines, and before the first one, in milliseconds.
 const BETWEEN_LINES: u64 = 200;
 
-/// Standard error. On a terminal each line of how far something has come is written over the last. What is not written is
-/// lost.
+/// Standard error. On a terminal each line of how far something has come is written over the
+/// last. What is not written is lost.
 #[derive(Drop)]
 pub struct StatusLine<T: Write + Drop> {
     stream: T,

@@ -1,5 +1,6 @@
-//! What is kept and shown of routers while they run: a capture of what they send, their tables from time to time, what they
-//! drop, a line on a terminal, and messages of neighbours whose LSAs a router refuses.
+//! What is kept and shown of routers while they run: a capture of what they send, their
+//! tables from time to time, what they drop, a line on a terminal, and messages of
+//! neighbours whose LSAs a router refuses.
 
 use crate::dropped::{Heard, dropped_in};
 use crate::journal::Journal;
@@ -40,7 +41,8 @@ pub struct Noted<F: Write + Drop, T: Write + Drop, O: Write + Drop> {
     pub journal: Option<Journal<F>>,
 }
 
-/// What is noted of one router. The notes of all routers of a run share a capture, tables, counts and a line.
+/// What is noted of one router. The notes of all routers of a run share a
+/// capture, tables, counts and a line.
 #[derive(Drop)]
 pub struct Notes<R: Wait + Clock + Copy + Drop, F: Write + Drop, T: Write + Drop, O: Write + Drop> {
     rt: R,
@@ -153,7 +155,8 @@ impl<R: Wait + Clock + Copy + Drop, F: Write + Drop, T: Write + Drop, O: Write +
         }
     }
 
-    // Writes what the router dropped, if it did, and what changed of it into the journal, if there is one.
+    // Writes what the router dropped, if it did, and what changed of it
+    // into the journal, if there is one.
     fn log(&mut self, router: &Router, dropped: Option<DroppedAt>) {
         let Some(seen) = &mut self.seen else {
             return;
@@ -308,7 +311,8 @@ impl<F: Write + Drop, T: Write + Drop, O: Write + Drop> Shared<F, T, O> {
         }
     }
 
-    // A router took its tick of this number, and has so many Full neighbours in place of so many before.
+    // A router took its tick of this number, and has so many Full
+    // neighbours in place of so many before.
     fn note<C: Clock>(
         &mut self,
         clock: &C,
@@ -382,7 +386,8 @@ impl<F: Write + Drop, T: Write + Drop, O: Write + Drop> Shared<F, T, O> {
     }
 }
 
-// What is told of one router: by its Router ID, by the name of its file, and of LSAs of other types if it refuses them.
+// What is told of one router: by its Router ID, by the name of its file, and of LSAs of
+// other types if it refuses them.
 #[derive(Drop)]
 struct Teller {
     router: RouterId,

@@ -66,8 +66,8 @@ impl Others {
         self.heard = Described::first_of(link, packet);
     }
 
-    /// What is to be told after a step: the LSA of the packet that came in last, where a neighbour of the router described it,
-    /// and once a neighbour. Where memory runs out it is told again.
+    /// What is to be told after a step: the LSA of the packet that came in last, where a neighbour
+    /// of the router described it, and once a neighbour. Where memory runs out it is told again.
     pub(crate) fn due(&mut self, router: &Router) -> Option<Described> {
         let heard = self.heard.take()?;
         let neighbour = (heard.link, heard.neighbour);

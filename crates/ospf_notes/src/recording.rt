@@ -16,10 +16,11 @@ const BLOCK: usize = 1 << 16;
 // The last microsecond of a second.
 const LAST_MICROSECOND: u32 = 999_999;
 
-/// Writes what the routers of a simulation send into the file of a capture while the simulation goes, so that one that is broken
-/// off leaves a file that can be read: with the moments that `ospf_records::capture` gives, in blocks, and what is left at
-/// the end of a line. The file is made when something is sent first. Where it cannot be written, nothing more is, and
-/// nobody is told: the capture of the whole, which takes its place, is written in the end.
+/// Writes what the routers of a simulation send into the file of a capture while the simulation
+/// goes, so that one that is broken off leaves a file that can be read: with the moments that
+/// `ospf_records::capture` gives, in blocks, and what is left at the end of a line. The file is
+/// made when something is sent first. Where it cannot be written, nothing more is, and nobody is
+/// told: the capture of the whole, which takes its place, is written in the end.
 #[derive(Drop)]
 pub struct Recording<R: Runtime + Drop> {
     rt: R,
@@ -137,7 +138,8 @@ impl<R: Runtime + Drop> Recording<R> {
         }
     }
 
-    // Writes the block, into the file that is made first where there is none; whether that could be done.
+    // Writes the block, into the file that is made first where there is
+    // none; whether that could be done.
     fn write_block(&mut self) -> bool {
         if self.file.is_none() {
             let Some(name) = &self.name else {

@@ -16,26 +16,30 @@ makes_room (Some copy) = if is_fresh copy then Flush else Leave
 
 -- the LSA is issued with the number after the kept one, if there is one
 abbrev pub next_action : Option Entry → ℤ → OwnAction
-next_action copy kept = if int_eq kept max_sequence_number then makes_room copy else Issue (kept +ℤ pos 1)
+next_action copy kept =
+    if int_eq kept max_sequence_number then makes_room copy else Issue (kept +ℤ pos 1)
 
--- a wanted LSA is due: the database has no copy of it, or one that has come to LSRefreshTime or says something else (12.4)
+-- a wanted LSA is due: the database has no copy of it, or one that has come to
+-- LSRefreshTime or says something else (12.4)
 abbrev pub is_due : WantedValue → Option Entry → Bool
 is_due w None = true
 is_due w (Some copy) = nat_le ls_refresh_time copy.age || not (says copy.contents w)
 
--- a wanted LSA is issued where it is due, and was not issued less than MinLSInterval ago; and at once where a newer one
--- was heard in this step (12.4, 13.4)
+-- a wanted LSA is issued where it is due, and was not issued less than MinLSInterval ago; and at
+-- once where a newer one was heard in this step (12.4, 13.4)
 abbrev pub wanted_action : WantedValue → Option Entry → Bool → Bool → ℤ → OwnAction
-wanted_action w copy heard waits kept = if heard || (not waits && is_due w copy) then next_action copy kept else Leave
+wanted_action w copy heard waits kept =
+    if heard || (not waits && is_due w copy) then next_action copy kept else Leave
 
--- one that is not wanted is flushed: where it was heard in this step, or is the router's own and below MaxAge (13.4, 14.1)
+-- one that is not wanted is flushed: where it was heard in this step, or is the router's
+-- own and below MaxAge (13.4, 14.1)
 abbrev pub unwanted_action : Option Entry → Bool → Bool → OwnAction
 unwanted_action None heard own = Leave
 unwanted_action (Some copy) heard own = if heard || (own && is_fresh copy) then Flush else Leave
 
--- what becomes of the LSA of a key: by what is wanted of it, its copy in the database, whether a self-originated one was
--- installed in this step, whether its Advertising Router is this one, whether it was issued less than MinLSInterval ago,
--- and the kept number
+-- what becomes of the LSA of a key: by what is wanted of it, its copy in the database, whether a
+-- self-originated one was installed in this step, whether its Advertising Router is this one,
+-- whether it was issued less than MinLSInterval ago, and the kept number
 unfoldable pub own_action : Option WantedValue → Option Entry → Bool → Bool → Bool → ℤ → OwnAction
 own_action None copy heard own waits kept = unwanted_action copy heard own
 own_action (Some w) copy heard own waits kept = wanted_action w copy heard waits kept

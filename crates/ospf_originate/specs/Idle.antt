@@ -27,7 +27,10 @@ is_left (Issue number) = false
 
 -- nothing is due of an LSA that is wanted
 unfoldable pub wanted_left : AreaValue → WantedValue → Bool
-wanted_left s w = is_left (wanted_action w (database_entry s (wanted_key w)) false (waits s.tick s.numbering (wanted_key w)) (kept_number s (wanted_key w)))
+wanted_left s w =
+    is_left
+    (wanted_action w (database_entry s (wanted_key w)) false
+    (waits s.tick s.numbering (wanted_key w)) (kept_number s (wanted_key w)))
 
 -- nothing is due of a key of which none is wanted
 unfoldable pub unwanted_left : AreaValue → LsaKey → Bool
@@ -53,4 +56,6 @@ none_heard (key ∷ keys) = false
 -- nothing is due of what is wanted, nor of what is numbered and not wanted, and none was heard
 unfoldable pub is_quiet : AreaValue → Bool
 is_quiet s =
-    none_heard s.heard && (wanted_left s (own_router s) && (list_all (network_left s) s.links && list_all (λ n. key_left s n.key) s.numbering))
+    none_heard s.heard
+    && (wanted_left s (own_router s)
+    && (list_all (network_left s) s.links && list_all (λ n. key_left s n.key) s.numbering))

@@ -1,4 +1,5 @@
--- Laws of own LSAs: their numbers, and what is kept for them; those of what is wanted stand in `ospf_wanted`.
+-- Laws of own LSAs: their numbers, and what is kept for them; those of what is
+-- wanted stand in `ospf_wanted`.
 use Rattle.std.specs.Prelude.{◌≡◌, ◌&&◌, ◌+ℤ◌, ◌≤ℤ◌, ℕ, ℤ, pos, true, List, [], Option, Some, if◌then◌else◌, map}
 use Rattle.std.specs.Int.{int_max}
 use Rattle.ospf_update.specs.Acks.{undelayed_link}
@@ -40,13 +41,21 @@ pub use Rattle.ospf_wanted.specs.Laws.{WantedAreOfTheirKeys, WantedAreOwn, Wante
 
 -- an issued LSA's number is kept, if it is the router's own, and no other number changes (12.1.6)
 abbrev pub IssuedIsKept : Type 0
-IssuedIsKept = (w : WantedValue) (number : ℤ) (s : AreaValue) (o o' : OutputsValue) (s' : AreaValue) → Issues w number s o o' s' → (key : LsaKey)
-    → kept_number s' key ≡ (if same_key (wanted_key w) key && is_own s.router key then int_max (kept_number s key) number else kept_number s key)
+IssuedIsKept =
+    (w : WantedValue) (number : ℤ) (s : AreaValue) (o o' : OutputsValue) (s' : AreaValue)
+    → Issues w number s o o' s' → (key : LsaKey)
+    → kept_number s' key
+    ≡ (if same_key (wanted_key w) key && is_own s.router key then int_max (kept_number s key) number
+    else kept_number s key)
 
 -- and its key waits from the tick of the issue on, as no other key does (12.4)
 abbrev pub IssuedWaits : Type 0
-IssuedWaits = (w : WantedValue) (number : ℤ) (s : AreaValue) (o o' : OutputsValue) (s' : AreaValue) → Issues w number s o o' s' → is_own s.router (wanted_key w) ≡ true → (key : LsaKey)
-    → issued_at_in (numbering_of s'.numbering key) ≡ (if same_key (wanted_key w) key then Some s.tick else issued_at_in (numbering_of s.numbering key))
+IssuedWaits =
+    (w : WantedValue) (number : ℤ) (s : AreaValue) (o o' : OutputsValue) (s' : AreaValue)
+    → Issues w number s o o' s' → is_own s.router (wanted_key w) ≡ true → (key : LsaKey)
+    → issued_at_in (numbering_of s'.numbering key)
+    ≡ (if same_key (wanted_key w) key then Some s.tick
+    else issued_at_in (numbering_of s.numbering key))
 
 -- ---- the own LSAs that end a step
 
@@ -58,60 +67,91 @@ pub record IsNextIssue (w : Option WantedValue) (kept number : ℤ) : Type 0 whe
 
 -- the law: an LSA is issued by the next number (12.1.6)
 abbrev pub IssueIsNext : Type 0
-IssueIsNext = (s : AreaValue) (key : LsaKey) (number : ℤ) → action_of s key ≡ Issue number → IsNextIssue (wanted_of (wants s) key) (kept_number s key) number
+IssueIsNext =
+    (s : AreaValue) (key : LsaKey) (number : ℤ) → action_of s key ≡ Issue number
+    → IsNextIssue (wanted_of (wants s) key) (kept_number s key) number
 
 -- it is newer than a copy whose number is not above the kept one (13.1)
 abbrev pub NextIsNewer : Type 0
-NextIsNewer = (new copy : LsaHeader) (kept : ℤ) → copy.number ≤ℤ kept → new.number ≡ kept +ℤ pos 1 → recency new copy ≡ Newer
+NextIsNewer =
+    (new copy : LsaHeader) (kept : ℤ) → copy.number ≤ℤ kept → new.number ≡ kept +ℤ pos 1
+    → recency new copy ≡ Newer
 
 -- ---- what the router keeps
 
 -- a router that starts has it, and keeps it where its links are others that are set up
 pub record StartsSound : Type 0 where
-  pub begun : (s : AreaValue) → AreSetUp s.links → s.database ≡ [] → s.numbering ≡ [] → s.greatest ≡ s.floor → IsSound s
-  pub relinked : (s : AreaValue) (links : List LinkValue) (tick : ℕ) → AreSetUp links → IsSound s → IsSound (record s { links = links; tick = tick })
+  pub begun : (s : AreaValue) → AreSetUp s.links → s.database ≡ [] → s.numbering ≡ []
+      → s.greatest ≡ s.floor → IsSound s
+  pub relinked : (s : AreaValue) (links : List LinkValue) (tick : ℕ) → AreSetUp links → IsSound s
+      → IsSound (record s { links = links; tick = tick })
 
 -- an issue, a flush, and what ends a step keep it
 pub record OwnStaySound : Type 0 where
-  pub issued : (w : WantedValue) (number : ℤ) (s : AreaValue) (o o' : OutputsValue) (s' : AreaValue) → Issues w number s o o' s' → IsSound s → IsSound s'
-  pub flushed : (key : LsaKey) (s : AreaValue) (o o' : OutputsValue) (s' : AreaValue) → Flushes key s o o' s' → IsSound s → IsSound s'
-  pub ended : (s : AreaValue) (o o' : OutputsValue) (s' : AreaValue) → OwnLsas s o o' s' → IsSound s → IsSound s'
+  pub issued : (w : WantedValue) (number : ℤ) (s : AreaValue) (o o' : OutputsValue) (s' : AreaValue)
+      → Issues w number s o o' s' → IsSound s → IsSound s'
+  pub flushed : (key : LsaKey) (s : AreaValue) (o o' : OutputsValue) (s' : AreaValue)
+      → Flushes key s o o' s' → IsSound s → IsSound s'
+  pub ended : (s : AreaValue) (o o' : OutputsValue) (s' : AreaValue) → OwnLsas s o o' s' → IsSound s
+      → IsSound s'
 
 -- an Update, a header that is acknowledged, the clock and LSAs that leave keep it
 pub record AreaStaysSound : Type 0 where
-  pub updated : (f : Origin) (slices : List (List ℕ)) (s : AreaValue) (o o' : OutputsValue) (s' : AreaValue) → TakesUpdate f slices s o o' s' → IsSound s → IsSound s'
-  pub acknowledged : (f : Origin) (h : LsaHeader) (s : AreaValue) → IsSound s → IsSound (header_met f h s)
-  pub aged : (s : AreaValue) (o o' : OutputsValue) (s' : AreaValue) → TickAges s o o' s' → IsSound s → IsSound s'
-  pub removed : (s : AreaValue) (o o' : OutputsValue) (s' : AreaValue) → IsDatabase s.database → InTurn RemovesOne (leaving s) s o o' s' → IsSound s → IsSound s'
+  pub updated : (f : Origin) (slices : List (List ℕ)) (s : AreaValue) (o o' : OutputsValue)
+      (s' : AreaValue) → TakesUpdate f slices s o o' s' → IsSound s → IsSound s'
+  pub acknowledged : (f : Origin) (h : LsaHeader) (s : AreaValue) → IsSound s
+      → IsSound (header_met f h s)
+  pub aged : (s : AreaValue) (o o' : OutputsValue) (s' : AreaValue) → TickAges s o o' s' → IsSound s
+      → IsSound s'
+  pub removed : (s : AreaValue) (o o' : OutputsValue) (s' : AreaValue) → IsDatabase s.database
+      → InTurn RemovesOne (leaving s) s o o' s' → IsSound s → IsSound s'
 
 -- links that are set up stay so, whatever their lists and neighbours do
 pub record LinksStaySetUp : Type 0 where
-  pub released : (key : LsaKey) (links : List LinkValue) → AreSetUp links → AreSetUp (released key links)
-  pub flooded : (key : LsaKey) (h : LsaHeader) (from : Option Origin) (tick : ℕ) (links : List LinkValue) → AreSetUp links → AreSetUp (flooded_links key h from tick links)
-  pub turned : (own : Own) (links : List LinkValue) → AreSetUp links → AreSetUp (map (turned_link own) links)
-  pub changed : (f : Origin) (change : AdjacencyChange) (tick : ℕ) (links : List LinkValue) → AreSetUp links → AreSetUp (changed_at f change tick links)
-  pub delayed : (number : ℕ) (h : LsaHeader) (links : List LinkValue) → AreSetUp links → AreSetUp (delayed_at number h links)
+  pub released : (key : LsaKey) (links : List LinkValue) → AreSetUp links
+      → AreSetUp (released key links)
+  pub flooded : (key : LsaKey) (h : LsaHeader) (from : Option Origin) (tick : ℕ)
+      (links : List LinkValue) → AreSetUp links → AreSetUp (flooded_links key h from tick links)
+  pub turned : (own : Own) (links : List LinkValue) → AreSetUp links
+      → AreSetUp (map (turned_link own) links)
+  pub changed : (f : Origin) (change : AdjacencyChange) (tick : ℕ) (links : List LinkValue)
+      → AreSetUp links → AreSetUp (changed_at f change tick links)
+  pub delayed : (number : ℕ) (h : LsaHeader) (links : List LinkValue) → AreSetUp links
+      → AreSetUp (delayed_at number h links)
   pub undelayed : (links : List LinkValue) → AreSetUp links → AreSetUp (map undelayed_link links)
 
 -- and so does each call of which these are made keep it
 pub record PartsStaySound : Type 0 where
   pub links : LinksStaySetUp
-  pub relinked : (s : AreaValue) (links : List LinkValue) → AreSetUp links → IsSound s → IsSound (record s { links = links })
-  pub counted : (key : LsaKey) (number : ℤ) (s : AreaValue) → IsSound s → IsSound (record s { numbering = counts key number s; greatest = greatest_after key number s })
-  pub acknowledging : (a : Acknowledgement) (f : Origin) (h : LsaHeader) (s : AreaValue) → IsSound s → IsSound (acknowledging a f h s)
-  pub stored : (lsa : List ℕ) (from : Option Origin) (s s' : AreaValue) → Stores lsa from s s' → IsSound s → IsSound s'
-  pub met : (f : Origin) (lsa : List ℕ) (s : AreaValue) (o o' : OutputsValue) (s' : AreaValue) → MeetsLsa f lsa s o o' s' → IsSound s → IsSound s'
-  pub begun_again : (f : Origin) (s : AreaValue) (o o' : OutputsValue) (s' : AreaValue) → Becomes (restarted f s) o o' s' → IsSound s → IsSound s'
+  pub relinked : (s : AreaValue) (links : List LinkValue) → AreSetUp links → IsSound s
+      → IsSound (record s { links = links })
+  pub counted : (key : LsaKey) (number : ℤ) (s : AreaValue) → IsSound s
+      → IsSound
+      (record s { numbering = counts key number s; greatest = greatest_after key number s })
+  pub acknowledging : (a : Acknowledgement) (f : Origin) (h : LsaHeader) (s : AreaValue) → IsSound s
+      → IsSound (acknowledging a f h s)
+  pub stored : (lsa : List ℕ) (from : Option Origin) (s s' : AreaValue) → Stores lsa from s s'
+      → IsSound s → IsSound s'
+  pub met : (f : Origin) (lsa : List ℕ) (s : AreaValue) (o o' : OutputsValue) (s' : AreaValue)
+      → MeetsLsa f lsa s o o' s' → IsSound s → IsSound s'
+  pub begun_again : (f : Origin) (s : AreaValue) (o o' : OutputsValue) (s' : AreaValue)
+      → Becomes (restarted f s) o o' s' → IsSound s → IsSound s'
   pub turned : (s : AreaValue) → IsSound s → IsSound (turned_area s)
-  pub copied : (key : LsaKey) (s : AreaValue) (o o' : OutputsValue) (s' : AreaValue) → SendsCopy key s o o' s' → IsSound s → IsSound s'
-  pub flooded : (lsa : List ℕ) (from : Option Origin) (s : AreaValue) → IsSound s → IsSound (flooded_area lsa from s)
+  pub copied : (key : LsaKey) (s : AreaValue) (o o' : OutputsValue) (s' : AreaValue)
+      → SendsCopy key s o o' s' → IsSound s → IsSound s'
+  pub flooded : (lsa : List ℕ) (from : Option Origin) (s : AreaValue) → IsSound s
+      → IsSound (flooded_area lsa from s)
   pub answered : (s : AreaValue) → IsSound s → IsSound (record s { direct = [] })
   pub marked : (s : AreaValue) (sent : List LsaKey) → IsSound s → IsSound (record s { sent = sent })
 
 -- ---- how long own LSAs are
 
--- what is made is one that an Update has room for, and so the LSAs of the database stay where it is issued
+-- what is made is one that an Update has room for, and so the LSAs of the
+-- database stay where it is issued
 pub record OwnStayShort : Type 0 where
-  pub made : (w : WantedValue) (number : ℤ) (lsa : List ℕ) → CanBeMade w → IsLsa lsa → IsMade (lsa_value number w) lsa → IsShortLsa lsa
-  pub issued : (w : WantedValue) (number : ℤ) (s : AreaValue) (o o' : OutputsValue) (s' : AreaValue) → Issues w number s o o' s' → CanBeMade w → AreShort s.database → AreShort s'.database
-  pub ended : (s : AreaValue) (o o' : OutputsValue) (s' : AreaValue) → OwnLsas s o o' s' → AreSetUp s.links → AreShort s.database → AreShort s'.database
+  pub made : (w : WantedValue) (number : ℤ) (lsa : List ℕ) → CanBeMade w → IsLsa lsa
+      → IsMade (lsa_value number w) lsa → IsShortLsa lsa
+  pub issued : (w : WantedValue) (number : ℤ) (s : AreaValue) (o o' : OutputsValue) (s' : AreaValue)
+      → Issues w number s o o' s' → CanBeMade w → AreShort s.database → AreShort s'.database
+  pub ended : (s : AreaValue) (o o' : OutputsValue) (s' : AreaValue) → OwnLsas s o o' s'
+      → AreSetUp s.links → AreShort s.database → AreShort s'.database

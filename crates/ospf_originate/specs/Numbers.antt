@@ -1,4 +1,5 @@
--- How far the numbers of a router's own LSAs have come, and when each was last issued (RFC 2328, sections 12.1.6 and 12.4).
+-- How far the numbers of a router's own LSAs have come, and when each was last issued (RFC
+-- 2328, sections 12.1.6 and 12.4).
 use Rattle.std.specs.Prelude.{ℕ, Bool, false, List, Option, None, Some, map, not, if◌then◌else◌}
 use Rattle.ospf_base.specs.Ticks.{have_passed}
 use Rattle.ospf_base.specs.declared.ids.LsaKey.{LsaKey}

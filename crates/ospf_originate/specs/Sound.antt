@@ -1,4 +1,5 @@
--- What a router keeps, so that its own LSAs can be made, told apart and numbered (RFC 2328, sections 12.1.6 and 12.4).
+-- What a router keeps, so that its own LSAs can be made, told apart and numbered (RFC
+-- 2328, sections 12.1.6 and 12.4).
 use Rattle.std.specs.Prelude.{◌≡◌, ◌≤ℤ◌, true, Some, is_some}
 use Rattle.ospf_base.specs.declared.ids.LsaKey.{LsaKey}
 use Rattle.ospf_lsdb.specs.Database.{Entry, header_at}
@@ -10,11 +11,15 @@ pub use Rattle.ospf_wanted.specs.SetUp.{IsSetUp, AreApart, max_links, AreSetUp}
 
 -- each key of the router's own that the database has is numbered
 abbrev pub AreNumbered : AreaValue → Type 0
-AreNumbered s = (key : LsaKey) → is_some (database_entry s key) ≡ true → is_own s.router key ≡ true → is_some (numbering_of s.numbering key) ≡ true
+AreNumbered s =
+    (key : LsaKey) → is_some (database_entry s key) ≡ true → is_own s.router key ≡ true
+    → is_some (numbering_of s.numbering key) ≡ true
 
 -- and the number of its copy is at most the kept one: the next one issued is newer (12.1.6)
 abbrev pub AreCounted : AreaValue → Type 0
-AreCounted s = (key : LsaKey) (copy : Entry) → database_entry s key ≡ Some copy → is_own s.router key ≡ true → (header_at copy).number ≤ℤ kept_number s key
+AreCounted s =
+    (key : LsaKey) (copy : Entry) → database_entry s key ≡ Some copy → is_own s.router key ≡ true
+    → (header_at copy).number ≤ℤ kept_number s key
 
 -- no kept number is above the greatest one
 abbrev pub AreBelowGreatest : AreaValue → Type 0

@@ -1,4 +1,5 @@
--- Own LSAs as they are issued and flushed (RFC 2328, sections 12.4, 13.4 and 14.1), over a router's part of an area.
+-- Own LSAs as they are issued and flushed (RFC 2328, sections 12.4, 13.4 and 14.1),
+-- over a router's part of an area.
 use Rattle.std.specs.Prelude.{◌≡◌, ◌++◌, ℕ, ℤ, false, List, [], ◌∷◌, Option, None, Some, map}
 use Rattle.std.specs.List.{flat_map}
 use Rattle.ospf_base.specs.declared.ids.LsaKey.{LsaKey}
@@ -24,16 +25,23 @@ use Rattle.ospf_originate.specs.declared.action.OwnAction.TheVariants.{Leave, Fl
 
 -- ---- an issue
 
--- a wanted LSA is issued with a number (12.4): it is stored as any other, in place of the old copy, which is on no
--- retransmission list, at age 0, flooded to all, and its number kept; and the tick of the issue is kept too
-pub record Issues (w : WantedValue) (number : ℤ) (before : AreaValue) (out out' : OutputsValue) (after : AreaValue) : Type 0 where
+-- a wanted LSA is issued with a number (12.4): it is stored as any other, in place of the old
+-- copy, which is on no retransmission list, at age 0, flooded to all, and its number kept; and
+-- the tick of the issue is kept too
+pub record Issues (w : WantedValue) (number : ℤ) (before : AreaValue) (out out' : OutputsValue)
+    (after : AreaValue) : Type 0 where
   pub lsa : List ℕ
   pub is_lsa : IsLsa lsa
   pub made : IsMade (lsa_value number w) lsa
   pub stored : AreaValue
   pub stores : Stores lsa None before stored
-  pub state : after ≡ record stored { numbering = issued (wanted_key w) before.tick stored.numbering }
-  pub outputs : out' ≡ record out { sent = out.sent ++ store_updates lsa None before; issued = out.issued ++ lsa ∷ [] }
+  pub state :
+      after ≡ record stored { numbering = issued (wanted_key w) before.tick stored.numbering }
+  pub outputs : out'
+      ≡ record out {
+        sent = out.sent ++ store_updates lsa None before;
+        issued = out.issued ++ lsa ∷ [];
+      }
 
 -- ---- the own LSAs that end a step
 
@@ -43,10 +51,13 @@ wants s = wanted_lsas s.stub_router s.router s.links
 
 -- what becomes of a key (12.4, 13.4)
 unfoldable pub action_of : AreaValue → LsaKey → OwnAction
-action_of s key = own_action (wanted_of (wants s) key) (database_entry s key) (among s.heard key) (is_own s.router key) (waits s.tick s.numbering key) (kept_number s key)
+action_of s key =
+    own_action (wanted_of (wants s) key) (database_entry s key) (among s.heard key)
+    (is_own s.router key) (waits s.tick s.numbering key) (kept_number s key)
 
 -- an issue, and LoadingDone and the next Requests that come of it (10.3, 10.9)
-pub record IssuesAndTurns (w : WantedValue) (number : ℤ) (before : AreaValue) (out out' : OutputsValue) (after : AreaValue) : Type 0 where
+pub record IssuesAndTurns (w : WantedValue) (number : ℤ) (before : AreaValue)
+    (out out' : OutputsValue) (after : AreaValue) : Type 0 where
   pub mid : AreaValue
   pub mid_out : OutputsValue
   pub issues : Issues w number before out mid_out mid
@@ -54,15 +65,18 @@ pub record IssuesAndTurns (w : WantedValue) (number : ℤ) (before : AreaValue) 
   pub outputs : out' ≡ and_sends mid_out (turn_out mid)
 
 -- the wanted LSA of a key is issued with a number, if one is wanted
-abbrev pub IssuesIf : Option WantedValue → ℤ → AreaValue → OutputsValue → OutputsValue → AreaValue → Type 0
+abbrev pub IssuesIf : Option WantedValue → ℤ → AreaValue → OutputsValue → OutputsValue → AreaValue
+    → Type 0
 IssuesIf None number before out out' after = Becomes before out out' after
 IssuesIf (Some w) number before out out' after = IssuesAndTurns w number before out out' after
 
 -- what an action does to the router, by what it wants
-abbrev pub Acts : OwnAction → List WantedValue → LsaKey → AreaValue → OutputsValue → OutputsValue → AreaValue → Type 0
+abbrev pub Acts : OwnAction → List WantedValue → LsaKey → AreaValue → OutputsValue → OutputsValue
+    → AreaValue → Type 0
 Acts Leave ws key before out out' after = Becomes before out out' after
 Acts Flush ws key before out out' after = Flushes key before out out' after
-Acts (Issue number) ws key before out out' after = IssuesIf (wanted_of ws key) number before out out' after
+Acts (Issue number) ws key before out out' after =
+    IssuesIf (wanted_of ws key) number before out out' after
 
 -- what is due of a key
 abbrev pub due_as : OwnAction → LsaKey → List DueAction
@@ -78,7 +92,8 @@ HasUsedNumber d = IsUsed d.action
 abbrev pub due_of : (LsaKey → OwnAction) → List LsaKey → List DueAction
 due_of action keys = flat_map (λ key. due_as (action key) key) keys
 
--- the keys of which something may be due: those that are wanted, those that are numbered, and those that were heard
+-- the keys of which something may be due: those that are wanted, those that are
+-- numbered, and those that were heard
 abbrev pub candidates : List WantedValue → List Numbering → List LsaKey → List LsaKey
 candidates ws ns heard = map wanted_key ws ++ map (λ n. n.key) ns ++ heard
 
@@ -89,7 +104,8 @@ pub record IsDue (s : AreaValue) (due : List DueAction) : Type 0 where
   pub whole : (key : LsaKey) → among keys key ≡ false → action_of s key ≡ Leave
   pub is : due ≡ due_of (action_of s) keys
 
--- the own LSAs that end a step: exactly those that are due in the state in which they begin, in order of key (12.4)
+-- the own LSAs that end a step: exactly those that are due in the state in which
+-- they begin, in order of key (12.4)
 pub record OwnLsas (before : AreaValue) (out out' : OutputsValue) (after : AreaValue) : Type 0 where
   pub due : List DueAction
   pub is_due : IsDue before due

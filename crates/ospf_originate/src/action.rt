@@ -32,10 +32,10 @@ pub struct DueAction {
     pub action: OwnAction,
 }
 
-/// What becomes of the LSA of a key (RFC 2328, sections 12.4, 13.4 and 14.1), by what is wanted of it, if anything, and
-/// its copy in the database. `heard` tells whether a self-originated one was installed in this step, `own` whether its
-/// Advertising Router is this one, `waits` whether it was issued less than MinLSInterval ago; `kept` is the greatest
-/// number of its numbering run.
+/// What becomes of the LSA of a key (RFC 2328, sections 12.4, 13.4 and 14.1), by what is wanted of
+/// it, if anything, and its copy in the database. `heard` tells whether a self-originated one was
+/// installed in this step, `own` whether its Advertising Router is this one, `waits` whether it was
+/// issued less than MinLSInterval ago; `kept` is the greatest number of its numbering run.
 ///
 /// A fault is that of the wanted LSA, if it cannot be made.
 #[tactic(auto, unfolding(crate::specs::Actions::own_action))]

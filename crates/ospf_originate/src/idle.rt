@@ -19,8 +19,9 @@ use ospf_base::{Kind, LsaKey, RouterId};
 use ospf_lsdb::{EntryView, LS_REFRESH_TIME};
 use ospf_wanted::{is_dr_of, says_network, says_router};
 
-/// Whether no self-originated LSA was heard in this step, and nothing is due of any key (RFC 2328, sections 12.4, 13.4
-/// and 14.1). What is wanted is compared with its copies as they stand: nothing is built.
+/// Whether no self-originated LSA was heard in this step, and nothing is due of any key
+/// (RFC 2328, sections 12.4, 13.4 and 14.1). What is wanted is compared with its copies
+/// as they stand: nothing is built.
 pub(crate) fn is_idle(area: &Area) -> bool
     requires { IsSound area.now }
     ensures { IsTrue result ↔ IsIdle area.now }
@@ -155,7 +156,8 @@ fn numbered_are_left(area: &Area, numbering: &[Numbering]) -> bool
     numbering.iter().all(|n| key_is_left(area, &n.key))
 }
 
-// Whether nothing is due of a key, unless it is wanted: this is asked first, since it needs no search in the database.
+// Whether nothing is due of a key, unless it is wanted: this is asked first, since it
+// needs no search in the database.
 #[tactic(auto, unfolding(crate::specs::Idle::key_left), using(crate::proofs::IdleLemmas::either))]
 fn key_is_left(area: &Area, key: &LsaKey) -> bool
     ensures { result ≡ key_left area.now key.now }

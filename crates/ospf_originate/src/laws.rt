@@ -42,7 +42,8 @@ pub fn parts_stay_sound()
     ensures { PartsStaySound }
 {}
 
-/// What is issued is at most `ospf_base::LARGEST_LSA` bytes long, and leaves each LSA of the database at most so long.
+/// What is issued is at most `ospf_base::LARGEST_LSA` bytes long, and leaves each LSA
+/// of the database at most so long.
 pub fn own_stay_short()
     ensures { OwnStayShort }
 {}

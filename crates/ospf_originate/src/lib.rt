@@ -1,4 +1,5 @@
-//! A router's own LSAs (RFC 2328, section 12.4): when they are issued and flushed, and with which numbers.
+//! A router's own LSAs (RFC 2328, section 12.4): when they are issued and
+//! flushed, and with which numbers.
 #![tactic(auto)]
 
 mod action;

@@ -29,8 +29,9 @@ use ospf_wanted::{OwnLsa, wanted};
 use std::alloc::{AllocError, Global};
 use std::collections::BTreeSet;
 
-/// Issues and flushes the own LSAs that are due in this state (RFC 2328, sections 12.4, 13.4 and 14.1), in the order of
-/// their keys, at the end of a step. Where nothing is due and none was heard, no memory is taken.
+/// Issues and flushes the own LSAs that are due in this state (RFC 2328, sections 12.4, 13.4
+/// and 14.1), in the order of their keys, at the end of a step. Where nothing is due and none
+/// was heard, no memory is taken.
 ///
 /// `AllocError` where memory runs out; then the router is to be stopped.
 pub fn own_lsas(area: &mut Area, out: &mut Outputs, alloc: Global) -> Result<(), AllocError>
@@ -93,8 +94,8 @@ fn due_keys(area: &Area, all: &[OwnLsa], alloc: Global) -> Result<Vec<LsaKey>, A
     Ok(rising)
 }
 
-// The keys of which something may be due: those that are wanted, those that are numbered, and those that were heard in
-// this step.
+// The keys of which something may be due: those that are wanted, those that are numbered, and
+// those that were heard in this step.
 fn candidates(
     wanted: &[OwnLsa],
     numbering: &[Numbering],

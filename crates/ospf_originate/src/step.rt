@@ -16,8 +16,8 @@ use ospf_update::store;
 use ospf_wanted::OwnLsa;
 use std::alloc::{AllocError, Global};
 
-/// Issues a wanted LSA with a number (RFC 2328, section 12.4): it is stored as an LSA of a neighbour's is, at age 0, and
-/// flooded to all.
+/// Issues a wanted LSA with a number (RFC 2328, section 12.4): it is stored as an LSA of a
+/// neighbour's is, at age 0, and flooded to all.
 ///
 /// `AllocError` where memory runs out; then the router is to be stopped.
 pub fn issue(

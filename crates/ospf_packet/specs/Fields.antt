@@ -27,7 +27,8 @@ hello_at body = record {
 -- the bytes of a Hello, before its neighbours (A.3.2)
 abbrev pub hello_bytes : Hello → List ℕ
 hello_bytes h =
-    number_bytes 4 h.mask ++ number_bytes 2 h.hello_interval ++ (h.options ∷ h.priority ∷ number_bytes 4 h.dead_interval)
+    number_bytes 4 h.mask ++ number_bytes 2 h.hello_interval
+    ++ (h.options ∷ h.priority ∷ number_bytes 4 h.dead_interval)
     ++ number_bytes 4 h.designated.0 ++ number_bytes 4 h.backup.0
 
 -- the numbers of a Hello fit their fields

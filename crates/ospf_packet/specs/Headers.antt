@@ -1,4 +1,5 @@
--- The LSA headers of a Database Description and of a Link State Acknowledgment (RFC 2328, appendices A.3.3 and A.3.6).
+-- The LSA headers of a Database Description and of a Link State Acknowledgment (RFC
+-- 2328, appendices A.3.3 and A.3.6).
 use Rattle.std.specs.Prelude.{ℕ, ◌≤◌, List, ◌++◌}
 use Rattle.ospf_base.specs.Bytes.{number_bytes}
 use Rattle.ospf_base.specs.Constants.{lsa_header, max_age}

@@ -10,7 +10,9 @@ use Rattle.ospf_packet.specs.Spelling.{SpellsPacket}
 
 -- bytes are read as a packet exactly where they spell it
 abbrev pub ReadsSpelledPackets : Type 0
-ReadsSpelledPackets = (m : Meaning) (packet : List ℕ) → AreBytes packet → (packet_of packet ≡ Some m) ↔ (MeaningFits m × SpellsPacket m packet)
+ReadsSpelledPackets =
+    (m : Meaning) (packet : List ℕ) → AreBytes packet
+    → (packet_of packet ≡ Some m) ↔ (MeaningFits m × SpellsPacket m packet)
 
 -- what was written is read again
 abbrev pub ReadsWhatWasWritten : Type 0

@@ -41,14 +41,16 @@ packet_body_type (acknowledgment headers) = 5
 -- the bytes of what it says, behind the header
 abbrev pub packet_body_bytes : BodyMeaning → List ℕ
 packet_body_bytes (hello fields neighbours) = hello_bytes fields ++ routers_bytes neighbours
-packet_body_bytes (description fields headers) = description_bytes fields ++ flat_map aged_bytes headers
+packet_body_bytes (description fields headers) =
+    description_bytes fields ++ flat_map aged_bytes headers
 packet_body_bytes (request entries) = flat_map request_entry_bytes entries
 packet_body_bytes (update lsas) = number_bytes 4 (length lsas) ++ lsas_bytes lsas
 packet_body_bytes (acknowledgment headers) = flat_map aged_bytes headers
 
 -- the header up to the checksum
 abbrev pub head_bytes : ℕ → ℕ → RouterId → AreaId → List ℕ
-head_bytes kind len router area = (2 ∷ kind ∷ number_bytes 2 len) ++ number_bytes 4 router.0 ++ number_bytes 4 area.0
+head_bytes kind len router area =
+    (2 ∷ kind ∷ number_bytes 2 len) ++ number_bytes 4 router.0 ++ number_bytes 4 area.0
 
 -- AuType 0, and the authentication as zeros (appendix D.1)
 abbrev pub no_authentication : List ℕ
@@ -57,7 +59,8 @@ no_authentication = 0 ∷ 0 ∷ 0 ∷ 0 ∷ 0 ∷ 0 ∷ 0 ∷ 0 ∷ 0 ∷ 0 ∷ 
 -- the packet with this checksum
 abbrev pub bytes_with_sum : Meaning → ℕ → List ℕ
 bytes_with_sum m sum =
-    head_bytes (packet_body_type m.body) (packet_header + length (packet_body_bytes m.body)) m.router m.area ++ number_bytes 2 sum ++ no_authentication
+    head_bytes (packet_body_type m.body) (packet_header + length (packet_body_bytes m.body))
+    m.router m.area ++ number_bytes 2 sum ++ no_authentication
     ++ packet_body_bytes m.body
 
 -- the packet, its checksum right
@@ -71,7 +74,8 @@ with_packet_sum packet sum = take 12 packet ++ number_bytes 2 sum ++ drop 14 pac
 -- what it says has a spelling: the numbers fit their fields
 abbrev pub PacketBodyFits : BodyMeaning → Type 0
 PacketBodyFits (hello fields neighbours) = HelloFits fields × AllByRecursion RouterFits neighbours
-PacketBodyFits (description fields headers) = DescriptionFits fields × AllByRecursion AgedFits headers
+PacketBodyFits (description fields headers) =
+    DescriptionFits fields × AllByRecursion AgedFits headers
 PacketBodyFits (request entries) = AllByRecursion RequestEntryFits entries
 PacketBodyFits (update lsas) = AllByRecursion IsSlice lsas
 PacketBodyFits (acknowledgment headers) = AllByRecursion AgedFits headers

@@ -13,7 +13,8 @@ use Rattle.ospf_packet.specs.Slices.{AreSlices, slices_in}
 use Rattle.ospf_packet.specs.declared.fault.PacketFault.{PacketFault}
 use Rattle.ospf_packet.specs.declared.fault.PacketFault.TheVariants as fault
 
--- 1 Hello, 2 Database Description, 3 Link State Request, 4 Link State Update, 5 Link State Acknowledgment
+-- 1 Hello, 2 Database Description, 3 Link State Request, 4 Link State
+-- Update, 5 Link State Acknowledgment
 abbrev pub packet_type : List ℕ → ℕ
 packet_type packet = slice_index packet 1
 
@@ -24,7 +25,8 @@ body_of packet = drop packet_header packet
 -- the body ends with its last entry
 pub record IsBody (kind : ℕ) (body : List ℕ) : Type 0 where
   pub hello_is : kind ≡ 1 → (hello_fields ≤ length body) × ((length body - hello_fields) % 4 ≡ 0)
-  pub description_is : kind ≡ 2 → (description_fields ≤ length body) × ((length body - description_fields) % lsa_header ≡ 0)
+  pub description_is : kind ≡ 2
+      → (description_fields ≤ length body) × ((length body - description_fields) % lsa_header ≡ 0)
   pub request_is : kind ≡ 3 → length body % request_size ≡ 0
   pub update_is : kind ≡ 4 → (4 ≤ length body) × AreSlices (number_at 0 4 body) (drop 4 body)
   pub acknowledgment_is : kind ≡ 5 → length body % lsa_header ≡ 0
@@ -61,16 +63,20 @@ IsFirstPacketFault packet f = faults.IsFirstBroken fault_order (λ g. IsPacketFr
 
 -- ---- what a packet says
 
--- what a body of this type says (appendix A.3.2 to A.3.6); of a type that is none of 1 to 4, as an Acknowledgment
+-- what a body of this type says (appendix A.3.2 to A.3.6); of a type that is none
+-- of 1 to 4, as an Acknowledgment
 abbrev pub body_at : ℕ → List ℕ → BodyMeaning
 body_at kind body =
     if kind == 1 then hello (hello_at body) (routers_in (drop hello_fields body))
-    else if kind == 2 then description (description_at body) (headers_in ((length body - description_fields) / lsa_header) (drop description_fields body))
+    else if kind == 2
+    then description (description_at body)
+    (headers_in ((length body - description_fields) / lsa_header) (drop description_fields body))
     else if kind == 3 then request (requests_in (length body / request_size) body)
     else if kind == 4 then update (slices_in (number_at 0 4 body) (drop 4 body))
     else acknowledgment (headers_in (length body / lsa_header) body)
 
--- what the bytes of a packet say: the authentication means nothing, and an age field above MaxAge means MaxAge
+-- what the bytes of a packet say: the authentication means nothing, and an age
+-- field above MaxAge means MaxAge
 abbrev pub meaning_of : List ℕ → Meaning
 meaning_of packet = record {
   router = record { 0 = number_at 4 4 packet };

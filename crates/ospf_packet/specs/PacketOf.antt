@@ -13,7 +13,8 @@ use Rattle.ospf_packet.specs.Slices.{lsa_length}
 abbrev pub are_slices : ℕ → List ℕ → Bool
 are_slices zero bytes = length bytes == 0
 are_slices (suc n) bytes =
-    (nat_le lsa_header (length bytes) && (nat_le lsa_header (lsa_length bytes) && nat_le (lsa_length bytes) (length bytes)))
+    (nat_le lsa_header (length bytes)
+    && (nat_le lsa_header (lsa_length bytes) && nat_le (lsa_length bytes) (length bytes)))
     && are_slices n (drop (lsa_length bytes) bytes)
 
 -- where the first holds, the second does
@@ -23,18 +24,27 @@ implies a b = not a || b
 -- the body ends with its last entry, as a test (`IsBody` of Packet)
 abbrev pub is_body : ℕ → List ℕ → Bool
 is_body kind body =
-    implies (kind == 1) (nat_le hello_fields (length body) && ((length body - hello_fields) % 4 == 0))
-    && (implies (kind == 2) (nat_le description_fields (length body) && ((length body - description_fields) % lsa_header == 0))
+    implies (kind == 1)
+    (nat_le hello_fields (length body) && ((length body - hello_fields) % 4 == 0))
+    && (implies (kind == 2)
+    (nat_le description_fields (length body)
+    && ((length body - description_fields) % lsa_header == 0))
     && (implies (kind == 3) (length body % request_size == 0)
-    && (implies (kind == 4) (nat_le 4 (length body) && are_slices (number_at 0 4 body) (drop 4 body))
+    && (implies (kind == 4)
+    (nat_le 4 (length body) && are_slices (number_at 0 4 body) (drop 4 body))
     && implies (kind == 5) (length body % lsa_header == 0))))
 
 -- the bytes are a packet, as a test (`IsPacket` of Packet; section 8.2, appendix A.3)
 unfoldable pub is_packet : List ℕ → Bool
 is_packet packet =
-    nat_le packet_header (length packet) && ((slice_index packet 0 == 2) && ((nat_le 1 (packet_type packet) && nat_le (packet_type packet) 5)
-    && ((number_at 2 2 packet == length packet) && ((number_at 12 2 packet == packet_checksum packet)
-    && ((number_at 14 2 packet == 0) && (is_body (packet_type packet) (body_of packet) && nat_le (length packet) largest_packet))))))
+    nat_le packet_header (length packet)
+    && ((slice_index packet 0 == 2)
+    && ((nat_le 1 (packet_type packet) && nat_le (packet_type packet) 5)
+    && ((number_at 2 2 packet == length packet)
+    && ((number_at 12 2 packet == packet_checksum packet)
+    && ((number_at 14 2 packet == 0)
+    && (is_body (packet_type packet) (body_of packet)
+    && nat_le (length packet) largest_packet))))))
 
 -- what a packet says; nothing is said by bytes that are none
 unfoldable pub packet_of : List ℕ → Option Meaning

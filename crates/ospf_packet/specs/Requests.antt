@@ -10,7 +10,12 @@ request_size = 12
 
 -- the entry in the first 12 bytes
 abbrev pub request_entry_at : List ℕ → RequestEntry
-request_entry_at bytes = record { kind = number_at 0 4 bytes; id = number_at 4 4 bytes; router = record { 0 = number_at 8 4 bytes } }
+request_entry_at bytes =
+    record {
+      kind = number_at 0 4 bytes;
+      id = number_at 4 4 bytes;
+      router = record { 0 = number_at 8 4 bytes };
+    }
 
 -- the 12 bytes of an entry
 abbrev pub request_entry_bytes : RequestEntry → List ℕ

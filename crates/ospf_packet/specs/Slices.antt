@@ -27,7 +27,8 @@ pub record AreSlices (count : ℕ) (bytes : List ℕ) : Type 0 where
 -- so many slices, one after the other
 abbrev pub slices_in : ℕ → List ℕ → List (List ℕ)
 slices_in zero bytes = []
-slices_in (suc n) bytes = take (lsa_length bytes) bytes ∷ slices_in n (drop (lsa_length bytes) bytes)
+slices_in (suc n) bytes =
+    take (lsa_length bytes) bytes ∷ slices_in n (drop (lsa_length bytes) bytes)
 
 -- a slice stands at the front
 pub record IsFirstSlice (bytes : List ℕ) : Type 0 where

@@ -32,7 +32,8 @@ pub record SpellHeaders (headers : List LsaHeader) (bytes : List ℕ) : Type 0 w
   pub spelled : bytes ≡ flat_map header_entry_bytes entries
 
 -- the bytes are a Database Description of these fields and headers, and nothing else
-pub record SpellDescription (fields : List ℕ) (headers : List LsaHeader) (bytes : List ℕ) : Type 0 where
+pub record SpellDescription (fields : List ℕ) (headers : List LsaHeader) (bytes : List ℕ)
+    : Type 0 where
   pub listed : List ℕ
   pub headers_spelled : SpellHeaders headers listed
   pub spelled : bytes ≡ fields ++ listed
@@ -40,14 +41,17 @@ pub record SpellDescription (fields : List ℕ) (headers : List LsaHeader) (byte
 -- the bytes are this body
 abbrev pub SpellBody : BodyMeaning → List ℕ → Type 0
 SpellBody (hello fields neighbours) bytes = bytes ≡ packet_body_bytes (hello fields neighbours)
-SpellBody (description fields headers) bytes = SpellDescription (description_bytes fields) headers bytes
+SpellBody (description fields headers) bytes =
+    SpellDescription (description_bytes fields) headers bytes
 SpellBody (request entries) bytes = bytes ≡ packet_body_bytes (request entries)
 SpellBody (update lsas) bytes = bytes ≡ packet_body_bytes (update lsas)
 SpellBody (acknowledgment headers) bytes = SpellHeaders headers bytes
 
--- the bytes are this packet: its header with the right length and checksum and AuType 0, then eight bytes of
--- authentication, whatever they are, then its body
+-- the bytes are this packet: its header with the right length and checksum and AuType 0, then eight
+-- bytes of authentication, whatever they are, then its body
 pub record SpellsPacket (m : Meaning) (packet : List ℕ) : Type 0 where
   pub long : packet_header ≤ length packet
-  pub head : take 16 packet ≡ head_bytes (packet_body_type m.body) (length packet) m.router m.area ++ number_bytes 2 (packet_checksum packet) ++ (0 ∷ 0 ∷ [])
+  pub head : take 16 packet
+      ≡ head_bytes (packet_body_type m.body) (length packet) m.router m.area
+      ++ number_bytes 2 (packet_checksum packet) ++ (0 ∷ 0 ∷ [])
   pub body : SpellBody m.body (drop packet_header packet)

@@ -7,7 +7,8 @@ use ospf_base::{RouterId, u32_at};
 /// The size of an entry of a Link State Request.
 pub const REQUEST_SIZE: usize = 12;
 
-/// What a router asks for: an LSA by LS type, Link State ID and Advertising Router (RFC 2328, appendix A.3.4).
+/// What a router asks for: an LSA by LS type, Link State ID and Advertising
+/// Router (RFC 2328, appendix A.3.4).
 ///
 /// The LS type is as it stands in the packet, of any kind.
 #[derive(Clone, Copy, Debug, PartialEq, Eq)]

@@ -3,8 +3,8 @@
 use std::fmt::{self, Display, Formatter, Write};
 use thiserror::Error;
 
-/// The first fault of the bytes: `TooLong` is looked at first, then the others in the order of their numbers
-/// (RFC 2328, section 8.2).
+/// The first fault of the bytes: `TooLong` is looked at first, then the others in the order of
+/// their numbers (RFC 2328, section 8.2).
 #[derive(Clone, Copy, Debug, PartialEq, Eq, Error)]
 pub enum PacketFault {
     /// Fewer than the 24 bytes of the header.
@@ -71,7 +71,8 @@ impl WriteFault {
     ghost use Rattle.std.specs.Prelude.{◌≡◌};
     ghost use Rattle.ospf_packet.specs.Text.{write_fault_text};
 
-    /// The fault as it is printed: a packet that is too long as by `PacketFault`, or that memory ran out.
+    /// The fault as it is printed: a packet that is too long as by
+    /// `PacketFault`, or that memory ran out.
     pub fn text(self) -> &'static str
         ensures { result.now ≡ write_fault_text self }
     {

@@ -4,8 +4,8 @@ use ospf_base::LSA_HEADER;
 use ospf_lsa::LsaHeader;
 use std::marker::Model;
 
-/// A walk over the LSA headers in a Database Description or a Link State Acknowledgment (RFC 2328, appendices
-/// A.3.3 and A.3.6).
+/// A walk over the LSA headers in a Database Description or a Link State Acknowledgment (RFC
+/// 2328, appendices A.3.3 and A.3.6).
 #[derive(Drop)]
 pub struct Headers<'a> {
     left: usize,

@@ -6,8 +6,8 @@ ghost use Rattle.ospf_packet.specs.Slices.{IsFirstSlice, IsSplit};
 use ospf_base::{LSA_HEADER, u16_at};
 use std::marker::Model;
 
-/// A walk over the LSAs in a Link State Update (RFC 2328, appendix A.3.5), each the slice of the packet that
-/// its length field ends.
+/// A walk over the LSAs in a Link State Update (RFC 2328, appendix A.3.5), each the slice of the
+/// packet that its length field ends.
 ///
 /// Whether a slice is a valid LSA is for `LsaView::read` to tell.
 #[derive(Drop)]

@@ -19,7 +19,8 @@ use ospf_base::{
 };
 use ospf_lsa::Attached;
 
-/// A packet that was read: what its header says, and its body, borrowed from the datagram (RFC 2328, appendix A.3).
+/// A packet that was read: what its header says, and its body, borrowed from the
+/// datagram (RFC 2328, appendix A.3).
 #[derive(Drop)]
 pub struct Packet<'a> {
     /// The router that sent it.
@@ -29,10 +30,12 @@ pub struct Packet<'a> {
 }
 
 impl<'a> Packet<'a> {
-    /// The packet that the bytes are, or their first fault (RFC 2328, section 8.2 and appendix A.3).
+    /// The packet that the bytes are, or their first fault (RFC 2328,
+    /// section 8.2 and appendix A.3).
     ///
-    /// `TooLong` is looked at first, then the other faults in the order of their numbers. The bytes of the
-    /// authentication are not looked at, and an age field above `MAX_AGE` is read as that. No memory is taken.
+    /// `TooLong` is looked at first, then the other faults in the order of their numbers. The
+    /// bytes of the authentication are not looked at, and an age field above `MAX_AGE` is
+    /// read as that. No memory is taken.
     pub fn read(bytes: &'a [u8]) -> Result<Packet<'a>, PacketFault>
         ensures ok { IfOk result (λ p. packet_of bytes.now ≡ Some (said p)) }
         ensures valid { OnOk result (IsPacket bytes.now) }

@@ -21,11 +21,11 @@ use crate::value::{BodyValue, PacketValue};
 use ospf_base::{AreaId, LARGEST_PACKET, LSA_HEADER, MAX_AGE, PACKET_HEADER, RouterId, packet_sum};
 use ospf_lsa::{Lsa, LsaHeader};
 
-/// Writes a packet at the end: its checksum is right, and its authentication is zeros (RFC 2328, appendices
-/// A.3 and D.4).
+/// Writes a packet at the end: its checksum is right, and its authentication is zeros (RFC
+/// 2328, appendices A.3 and D.4).
 ///
-/// `TooLong` where the packet is longer than `LARGEST_PACKET`, else `Memory` where the output had no room for it
-/// and could not grow. The output is unchanged by each.
+/// `TooLong` where the packet is longer than `LARGEST_PACKET`, else `Memory` where the output had
+/// no room for it and could not grow. The output is unchanged by each.
 pub fn write_packet(value: &PacketValue, out: &mut Vec<u8>) -> Result<(), WriteFault>
     // The packet comes behind what stood there, and is read again as what it was made of.
     ensures ok { OnOk result (out.new.items ≡ out.old.items ++ packet_bytes (meant value.now)) }
@@ -75,7 +75,8 @@ fn body_length(body: &BodyValue) -> Option<usize>
     }
 }
 
-// The number of bytes of so many entries behind the fields of a body, unless a packet does not hold them.
+// The number of bytes of so many entries behind the fields of a body,
+// unless a packet does not hold them.
 fn entries_length(fields: usize, count: usize, size: usize) -> Option<usize>
     // The fields and the entries are those of a body.
     requires fields { fields ≤ hello_fields }
@@ -223,7 +224,8 @@ fn push_headers(out: &mut Vec<u8>, headers: &[LsaHeader])
     }
 }
 
-// The bytes of a header. By its type the age is at most `MAX_AGE`, which the reader of the bytes needs.
+// The bytes of a header. By its type the age is at most `MAX_AGE`, which
+// the reader of the bytes needs.
 fn header_bytes(header: &LsaHeader) -> [u8; 20]
     ensures bytes { result ≡ aged_bytes header.now }
     ensures fits { AgedFits header.now }

@@ -49,7 +49,8 @@ is_same d e = (d.file == e.file) && (d.link == e.link)
 abbrev pub can_be_elected : LinkEnd → Bool
 can_be_elected e = nat_lt 0 e.priority
 
--- an InfTransDelay by which an LSA becomes another instance as it is sent (RFC 2328, sections 13.1 and 13.3)
+-- an InfTransDelay by which an LSA becomes another instance as it is sent
+-- (RFC 2328, sections 13.1 and 13.3)
 abbrev pub is_slow : ℕ → Bool
 is_slow delay = nat_lt max_age_diff delay
 

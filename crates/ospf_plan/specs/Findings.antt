@@ -13,11 +13,13 @@ use Rattle.ospf_plan.specs.Ends.{can_be_elected, first_around, first_at, first_a
 -- the faults that are looked for at each interface, in the order in which they are told
 abbrev pub every_fault : List AreaFault
 every_fault =
-    fault.SameRouter ∷ fault.SameAddress ∷ fault.Area ∷ fault.Kind ∷ fault.Hello ∷ fault.Dead ∷ fault.Mtu ∷ fault.Mask ∷ fault.Crowded
+    fault.SameRouter ∷ fault.SameAddress ∷ fault.Area ∷ fault.Kind ∷ fault.Hello ∷ fault.Dead
+    ∷ fault.Mtu ∷ fault.Mask ∷ fault.Crowded
     ∷ fault.NoDr ∷ fault.Cost ∷ fault.Alone ∷ fault.Delay ∷ fault.SamePort ∷ []
 
--- what stands around an interface: the first of its router's Router ID, the first with its address, on its network the first three and the
--- first that can be elected and that is slow, the first on the shortest network of fewer bits that holds its address, and the first with its port
+-- what stands around an interface: the first of its router's Router ID, the first with its address,
+-- on its network the first three and the first that can be elected and that is slow, the first on
+-- the shortest network of fewer bits that holds its address, and the first with its port
 abbrev pub around_of : List LinkEnd → LinkEnd → Surroundings
 around_of ends e =
     let q = network_key e.address in
@@ -61,7 +63,8 @@ is_wrong fault.Dead a d e = not (d.dead == e.dead)
 is_wrong fault.Mtu a d e = not (d.mtu == e.mtu)
 is_wrong fault.Mask a d e = true
 is_wrong fault.Crowded a d e = is_found a.first e && same_kind e.kind PointToPoint
-is_wrong fault.NoDr a d e = is_found a.first e && same_kind e.kind Broadcast && not (is_some a.elector)
+is_wrong fault.NoDr a d e =
+    is_found a.first e && same_kind e.kind Broadcast && not (is_some a.elector)
 is_wrong fault.OneSided a d e = false
 is_wrong fault.Astray a d e = false
 is_wrong (fault.Nowhere peer) a d e = false
@@ -74,7 +77,10 @@ is_wrong fault.SamePort a d e = is_some e.port && not (is_same d e)
 
 -- the finding, where the other interface is there and the fault is between the two
 abbrev pub found : Surroundings → LinkEnd → AreaFault → Option Finding
-found a e f = option_and_then (λ d. if is_wrong f a d e then Some (record { fault = f; other = d; here = e }) else None) (other_of f a)
+found a e f =
+    option_and_then
+    (λ d. if is_wrong f a d e then Some (record { fault = f; other = d; here = e }) else None)
+    (other_of f a)
 
 -- what is found at an interface, in the order of the faults
 abbrev pub found_at : List LinkEnd → LinkEnd → List Finding

@@ -16,17 +16,23 @@ use Rattle.ospf_plan.specs.Unheard.{are_silent, is_outward, is_plugged, unheard_
 use Rattle.ospf_plan.specs.Parts.{AreFindings, IsWay, apart_in, first_of_all}
 use Rattle.ospf_plan.specs.Findings.{around_of, found_in, is_wrong, other_of}
 
--- the finding holds: its interface is one of these, its other is whom the fault is about, and the fault is between the two
+-- the finding holds: its interface is one of these, its other is whom the fault is about,
+-- and the fault is between the two
 pub record FindingHolds (ends : List LinkEnd) (f : Finding) : Type 0 where
   pub here : Contains ends f.here
   pub other : other_of f.fault (around_of ends f.here) ≡ Some f.other
   pub wrong : is_wrong f.fault (around_of ends f.here) f.other f.here ≡ true
 
--- the fault holds of a wire: no interface has its port, or that which has it is on another network, or does not send back
-pub data IsFaultOfWire (ends : List LinkEnd) (wires : List PeerWire) (w : PeerWire) : AreaFault → LinkEnd → Type 0 where
-  to_nobody : first_at_port ends w.peer ≡ None → IsFaultOfWire ends wires w (fault.Nowhere w.peer) w.end
-  to_another_network : (d : LinkEnd) → first_at_port ends w.peer ≡ Some d → is_beside d w.end ≡ false → IsFaultOfWire ends wires w fault.Astray d
-  to_silence : (d : LinkEnd) → first_at_port ends w.peer ≡ Some d → is_beside d w.end ≡ true → is_wired wires (wire_key d (port_of w.end)) ≡ false
+-- the fault holds of a wire: no interface has its port, or that which has it is on another
+-- network, or does not send back
+pub data IsFaultOfWire (ends : List LinkEnd) (wires : List PeerWire) (w : PeerWire)
+    : AreaFault → LinkEnd → Type 0 where
+  to_nobody : first_at_port ends w.peer ≡ None
+      → IsFaultOfWire ends wires w (fault.Nowhere w.peer) w.end
+  to_another_network : (d : LinkEnd) → first_at_port ends w.peer ≡ Some d
+      → is_beside d w.end ≡ false → IsFaultOfWire ends wires w fault.Astray d
+  to_silence : (d : LinkEnd) → first_at_port ends w.peer ≡ Some d → is_beside d w.end ≡ true
+      → is_wired wires (wire_key d (port_of w.end)) ≡ false
       → IsFaultOfWire ends wires w fault.OneSided d
 
 -- the finding holds of a wire of its interface
@@ -40,7 +46,8 @@ pub record HoldsOfWire (ends : List LinkEnd) (wires : List PeerWire) (f : Findin
 abbrev pub IsAhead : LinkEnd → LinkEnd → Type 0
 IsAhead d e = (d.file < e.file) ⊎ ((d.file ≡ e.file) × (d.link < e.link))
 
--- d is an earlier interface of the network of e, each is the first with its port, and neither sends to the other; nor do both send outward
+-- d is an earlier interface of the network of e, each is the first with its port, and neither sends
+-- to the other; nor do both send outward
 pub record IsUnheard (ends : List LinkEnd) (wires : List PeerWire) (d e : LinkEnd) : Type 0 where
   pub here : Contains ends e
   pub other : Contains ends d
@@ -48,7 +55,8 @@ pub record IsUnheard (ends : List LinkEnd) (wires : List PeerWire) (d e : LinkEn
   pub plugged_other : is_plugged (first_at_port ends) d ≡ true
   pub ahead : IsAhead d e
   pub beside : is_beside d e ≡ true
-  pub hearing : (is_outward (first_at_port ends) wires d && is_outward (first_at_port ends) wires e) ≡ false
+  pub hearing :
+      (is_outward (first_at_port ends) wires d && is_outward (first_at_port ends) wires e) ≡ false
   pub silent : are_silent (is_wired wires) d e ≡ true
 
 -- the finding holds of two interfaces, and its other is the first that it holds of
@@ -57,7 +65,8 @@ pub record HoldsUnheard (ends : List LinkEnd) (wires : List PeerWire) (f : Findi
   pub unheard : IsUnheard ends wires f.other f.here
   pub first : (d : LinkEnd) → IsUnheard ends wires d f.here → (f.other ≡ d) ⊎ IsAhead f.other d
 
--- the finding holds of a file: no way leads there from the first, and its interface is the first of it
+-- the finding holds of a file: no way leads there from the first, and
+-- its interface is the first of it
 pub record HoldsApart (ends : List LinkEnd) (f : Finding) : Type 0 where
   pub fault : f.fault ≡ fault.Apart
   pub here : Contains ends f.here
@@ -65,11 +74,14 @@ pub record HoldsApart (ends : List LinkEnd) (f : Finding) : Type 0 where
   pub other : first_of_all ends ≡ Some f.other
   pub apart : IsWay ends 0 f.here.file → ⊥
 
--- what is told of configurations is what holds of their interfaces, of who sends to whom, of who does not hear whom, and of the parts of the area
+-- what is told of configurations is what holds of their interfaces, of who sends to whom, of who
+-- does not hear whom, and of the parts of the area
 abbrev pub TellsExactly : Type 0
 TellsExactly =
     (configs : List Config) (fs : List Finding) (f : Finding) → AreFindings configs fs
-    → Contains fs f ↔ (((FindingHolds (ends_of configs) f ⊎ HoldsOfWire (ends_of configs) (wires_of configs) f) ⊎ HoldsUnheard (ends_of configs) (wires_of configs) f)
+    → Contains fs f
+    ↔ (((FindingHolds (ends_of configs) f ⊎ HoldsOfWire (ends_of configs) (wires_of configs) f)
+    ⊎ HoldsUnheard (ends_of configs) (wires_of configs) f)
     ⊎ HoldsApart (ends_of configs) f)
 
 -- of each two of which neither hears the other the later one is told
@@ -109,7 +121,9 @@ area_fault_number fault.Unheard = 19
 
 -- of an earlier interface, or of the same and of a fault of lesser number
 abbrev pub IsFindingBefore : Finding → Finding → Type 0
-IsFindingBefore f g = IsAhead f.here g.here ⊎ ((f.here ≡ g.here) × (area_fault_number f.fault < area_fault_number g.fault))
+IsFindingBefore f g =
+    IsAhead f.here g.here
+    ⊎ ((f.here ≡ g.here) × (area_fault_number f.fault < area_fault_number g.fault))
 
 -- what is told of interfaces is told in order, and so once
 abbrev pub TellsInOrder : Type 0
@@ -121,15 +135,22 @@ IsNotBehind f g = IsAhead f.here g.here ⊎ (f.here ≡ g.here)
 
 -- what is told of who sends to whom is told in the order of the interfaces
 abbrev pub TellsWiresInOrder : Type 0
-TellsWiresInOrder = (configs : List Config) → IsRisingBy IsNotBehind (wire_faults_in (ends_of configs) (wires_of configs))
+TellsWiresInOrder =
+    (configs : List Config)
+    → IsRisingBy IsNotBehind (wire_faults_in (ends_of configs) (wires_of configs))
 
 -- what is told of who does not hear whom is told in the order of the interfaces, and so once
 abbrev pub TellsUnheardInOrder : Type 0
-TellsUnheardInOrder = (configs : List Config) → IsRisingBy (λ (f g : Finding). IsAhead f.here g.here) (unheard_in (ends_of configs) (wires_of configs))
+TellsUnheardInOrder =
+    (configs : List Config)
+    → IsRisingBy (λ (f g : Finding). IsAhead f.here g.here)
+    (unheard_in (ends_of configs) (wires_of configs))
 
 -- what is told of the parts of the area is told in the order of the files, and so once
 abbrev pub TellsPartsInOrder : Type 0
-TellsPartsInOrder = (configs : List Config) (reached : ℕ → Bool) → IsRisingBy (λ (f g : Finding). IsAhead f.here g.here) (apart_in reached (ends_of configs))
+TellsPartsInOrder =
+    (configs : List Config) (reached : ℕ → Bool)
+    → IsRisingBy (λ (f g : Finding). IsAhead f.here g.here) (apart_in reached (ends_of configs))
 
 -- ---- Hellos
 
@@ -144,23 +165,32 @@ pub record IsIfaceOf (e : LinkEnd) (i : Iface) : Type 0 where
 abbrev pub IsOfHellos : AreaFault → Type 0
 IsOfHellos f = (f ≡ fault.Hello) ⊎ (f ≡ fault.Dead)
 
--- the interface does not agree with any Hello that the other sends (RFC 2328, sections 9.5 and 10.5)
+-- the interface does not agree with any Hello that the other sends
+-- (RFC 2328, sections 9.5 and 10.5)
 abbrev pub RefusesHellos : LinkEnd → LinkEnd → Type 0
-RefusesHellos e d = (i j : Iface) (h : Hello) → IsIfaceOf e i → IsIfaceOf d j → AreFieldsOf j h → Agrees i h → ⊥
+RefusesHellos e d =
+    (i j : Iface) (h : Hello) → IsIfaceOf e i → IsIfaceOf d j → AreFieldsOf j h → Agrees i h → ⊥
 
 -- it agrees with each
 abbrev pub TakesHellos : LinkEnd → LinkEnd → Type 0
-TakesHellos e d = (i j : Iface) (h : Hello) → IsIfaceOf e i → IsIfaceOf d j → AreFieldsOf j h → Agrees i h
+TakesHellos e d =
+    (i j : Iface) (h : Hello) → IsIfaceOf e i → IsIfaceOf d j → AreFieldsOf j h → Agrees i h
 
 -- of two interfaces of which a fault of Hellos is told, each refuses the other's
 abbrev pub ToldRefuse : Type 0
-ToldRefuse = (ends : List LinkEnd) (f : Finding) → Contains (found_in ends) f → IsOfHellos f.fault → RefusesHellos f.here f.other × RefusesHellos f.other f.here
+ToldRefuse =
+    (ends : List LinkEnd) (f : Finding) → Contains (found_in ends) f → IsOfHellos f.fault
+    → RefusesHellos f.here f.other × RefusesHellos f.other f.here
 
 -- no fault of Hellos is told of an interface on the network
 abbrev pub NoneTold : List LinkEnd → ℕ × ℕ → Type 0
-NoneTold ends q = (f : Finding) → Contains (found_in ends) f → IsOfHellos f.fault → network_key f.here.address ≡ q → ⊥
+NoneTold ends q =
+    (f : Finding) → Contains (found_in ends) f → IsOfHellos f.fault → network_key f.here.address ≡ q
+    → ⊥
 
 -- of a network of which none is told, each two interfaces take each other's Hellos
 abbrev pub OthersTake : Type 0
-OthersTake = (ends : List LinkEnd) (d e : LinkEnd) → Contains ends d → Contains ends e → network_key d.address ≡ network_key e.address → NoneTold ends (network_key e.address)
+OthersTake =
+    (ends : List LinkEnd) (d e : LinkEnd) → Contains ends d → Contains ends e
+    → network_key d.address ≡ network_key e.address → NoneTold ends (network_key e.address)
     → TakesHellos d e

@@ -1,4 +1,5 @@
--- The parts that an area falls into: which routers are joined by links on which their interfaces agree.
+-- The parts that an area falls into: which routers are joined by links
+-- on which their interfaces agree.
 use Rattle.std.specs.Prelude.{◌≡◌, ◌==◌, ◌&&◌, ◌↔◌, not, ℕ, Bool, true, List, ◌++◌, Contains, Option, Some, None, if◌then◌else◌, option_and_then, option_map, slice_get}
 use Rattle.std.specs.List.{filter_map, find}
 use Rattle.std.specs.BTreeMap as tree
@@ -24,19 +25,21 @@ abbrev pub kind_number : InterfaceKind → ℕ
 kind_number PointToPoint = 0
 kind_number Broadcast = 1
 
--- what the interfaces of one link have in common: the network, the area, the kind, HelloInterval, RouterDeadInterval and the MTU
--- (RFC 2328, sections 8.2, 10.5 and 10.6)
+-- what the interfaces of one link have in common: the network, the area, the kind, HelloInterval,
+-- RouterDeadInterval and the MTU (RFC 2328, sections 8.2, 10.5 and 10.6)
 abbrev pub LinkKey : Type 0
 LinkKey = ℕ × ℕ × ℕ × ℕ × ℕ × ℕ × ℕ
 
 -- the link of an interface: prefix, area, kind, intervals and MTU, on which its ends agree
 abbrev pub link_of : LinkEnd → LinkKey
-link_of e = (e.address.length, network_part e.address, e.area.0, kind_number e.kind, e.hello, e.dead, e.mtu)
+link_of e =
+    (e.address.length, network_part e.address, e.area.0, kind_number e.kind, e.hello, e.dead, e.mtu)
 
 -- from one file to another by interfaces of one link each
 pub data IsWay (ends : List LinkEnd) (r : ℕ) : ℕ → Type 0 where
   stay : IsWay ends r r
-  cross : (d e : LinkEnd) → Contains ends d → Contains ends e → link_of d ≡ link_of e → IsWay ends r d.file → IsWay ends r e.file
+  cross : (d e : LinkEnd) → Contains ends d → Contains ends e → link_of d ≡ link_of e
+      → IsWay ends r d.file → IsWay ends r e.file
 
 -- these files are reached from the first
 abbrev pub AreReached : List LinkEnd → (ℕ → Bool) → Type 0
@@ -54,25 +57,31 @@ is_apart reached e = (e.link == 0) && not (reached e.file)
 
 -- the finding that it is
 abbrev pub apart : (ℕ → Bool) → Option LinkEnd → LinkEnd → Option Finding
-apart reached first e = option_and_then (λ d. if is_apart reached e then Some (record { fault = fault.Apart; other = d; here = e }) else None) first
+apart reached first e =
+    option_and_then
+    (λ d. if is_apart reached e then Some (record { fault = fault.Apart; other = d; here = e })
+    else None) first
 
 -- the files that are not reached, in order
 abbrev pub apart_in : (ℕ → Bool) → List LinkEnd → List Finding
 apart_in reached ends = filter_map (apart reached (first_of_all ends)) ends
 
--- what is wrong between configurations: of their interfaces in order, then of who sends to whom, then of interfaces that do not hear each other,
--- and then of the parts of the area
+-- what is wrong between configurations: of their interfaces in order, then of who sends to whom,
+-- then of interfaces that do not hear each other, and then of the parts of the area
 pub record AreFindings (configs : List Config) (fs : List Finding) : Type 0 where
   pub reached : ℕ → Bool
   pub are_reached : AreReached (ends_of configs) reached
   pub told : fs ≡
-      ((found_in (ends_of configs) ++ wire_faults_in (ends_of configs) (wires_of configs)) ++ unheard_in (ends_of configs) (wires_of configs)) ++ apart_in reached (ends_of configs)
+      ((found_in (ends_of configs) ++ wire_faults_in (ends_of configs) (wires_of configs))
+      ++ unheard_in (ends_of configs) (wires_of configs)) ++ apart_in reached (ends_of configs)
 
 -- ---- how it is found
 
 -- the two are one link
 abbrev pub same_link : LinkKey → LinkKey → Bool
-same_link k q = ((((((k.0 == q.0) && (k.1 == q.1)) && (k.2 == q.2)) && (k.3 == q.3)) && (k.4 == q.4)) && (k.5 == q.5)) && (k.6 == q.6)
+same_link k q =
+    ((((((k.0 == q.0) && (k.1 == q.1)) && (k.2 == q.2)) && (k.3 == q.3)) && (k.4 == q.4))
+    && (k.5 == q.5)) && (k.6 == q.6)
 
 -- the first of the interfaces of the link
 abbrev pub first_linked : List LinkEnd → LinkKey → Option LinkEnd
@@ -81,8 +90,14 @@ first_linked ends k = find (λ e. same_link (link_of e) k) ends
 -- how links are ordered
 abbrev pub link_cmp : LinkKey → LinkKey → Ordering
 link_cmp a b =
-    ordering_then (ordering_then (ordering_then (ordering_then (ordering_then (ordering_then (nat_cmp a.0 b.0) (nat_cmp a.1 b.1))
-    (nat_cmp a.2 b.2)) (nat_cmp a.3 b.3)) (nat_cmp a.4 b.4)) (nat_cmp a.5 b.5)) (nat_cmp a.6 b.6)
+    ordering_then (ordering_then (ordering_then (ordering_then (ordering_then (ordering_then
+    (nat_cmp a.0 b.0)
+    (nat_cmp a.1 b.1))
+    (nat_cmp a.2 b.2))
+    (nat_cmp a.3 b.3))
+    (nat_cmp a.4 b.4))
+    (nat_cmp a.5 b.5))
+    (nat_cmp a.6 b.6)
 
 -- what a map has of a link
 abbrev pub linked_in : tree.BTreeMap LinkKey LinkEnd → LinkKey → Option LinkEnd

@@ -40,20 +40,36 @@ is_note _ = false
 
 -- what follows from a fault
 abbrev pub meaning_text : AreaFault → List ℕ
-meaning_text fault.SameRouter = codes "each drops the other's packets as its own, and each flushes the other's LSAs (RFC 2328, sections 8.2 and 13.4)"
-meaning_text fault.SameAddress = codes "what is sent to the address may come to either; as neighbours each is the other's next hop at its own address (section 16.1.1)"
+meaning_text fault.SameRouter =
+    codes
+    "each drops the other's packets as its own, and each flushes the other's LSAs (RFC 2328, sections 8.2 and 13.4)"
+meaning_text fault.SameAddress =
+    codes
+    "what is sent to the address may come to either; as neighbours each is the other's next hop at its own address (section 16.1.1)"
 meaning_text fault.Area = codes "each drops the other's packets (section 8.2)"
-meaning_text fault.Kind = codes "one elects a Designated Router and the other does not: they may become Full, and no route leads over the network (sections 9.4 and 16.1)"
-meaning_text fault.Hello = codes "each drops the other's Hellos: they never become neighbours (section 10.5)"
-meaning_text fault.Dead = codes "each drops the other's Hellos: they never become neighbours (section 10.5)"
-meaning_text fault.Mtu = codes "the one of the smaller MTU drops the other's Database Descriptions: they never become Full (section 10.6)"
-meaning_text fault.Mask = codes "their networks overlap and are two: neither hears the other (sections 8.2 and 10.5)"
-meaning_text fault.Crowded = codes "each end takes the first router that it hears for its only neighbour (section 8.2)"
-meaning_text fault.NoDr = codes "no Designated Router is elected: nobody becomes adjacent (sections 9.4 and 10.4)"
-meaning_text fault.OneSided = codes "in `run` one hears the other and is not heard: they never pass Init (section 10.5)"
+meaning_text fault.Kind =
+    codes
+    "one elects a Designated Router and the other does not: they may become Full, and no route leads over the network (sections 9.4 and 16.1)"
+meaning_text fault.Hello =
+    codes "each drops the other's Hellos: they never become neighbours (section 10.5)"
+meaning_text fault.Dead =
+    codes "each drops the other's Hellos: they never become neighbours (section 10.5)"
+meaning_text fault.Mtu =
+    codes
+    "the one of the smaller MTU drops the other's Database Descriptions: they never become Full (section 10.6)"
+meaning_text fault.Mask =
+    codes "their networks overlap and are two: neither hears the other (sections 8.2 and 10.5)"
+meaning_text fault.Crowded =
+    codes "each end takes the first router that it hears for its only neighbour (section 8.2)"
+meaning_text fault.NoDr =
+    codes "no Designated Router is elected: nobody becomes adjacent (sections 9.4 and 10.4)"
+meaning_text fault.OneSided =
+    codes "in `run` one hears the other and is not heard: they never pass Init (section 10.5)"
 meaning_text fault.Cost = codes "the ways there and back may differ"
 meaning_text fault.Alone = codes "the network is a stub"
-meaning_text fault.Delay = codes "what one sends comes back older than it is known: they may never become Full, and send to each other without end (sections 13.1 and 13.3)"
+meaning_text fault.Delay =
+    codes
+    "what one sends comes back older than it is known: they may never become Full, and send to each other without end (sections 13.1 and 13.3)"
 meaning_text fault.SamePort = codes "a port is opened once: `run` ends where it is opened again"
 meaning_text fault.Astray = codes "in `run` packets of another network are dropped (section 8.2)"
 meaning_text (fault.Nowhere peer) = codes "no router of these files hears what is sent there"
@@ -82,7 +98,8 @@ value_text fault.SamePort e = port_text e.port
 value_text fault.Astray e = port_text e.port
 value_text fault.Unheard e = port_text e.port
 value_text (fault.Nowhere peer) e = codes "peers " ++ decimal peer
-value_text _ e = codes "address " ++ number_text e.address.address.0 ++ codes "/" ++ decimal e.address.length
+value_text _ e =
+    codes "address " ++ number_text e.address.address.0 ++ codes "/" ++ decimal e.address.length
 
 -- where the value stands: at the top, or at an interface
 abbrev pub place_text : AreaFault → LinkEnd → List ℕ
@@ -100,9 +117,12 @@ other_text fault.Alone e name = []
 other_text (fault.Nowhere peer) e name = []
 other_text f e name = codes ", " ++ name ++ codes ": " ++ side_text f e
 
--- as `b.toml: A5 Hello: interface 1: hello 5, a.toml: interface 0: hello 10`, by the names of the two files
+-- as `b.toml: A5 Hello: interface 1: hello 5, a.toml: interface 0: hello
+-- 10`, by the names of the two files
 abbrev pub finding_text : Finding → (here other : List ℕ) → List ℕ
-finding_text f here other = (here ++ codes ": " ++ area_fault_text f.fault ++ codes ": ") ++ side_text f.fault f.here ++ other_text f.fault f.other other
+finding_text f here other =
+    (here ++ codes ": " ++ area_fault_text f.fault ++ codes ": ") ++ side_text f.fault f.here
+    ++ other_text f.fault f.other other
 
 -- what is told of a finding
 abbrev pub told_text : NamedFinding → List ℕ

@@ -19,7 +19,8 @@ wires_from e i = map (λ (p : Port). record { end = e; peer = p.number }) i.peer
 
 -- what the interfaces of a configuration send to, in order
 abbrev pub wires_at : ℕ × Config → List PeerWire
-wires_at f = flat_map (λ i. wires_from (link_end_of f i) i.1) (enumerate_from 0 f.1.interfaces.items)
+wires_at f =
+    flat_map (λ i. wires_from (link_end_of f i) i.1) (enumerate_from 0 f.1.interfaces.items)
 
 -- what those of all configurations send to, in order
 abbrev pub wires_of : List Config → List PeerWire
@@ -41,7 +42,8 @@ is_wired wires q = list_any (λ w. same_wire (wire_key w.end w.peer) q) wires
 abbrev pub is_beside : LinkEnd → LinkEnd → Bool
 is_beside d e = same_network (network_key d.address) (network_key e.address)
 
--- what is wrong where an interface sends to the interface d: that one is not on its network, or does not send to it
+-- what is wrong where an interface sends to the interface d: that one is not on its
+-- network, or does not send to it
 abbrev pub fault_between : (ℕ × ℕ × ℕ → Bool) → LinkEnd → LinkEnd → Option AreaFault
 fault_between wired d e =
     if not (is_beside d e) then Some fault.Astray
@@ -50,8 +52,10 @@ fault_between wired d e =
 
 -- what is wrong with a wire that leads to the interface, or to none
 abbrev pub fault_behind : (ℕ × ℕ × ℕ → Bool) → PeerWire → Option LinkEnd → Option Finding
-fault_behind wired w None = Some (record { fault = fault.Nowhere w.peer; other = w.end; here = w.end })
-fault_behind wired w (Some d) = option_map (λ f. record { fault = f; other = d; here = w.end }) (fault_between wired d w.end)
+fault_behind wired w None =
+    Some (record { fault = fault.Nowhere w.peer; other = w.end; here = w.end })
+fault_behind wired w (Some d) =
+    option_map (λ f. record { fault = f; other = d; here = w.end }) (fault_between wired d w.end)
 
 -- what is wrong with a wire
 abbrev pub wire_fault : (ℕ → Option LinkEnd) → (ℕ × ℕ × ℕ → Bool) → PeerWire → Option Finding
@@ -65,7 +69,10 @@ wire_faults_in ends wires = filter_map (wire_fault (first_at_port ends) (is_wire
 
 -- the set has this wire
 abbrev pub has_wire : sorted.BTreeSet (ℕ × ℕ × ℕ) → ℕ × ℕ × ℕ → Bool
-has_wire s q = sorted.contains (λ (a b : ℕ × ℕ × ℕ). ordering_then (ordering_then (nat_cmp a.0 b.0) (nat_cmp a.1 b.1)) (nat_cmp a.2 b.2)) s q
+has_wire s q =
+    sorted.contains
+    (λ (a b : ℕ × ℕ × ℕ). ordering_then (ordering_then (nat_cmp a.0 b.0) (nat_cmp a.1 b.1))
+    (nat_cmp a.2 b.2)) s q
 
 -- the set has these wires and no others
 abbrev pub AreHeard : sorted.BTreeSet (ℕ × ℕ × ℕ) → List PeerWire → Type 0

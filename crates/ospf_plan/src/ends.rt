@@ -7,7 +7,7 @@ use ospf_base::{AreaId, InterfaceKind, RouterId};
 use ospf_config::{Config, Interface, InterfaceAddress, Port};
 use std::alloc::{AllocError, Global};
 
-// MaxAgeDiff in ticks: two ages that lie further apart are not those of one instance (RFC 2328, appendix B).
+// MaxAgeDiff in ticks: ages further apart are not those of one instance (RFC 2328, appendix B).
 const MAX_AGE_DIFF: u16 = 900;
 
 /// An interface of one of the configurations, as the others of its network see it.
@@ -31,8 +31,8 @@ pub struct LinkEnd {
     pub port: Option<Port>,
 }
 
-/// Whether an InfTransDelay, in ticks, is over MaxAgeDiff: an LSA that is sent is then so much older that it is no longer
-/// taken for the same instance (RFC 2328, sections 13.1 and 13.3).
+/// Whether an InfTransDelay, in ticks, is over MaxAgeDiff: an LSA that is sent is then so much
+/// older that it is no longer taken for the same instance (RFC 2328, sections 13.1 and 13.3).
 pub fn is_slow(transmit_delay: u16) -> bool
     ensures { result ≡ is_slow transmit_delay }
 {

@@ -28,7 +28,7 @@ pub enum AreaFault {
     Crowded,
     /// A broadcast network has nobody who can be Designated Router.
     NoDr,
-    /// An interface sends to another of its network, which does not send to it (`port` and `peers`).
+    /// An interface sends to another, which does not send to it (`port` and `peers`).
     OneSided,
     /// The two ends of a point-to-point network have two costs. This is a note, and no fault.
     Cost,
@@ -40,11 +40,11 @@ pub enum AreaFault {
     SamePort,
     /// An interface sends to a UDP port of an interface that is not on its network (`peers`).
     Astray,
-    /// An interface sends to this UDP port, which no interface has (`peers`). This is a note, and no fault.
+    /// An interface sends to this UDP port, which none has (`peers`): a note, and no fault.
     Nowhere(u16),
     /// No way of links on which interfaces agree leads to the router from the first.
     Apart,
-    /// Two interfaces of a network have UDP ports, and neither sends to that of the other (`peers`).
+    /// Two interfaces of a network have UDP ports, and neither sends to the other's (`peers`).
     Unheard,
 }
 

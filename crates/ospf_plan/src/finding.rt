@@ -50,9 +50,10 @@ pub(crate) struct Surroundings {
     pub(crate) plug: Option<LinkEnd>,
 }
 
-/// What is wrong between the configurations of one area: in the order of the configurations and of their interfaces, and
-/// for each interface in the order of the faults; then, in the same order, of who sends to whom, and which interfaces do
-/// not hear each other; and then which routers are not reached from the first.
+/// What is wrong between the configurations of one area: in the order of the configurations and
+/// of their interfaces, and for each interface in the order of the faults; then, in the same
+/// order, of who sends to whom, and which interfaces do not hear each other; and then which
+/// routers are not reached from the first.
 ///
 /// `AllocError` where memory runs out.
 pub fn findings(alloc: Global, configs: &[Config]) -> Result<Vec<Finding>, AllocError>

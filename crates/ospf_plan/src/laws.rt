@@ -7,8 +7,7 @@ pub fn tells_exactly()
     ensures { TellsExactly }
 {}
 
-/// What `findings` tells of interfaces stands in the order of the configurations, of their interfaces and of the faults,
-/// each once.
+/// `findings` tells of interfaces in the order of configurations, interfaces and faults, each once.
 pub fn tells_in_order()
     ensures { TellsInOrder }
 {}
@@ -18,23 +17,24 @@ pub fn tells_wires_in_order()
     ensures { TellsWiresInOrder }
 {}
 
-/// `findings` tells the later of each two interfaces of which neither hears the other, in order, each once.
+/// `findings` tells the later of two interfaces of which neither hears the other, each once.
 pub fn tells_unheard()
     ensures each { TellsEachUnheard }
     ensures in_order { TellsUnheardInOrder }
 {}
 
-/// What `findings` tells of the parts of the area stands in the order of the configurations, each once.
+/// `findings` tells the parts of the area in the order of the configurations, each once.
 pub fn tells_parts_in_order()
     ensures { TellsPartsInOrder }
 {}
 
-/// Of two interfaces of which `A5 Hello` or `A6 Dead` is told, `Iface::agrees` refuses each Hello of the one at the other.
+/// Of two interfaces of which `A5 Hello` or `A6 Dead` is told, `Iface::agrees` refuses each
+/// Hello of the one at the other.
 pub fn told_refuse()
     ensures { ToldRefuse }
 {}
 
-/// Of a network of which neither is told, `Iface::agrees` takes each Hello of one interface at each other.
+/// Where neither is told of a network, `Iface::agrees` takes each Hello of one at each other.
 pub fn others_take()
     ensures { OthersTake }
 {}

@@ -27,7 +27,7 @@ pub(crate) struct Near {
     inward: Members,
 }
 
-// Adds the interfaces that have to hear an earlier one and of which neither sends to the other, in order.
+// Adds, in order, the interfaces that have to hear an earlier one, where neither sends to it.
 pub(crate) fn push_unheard(
     alloc: Global,
     findings: &mut Vec<Finding>,

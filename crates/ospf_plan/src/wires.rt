@@ -107,7 +107,7 @@ pub(crate) fn push_wire_faults(
     Ok(())
 }
 
-// What is wrong with a wire: nobody is where it leads, or one of another network, or one that does not send back.
+// What is wrong with a wire: nobody is at its end, or one elsewhere, or one that sends not back.
 fn wire_fault(
     ports: &BTreeMap<u32, LinkEnd>,
     heard: &BTreeSet<WireKey>,
@@ -127,7 +127,7 @@ fn wire_fault(
     Some(Finding { fault, other, here })
 }
 
-// What is wrong where an interface sends to another: that one is not on its network, or does not send to it.
+// What is wrong where one sends to another: it is not on its network, or does not send to it.
 fn fault_between(heard: &BTreeSet<WireKey>, other: &LinkEnd, here: &LinkEnd) -> Option<AreaFault>
     ensures { result ≡ fault_between (has_wire heard.now) other.now here.now }
 {

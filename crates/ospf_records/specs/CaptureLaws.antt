@@ -12,10 +12,13 @@ use Rattle.ospf_records.specs.declared.moment.Moment.{Moment}
 
 -- the words of a header, its checksum among them, sum to all ones
 abbrev pub ChecksumHolds : Type 0
-ChecksumHolds = (size source destination : ℕ) → size ≤ largest_ip_packet → source < 2 ^ 32 → destination < 2 ^ 32
+ChecksumHolds =
+    (size source destination : ℕ) → size ≤ largest_ip_packet → source < 2 ^ 32
+    → destination < 2 ^ 32
     → ones_complement_sum (sum (words (ip_header_bytes size source destination))) ≡ 65535
 
--- what a record and the IP header in it tell of lengths: the bytes kept, the bytes there were, the Total Length
+-- what a record and the IP header in it tell of lengths: the bytes kept, the
+-- bytes there were, the Total Length
 pub record TellsLengths (recorded packet : List ℕ) : Type 0 where
   pub behind : drop 16 recorded ≡ packet
   pub kept : number_at 8 4 recorded ≡ length packet
@@ -24,9 +27,14 @@ pub record TellsLengths (recorded packet : List ℕ) : Type 0 where
 
 -- the law: where a datagram is none too long, the capture tells its lengths
 abbrev pub LengthsAreTold : Type 0
-LengthsAreTold = (at : Moment) (source destination : Addr) (ospf : List ℕ) → ip_header + length ospf ≤ largest_ip_packet
-    → TellsLengths (datagram_bytes at source destination ospf) (captured at source destination ospf).packet
+LengthsAreTold =
+    (at : Moment) (source destination : Addr) (ospf : List ℕ)
+    → ip_header + length ospf ≤ largest_ip_packet
+    → TellsLengths (datagram_bytes at source destination ospf)
+    (captured at source destination ospf).packet
 
 -- a file is the capture of one list of packets and no other
 abbrev pub HasOneReading : Type 0
-HasOneReading = (xs ys : List Captured) → AllByRecursion CapturedFits xs → AllByRecursion CapturedFits ys → capture_bytes xs ≡ capture_bytes ys → xs ≡ ys
+HasOneReading =
+    (xs ys : List Captured) → AllByRecursion CapturedFits xs → AllByRecursion CapturedFits ys
+    → capture_bytes xs ≡ capture_bytes ys → xs ≡ ys

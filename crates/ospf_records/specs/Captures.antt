@@ -18,7 +18,8 @@ is_by number t = nat_le t.sent number
 
 -- the second of the datagram of this number: how many ticks its router had taken by then
 unfoldable pub second_of : List Ticked → ℕ × Datagram → ℕ
-second_of ticks sent = capped (count_by (is_tick_of sent.1.router.0) (take_while (is_by sent.0) ticks))
+second_of ticks sent =
+    capped (count_by (is_tick_of sent.1.router.0) (take_while (is_by sent.0) ticks))
 
 -- the datagrams with their numbers, and the seconds of all of them
 abbrev pub numbered_datagrams : List Datagram → List (ℕ × Datagram)
@@ -38,19 +39,27 @@ within_second n = if nat_lt n last_microsecond then n else last_microsecond
 
 -- the microsecond of a datagram: how many before it are of its second, as far as the second goes
 unfoldable pub microsecond_of : List Ticked → List Datagram → ℕ × Datagram → ℕ
-microsecond_of ticks datagrams sent = within_second (count_by (λ s. s == second_of ticks sent) (take sent.0 (seconds ticks datagrams)))
+microsecond_of ticks datagrams sent =
+    within_second
+    (count_by (λ s. s == second_of ticks sent) (take sent.0 (seconds ticks datagrams)))
 
 -- a datagram as it is captured at a moment; one that fits into no IP packet is left out
 unfoldable pub captured_at : ℕ → ℕ → Datagram → List Captured
 captured_at second microsecond g =
     if nat_le (ip_header + length g.sent.bytes) largest_ip_packet
-    then record { seconds = second; microseconds = microsecond; packet = ip_packet g.sent.source.0 g.sent.destination.0 g.sent.bytes } ∷ []
+    then record {
+      seconds = second;
+      microseconds = microsecond;
+      packet = ip_packet g.sent.source.0 g.sent.destination.0 g.sent.bytes;
+    } ∷ []
     else []
 
 -- a datagram as it is captured, at its moment
 abbrev pub captured_of : List Ticked → List Datagram → ℕ × Datagram → List Captured
-captured_of ticks datagrams sent = captured_at (second_of ticks sent) (microsecond_of ticks datagrams sent) sent.1
+captured_of ticks datagrams sent =
+    captured_at (second_of ticks sent) (microsecond_of ticks datagrams sent) sent.1
 
 -- the capture of all datagrams, in their order
 abbrev pub capture_of : List Ticked → List Datagram → List ℕ
-capture_of ticks datagrams = capture_bytes (flat_map (captured_of ticks datagrams) (numbered_datagrams datagrams))
+capture_of ticks datagrams =
+    capture_bytes (flat_map (captured_of ticks datagrams) (numbered_datagrams datagrams))

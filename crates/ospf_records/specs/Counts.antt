@@ -21,4 +21,6 @@ count_in counts key = unwrap_or (tree.get nat_cmp counts key) 0
 
 -- one more of a key
 abbrev pub IsOneMoreOf : ℕ → tree.BTreeMap ℕ ℕ → tree.BTreeMap ℕ ℕ → Type 0
-IsOneMoreOf key before after = (k : ℕ) → count_in after k ≡ (if key == k then counted_more (count_in before k) else count_in before k)
+IsOneMoreOf key before after =
+    (k : ℕ)
+    → count_in after k ≡ (if key == k then counted_more (count_in before k) else count_in before k)

@@ -8,7 +8,11 @@ use Rattle.ospf_records.specs.declared.moment.Moment.{Moment}
 -- an OSPF packet that went from one address to another at a moment, as it is captured
 abbrev pub captured : Moment → Addr → Addr → List ℕ → Captured
 captured at source destination ospf =
-    record { seconds = at.seconds; microseconds = at.microseconds; packet = ip_packet source.0 destination.0 ospf }
+    record {
+      seconds = at.seconds;
+      microseconds = at.microseconds;
+      packet = ip_packet source.0 destination.0 ospf;
+    }
 
 -- its bytes in a capture
 abbrev pub datagram_bytes : Moment → Addr → Addr → List ℕ → List ℕ

@@ -10,7 +10,8 @@ abbrev pub listing_or : Option Running → List (List ℕ) → List (List ℕ)
 listing_or None others = others
 listing_or (Some x) others = listing x
 
--- what the first router that runs lists, in the order of the configurations; nothing where none runs
+-- what the first router that runs lists, in the order of the
+-- configurations; nothing where none runs
 abbrev pub first_listing : List SlotValue → List (List ℕ)
 first_listing [] = []
 first_listing (s ∷ slots) = listing_or s.running (first_listing slots)

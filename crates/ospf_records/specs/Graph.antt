@@ -1,4 +1,5 @@
--- A listing as a drawing in the language of Graphviz: a box for each router and transit network, and a line for each link between them.
+-- A listing as a drawing in the language of Graphviz: a box for each router and transit network,
+-- and a line for each link between them.
 use Rattle.std.specs.Prelude.{ℕ, ◌==◌, ◌&&◌, nat_lt, Bool, true, false, cond, List, [], ◌∷◌, ◌++◌, Option, None, Some, bit_and, codes, count_ones, decimal, drop, filter, find, flat_map, length, reverse, slice_get, zip}
 use Rattle.std.specs.List.{list_any}
 use Rattle.ospf_base.specs.Bytes.{number_at}
@@ -24,7 +25,8 @@ network_node id = codes "\"network " ++ number_text id ++ codes "\""
 
 -- the addresses under a mask: the first of them, a slash and the ones of the mask
 abbrev pub prefix_under : ℕ → ℕ → List ℕ
-prefix_under address mask = number_text (bit_and address mask) ++ codes "/" ++ decimal (count_ones mask)
+prefix_under address mask =
+    number_text (bit_and address mask) ++ codes "/" ++ decimal (count_ones mask)
 
 -- ---- what the other end tells
 
@@ -50,8 +52,8 @@ abbrev pub routers_in_some : Option (List ℕ) → List RouterId
 routers_in_some None = []
 routers_in_some (Some lsa) = attached_of lsa
 
--- the routers that a network names; none where it has no LSA. Of several LSAs of its Link State ID the last one stands for it, which is
--- the one of the largest Advertising Router
+-- the routers that a network names; none where it has no LSA. Of several LSAs of its Link State ID
+-- the last one stands for it, which is the one of the largest Advertising Router
 abbrev pub attached_to : List (List ℕ) → ℕ → List RouterId
 attached_to lsas id = routers_in_some (find (is_lsa_of_network id) (reverse lsas))
 
@@ -78,16 +80,18 @@ is_drawn_link_to router link = is_point_to_point link.kind && (link.id == router
 abbrev pub links_to : ℕ → List Link → List Link
 links_to router links = filter (is_drawn_link_to router) links
 
--- the other end of a link of type 1 that stands behind these links of its router: the n-th link to a router is one with the n-th link
--- of that router back
+-- the other end of a link of type 1 that stands behind these links of its router: the n-th link to
+-- a router is one with the n-th link of that router back
 abbrev pub back_of : List (List ℕ) → ℕ → List Link → Link → Option Link
-back_of lsas router before link = slice_get (links_to router (links_listed_by lsas link.id)) (length (links_to link.id before))
+back_of lsas router before link =
+    slice_get (links_to router (links_listed_by lsas link.id)) (length (links_to link.id before))
 
 -- ---- boxes
 
 -- what a link adds to the box: `\n` begins a line of a label
 abbrev pub stub_of_kind : Link → LinkKind → List ℕ
-stub_of_kind link Stub = codes "\\n" ++ prefix_under link.id link.link_data ++ codes " cost " ++ decimal link.metric
+stub_of_kind link Stub =
+    codes "\\n" ++ prefix_under link.id link.link_data ++ codes " cost " ++ decimal link.metric
 stub_of_kind link PointToPoint = []
 stub_of_kind link Transit = []
 stub_of_kind link Virtual = []
@@ -103,38 +107,50 @@ stub_texts links = flat_map drawn_stub_text links
 -- a router, with its stub networks
 abbrev pub drawn_router_line : ℕ → List Link → List ℕ
 drawn_router_line router links =
-    codes "  " ++ router_node router ++ codes " [shape=box, label=\"" ++ number_text router ++ stub_texts links ++ codes "\"];\n"
+    codes "  " ++ router_node router ++ codes " [shape=box, label=\"" ++ number_text router
+    ++ stub_texts links ++ codes "\"];\n"
 
 -- a transit network, by its prefix
 abbrev pub drawn_network_line : ℕ → ℕ → List ℕ
-drawn_network_line id mask = codes "  " ++ network_node id ++ codes " [shape=box, style=\"filled,rounded\", label=\"" ++ prefix_under id mask ++ codes "\"];\n"
+drawn_network_line id mask =
+    codes "  " ++ network_node id ++ codes " [shape=box, style=\"filled,rounded\", label=\""
+    ++ prefix_under id mask ++ codes "\"];\n"
 
 -- a router that does not run
 abbrev pub stopped_line : RouterId → List ℕ
-stopped_line router = codes "  " ++ router_node router.0 ++ codes " [shape=box, fillcolor=lightgrey];\n"
+stopped_line router =
+    codes "  " ++ router_node router.0 ++ codes " [shape=box, fillcolor=lightgrey];\n"
 
 -- ---- lines between boxes
 
 -- a link between routers that both tell, with the cost at each end
 abbrev pub joined_line : ℕ → ℕ → ℕ → ℕ → List ℕ
 joined_line from to cost back =
-    codes "  " ++ router_node from ++ codes " -- " ++ router_node to ++ codes " [taillabel=" ++ decimal cost ++ codes ", headlabel=" ++ decimal back ++ codes "];\n"
+    codes "  " ++ router_node from ++ codes " -- " ++ router_node to ++ codes " [taillabel="
+    ++ decimal cost ++ codes ", headlabel=" ++ decimal back ++ codes "];\n"
 
 -- a link that its router alone tells
 abbrev pub told_line : ℕ → List ℕ → ℕ → List ℕ
-told_line from to cost = codes "  " ++ router_node from ++ codes " -- " ++ to ++ codes " [taillabel=" ++ decimal cost ++ codes ", dir=forward, style=dashed];\n"
+told_line from to cost =
+    codes "  " ++ router_node from ++ codes " -- " ++ to ++ codes " [taillabel=" ++ decimal cost
+    ++ codes ", dir=forward, style=dashed];\n"
 
 -- a router on a network, as both tell, with the cost at the router
 abbrev pub member_line : ℕ → ℕ → ℕ → List ℕ
-member_line router id cost = codes "  " ++ router_node router ++ codes " -- " ++ network_node id ++ codes " [taillabel=" ++ decimal cost ++ codes "];\n"
+member_line router id cost =
+    codes "  " ++ router_node router ++ codes " -- " ++ network_node id ++ codes " [taillabel="
+    ++ decimal cost ++ codes "];\n"
 
 -- a router that a network alone names
 abbrev pub named_line : ℕ → ℕ → List ℕ
-named_line id router = codes "  " ++ network_node id ++ codes " -- " ++ router_node router ++ codes " [dir=forward, style=dashed];\n"
+named_line id router =
+    codes "  " ++ network_node id ++ codes " -- " ++ router_node router
+    ++ codes " [dir=forward, style=dashed];\n"
 
 -- one line for both ends: it stands at the router of the smaller Router ID
 abbrev pub both_line : ℕ → Link → ℕ → List ℕ
-both_line router link back = cond (nat_lt link.id router) [] (joined_line router link.id link.metric back)
+both_line router link back =
+    cond (nat_lt link.id router) [] (joined_line router link.id link.metric back)
 
 -- a link to a router, with the link back, if there is one
 abbrev pub point_line : ℕ → Link → Option Link → List ℕ
@@ -146,11 +162,13 @@ abbrev pub transit_line : ℕ → Link → Bool → List ℕ
 transit_line router link true = member_line router link.id link.metric
 transit_line router link false = told_line router (network_node link.id) link.metric
 
--- the line of a link that stands behind these links of its router, by its type: stub networks stand in the box, and links of type 4 are
--- not drawn
+-- the line of a link that stands behind these links of its router, by its type: stub networks stand
+-- in the box, and links of type 4 are not drawn
 abbrev pub line_of_kind : List (List ℕ) → ℕ → List Link → Link → LinkKind → List ℕ
-line_of_kind lsas router before link PointToPoint = point_line router link (back_of lsas router before link)
-line_of_kind lsas router before link Transit = transit_line router link (names_router lsas link.id router)
+line_of_kind lsas router before link PointToPoint =
+    point_line router link (back_of lsas router before link)
+line_of_kind lsas router before link Transit =
+    transit_line router link (names_router lsas link.id router)
 line_of_kind lsas router before link Stub = []
 line_of_kind lsas router before link Virtual = []
 
@@ -161,7 +179,9 @@ drawn_link_line lsas router before link = line_of_kind lsas router before link l
 -- the lines of links that stand behind these of their router
 abbrev pub drawn_link_lines : List (List ℕ) → ℕ → List Link → List Link → List ℕ
 drawn_link_lines lsas router before [] = []
-drawn_link_lines lsas router before (link ∷ rest) = drawn_link_line lsas router before link ++ drawn_link_lines lsas router (before ++ link ∷ []) rest
+drawn_link_lines lsas router before (link ∷ rest) =
+    drawn_link_line lsas router before link
+    ++ drawn_link_lines lsas router (before ++ link ∷ []) rest
 
 -- a router that a network names, and that has a link there or has none
 abbrev pub named_unless : ℕ → RouterId → Bool → List ℕ
@@ -181,7 +201,8 @@ attached_lines lsas id routers = flat_map (attached_line lsas id) routers
 -- from a router to the next that a walk meets
 abbrev pub step_line : RouterId × RouterId → List ℕ
 step_line step =
-    codes "  " ++ router_node step.0.0 ++ codes " -- " ++ router_node step.1.0 ++ codes " [dir=forward, color=red, penwidth=2];\n"
+    codes "  " ++ router_node step.0.0 ++ codes " -- " ++ router_node step.1.0
+    ++ codes " [dir=forward, color=red, penwidth=2];\n"
 
 -- from each router that it meets to the one behind it
 abbrev pub steps_of : List RouterId → List (RouterId × RouterId)
@@ -191,7 +212,8 @@ steps_of walked = zip walked (drop 1 walked)
 
 -- a router and its links
 abbrev pub drawn_router_lines : List (List ℕ) → ℕ → List Link → List ℕ
-drawn_router_lines lsas router links = drawn_router_line router links ++ drawn_link_lines lsas router [] links
+drawn_router_lines lsas router links =
+    drawn_router_line router links ++ drawn_link_lines lsas router [] links
 
 -- a network and the routers that it names
 abbrev pub network_lines : List (List ℕ) → ℕ → ℕ → List RouterId → List ℕ
@@ -200,19 +222,23 @@ network_lines lsas id mask routers = drawn_network_line id mask ++ attached_line
 -- a router-LSA, drawn by its Advertising Router, and a network-LSA, drawn by its Link State ID
 abbrev pub lines_of_kind : List (List ℕ) → List ℕ → Kind → List ℕ
 lines_of_kind lsas lsa Router = drawn_router_lines lsas (number_at 8 4 lsa) (links_of lsa)
-lines_of_kind lsas lsa Network = network_lines lsas (number_at 4 4 lsa) (network_mask_of lsa) (attached_of lsa)
+lines_of_kind lsas lsa Network =
+    network_lines lsas (number_at 4 4 lsa) (network_mask_of lsa) (attached_of lsa)
 
 -- the lines of an LSA
 abbrev pub lsa_lines : List (List ℕ) → List ℕ → List ℕ
 lsa_lines lsas lsa = lines_of_kind lsas lsa (kind_of lsa)
 
--- how all is laid out: boxes that lie apart, over straight lines; what has no line of its own is plain text
+-- how all is laid out: boxes that lie apart, over straight lines; what has
+-- no line of its own is plain text
 abbrev pub graph_head : List ℕ
 graph_head =
-    codes "graph area {\n  graph [layout=neato, overlap=false, splines=line, sep=\"+30\", outputorder=edgesfirst];\n"
+    codes
+    "graph area {\n  graph [layout=neato, overlap=false, splines=line, sep=\"+30\", outputorder=edgesfirst];\n"
     ++ codes "  node [shape=plaintext, style=filled, fillcolor=white];\n"
 
 -- the LSAs in their order, the routers that do not run, and the walk that met these
 abbrev pub graph_text : List (List ℕ) → (stopped walked : List RouterId) → List ℕ
 graph_text lsas stopped walked =
-    graph_head ++ flat_map (lsa_lines lsas) lsas ++ flat_map stopped_line stopped ++ flat_map step_line (steps_of walked) ++ codes "}\n"
+    graph_head ++ flat_map (lsa_lines lsas) lsas ++ flat_map stopped_line stopped
+    ++ flat_map step_line (steps_of walked) ++ codes "}\n"

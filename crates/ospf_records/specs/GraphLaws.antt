@@ -7,7 +7,9 @@ use Rattle.ospf_records.specs.Graph.{network_node, prefix_under, router_node}
 
 -- what stands for the addresses under a mask is the text of their prefix
 abbrev pub PrefixesAreDrawn : Type 0
-PrefixesAreDrawn = (address mask : ℕ) (prefix : Prefix) → IsPrefixOf address mask prefix → prefix_under address mask ≡ prefix_text prefix
+PrefixesAreDrawn =
+    (address mask : ℕ) (prefix : Prefix) → IsPrefixOf address mask prefix
+    → prefix_under address mask ≡ prefix_text prefix
 
 -- what a drawing names
 pub data Drawn : Type 0 where

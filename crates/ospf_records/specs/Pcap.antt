@@ -1,4 +1,5 @@
--- Capture files: libpcap's classic format (pcap-savefile(5), draft-ietf-opsawg-pcap), numbers in network byte order.
+-- Capture files: libpcap's classic format (pcap-savefile(5), draft-ietf-opsawg-pcap),
+-- numbers in network byte order.
 use Rattle.std.specs.Prelude.{ℕ, ◌^◌, ◌<◌, ◌≤◌, List, ◌++◌, length}
 use Rattle.std.specs.List.{flat_map}
 use Rattle.ospf_base.specs.Bytes.{number_bytes}
@@ -26,7 +27,8 @@ raw_link = 101
 -- what a file begins with: the two numbers between version and snap length are reserved, and 0
 abbrev pub file_header : List ℕ
 file_header =
-    number_bytes 4 magic ++ number_bytes 2 major_version ++ number_bytes 2 minor_version ++ number_bytes 4 0 ++ number_bytes 4 0
+    number_bytes 4 magic ++ number_bytes 2 major_version ++ number_bytes 2 minor_version
+    ++ number_bytes 4 0 ++ number_bytes 4 0
     ++ number_bytes 4 snap_length ++ number_bytes 4 raw_link
 
 -- a packet that was captured, and when: seconds since the beginning of 1970 and microseconds
@@ -37,7 +39,9 @@ pub record Captured : Type 0 where
 
 -- what stands before a packet: its moment, how many bytes of it are kept, and how many it has
 abbrev pub record_header : ℕ → ℕ → ℕ → List ℕ
-record_header seconds microseconds size = number_bytes 4 seconds ++ number_bytes 4 microseconds ++ number_bytes 4 size ++ number_bytes 4 size
+record_header seconds microseconds size =
+    number_bytes 4 seconds ++ number_bytes 4 microseconds ++ number_bytes 4 size
+    ++ number_bytes 4 size
 
 -- a packet that is kept whole
 abbrev pub record_bytes : Captured → List ℕ

@@ -2,7 +2,8 @@
 
 ghost use Rattle.ospf_records.specs.CaptureLaws.{ChecksumHolds, HasOneReading, LengthsAreTold};
 
-/// The checksum of each IP header holds: its words sum to all ones (RFC 791, section 3.1, and RFC 1071).
+/// The checksum of each IP header holds: its words sum to all ones (RFC
+/// 791, section 3.1, and RFC 1071).
 pub fn checksum_holds()
     ensures { ChecksumHolds }
 {}

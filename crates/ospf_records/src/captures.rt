@@ -14,9 +14,10 @@ use ospf_world::{Ticked, World};
 use std::alloc::{AllocError, Global};
 use std::collections::BTreeMap;
 
-/// All datagrams that the routers of a world sent, in order, as a capture file: the second of each is the number of ticks that
-/// its router had taken when it was sent, as far as 32 bits go, and its microsecond how many datagrams of that second were sent
-/// before it, as far as a second goes. One that fits into no IP packet is left out.
+/// All datagrams that the routers of a world sent, in order, as a capture file: the second of each
+/// is the number of ticks that its router had taken when it was sent, as far as 32 bits go, and its
+/// microsecond how many datagrams of that second were sent before it, as far as a second goes. One
+/// that fits into no IP packet is left out.
 ///
 /// `AllocError` where memory runs out.
 pub fn capture(world: &World, alloc: Global) -> Result<Vec<u8>, AllocError>

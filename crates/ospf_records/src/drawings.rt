@@ -10,8 +10,9 @@ use ospf_lsa::Listing;
 use ospf_world::{Slot, World};
 use std::alloc::{AllocError, Global};
 
-/// What the first router that runs lists (RFC 2328, section 14), in the order of the configurations, as a drawing for Graphviz;
-/// nothing where none runs. Routers that do not run are grey, and a red arrow leads from each router that a walk met to the next.
+/// What the first router that runs lists (RFC 2328, section 14), in the order of the
+/// configurations, as a drawing for Graphviz; nothing where none runs. Routers that do not run are
+/// grey, and a red arrow leads from each router that a walk met to the next.
 ///
 /// `AllocError` where memory runs out.
 pub fn drawing(world: &World, walked: &[RouterId], alloc: Global) -> Result<String, AllocError>

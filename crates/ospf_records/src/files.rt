@@ -11,8 +11,9 @@ use ospf_world::{Walk, World};
 use std::io::{self, ErrorKind, Write};
 use std::rt::Runtime;
 
-/// Writes what is wanted of the world that a simulation leaves: into the file `dot` its drawing, with the walk if there was
-/// one, into `pcap` its capture. The answer is whether all was written; what was not is told, as far as `err` can be written.
+/// Writes what is wanted of the world that a simulation leaves: into the file `dot` its drawing,
+/// with the walk if there was one, into `pcap` its capture. The answer is whether all was written;
+/// what was not is told, as far as `err` can be written.
 ///
 /// The error is want of memory.
 pub fn write_records<R: Runtime + AllocGlobal, E: Write>(

@@ -12,12 +12,14 @@ use ospf_base::{Kind, RouterId};
 use ospf_lsa::{Attached, Listing, Lsa, LsaView};
 use std::fmt::{self, Display, Formatter, Write};
 
-// How all is laid out: boxes that lie apart, over straight lines; what has no line of its own is plain text.
+// How all is laid out: boxes that lie apart, over straight lines; what has no
+// line of its own is plain text.
 const HEAD: &str =
     "graph area {\n  graph [layout=neato, overlap=false, splines=line, sep=\"+30\", outputorder=edgesfirst];\n  node [shape=plaintext, style=filled, fillcolor=white];\n";
 
-/// A listing, to be printed as a graph in the language of Graphviz: a box a router, with its stub networks, and a box a
-/// transit network, and a line a link between them, in the order of the listing (RFC 2328, section 2.1).
+/// A listing, to be printed as a graph in the language of Graphviz: a box a router, with its stub
+/// networks, and a box a transit network, and a line a link between them, in the order of the
+/// listing (RFC 2328, section 2.1).
 #[derive(Clone, Copy)]
 pub struct Graph<'a> {
     pub listing: &'a Listing,
@@ -27,13 +29,14 @@ pub struct Graph<'a> {
     pub walked: &'a [RouterId],
 }
 
-/// A link that both ends tell is one line with the cost at each end, one that one end alone tells is dashed and has an arrow;
-/// what has no LSA is plain text.
+/// A link that both ends tell is one line with the cost at each end, one that one end alone tells
+/// is dashed and has an arrow; what has no LSA is plain text.
 impl<'a> Display for Graph<'a> {
     ghost use Rattle.std.specs.Prelude.{Some};
     ghost use Rattle.ospf_records.specs.Graph.{graph_text};
 
-    ghost output = { λ graph. Some (graph_text graph.listing.now graph.stopped.now graph.walked.now) };
+    ghost output = { λ graph. Some
+        (graph_text graph.listing.now graph.stopped.now graph.walked.now) };
 
     fn fmt<W: Write>(&self, f: &mut Formatter<W>) -> fmt::Result {
         f.write_str(HEAD)?;

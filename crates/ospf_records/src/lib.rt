@@ -1,10 +1,12 @@
-//! What a simulation leaves in files: a capture of what all routers sent, and a drawing of what one of them lists.
+//! What a simulation leaves in files: a capture of what all routers sent, and a
+//! drawing of what one of them lists.
 //!
-//! `capture` makes a file as Wireshark and tcpdump open it: libpcap's classic format, each packet as an IP packet of
-//! protocol 89 (RFC 791 and RFC 2328, appendix A.1). `write_header` begins one, and `write_datagram` adds a packet.
-//! `drawing` prints what a router lists: a `Graph` is a listing in the language of Graphviz's `dot` (`specs/Graph`).
-//! `write_records` writes the files that are wanted. What is captured, and when, stands in `specs/Captures`, how in
-//! `specs/Pcap` and `specs/Ip`.
+//! `capture` makes a file as Wireshark and tcpdump open it: libpcap's classic format, each
+//! packet as an IP packet of protocol 89 (RFC 791 and RFC 2328, appendix A.1). `write_header`
+//! begins one, and `write_datagram` adds a packet. `drawing` prints what a router lists: a
+//! `Graph` is a listing in the language of Graphviz's `dot` (`specs/Graph`). `write_records`
+//! writes the files that are wanted. What is captured, and when, stands in `specs/Captures`, how
+//! in `specs/Pcap` and `specs/Ip`.
 #![tactic(auto)]
 
 mod arrows;

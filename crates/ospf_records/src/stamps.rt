@@ -13,8 +13,8 @@ use std::collections::BTreeMap;
 /// The last microsecond of a second.
 const LAST_MICROSECOND: u32 = 999_999;
 
-/// Counts the ticks by their routers, from the first that was not read to the last that came before the datagram of this number,
-/// or sent it. The answer is how many ticks are read now.
+/// Counts the ticks by their routers, from the first that was not read to the last that came before
+/// the datagram of this number, or sent it. The answer is how many ticks are read now.
 pub(crate) fn read_ticks(
     clocks: &mut BTreeMap<u32, u32>,
     ticks: &[Ticked],

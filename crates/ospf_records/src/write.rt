@@ -23,14 +23,16 @@ const RECORD_HEADER: usize = 16;
 // The longest IP packet.
 const LARGEST_IP_PACKET: usize = 65535;
 
-// The words of an IP header that are the same for all packets, added: version, header length and Type of Service, the identification,
-// the flags and the fragment offset, Time to Live and protocol.
+// The words of an IP header that are the same for all packets, added: version,
+// header length and Type of Service, the identification, the flags and the fragment
+// offset, Time to Live and protocol.
 const FIXED_WORDS: u32 = 0x45c0 + 0x0159;
 
-/// Writes what a capture file begins with at the end of the output: libpcap's classic format, version 2.4, with
-/// microseconds, for IP packets with nothing before them (LINKTYPE_RAW).
+/// Writes what a capture file begins with at the end of the output: libpcap's classic format,
+/// version 2.4, with microseconds, for IP packets with nothing before them (LINKTYPE_RAW).
 ///
-/// An `Err` where the output had no room for it and could not grow; the output's bytes are unchanged then.
+/// An `Err` where the output had no room for it and could not grow; the
+/// output's bytes are unchanged then.
 pub fn write_header(out: &mut Vec<u8>) -> Result<(), AllocError>
     ensures ok { OnOk result (out.new.items ≡ out.old.items ++ file_header) }
     ensures err { OnErr result (out.new.items ≡ out.old.items) }
@@ -49,11 +51,11 @@ pub fn write_header(out: &mut Vec<u8>) -> Result<(), AllocError>
     Ok(())
 }
 
-/// Writes a packet that was sent at a moment to the end of a capture, as an IP packet of protocol 89 (RFC 2328,
-/// appendix A.1, and RFC 791, section 3.1).
+/// Writes a packet that was sent at a moment to the end of a capture, as an IP packet of protocol
+/// 89 (RFC 2328, appendix A.1, and RFC 791, section 3.1).
 ///
-/// `TooLong` where the IP packet would be longer than 65,535 bytes, else `Memory` where the output had no room for
-/// it and could not grow. The output's bytes are unchanged by each.
+/// `TooLong` where the IP packet would be longer than 65,535 bytes, else `Memory` where the output
+/// had no room for it and could not grow. The output's bytes are unchanged by each.
 pub fn write_datagram(
     out: &mut Vec<u8>,
     at: Moment,
@@ -95,7 +97,8 @@ fn push_bytes(out: &mut Vec<u8>, bytes: &[u8])
     let _ = out.extend_from_slice(bytes);
 }
 
-// Puts the record of a packet at the end, where there is room for it. The IP packet has so many bytes.
+// Puts the record of a packet at the end, where there is room for it.
+// The IP packet has so many bytes.
 fn push_datagram(
     out: &mut Vec<u8>,
     at: Moment,

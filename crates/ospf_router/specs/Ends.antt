@@ -6,7 +6,8 @@ use Rattle.ospf_graph.specs.declared.graph.Vertex.{Vertex}
 
 -- the ends at a vertex are others, and all else is as it was
 abbrev pub ReplacesEnds : Vertex → List End → List End → List End → Type 0
-ReplacesEnds v at old new = (e : End) → Contains new e ↔ ((Contains old e × (e.vertex ≢ v)) ⊎ Contains at e)
+ReplacesEnds v at old new =
+    (e : End) → Contains new e ↔ ((Contains old e × (e.vertex ≢ v)) ⊎ Contains at e)
 
 -- all ends at a vertex are among these
 abbrev pub HoldsEndsAt : Vertex → List End → List End → Type 0

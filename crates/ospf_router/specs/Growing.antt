@@ -25,22 +25,27 @@ pub record GrowingValue : Type 0 where
   pub listing : List (List ℕ)
 
 -- the paths are kept over the edges of the listing, beside its ends, in order
-pub record IsGrownOver (root : RouterId) (lsas : List (List ℕ)) (paths : KeptTree) (ends : List End) : Type 0 where
+pub record IsGrownOver (root : RouterId) (lsas : List (List ℕ)) (paths : KeptTree) (ends : List End)
+    : Type 0 where
   pub root_is : paths.root ≡ Router root
   pub edges_are : IsEdgesOf (advertisements_of lsas) paths.edges
   pub tree : IsKeptTree paths
   pub ends_are : IsEndsOf (advertisements_of lsas) ends
   pub ends_in_order : AreEndsInOrder ends
 
--- what a listing says of a vertex: the edges that touch it, the ends at it, and whether the root is listed
-pub record IsAround (adverts : List Advertisement) (v : Vertex) (root : RouterId) (a : Around) : Type 0 where
+-- what a listing says of a vertex: the edges that touch it, the ends at it,
+-- and whether the root is listed
+pub record IsAround (adverts : List Advertisement) (v : Vertex) (root : RouterId) (a : Around)
+    : Type 0 where
   pub edges : AreEdgesAt adverts v a.edges.items
   pub fit : AreFitEdges a.edges.items
   pub ends : AreEndsAt adverts v a.ends.items
   pub root_is : IsTrue a.has_root ↔ IsListed adverts root
 
--- the paths and the ends are those of a listing that differs from the new one at most in the LSAs of a vertex, with what both say of it
-pub record IsTurn (old new : List (List ℕ)) (root : RouterId) (paths : KeptTree) (ends : List End) (turn : Turn) : Type 0 where
+-- the paths and the ends are those of a listing that differs from the new one at most in the LSAs
+-- of a vertex, with what both say of it
+pub record IsTurn (old new : List (List ℕ)) (root : RouterId) (paths : KeptTree) (ends : List End)
+    (turn : Turn) : Type 0 where
   pub over : IsGrownOver root old paths ends
   pub same : AreSameBut turn.vertex (advertisements_of old) (advertisements_of new)
   pub before_is : IsAround (advertisements_of old) turn.vertex root turn.before
@@ -52,12 +57,19 @@ HasEndOf ends p = (e : End) × Contains ends e × (e.prefix ≡ p)
 
 -- the vertex has the same ends as before, or none of the prefix
 abbrev pub HasSameEnds : Turn → Prefix → Type 0
-HasSameEnds turn p = (turn.before.ends.items ≡ turn.after.ends.items) ⊎ ((HasEndOf turn.before.ends.items p → ⊥) × (HasEndOf turn.after.ends.items p → ⊥))
+HasSameEnds turn p =
+    (turn.before.ends.items ≡ turn.after.ends.items)
+    ⊎ ((HasEndOf turn.before.ends.items p → ⊥) × (HasEndOf turn.after.ends.items p → ⊥))
 
--- nothing changed, and the vertex is not reached; or the vertex has the same ends or none of the prefix, and no vertex that changed has one
-pub data IsUntouched (adverts : List Advertisement) (changed : List Vertex) (settled : List Settled) (turn : Turn) (p : Prefix) : Type 0 where
-  Unreached : changed ≡ [] → ((d : ℕ) → AtIn settled turn.vertex d → ⊥) → IsUntouched adverts changed settled turn p
-  Unchanged : HasSameEnds turn p → ((v : Vertex) (c : ℕ) → Contains changed v → IsEnd adverts p v c → ⊥) → IsUntouched adverts changed settled turn p
+-- nothing changed, and the vertex is not reached; or the vertex has the same ends or none of the
+-- prefix, and no vertex that changed has one
+pub data IsUntouched (adverts : List Advertisement) (changed : List Vertex) (settled : List Settled)
+    (turn : Turn) (p : Prefix) : Type 0 where
+  Unreached : changed ≡ [] → ((d : ℕ) → AtIn settled turn.vertex d → ⊥)
+      → IsUntouched adverts changed settled turn p
+  Unchanged : HasSameEnds turn p
+      → ((v : Vertex) (c : ℕ) → Contains changed v → IsEnd adverts p v c → ⊥)
+      → IsUntouched adverts changed settled turn p
 
 -- of the edges before, each went or is there still
 pub record AreGone (before after gone : List Edge) : Type 0 where

@@ -18,10 +18,13 @@ kept_lsas_in (Some tree) = tree.listing
 -- the tree is the router's and the table is that of its listing, if one is kept
 abbrev pub IsServed : RouterId → List Route → Option GrowingValue → Type 0
 IsServed router table None = ⊤
-IsServed router table (Some tree) = (tree.root ≡ router) × IsTable (advertisements_of tree.listing) router table
+IsServed router table (Some tree) =
+    (tree.root ≡ router) × IsTable (advertisements_of tree.listing) router table
 
--- the tree goes on from another one: but for prefixes that are touched, beside these, the routes over both are the same
+-- the tree goes on from another one: but for prefixes that are touched, beside these,
+-- the routes over both are the same
 pub record IsGrownFrom (tree : GrowingValue) (before : List Prefix) (grown : Grown) : Type 0 where
   pub root : grown.tree.root ≡ tree.root
   pub kept : HoldsPrefixes before grown.touched.items
-  pub spares : SparesBut grown.touched.items (advertisements_of tree.listing) (advertisements_of grown.tree.listing) tree.root
+  pub spares : SparesBut grown.touched.items (advertisements_of tree.listing)
+      (advertisements_of grown.tree.listing) tree.root

@@ -16,7 +16,8 @@ ListsEntry lsas e = (lsa : List ℕ) × Contains lsas lsa × (contents lsa ≡ e
 
 -- what the database has below MaxAge at a key is listed
 abbrev pub AreListedAt : List Held → LsaKey → List (List ℕ) → Type 0
-AreListedAt db key lsas = (e : Entry) → entry_of db key ≡ Some e → is_fresh e ≡ true → ListsEntry lsas e
+AreListedAt db key lsas =
+    (e : Entry) → entry_of db key ≡ Some e → is_fresh e ≡ true → ListsEntry lsas e
 
 -- what was listed at a key is listed still
 abbrev pub StayListed : List Held → List (List ℕ) → List (List ℕ) → Type 0

@@ -12,8 +12,8 @@ use Rattle.ospf_router.specs.Listings.{ListsAs}
 use Rattle.ospf_router.specs.Routes.{AreRoutes, RoutesValue}
 use Rattle.ospf_step.specs.Fit.{IsFitRouter}
 
--- a router: how many links it has, the floor of its start, its routing table, and its part of the area; one that has stopped
--- has none
+-- a router: how many links it has, the floor of its start, its routing table, and its part of the
+-- area; one that has stopped has none
 pub record RouterValue : Type 0 where
   pub links : ℕ
   pub floor : ℤ
@@ -24,7 +24,8 @@ pub record RouterValue : Type 0 where
 abbrev pub HasRoutes : AreaValue → List Route → Type 0
 HasRoutes s table = AreRoutes s.router s.database table
 
--- what each step needs, and keeps: it can be taken, and the router can answer to others for what it does
+-- what each step needs, and keeps: it can be taken, and the router can
+-- answer to others for what it does
 pub record IsKept (s : AreaValue) : Type 0 where
   pub fit : IsFitRouter s
   pub sound : IsSoundState s
@@ -58,7 +59,8 @@ abbrev pub awaits_in : Option AreaValue → ℕ → RouterId → Instance → Bo
 awaits_in None link q i = false
 awaits_in (Some s) link q i = is_awaited_of i (neighbour s link q)
 
--- the greatest number of a key of its own that was issued or installed since the start, and not below the floor of the start
+-- the greatest number of a key of its own that was issued or installed since the start, and
+-- not below the floor of the start
 abbrev pub greatest_in : ℤ → Option AreaValue → ℤ
 greatest_in floor None = floor
 greatest_in floor (Some s) = s.greatest

@@ -1,4 +1,5 @@
--- A router that starts: all links are down, and its database is empty (RFC 2328, sections 9.1 and 12.2).
+-- A router that starts: all links are down, and its database is empty
+-- (RFC 2328, sections 9.1 and 12.2).
 use Rattle.std.specs.Prelude.{◌≡◌, ℕ, ℤ, List, [], Some, false, length}
 use Rattle.std.specs.List.{AllZip}
 use Rattle.ospf_area.specs.State.{AreaValue, LinkValue}
@@ -14,7 +15,16 @@ use Rattle.ospf_router.specs.Routers.{RouterValue}
 -- the interface of a link that is down (9.1)
 abbrev pub iface_of : RouterId → Interface → Iface
 iface_of router i = record {
-  settings = record { router = router; kind = i.kind; address = i.address.address; mask = mask_of i.address.length; priority = i.priority; hello = i.hello; dead = i.dead };
+  settings =
+      record {
+        router = router;
+        kind = i.kind;
+        address = i.address.address;
+        mask = mask_of i.address.length;
+        priority = i.priority;
+        hello = i.hello;
+        dead = i.dead;
+      };
   state = Down;
   dr = nowhere;
   backup = nowhere;

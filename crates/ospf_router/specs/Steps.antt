@@ -1,4 +1,5 @@
--- A step of a router: what an event does to its area, and its routing table after it (RFC 2328, sections 8.2 and 16.1).
+-- A step of a router: what an event does to its area, and its routing table after it
+-- (RFC 2328, sections 8.2 and 16.1).
 use Rattle.std.specs.Prelude.{◌≡◌, ◌≢◌, ◌↔◌, IsTrue, Option, Some}
 use Rattle.ospf_area.specs.Outputs.{OutputsValue}
 use Rattle.ospf_area.specs.State.{AreaValue}
@@ -11,14 +12,16 @@ use Rattle.ospf_router.specs.declared.router.Step.{Step}
 pub use Rattle.ospf_step.specs.Drops.{is_dropped}
 pub use Rattle.ospf_step.specs.Events.{happening}
 
--- what its area does, by the exact rules of the event; and what these come to, for the laws of many routers: parts in their
--- order, and an account of each instance that is named, sent or held
-pub record IsLawful (e : Event) (s : AreaValue) (dropped : Option Dropped) (out : OutputsValue) (after : AreaValue) : Type 0 where
+-- what its area does, by the exact rules of the event; and what these come to, for the laws of many
+-- routers: parts in their order, and an account of each instance that is named, sent or held
+pub record IsLawful (e : Event) (s : AreaValue) (dropped : Option Dropped) (out : OutputsValue)
+    (after : AreaValue) : Type 0 where
   pub steps : StepsArea e s dropped out after
   pub laws : StepLaws is_dropped e s out after
   pub accounts : Accounts (heard_in e) s out after
 
--- what its area does, and a table that is that of what it lists then; it is told whether it is another one
+-- what its area does, and a table that is that of what it lists then; it is
+-- told whether it is another one
 pub record Steps (e : Event) (before : RouterValue) (t : Step) (after : RouterValue) : Type 0 where
   pub area : AreaValue
   pub next : AreaValue

@@ -14,15 +14,16 @@ use ospf_lsa::{ListingFault, Lsa};
 use ospf_lsdb::{EntryView, Lsdb};
 use std::alloc::{AllocError, Global};
 
-/// A tree that has grown, with the prefixes to which routes may be others, some perhaps more than once.
+/// A tree that has grown, with the prefixes to which routes may be
+/// others, some perhaps more than once.
 #[derive(Drop)]
 pub(crate) struct Grown {
     pub(crate) tree: GrowingTree,
     pub(crate) touched: Vec<Prefix>,
 }
 
-/// The tree once each LSA that a step took or issued is listed as the database has it, if its listing is then what the
-/// database lists; else nothing.
+/// The tree once each LSA that a step took or issued is listed as the database has it, if its
+/// listing is then what the database lists; else nothing.
 pub(crate) fn followed(
     tree: GrowingTree,
     out: &Outputs,

@@ -26,7 +26,8 @@ use ospf_spf::{Change, RouteTable, ends_in_order, ends_to, route_by, table_of};
 use std::alloc::{AllocError, Global};
 use std::marker::Model;
 
-/// A listing with the shortest paths from a router over its graph, kept so that LSAs can come (RFC 2328, section 16.1).
+/// A listing with the shortest paths from a router over its graph, kept so that LSAs can
+/// come (RFC 2328, section 16.1).
 #[derive(Drop)]
 pub(crate) struct GrowingTree {
     root: RouterId,
@@ -76,8 +77,8 @@ impl GrowingTree {
         &self.listing
     }
 
-    /// The routing table of the listing at the tree's root (RFC 2328, sections 16.1 and 16.1.1). A root whose router-LSA is
-    /// not listed reaches nothing.
+    /// The routing table of the listing at the tree's root (RFC 2328, sections 16.1 and 16.1.1). A
+    /// root whose router-LSA is not listed reaches nothing.
     ///
     /// `AllocError` where memory runs out.
     pub(crate) fn routes(&self, alloc: Global) -> Result<RouteTable, AllocError>
@@ -110,18 +111,21 @@ impl GrowingTree {
         }
     }
 
-    /// The tree once an LSA is put into its listing, in the place of the one of its key if one is listed. The paths go on from
-    /// those that are there, but for what hung on edges that went. The prefixes to which routes may be others are put behind
+    /// The tree once an LSA is put into its listing, in the place of the one of its key if
+    /// one is listed. The paths go on from those that are there, but for what hung on
+    /// edges that went. The prefixes to which routes may be others are put behind
     /// `touched`, some perhaps more than once.
     ///
-    /// `MaxAge` where the age of the LSA is `MAX_AGE`, `Memory` where memory runs out; then the tree is gone.
+    /// `MaxAge` where the age of the LSA is `MAX_AGE`, `Memory` where memory
+    /// runs out; then the tree is gone.
     pub(crate) fn grow(
         self,
         alloc: Global,
         lsa: Lsa,
         touched: &mut Vec<Prefix>,
     ) -> Result<GrowingTree, ListingFault>
-        // The root stays, the LSA is in the listing, and routes are others at prefixes that are touched alone.
+        // The root stays, the LSA is in the listing, and routes are others at
+        // prefixes that are touched alone.
         ensures root { IfOk result (λ t. t.root ≡ self.root) }
         ensures listing { IfOk result (λ t. IsPut lsa self.listing t.listing) }
         ensures spares { IfOk result (λ t. SparesBut touched.new.items
@@ -161,7 +165,8 @@ struct Turn {
     after: Around,
 }
 
-// What a listing says of a vertex: the edges that touch it, the ends at it, and whether the root is listed.
+// What a listing says of a vertex: the edges that touch it, the ends at it,
+// and whether the root is listed.
 #[derive(Drop)]
 struct Around {
     edges: Vec<Edge>,
@@ -304,7 +309,8 @@ fn touch_changed(
     Ok(())
 }
 
-// The edges that do not stand among others in their order: those that go, and perhaps others that stand elsewhere.
+// The edges that do not stand among others in their order: those that go, and
+// perhaps others that stand elsewhere.
 fn gone_of(alloc: Global, before: &[Edge], after: &[Edge]) -> Result<Vec<Edge>, AllocError>
     ensures { IfOk result (λ gone. AreGone before.now after.now gone.items) }
 {

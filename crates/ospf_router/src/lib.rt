@@ -1,10 +1,10 @@
-//! A router (RFC 2328): its part of an area and its routing table, stepped by datagrams, ticks, and links that go up
-//! and down.
+//! A router (RFC 2328): its part of an area and its routing table, stepped by datagrams, ticks,
+//! and links that go up and down.
 //!
-//! `Router::start` starts one from its configuration, and `Router::step` takes an event (sections 8.2 and 16.1). Its
-//! table is a `KeptRoutes`: the routes of what its database lists, with the listing and the shortest paths that they
-//! were made of, which go on where an LSA is listed anew. What a step does stands in `specs/Steps`, and what routes
-//! are in `specs/Routes`.
+//! `Router::start` starts one from its configuration, and `Router::step` takes an event (sections
+//! 8.2 and 16.1). Its table is a `KeptRoutes`: the routes of what its database lists, with the
+//! listing and the shortest paths that they were made of, which go on where an LSA is listed anew.
+//! What a step does stands in `specs/Steps`, and what routes are in `specs/Routes`.
 #![tactic(auto)]
 
 mod ends;

@@ -53,16 +53,23 @@ impl Model for Router {
 
     ghost Value = { RouterValue };
 
-    ghost view = { λ r. record { links = r.links; floor = r.floor; table = r.routes.table; area = r.area } };
+    ghost view = { λ r. record {
+      links = r.links;
+      floor = r.floor;
+      table = r.routes.table;
+      area = r.area;
+    } };
 
     ghost invariant = { λ r. IsRouter r.links r.routes r.area };
 }
 
 impl Router {
-    /// A router that starts with this configuration: all its links are down, and its database is empty. The numbers of its
-    /// own LSAs begin above the floor (RFC 2328, section 12.1.6); `0x80000000` as an `i32` means none.
+    /// A router that starts with this configuration: all its links are down, and its database is
+    /// empty. The numbers of its own LSAs begin above the floor (RFC 2328, section 12.1.6);
+    /// `0x80000000` as an `i32` means none.
     ///
-    /// `StartFault::Floor` where the floor is the greatest number, else `StartFault::Memory` where memory runs out.
+    /// `StartFault::Floor` where the floor is the greatest number, else
+    /// `StartFault::Memory` where memory runs out.
     pub fn start(
         config: &Config,
         dd_start: u32,
@@ -91,9 +98,9 @@ impl Router {
         })
     }
 
-    /// Takes an event (RFC 2328, section 8.2): a datagram that is dropped, for the first cause that applies, changes nothing;
-    /// what any other event does is followed by the elections that are due, the router's own LSAs, the LSAs that leave the
-    /// database, and the routing table.
+    /// Takes an event (RFC 2328, section 8.2): a datagram that is dropped, for the first cause that
+    /// applies, changes nothing; what any other event does is followed by the elections that are
+    /// due, the router's own LSAs, the LSAs that leave the database, and the routing table.
     ///
     /// `Stopped` where memory runs out, and from then on.
     pub fn step(&mut self, event: Event<'_>, alloc: Global) -> Result<Step, Stopped>
@@ -123,7 +130,8 @@ impl Router {
         }
     }
 
-    /// The routing table (RFC 2328, section 11); one that has stopped routes nothing. No memory is taken.
+    /// The routing table (RFC 2328, section 11); one that has stopped
+    /// routes nothing. No memory is taken.
     pub fn table(&self) -> &RouteTable
         ensures { result.now ≡ self.now.table }
     {
@@ -142,8 +150,8 @@ impl Router {
         }
     }
 
-    /// The LSAs that the routing table was last made of, if it was made of any: those that the router lists (section 14), at the
-    /// ages that they had then. No memory is taken.
+    /// The LSAs that the routing table was last made of, if it was made of any: those that the
+    /// router lists (section 14), at the ages that they had then. No memory is taken.
     pub fn kept_listing(&self) -> Option<&Listing>
         ensures same { IfSome result (λ l. map contents l.now
             ≡ map contents (listing_of self.now.area)) }
@@ -157,8 +165,8 @@ impl Router {
         }
     }
 
-    /// Its part of the area: links with their interfaces and neighbours, and the database (RFC 2328, sections 9, 10 and 12.2);
-    /// `None` of one that has stopped. No memory is taken.
+    /// Its part of the area: links with their interfaces and neighbours, and the database (RFC
+    /// 2328, sections 9, 10 and 12.2); `None` of one that has stopped. No memory is taken.
     pub fn area(&self) -> Option<&Area>
         ensures some { IfSome result (λ s. self.now.area ≡ Some s.now) }
         ensures none { result ≡ None → self.now.area ≡ None }
@@ -189,7 +197,8 @@ impl Router {
         }
     }
 
-    /// Whether an instance is on the retransmission list of a neighbour on a link (section 13.6). No memory is taken.
+    /// Whether an instance is on the retransmission list of a neighbour on a link
+    /// (section 13.6). No memory is taken.
     pub fn awaits(&self, link: usize, neighbour: RouterId, instance: &Instance) -> bool
         ensures { result ≡ awaits_in self.now.area link neighbour instance.now }
     {
@@ -205,8 +214,8 @@ impl Router {
         }
     }
 
-    /// The greatest of the floor of the start and all numbers of LSAs of the router's own that were issued or installed since;
-    /// for one that has stopped, the floor. No memory is taken.
+    /// The greatest of the floor of the start and all numbers of LSAs of the router's own that were
+    /// issued or installed since; for one that has stopped, the floor. No memory is taken.
     pub fn floor(&self) -> i32
         ensures { result ≡ greatest_in self.now.floor self.now.area }
     {

@@ -22,9 +22,10 @@ use ospf_spf::RouteTable;
 use std::alloc::{AllocError, Global};
 use std::marker::Model;
 
-/// The routing table of a router over what its database lists (RFC 2328, section 16.1), kept with the listing that it is of
-/// and the shortest paths over it. Where the database lists an LSA anew, the paths go on from there, and the table is
-/// calculated anew only where they or the ends that they lead to are others.
+/// The routing table of a router over what its database lists (RFC 2328, section 16.1), kept
+/// with the listing that it is of and the shortest paths over it. Where the database lists an
+/// LSA anew, the paths go on from there, and the table is calculated anew only where they or the
+/// ends that they lead to are others.
 #[derive(Drop)]
 pub struct KeptRoutes {
     router: RouterId,
@@ -38,7 +39,11 @@ impl Model for KeptRoutes {
 
     ghost Value = { RoutesValue };
 
-    ghost view = { λ r. record { router = r.router; table = r.table; listing = kept_lsas_in r.tree } };
+    ghost view = { λ r. record {
+      router = r.router;
+      table = r.table;
+      listing = kept_lsas_in r.tree;
+    } };
 
     ghost invariant = { λ r. IsServed r.router r.table r.tree };
 }
@@ -62,7 +67,8 @@ impl KeptRoutes {
         &self.table
     }
 
-    /// The listing that the routes were made of, if any was; its ages are those of that time. No memory is taken.
+    /// The listing that the routes were made of, if any was; its ages are those of
+    /// that time. No memory is taken.
     pub fn listing(&self) -> Option<&Listing>
         ensures some { IfSome result (λ l. l.now ≡ self.now.listing) }
         ensures none { result ≡ None → self.now.listing ≡ [] }
@@ -73,8 +79,9 @@ impl KeptRoutes {
         }
     }
 
-    /// The routing table becomes that of what the database lists; whether it is another one than before. Where the database
-    /// lists the LSAs that it listed the last time, at whatever ages, no memory is taken.
+    /// The routing table becomes that of what the database lists; whether it is another one
+    /// than before. Where the database lists the LSAs that it listed the last time, at
+    /// whatever ages, no memory is taken.
     ///
     /// `AllocError` where memory runs out; then the table is as it was.
     pub fn refresh(&mut self, database: &Lsdb, alloc: Global) -> Result<bool, AllocError>
@@ -93,9 +100,10 @@ impl KeptRoutes {
         }
     }
 
-    /// As `refresh`, behind a step that put this out. Of the database only what it has at the keys that were taken and issued
-    /// is looked at, and the paths go on from there, as long as no LSA leaves what is listed. Where nothing was taken or issued
-    /// and none leaves, no memory is taken.
+    /// As `refresh`, behind a step that put this out. Of the database only what it has at
+    /// the keys that were taken and issued is looked at, and the paths go on from there,
+    /// as long as no LSA leaves what is listed. Where nothing was taken or issued and
+    /// none leaves, no memory is taken.
     ///
     /// `AllocError` where memory runs out; then some routes may be the new ones.
     pub fn follow(
@@ -140,7 +148,8 @@ impl KeptRoutes {
         }
     }
 
-    // Whether nothing was taken or issued, and as many LSAs are listed as the database has below `MAX_AGE`. No memory is taken.
+    // Whether nothing was taken or issued, and as many LSAs are listed as the database has below
+    // `MAX_AGE`. No memory is taken.
     fn is_still(&self, out: &Outputs, database: &Lsdb) -> bool
         requires { ListsBut out.now database.now self.now.listing }
         ensures routes { IsTrue result → AreRoutes self.now.router database.now self.now.table }
@@ -152,8 +161,8 @@ impl KeptRoutes {
         brings_none(out) && lists_as_many(database, tree)
     }
 
-    // Goes on from the tree that is kept, as far as LSAs came: whether the table is another one, or nothing where that does not
-    // lead to what the database lists.
+    // Goes on from the tree that is kept, as far as LSAs came: whether the table is another one, or
+    // nothing where that does not lead to what the database lists.
     fn grow(
         &mut self,
         out: &Outputs,
@@ -181,7 +190,8 @@ impl KeptRoutes {
         Ok(Some(changed))
     }
 
-    // Puts a tree that has grown in place, and makes the table that of it; whether it is another one.
+    // Puts a tree that has grown in place, and makes the table that of
+    // it; whether it is another one.
     fn turn(&mut self, grown: Grown, alloc: Global) -> Result<bool, AllocError>
         requires root { grown.tree.root ≡ self.old.router }
         requires turned { (A : List Advertisement) × IsTable A self.old.router self.old.table

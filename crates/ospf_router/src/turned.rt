@@ -11,7 +11,8 @@ use ospf_base::Prefix;
 use ospf_spf::RouteTable;
 use std::alloc::{AllocError, Global};
 
-/// Makes a table that of a tree by its routes to the prefixes at which the two may differ. Whether it is another one then.
+/// Makes a table that of a tree by its routes to the prefixes at which the two may differ.
+/// Whether it is another one then.
 ///
 /// `AllocError` where memory runs out; then some prefixes may be those of the tree.
 pub(crate) fn turn_table(

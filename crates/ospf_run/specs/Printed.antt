@@ -35,7 +35,8 @@ looked_lines (Some looked) = lookup_line looked.address.0 looked.answer
 
 -- the greatest of the floor of the start and all numbers of the router's own LSAs since
 abbrev pub floor_line : RouterValue → List ℕ
-floor_line router = codes "floor " ++ floor_text (greatest_in router.floor router.area) ++ codes "\n"
+floor_line router =
+    codes "floor " ++ floor_text (greatest_in router.floor router.area) ++ codes "\n"
 
 -- that line, if it is wanted
 abbrev pub floor_lines : Bool → RouterValue → List ℕ
@@ -51,11 +52,13 @@ viewed_lines true view router = view_lines view router
 abbrev pub drops_of : RouterId → Drops → List ℕ
 drops_of router drops = if drops.router.0 == router.0 then drop_lines drops.links.items else []
 
--- the extras of a router, behind its table and a lookup: its neighbours, what it lists, what it dropped, the floor of its numbers
+-- the extras of a router, behind its table and a lookup: its neighbours, what it lists, what it
+-- dropped, the floor of its numbers
 abbrev pub extra_lines : Extras → RouterId → RouterValue → List ℕ
 extra_lines extras router x =
     viewed_lines extras.neighbours view.Neighbours x
-    ++ (viewed_lines extras.listing view.Listing x ++ (flat_map (drops_of router) extras.drops.items ++ floor_lines extras.floor x))
+    ++ (viewed_lines extras.listing view.Listing x
+    ++ (flat_map (drops_of router) extras.drops.items ++ floor_lines extras.floor x))
 
 -- the Router ID
 abbrev pub router_id_line : RouterId → List ℕ
@@ -67,11 +70,14 @@ table_lines router shown = router_id_line router ++ routes_text shown.router.tab
 
 -- a router: its Router ID, its routes, what a lookup found, and the extras
 abbrev pub router_lines : Extras → RouterId → RouterShown → List ℕ
-router_lines extras router shown = table_lines router shown ++ (looked_lines shown.looked ++ extra_lines extras router shown.router)
+router_lines extras router shown =
+    table_lines router shown
+    ++ (looked_lines shown.looked ++ extra_lines extras router shown.router)
 
 -- what is printed of a router: nothing where its driver did not come to the end
 abbrev pub outcome_lines : Extras → Outcome → List ℕ
-outcome_lines extras outcome = elim outcome.came [ Ok shown ↦ router_lines extras outcome.router shown | Err f ↦ [] ]
+outcome_lines extras outcome =
+    elim outcome.came [ Ok shown ↦ router_lines extras outcome.router shown | Err f ↦ [] ]
 
 -- what is printed of routers, in their order
 abbrev pub report_lines : Extras → List Outcome → List ℕ
@@ -81,7 +87,8 @@ report_lines extras = flat_map (outcome_lines extras)
 
 -- the Router ID, and how many ticks the router has taken
 abbrev pub at_tick_line : RouterId → ℕ → List ℕ
-at_tick_line router tick = codes "router " ++ number_text router.0 ++ codes " tick " ++ decimal tick ++ codes "\n"
+at_tick_line router tick =
+    codes "router " ++ number_text router.0 ++ codes " tick " ++ decimal tick ++ codes "\n"
 
 -- and its routes
 abbrev pub at_tick_lines : RouterId → ℕ → RouterValue → List ℕ
@@ -91,7 +98,8 @@ at_tick_lines router tick x = at_tick_line router tick ++ routes_text x.table
 
 -- the line of a file whose router's driver did not come to the end
 abbrev pub outcome_told : Outcome → List ℕ
-outcome_told outcome = elim outcome.came [ Ok shown ↦ [] | Err f ↦ line_about outcome.file.now (drive_fault_text f) ]
+outcome_told outcome =
+    elim outcome.came [ Ok shown ↦ [] | Err f ↦ line_about outcome.file.now (drive_fault_text f) ]
 
 -- what is told of routers, in their order
 abbrev pub report_told : List Outcome → List ℕ
@@ -117,18 +125,24 @@ is_early outcome = elim outcome.came [ Ok shown ↦ false | Err f ↦ true ]
 
 -- a wire or a thread failed one of the routers; else one met want of memory; else all is done
 abbrev pub status_for : List Outcome → Status
-status_for outcomes = cond (list_any is_failed outcomes) status.Stream (cond (list_any is_early outcomes) status.Memory status.Done)
+status_for outcomes =
+    cond (list_any is_failed outcomes) status.Stream
+    (cond (list_any is_early outcomes) status.Memory status.Done)
 
 -- ---- all of it
 
 -- what came of routers is printed and told, in their order
-pub record AreOutcomesReported (extras : Extras) (outcomes : List Outcome) (status : Status) (old new : Written) : Type 0 where
+pub record AreOutcomesReported (extras : Extras) (outcomes : List Outcome) (status : Status)
+    (old new : Written) : Type 0 where
   pub status_is : status ≡ status_for outcomes
   pub out : Appends old.out new.out (report_lines extras outcomes)
   pub err : Appends old.err new.err (report_told outcomes)
 
 -- their report is cut: what is printed of them; or, where that is whole, what is told of them
-pub data IsReportCut (extras : Extras) (outcomes : List Outcome) (failed : FailedStreams) (old new : Written) (f : Failure) : Type 0 where
-  in_output : IsOutputCut failed f → IsBegun old.out new.out (report_lines extras outcomes) → new.err ≡ old.err → IsReportCut extras outcomes failed old new f
-  in_errors : IsErrorCut failed f → Appends old.out new.out (report_lines extras outcomes) → IsBegun old.err new.err (report_told outcomes)
+pub data IsReportCut (extras : Extras) (outcomes : List Outcome) (failed : FailedStreams)
+    (old new : Written) (f : Failure) : Type 0 where
+  in_output : IsOutputCut failed f → IsBegun old.out new.out (report_lines extras outcomes)
+      → new.err ≡ old.err → IsReportCut extras outcomes failed old new f
+  in_errors : IsErrorCut failed f → Appends old.out new.out (report_lines extras outcomes)
+      → IsBegun old.err new.err (report_told outcomes)
       → IsReportCut extras outcomes failed old new f

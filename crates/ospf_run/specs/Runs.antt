@@ -29,12 +29,15 @@ use Rattle.ospf_udp.specs.declared.plan.Plan.{Plan}
 use Rattle.ospf_udp.specs.declared.stop.Obstacle.{Obstacle}
 use Rattle.ospf_run.specs.declared.settings.Settings.{Settings}
 
--- a router begins with its configuration, DD sequence number 1 and the floor, and the empty table is published
-pub record BeginsRun (floor : ℤ) (config : Config) (router : RouterValue) (known : Known) : Type 0 where
+-- a router begins with its configuration, DD sequence number 1 and the floor,
+-- and the empty table is published
+pub record BeginsRun (floor : ℤ) (config : Config) (router : RouterValue) (known : Known)
+    : Type 0 where
   pub started : IsStarted config 1 floor router
   pub opened : known.tables ≡ opening
 
--- what routers begin with beside their configurations: when the end comes, and the floor of their numbers
+-- what routers begin with beside their configurations: when the end comes,
+-- and the floor of their numbers
 pub record Terms : Type 0 where
   pub span : Span
   pub floor : ℤ
@@ -42,16 +45,18 @@ pub record Terms : Type 0 where
 -- what a lookup in the table that was published last finds, if an address was asked for
 abbrev pub IsLookedUp : Option Addr → List Table → Option Looked → Type 0
 IsLookedUp None tables None = ⊤
-IsLookedUp (Some address) tables (Some looked) = (looked.address ≡ address) × IsAnswerOfLast tables address 0 looked.answer
+IsLookedUp (Some address) tables (Some looked) =
+    (looked.address ≡ address) × IsAnswerOfLast tables address 0 looked.answer
 IsLookedUp _ tables _ = ⊥
 
--- a driver that began there came to the end, with this router, when as many ticks were taken as the span of its wire says, and the
--- lookup is in the table that it published last
+-- a driver that began there came to the end, with this router, when as many ticks were taken as the
+-- span of its wire says, and the lookup is in the table that it published last
 pub record ComesToEnd (lookup : Option Addr) (a : Moment) (shown : RouterShown) : Type 0 where
   pub known : Known
   pub told : Option Known
   pub drives : DrivesToEnd a shown.router known told
-  pub ticked : (handed : ℕ) (span : Span) → a.traffic ≡ Ticks handed span → EndsAfter span (handed + ticks_in drives.drives.goes_on.taken)
+  pub ticked : (handed : ℕ) (span : Span) → a.traffic ≡ Ticks handed span
+      → EndsAfter span (handed + ticks_in drives.drives.goes_on.taken)
   pub looked : IsLookedUp lookup known.tables shown.looked
 
 -- what came of a router whose driver began there
@@ -60,7 +65,8 @@ Came lookup a (Ok shown) = ComesToEnd lookup a shown
 Came lookup a (Err f) = IsDriven a (Err f)
 
 -- the router of a configuration begins over a wire with the span, and this came of it
-pub record IsOutcome (lookup : Option Addr) (terms : Terms) (file : NamedFile) (config : Config) (outcome : Outcome) : Type 0 where
+pub record IsOutcome (lookup : Option Addr) (terms : Terms) (file : NamedFile) (config : Config)
+    (outcome : Outcome) : Type 0 where
   pub file_is : outcome.file.now ≡ file
   pub router_is : outcome.router ≡ config.router_id
   pub a : Moment
@@ -77,7 +83,8 @@ AreOutcomes lookup terms _ _ _ = ⊥
 
 -- ---- what is asked for
 
--- what is asked for of a run: an address to look up, when the end comes, the text of a floor, and what is to be printed of each router
+-- what is asked for of a run: an address to look up, when the end comes, the text of a floor, and
+-- what is to be printed of each router
 pub record Asked : Type 0 where
   pub lookup : Option Addr
   pub span : Span
@@ -105,7 +112,8 @@ asked_of settings = record {
   drops = settings.drops;
 }
 
--- what is printed beside tables and lookups is what is asked for: no drops where none are, and a floor where there is one
+-- what is printed beside tables and lookups is what is asked for: no drops where none are,
+-- and a floor where there is one
 pub record AreExtras (asked : Asked) (extras : Extras) : Type 0 where
   pub neighbours : extras.neighbours ≡ asked.neighbours
   pub listing : extras.listing ≡ asked.listing
@@ -117,9 +125,11 @@ pub record AreExtras (asked : Asked) (extras : Extras) : Type 0 where
 -- what came of the routers of a plan, in their order, where so much is asked for
 abbrev pub ComeOf : Settings → Plan → List NamedFile → List Outcome → Type 0
 ComeOf settings plan files outcomes =
-    AreOutcomes settings.lookup (record { span = span_of settings; floor = plan.floor }) files plan.configs.items outcomes
+    AreOutcomes settings.lookup (record { span = span_of settings; floor = plan.floor }) files
+    plan.configs.items outcomes
 
--- what the last publish of a driver told: all that its writer has published; nothing where that is the empty table alone
+-- what the last publish of a driver told: all that its writer has published; nothing
+-- where that is the empty table alone
 abbrev pub IsPublishTold : Known → Option Known → Type 0
 IsPublishTold known None = known.tables ≡ opening
 IsPublishTold known (Some told) = told ≡ known
@@ -131,7 +141,8 @@ pub record Ran (a : Moment) (driven : Driven) (router_seat : RouterSeat) : Type 
   pub looks : IsFrom a.known router_seat
 
 -- the router of a configuration began, and this came of its driver and of what looks up beside it
-pub record RouterRan (terms : Terms) (config : Config) (driven : Driven) (router_seat : RouterSeat) : Type 0 where
+pub record RouterRan (terms : Terms) (config : Config) (driven : Driven) (router_seat : RouterSeat)
+    : Type 0 where
   pub a : Moment
   pub begins : BeginsRun terms.floor config a.router a.known
   pub counted : a.traffic ≡ Ticks 0 terms.span
@@ -141,7 +152,8 @@ pub record RouterRan (terms : Terms) (config : Config) (driven : Driven) (router
 -- so did all of them, one for each configuration
 abbrev pub RoutersRan : Terms → List Config → List Driven → List RouterSeat → Type 0
 RoutersRan terms [] [] [] = ⊤
-RoutersRan terms (config ∷ configs) (driven ∷ drivens) (router_seat ∷ router_seats) = RouterRan terms config driven router_seat × RoutersRan terms configs drivens router_seats
+RoutersRan terms (config ∷ configs) (driven ∷ drivens) (router_seat ∷ router_seats) =
+    RouterRan terms config driven router_seat × RoutersRan terms configs drivens router_seats
 RoutersRan terms _ _ _ = ⊥
 
 -- ---- runs
@@ -151,18 +163,23 @@ pub record HaveRun (asked : Asked) (files : List NamedFile) (outcomes : List Out
   pub configs : List Config
   pub least : ℤ
   pub plan : IsPlan asked.floor files configs least
-  pub are : AreOutcomes asked.lookup (record { span = asked.span; floor = least }) files configs outcomes
+  pub are :
+      AreOutcomes asked.lookup (record { span = asked.span; floor = least }) files configs outcomes
 
--- what keeps the routers of the files from running is told, with its status, and nothing is written beside it
-pub record IsHindered (asked : Asked) (files : List NamedFile) (status : Status) (old new : Written) : Type 0 where
+-- what keeps the routers of the files from running is told, with its status,
+-- and nothing is written beside it
+pub record IsHindered (asked : Asked) (files : List NamedFile) (status : Status) (old new : Written)
+    : Type 0 where
   pub obstacle : Obstacle
   pub hinders : Hinders asked.floor files obstacle
   pub status_is : status ≡ obstacle_status obstacle
   pub told : Appends old.err new.err (obstacle_line obstacle)
   pub unwritten : new.out ≡ old.out
 
--- the plan of the files was run: what came of each router is printed and told, with what is asked for beside it
-pub record IsPlanRun (asked : Asked) (files : List NamedFile) (status : Status) (old new : Written) : Type 0 where
+-- the plan of the files was run: what came of each router is printed and told,
+-- with what is asked for beside it
+pub record IsPlanRun (asked : Asked) (files : List NamedFile) (status : Status) (old new : Written)
+    : Type 0 where
   pub outcomes : List Outcome
   pub extras : Extras
   pub run : HaveRun asked files outcomes
@@ -170,10 +187,13 @@ pub record IsPlanRun (asked : Asked) (files : List NamedFile) (status : Status) 
   pub reported : AreOutcomesReported extras outcomes status old new
 
 -- how a run comes to its end: something keeps the routers from running, or they have run
-pub data ComesOfRun (asked : Asked) (files : List NamedFile) (status : Status) (old new : Written) : Type 0 where
+pub data ComesOfRun (asked : Asked) (files : List NamedFile) (status : Status) (old new : Written)
+    : Type 0 where
   hindered : IsHindered asked files status old new → ComesOfRun asked files status old new
   ran : IsPlanRun asked files status old new → ComesOfRun asked files status old new
 
--- the plan of the files was run as is asked for, and this came of its routers, with what is to be printed beside it
+-- the plan of the files was run as is asked for, and this came of its routers, with
+-- what is to be printed beside it
 abbrev pub RunsTo : Settings → List NamedFile → List Outcome → Extras → Type 0
-RunsTo settings files outcomes extras = HaveRun (asked_of settings) files outcomes × AreExtras (asked_of settings) extras
+RunsTo settings files outcomes extras =
+    HaveRun (asked_of settings) files outcomes × AreExtras (asked_of settings) extras

@@ -18,7 +18,8 @@ use std::sync::Wait;
 // The first DD sequence number of each router (RFC 2328, section 10.8).
 const DD_START: u32 = 1;
 
-/// Starts a router for each configuration, over the wire at its place. The floor of their numbers is below the greatest number.
+/// Starts a router for each configuration, over the wire at its place. The floor of their
+/// numbers is below the greatest number.
 ///
 /// `AllocError` where memory runs out, or there is no place for a seat.
 pub(crate) fn begin_all<W: Wire + Drop, R: Wait + Copy + Drop>(

@@ -15,8 +15,8 @@ use ospf_views::write_view;
 use std::alloc::{AllocError, Global};
 use std::io::Write;
 
-/// Prints the extras of a router: its neighbours, what it lists, what it dropped, and the floor of its numbers, as far as they
-/// are wanted.
+/// Prints the extras of a router: its neighbours, what it lists, what it dropped, and the floor of
+/// its numbers, as far as they are wanted.
 pub(crate) fn print_extras<O: Write>(
     alloc: Global,
     id: RouterId,

@@ -93,7 +93,8 @@ fn look_if_asked<R: Wait + Drop>(
     Ok(Some(Looked { address, answer }))
 }
 
-// What the table that was published last answers for an address. Nothing is published meanwhile: the writer is here.
+// What the table that was published last answers for an address. Nothing is published
+// meanwhile: the writer is here.
 fn look_last<R: Wait + Drop>(
     writer: &mut Writer<R>,
     seat: Seat,

@@ -1,10 +1,11 @@
 //! Routers that run in threads of their own, over UDP on this machine.
 //!
-//! `run_text` is the whole: it reads configurations, opens sockets, drives the routers, looks an address up beside them, and
-//! prints their tables, and tells a `Tap` what goes on meanwhile. What came of each router stands in `specs/Runs`, and what
-//! stands written where a failure cuts a run short in `specs/Cut`. What is refused before a socket is made is found by
-//! `prepare` of `ospf_udp`. All that is printed stands in `specs/Printed`: `print_at_tick` prints a table while routers
-//! run, and `report` what came of them, and answers the status to end with.
+//! `run_text` is the whole: it reads configurations, opens sockets, drives the routers, looks an
+//! address up beside them, and prints their tables, and tells a `Tap` what goes on meanwhile. What
+//! came of each router stands in `specs/Runs`, and what stands written where a failure cuts a run
+//! short in `specs/Cut`. What is refused before a socket is made is found by `prepare` of
+//! `ospf_udp`. All that is printed stands in `specs/Printed`: `print_at_tick` prints a table while
+//! routers run, and `report` what came of them, and answers the status to end with.
 #![tactic(auto)]
 
 mod at_tick;

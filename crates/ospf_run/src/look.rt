@@ -58,7 +58,8 @@ impl RouterSeat {
     }
 }
 
-/// Starts a thread that looks the address up from the seat, until it is done, if there is an address.
+/// Starts a thread that looks the address up from the seat, until it
+/// is done, if there is an address.
 pub(crate) fn start_lookup<S: Threads + Wait + Clock + Copy + Send + 'static>(
     rt: S,
     seat: Seat,

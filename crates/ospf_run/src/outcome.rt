@@ -14,7 +14,8 @@ pub struct Looked {
     pub answer: Option<Answer>,
 }
 
-/// A router whose driver came to the end, and what a lookup in the table that was published last found.
+/// A router whose driver came to the end, and what a lookup in the table
+/// that was published last found.
 #[derive(Drop)]
 pub struct RouterShown {
     pub router: Router,

@@ -17,11 +17,12 @@ use ospf_udp::line_about;
 use std::alloc::{AllocError, Global};
 use std::io::Write;
 
-/// Writes each router whose driver came to the end to `out`, in their order: its Router ID, its routes, a lookup if there was one,
-/// and the extras; and then tells on `err` why the other drivers ended. The answer is the status to end with.
+/// Writes each router whose driver came to the end to `out`, in their order: its Router ID, its
+/// routes, a lookup if there was one, and the extras; and then tells on `err` why the other drivers
+/// ended. The answer is the status to end with.
 ///
-/// `Failure` where memory runs out or a stream fails: then a beginning of what is printed stands on `out`, or all of it, and a
-/// beginning of what is told on `err`.
+/// `Failure` where memory runs out or a stream fails: then a beginning of what is printed stands on
+/// `out`, or all of it, and a beginning of what is told on `err`.
 pub fn report<O: Write, E: Write>(
     alloc: Global,
     outcomes: &[Outcome<'_>],

@@ -23,25 +23,29 @@ use std::sync::Wait;
 use std::thread::Threads;
 use std::time::Clock;
 
-/// Runs a router for each configuration that files hold, in a thread of its own, over UDP on this machine.
+/// Runs a router for each configuration that files hold, in a thread of its
+/// own, over UDP on this machine.
 ///
-/// Each starts with DD sequence number 1 and the floor. All sockets are made before any link goes up. At the end, which comes after
-/// the last tick, if there is a last one, or where it is told, each router whose driver came to the end is written to `out`, in
-/// the order of the files: `router` and its Router ID, its routing table, what a lookup of the address in it found, where one is
-/// asked for, its neighbours, what it lists and what it dropped, where these are, and the floor of its numbers, where one is
-/// given. Why another driver ended is told on `err`. The tap is told meanwhile what comes of each router, each time from its
-/// thread.
+/// Each starts with DD sequence number 1 and the floor. All sockets are made before any link goes
+/// up. At the end, which comes after the last tick, if there is a last one, or where it is told,
+/// each router whose driver came to the end is written to `out`, in the order of the files:
+/// `router` and its Router ID, its routing table, what a lookup of the address in it found, where
+/// one is asked for, its neighbours, what it lists and what it dropped, where these are, and the
+/// floor of its numbers, where one is given. Why another driver ended is told on `err`. The tap is
+/// told meanwhile what comes of each router, each time from its thread.
 ///
-/// These end the run before a socket is made, the first that holds, each told on `err`: a floor that is none, with status
-/// `Refused`; a file that could not be read, with status `Stream`; the first file that holds no configuration, two
-/// configurations of one Router ID, and the first file with an interface that has no port, with status `Refused`. Status
-/// `Stream` says too that a socket could not be made, that a wire or a thread failed a router, that a table was closed or that
-/// a write failed; `Memory` that memory ran out, for all or for one router.
+/// These end the run before a socket is made, the first that holds, each told on `err`: a floor
+/// that is none, with status `Refused`; a file that could not be read, with status `Stream`; the
+/// first file that holds no configuration, two configurations of one Router ID, and the first file
+/// with an interface that has no port, with status `Refused`. Status `Stream` says too that a
+/// socket could not be made, that a wire or a thread failed a router, that a table was closed or
+/// that a write failed; `Memory` that memory ran out, for all or for one router.
 ///
-/// What failed for all is told last on `err`, as far as that can be written. Before it nothing new stands on either, where memory
-/// ran out or a table was closed before anything was written; or on `err` alone a beginning of the line that tells what ended the
-/// run before it began; or on `out` a beginning of what is written of the routers and, where that is whole, on `err` a beginning
-/// of what is told of them.
+/// What failed for all is told last on `err`, as far as that can be written. Before it nothing
+/// new stands on either, where memory ran out or a table was closed before anything was written;
+/// or on `err` alone a beginning of the line that tells what ended the run before it began; or on
+/// `out` a beginning of what is written of the routers and, where that is whole, on `err` a
+/// beginning of what is told of them.
 pub fn run_text<
     R: Net + Threads + Wait + Clock + Copy + Send + Drop + 'static,
     T: Tap + Send + Drop + 'static,
@@ -75,8 +79,8 @@ pub fn run_text<
     end(said, err, &mut streams)
 }
 
-// Runs routers of the configurations in files, if they can run. What comes of them, in their order, and what is to be printed
-// beside it.
+// Runs routers of the configurations in files, if they can run. What comes of them, in their order,
+// and what is to be printed beside it.
 fn run<
     'a,
     R: Net + Threads + Wait + Clock + Copy + Send + Drop + 'static,
@@ -97,7 +101,8 @@ fn run<
     Ok((outcomes, settings.extras(drops)))
 }
 
-// Runs a plan over sockets of this machine, and tells a tap of it. What comes of its routers, in their order.
+// Runs a plan over sockets of this machine, and tells a tap of it. What comes
+// of its routers, in their order.
 fn run_plan<
     'a,
     R: Net + Threads + Wait + Clock + Copy + Send + Drop + 'static,
@@ -135,8 +140,8 @@ fn drops_of<T: Tap + Drop>(
     }
 }
 
-// Writes what came of the routers that settings and files ask for, or tells why they did not run to their end. The answer is
-// the status to end with.
+// Writes what came of the routers that settings and files ask for, or tells why they did not run to
+// their end. The answer is the status to end with.
 fn say<O: Write, E: Write>(
     alloc: Global,
     settings: &Settings,
@@ -158,7 +163,8 @@ fn say<O: Write, E: Write>(
     }
 }
 
-// Tells why the routers that settings and files ask for did not run to their end. The answer is the status to end with.
+// Tells why the routers that settings and files ask for did not run to their end. The
+// answer is the status to end with.
 fn tell_stop<E: Write>(
     alloc: Global,
     settings: &Settings,

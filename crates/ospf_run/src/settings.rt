@@ -40,7 +40,8 @@ impl Settings {
         }
     }
 
-    /// What is printed beside tables and lookups. Of drops there are none where they are not asked for.
+    /// What is printed beside tables and lookups. Of drops there are
+    /// none where they are not asked for.
     pub(crate) fn extras(&self, drops: Vec<Drops>) -> Extras
         requires { self.now.drops ≡ false → drops.items ≡ [] }
         ensures { AreExtras (asked_of self.now) result }

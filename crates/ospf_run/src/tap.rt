@@ -12,8 +12,8 @@ use ospf_router::{Router, Sent, Step};
 use ospf_udp::put;
 use std::alloc::{AllocError, Global};
 
-/// What is told of the routers while they run, each in a thread of its own. What a tap makes of it is its own affair: no router
-/// learns of it.
+/// What is told of the routers while they run, each in a thread of its own. What a tap makes of it
+/// is its own affair: no router learns of it.
 pub trait Tap {
     /// The tap of the router of a file, with the configuration that the file holds.
     ///
@@ -23,7 +23,8 @@ pub trait Tap {
     /// A tick of the router has come.
     fn ticks(&mut self);
 
-    /// A packet has come in on a link of the router from this source, which the router takes or not.
+    /// A packet has come in on a link of the router from this source,
+    /// which the router takes or not.
     fn hears(&mut self, link: usize, source: Addr, packet: &[u8]);
 
     /// The router is so after a step, which gave this.
@@ -35,8 +36,8 @@ pub trait Tap {
     /// The router's wire has come to its end, or failed: its driver ends.
     fn ends(&mut self);
 
-    /// How many packets each of the routers dropped, of which this tap's and those made of it were told, if they are counted.
-    /// What is told once is not told again.
+    /// How many packets each of the routers dropped, of which this tap's and those made of it were
+    /// told, if they are counted. What is told once is not told again.
     ///
     /// `AllocError` where memory runs out.
     fn drops(&self, alloc: Global) -> Result<Vec<Drops>, AllocError>;
@@ -93,8 +94,8 @@ impl<W: Wire + Drop, T: Tap + Drop> Wire for TappedWire<W, T> {
     }
 }
 
-/// The same wires, in the same order, of each of which a tap of its own is told: that of the file and the configuration
-/// at its place.
+/// The same wires, in the same order, of each of which a tap of its own is told: that of the file
+/// and the configuration at its place.
 ///
 /// `AllocError` where memory runs out.
 pub(crate) fn tap_all<W: Wire + Drop, T: Tap + Drop>(

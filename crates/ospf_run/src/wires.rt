@@ -15,7 +15,8 @@ use std::alloc::{AllocError, Global};
 use std::net::Net;
 use std::time::{Clock, Duration};
 
-/// The wires of routers whose interfaces have ports, or the first file of whose router a socket could not be made.
+/// The wires of routers whose interfaces have ports, or the first file of whose
+/// router a socket could not be made.
 pub(crate) fn open_wires<'a, N: Net, C: Clock + Copy + Drop>(
     net: &N,
     clock: C,

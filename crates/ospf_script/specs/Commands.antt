@@ -65,21 +65,26 @@ AreRoundWords ws count (Some most) = AreNumbers ws count most
 -- a Router ID, and how many datagrams at most, where that is given
 abbrev pub AreDatagramWords : List Text → RouterId → Option ℕ → Type 0
 AreDatagramWords ws router None = IsRouterAlone ws router
-AreDatagramWords ws router (Some most) = IsTwo (λ a b. IsRouterWord a router × IsDecimal 64 b most) ws
+AreDatagramWords ws router (Some most) =
+    IsTwo (λ a b. IsRouterWord a router × IsDecimal 64 b most) ws
 
 -- the number of a datagram, and the router and the link to which it goes
 abbrev pub IsDelivery : List Text → ℕ → RouterId → ℕ → Type 0
-IsDelivery ws datagram router link = IsThree (λ a b c. IsDecimal 64 a datagram × IsRouterWord b router × IsDecimal 64 c link) ws
+IsDelivery ws datagram router link =
+    IsThree (λ a b c. IsDecimal 64 a datagram × IsRouterWord b router × IsDecimal 64 c link) ws
 
 -- a Router ID and a link, and the Router ID of a neighbour, where that is given
 abbrev pub IsWhy : List Text → RouterId → ℕ → Option RouterId → Type 0
 IsWhy ws router link None = IsRouterAndLink ws router link
-IsWhy ws router link (Some neighbour) = IsThree (λ a b c. IsRouterWord a router × IsDecimal 64 b link × IsRouterWord c neighbour) ws
+IsWhy ws router link (Some neighbour) =
+    IsThree (λ a b c. IsRouterWord a router × IsDecimal 64 b link × IsRouterWord c neighbour) ws
 
--- how many of a hundred deliveries are lost, the number of a generator, and an address in the one network where that is, if it is given
+-- how many of a hundred deliveries are lost, the number of a generator, and an address in the one
+-- network where that is, if it is given
 abbrev pub IsLossWords : List Text → ℕ → ℕ → Option Addr → Type 0
 IsLossWords ws percent number None = IsTwo (λ a b. IsPercent a percent × IsDecimal 64 b number) ws
-IsLossWords ws percent number (Some address) = IsThree (λ a b c. IsPercent a percent × IsDecimal 64 b number × IsAddress c address) ws
+IsLossWords ws percent number (Some address) =
+    IsThree (λ a b c. IsPercent a percent × IsDecimal 64 b number × IsAddress c address) ws
 
 -- the floor that is none: each LS sequence number is above it (RFC 2328, section 12.1.6)
 abbrev pub no_floor : ℤ
@@ -96,13 +101,17 @@ abbrev pub BeginsWalk : List Text → RouterId → Addr → List Text → Type 0
 BeginsWalk (a ∷ b ∷ ws) from address rest = IsRouterWord a from × IsAddress b address × (ws ≡ rest)
 BeginsWalk _ from address rest = ⊥
 
--- from which router to which address a walk goes, and which of the equally good next hops it takes at each router
+-- from which router to which address a walk goes, and which of the equally good
+-- next hops it takes at each router
 abbrev pub IsWalkWords : List Text → RouterId → Addr → List ℕ → Type 0
-IsWalkWords ws from address choices = (rest : List Text) × BeginsWalk ws from address rest × AllZip (IsDecimal 32) rest choices
+IsWalkWords ws from address choices =
+    (rest : List Text) × BeginsWalk ws from address rest × AllZip (IsDecimal 32) rest choices
 
 -- a walk with a choice or more
 abbrev pub IsLongWalk : List Text → Type 0
-IsLongWalk ws = (from : RouterId) × (address : Addr) × (rest : List Text) × BeginsWalk ws from address rest × AreManySpelled (IsDecimal 32) rest
+IsLongWalk ws =
+    (from : RouterId) × (address : Addr) × (rest : List Text) × BeginsWalk ws from address rest
+    × AreManySpelled (IsDecimal 32) rest
 
 -- the word `all` alone
 abbrev pub IsAll : List Text → Type 0
@@ -232,7 +241,8 @@ SpellsText ws = (rest : List Text) × (ws ≡ command_name_text name.Say ∷ res
 
 -- the words spell a route that is expected, with next hops
 abbrev pub SpellsLongRoute : List Text → Type 0
-SpellsLongRoute ws = (rest : List Text) × (ws ≡ command_name_text name.Expect ∷ rest) × IsLongRoute rest
+SpellsLongRoute ws =
+    (rest : List Text) × (ws ≡ command_name_text name.Expect ∷ rest) × IsLongRoute rest
 
 -- they spell a command that needs room: for the choices of a walk, for a text, or for next hops
 abbrev pub NeedsRoom : List Text → Type 0

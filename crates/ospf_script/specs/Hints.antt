@@ -1,4 +1,5 @@
--- What is told behind a line that spells no command: which word does not fit, and what belongs there.
+-- What is told behind a line that spells no command: which word does
+-- not fit, and what belongs there.
 use Rattle.std.specs.Prelude.{ℕ, ◌||◌, List, [], ◌∷◌, ◌++◌, Option, None, Some, codes, flat_map, nat_lt, if◌then◌else◌}
 use Rattle.ospf_script.specs.Names.{name_in}
 use Rattle.ospf_script.specs.Texts.{hexadecimal}
@@ -9,7 +10,8 @@ use Rattle.ospf_script.specs.declared.name.Name.TheVariants as name
 
 -- a byte of a word: itself where it is one that ASCII prints, else as \x1b
 abbrev pub byte_text : ℕ → Text
-byte_text byte = if nat_lt byte 33 || nat_lt 126 byte then codes "\\x" ++ hexadecimal 2 byte else byte ∷ []
+byte_text byte =
+    if nat_lt byte 33 || nat_lt 126 byte then codes "\\x" ++ hexadecimal 2 byte else byte ∷ []
 
 -- a word, byte by byte
 abbrev pub word_text : Text → Text
@@ -40,13 +42,16 @@ form_text name.Datagrams = codes "datagrams R [MOST]"
 form_text name.Drops = codes "drops R"
 form_text name.Loss = codes "loss PERCENT NUMBER [ADDRESS]"
 form_text name.Expect =
-    codes "expect full R S, expect no neighbour R LINK, expect route R PREFIX COST [HOP..], expect no route R PREFIX, expect walk R ADDRESS arrived [COST], expect agree, or expect settled"
+    codes
+    "expect full R S, expect no neighbour R LINK, expect route R PREFIX COST [HOP..], expect no route R PREFIX, expect walk R ADDRESS arrived [COST], expect agree, or expect settled"
 form_text name.Label = codes "label on, or label off"
 
 -- behind a first word that is no name, which names there are; else the form of the command
 abbrev pub hint_of : Text → Option Name → Text
 hint_of word None =
-    word_text word ++ codes ": no command; there are start, stop, tick, up, down, deliver, cut, mend, round, batch, random, settle, neighbours, listing, table, walk, floor, say, why, datagrams, drops, loss, expect, label"
+    word_text word
+    ++ codes
+    ": no command; there are start, stop, tick, up, down, deliver, cut, mend, round, batch, random, settle, neighbours, listing, table, walk, floor, say, why, datagrams, drops, loss, expect, label"
 hint_of word (Some n) = form_text n
 
 -- of the words of a line

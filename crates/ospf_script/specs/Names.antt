@@ -41,14 +41,17 @@ IsWordOf word n = word ≡ command_name_text n
 
 -- the word is this one; of neighbours it can be spelled in two ways
 abbrev pub is_word_of : Text → Name → Bool
-is_word_of word (name.Show view.Neighbours) = bytes_eq word (codes "neighbours") || bytes_eq word (codes "neighbors")
+is_word_of word (name.Show view.Neighbours) =
+    bytes_eq word (codes "neighbours") || bytes_eq word (codes "neighbors")
 is_word_of word n = bytes_eq word (command_name_text n)
 
 -- all of them, in the order in which they are told
 abbrev pub all_names : List Name
 all_names =
-    name.Start ∷ name.Stop ∷ name.Tick ∷ name.Up ∷ name.Down ∷ name.Deliver ∷ name.Cut ∷ name.Mend ∷ name.Round ∷ name.Batch
-    ∷ name.Random ∷ name.Settle ∷ name.Show view.Neighbours ∷ name.Show view.Listing ∷ name.Show view.Table ∷ name.Show view.Floor ∷ name.Walk
+    name.Start ∷ name.Stop ∷ name.Tick ∷ name.Up ∷ name.Down ∷ name.Deliver ∷ name.Cut ∷ name.Mend
+    ∷ name.Round ∷ name.Batch
+    ∷ name.Random ∷ name.Settle ∷ name.Show view.Neighbours ∷ name.Show view.Listing
+    ∷ name.Show view.Table ∷ name.Show view.Floor ∷ name.Walk
     ∷ name.Say ∷ name.Why ∷ name.Datagrams ∷ name.Drops ∷ name.Loss ∷ name.Expect ∷ name.Label ∷ []
 
 -- the name that a word is, if it is one

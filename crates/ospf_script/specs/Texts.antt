@@ -44,30 +44,39 @@ given_text text_of (Some value) = codes " " ++ text_of value
 
 -- what is wanted of a router, with the name of its command
 abbrev pub wanted_text : RouterId → Wanted → Text
-wanted_text router (Full other) = codes "expect full " ++ number_text router.0 ++ codes " " ++ number_text other.0
-wanted_text router (NoNeighbour link) = codes "expect no neighbour " ++ number_text router.0 ++ codes " " ++ decimal link
+wanted_text router (Full other) =
+    codes "expect full " ++ number_text router.0 ++ codes " " ++ number_text other.0
+wanted_text router (NoNeighbour link) =
+    codes "expect no neighbour " ++ number_text router.0 ++ codes " " ++ decimal link
 wanted_text router (Route prefix cost hops) =
-    codes "expect route " ++ number_text router.0 ++ codes " " ++ prefix_text prefix ++ codes " " ++ decimal cost ++ spaced_hops_text hops.items
-wanted_text router (NoRoute prefix) = codes "expect no route " ++ number_text router.0 ++ codes " " ++ prefix_text prefix
+    codes "expect route " ++ number_text router.0 ++ codes " " ++ prefix_text prefix ++ codes " "
+    ++ decimal cost ++ spaced_hops_text hops.items
+wanted_text router (NoRoute prefix) =
+    codes "expect no route " ++ number_text router.0 ++ codes " " ++ prefix_text prefix
 
 -- what is expected, with the name of its command
 abbrev pub expected_text : Expected → Text
 expected_text (Router router wanted) = wanted_text router wanted
 expected_text (Walk from address cost) =
-    codes "expect walk " ++ number_text from.0 ++ codes " " ++ number_text address.0 ++ codes " arrived" ++ given_text decimal cost
+    codes "expect walk " ++ number_text from.0 ++ codes " " ++ number_text address.0
+    ++ codes " arrived" ++ given_text decimal cost
 expected_text Agree = codes "expect agree"
 expected_text Settled = codes "expect settled"
 
 -- the command of an event
 abbrev pub event_text : WorldEvent → Text
 event_text (event.Start router dd_start floor) =
-    codes "start " ++ number_text router.0 ++ codes " " ++ decimal dd_start ++ codes " " ++ floor_text floor
+    codes "start " ++ number_text router.0 ++ codes " " ++ decimal dd_start ++ codes " "
+    ++ floor_text floor
 event_text (event.Stop router) = codes "stop " ++ number_text router.0
 event_text (event.Tick router) = codes "tick " ++ number_text router.0
-event_text (event.LinkUp router link) = codes "up " ++ number_text router.0 ++ codes " " ++ decimal link
-event_text (event.LinkDown router link) = codes "down " ++ number_text router.0 ++ codes " " ++ decimal link
+event_text (event.LinkUp router link) =
+    codes "up " ++ number_text router.0 ++ codes " " ++ decimal link
+event_text (event.LinkDown router link) =
+    codes "down " ++ number_text router.0 ++ codes " " ++ decimal link
 event_text (event.Deliver datagram router link) =
-    codes "deliver " ++ decimal datagram ++ codes " " ++ number_text router.0 ++ codes " " ++ decimal link
+    codes "deliver " ++ decimal datagram ++ codes " " ++ number_text router.0 ++ codes " "
+    ++ decimal link
 
 -- the command of many events
 abbrev pub many_text : Many → Text
@@ -90,18 +99,23 @@ command_text (command.Event event) = event_text event
 command_text (command.Many many) = many_text many
 command_text (command.Round count most) = codes "round " ++ decimal count ++ given_text decimal most
 command_text (command.Batch count) = codes "batch " ++ decimal count
-command_text (command.Random number count) = codes "random " ++ decimal number ++ codes " " ++ decimal count
+command_text (command.Random number count) =
+    codes "random " ++ decimal number ++ codes " " ++ decimal count
 command_text (command.Settle most) = codes "settle " ++ decimal most
 command_text (command.Show view router) = view_text view ++ codes " " ++ number_text router.0
 command_text (command.Walk from address choices) =
-    codes "walk " ++ number_text from.0 ++ codes " " ++ number_text address.0 ++ choices_text choices.items
+    codes "walk " ++ number_text from.0 ++ codes " " ++ number_text address.0
+    ++ choices_text choices.items
 command_text (command.Say text) = codes "say " ++ string_bytes text
 command_text (command.Why router link neighbour) =
-    codes "why " ++ number_text router.0 ++ codes " " ++ decimal link ++ given_text (λ (r : RouterId). number_text r.0) neighbour
-command_text (command.Datagrams router most) = codes "datagrams " ++ number_text router.0 ++ given_text decimal most
+    codes "why " ++ number_text router.0 ++ codes " " ++ decimal link
+    ++ given_text (λ (r : RouterId). number_text r.0) neighbour
+command_text (command.Datagrams router most) =
+    codes "datagrams " ++ number_text router.0 ++ given_text decimal most
 command_text (command.Drops router) = codes "drops " ++ number_text router.0
 command_text (command.Loss percent number network) =
-    codes "loss " ++ decimal percent ++ codes " " ++ decimal number ++ given_text (λ (address : Addr). number_text address.0) network
+    codes "loss " ++ decimal percent ++ codes " " ++ decimal number
+    ++ given_text (λ (address : Addr). number_text address.0) network
 command_text (command.Expect expected) = expected_text expected
 command_text (command.Label true) = codes "label on"
 command_text (command.Label false) = codes "label off"

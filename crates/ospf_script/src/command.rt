@@ -7,8 +7,9 @@ use ospf_headline::WorldEvent;
 /// What a line of a script asks for: an event, several events, or a line to be printed.
 #[derive(Debug, PartialEq, Eq, Drop)]
 pub enum Command {
-    /// `start R DD [FLOOR]`, `stop R`, `tick R`, `up R LINK`, `down R LINK` or `deliver N R LINK`: an event. A start has
-    /// the first DD sequence number that the router sends, and the floor of its LS sequence numbers.
+    /// `start R DD [FLOOR]`, `stop R`, `tick R`, `up R LINK`, `down R LINK` or `deliver N R
+    /// LINK`: an event. A start has the first DD sequence number that the router sends, and the
+    /// floor of its LS sequence numbers.
     Event {
         event: WorldEvent,
     },
@@ -16,7 +17,8 @@ pub enum Command {
     Many {
         many: Many,
     },
-    /// `round COUNT [MOST]`: so many rounds, and how many datagrams each offers at most where that is given.
+    /// `round COUNT [MOST]`: so many rounds, and how many datagrams each
+    /// offers at most where that is given.
     Round {
         count: u64,
         most: Option<u64>,
@@ -39,8 +41,8 @@ pub enum Command {
         view: View,
         router: RouterId,
     },
-    /// `walk R ADDRESS CHOICE..`: the walk from a router towards an address is printed, with the choice of a hop at each
-    /// router that it meets.
+    /// `walk R ADDRESS CHOICE..`: the walk from a router towards an address is printed, with the
+    /// choice of a hop at each router that it meets.
     Walk {
         from: RouterId,
         address: Addr,
@@ -50,30 +52,34 @@ pub enum Command {
     Say {
         text: String,
     },
-    /// `why R LINK [NEIGHBOUR]`: what a link of the router waits for is printed, or of a neighbour where one is given.
+    /// `why R LINK [NEIGHBOUR]`: what a link of the router waits for is printed, or of
+    /// a neighbour where one is given.
     Why {
         router: RouterId,
         link: usize,
         neighbour: Option<RouterId>,
     },
-    /// `datagrams R [MOST]`: the last datagrams that a round offers to the router are printed, at most so many where that
-    /// is given, each as the line that delivers it.
+    /// `datagrams R [MOST]`: the last datagrams that a round offers to the router are printed, at
+    /// most so many where that is given, each as the line that delivers it.
     Datagrams {
         router: RouterId,
         most: Option<u64>,
     },
-    /// `drops R`: how many datagrams the router dropped since it started is printed, by link and cause.
+    /// `drops R`: how many datagrams the router dropped since it started
+    /// is printed, by link and cause.
     Drops {
         router: RouterId,
     },
-    /// `loss PERCENT NUMBER [ADDRESS]`: of a hundred deliveries so many are lost from here on, by chance, by the
-    /// generator of this number; on the network that holds the address alone where one is given.
+    /// `loss PERCENT NUMBER [ADDRESS]`: of a hundred deliveries so many are lost from here
+    /// on, by chance, by the generator of this number; on the network that holds the
+    /// address alone where one is given.
     Loss {
         percent: u8,
         number: u64,
         network: Option<Addr>,
     },
-    /// `expect WHAT ..`: where it is not as it is expected to be, that is printed, with what stands there.
+    /// `expect WHAT ..`: where it is not as it is expected to be, that is
+    /// printed, with what stands there.
     Expect {
         expected: Expected,
     },
@@ -86,7 +92,8 @@ pub enum Command {
 /// Events at many routers.
 #[derive(Clone, Copy, Debug, PartialEq, Eq)]
 pub enum Many {
-    /// Each router starts, with 1 as the first DD sequence number that it sends, and above no floor.
+    /// Each router starts, with 1 as the first DD sequence number that it sends, and above no
+    /// floor.
     Start,
     /// Each link of each router comes up.
     Up,

@@ -16,7 +16,8 @@ use crate::words::{first_word, is_alone, three_words, two_words};
 use ospf_base::{Prefix, RouterId};
 use std::alloc::Global;
 
-// What the words of a text expect. Memory is told to be missing only where they spell a route with next hops.
+// What the words of a text expect. Memory is told to be missing only where
+// they spell a route with next hops.
 pub(crate) fn expected_in(alloc: Global, text: &[u8]) -> Result<Expected, CommandFault>
     ensures ok { IfOk result (IsExpected (line_words text.now)) }
     ensures not_expected { IfErr result (λ e. e ≡ CommandFault.NotACommand → (expected : Expected) →

@@ -11,7 +11,8 @@ pub enum Expected {
         router: RouterId,
         wanted: Wanted,
     },
-    /// `walk R ADDRESS arrived [COST]`: the walk from the router arrives, at this cost where one is given.
+    /// `walk R ADDRESS arrived [COST]`: the walk from the router arrives,
+    /// at this cost where one is given.
     Walk {
         from: RouterId,
         address: Addr,
@@ -19,7 +20,8 @@ pub enum Expected {
     },
     /// `agree`: all routers that run list the same.
     Agree,
-    /// `settled`: the last `settle` ended since nothing changed any more, and nothing has come about since.
+    /// `settled`: the last `settle` ended since nothing changed any more,
+    /// and nothing has come about since.
     Settled,
 }
 
@@ -34,7 +36,8 @@ pub enum Wanted {
     NoNeighbour {
         link: usize,
     },
-    /// `route R PREFIX COST [HOP..]`: it has a route of this cost to the prefix; where hops are given, by these and no other.
+    /// `route R PREFIX COST [HOP..]`: it has a route of this cost to the prefix; where hops
+    /// are given, by these and no other.
     Route {
         prefix: Prefix,
         cost: u64,

@@ -25,14 +25,16 @@ impl Command {
     ghost use Rattle.ospf_base.specs.Text.{IsBlank};
     ghost use Rattle.ospf_script.specs.Words.{line_words};
 
-    /// Reads a line of a script, without its end: the command that its words spell, or `None` of a blank line.
+    /// Reads a line of a script, without its end: the command that its words
+    /// spell, or `None` of a blank line.
     ///
-    /// Words stand between spaces, and nothing else ends one. Numbers are decimal digits, of 32 bits where they are a
-    /// first DD sequence number or a choice, at most 100 as a percentage, else of 64; a floor is eight hexadecimal
-    /// digits of either case, and 80000000 where it is left out; a prefix is an address, a slash and how many of its bits
-    /// count, behind which none is set. The error is `NotACommand` where the words of a line that is not blank spell none.
-    /// `Memory` comes only where there was no room for the choices of a walk, for a text to be printed, or for the next hops
-    /// of a route that is expected.
+    /// Words stand between spaces, and nothing else ends one. Numbers are decimal digits, of 32
+    /// bits where they are a first DD sequence number or a choice, at most 100 as a percentage,
+    /// else of 64; a floor is eight hexadecimal digits of either case, and 80000000 where it is
+    /// left out; a prefix is an address, a slash and how many of its bits count, behind which none
+    /// is set. The error is `NotACommand` where the words of a line that is not blank spell none.
+    /// `Memory` comes only where there was no room for the choices of a walk, for a text to be
+    /// printed, or for the next hops of a route that is expected.
     pub fn read(alloc: Global, line: &[u8]) -> Result<Option<Command>, CommandFault>
         ensures command { IfOk result (λ read. IfSome read (SpellsCommand (line_words line.now))) }
         ensures blank { IfOk result (λ read. IsNone read ↔ IsBlank line.now) }

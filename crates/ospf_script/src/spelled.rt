@@ -52,7 +52,8 @@ impl Spelled for NextHop {
     }
 }
 
-// The values that the words of a text spell. Memory is told to be missing only where each word spells one.
+// The values that the words of a text spell. Memory is told to be missing
+// only where each word spells one.
 pub(crate) fn values_in<V: Spelled>(alloc: Global, text: &[u8]) -> Result<Vec<V>, CommandFault>
     ensures ok { IfOk result (λ values. AllZip V.is_spelled (line_words text.now)
         values.items) }

@@ -20,7 +20,8 @@ const MOST_PERCENT: u64 = 100;
 
 const MOST_LENGTH: u64 = 32;
 
-/// The floor of LS sequence numbers that a word spells: eight hexadecimal digits, of either case, in two's complement.
+/// The floor of LS sequence numbers that a word spells: eight hexadecimal digits, of
+/// either case, in two's complement.
 pub fn floor_of(word: &[u8]) -> Option<i32>
     ensures some { IfSome result (IsFloor word.now) }
     ensures none { IfNone result ((floor : ℤ) → IsFloor word.now floor → ⊥) }

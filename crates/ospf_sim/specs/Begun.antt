@@ -26,27 +26,34 @@ use Rattle.ospf_sim.specs.Twins.{SharesRouter}
 -- ---- one line
 
 -- what a line prints is cut: a beginning of it was written
-pub record IsPrintBegun (line : Text) (w : Simulation) (out_old out_new : Option (List ℕ)) : Type 0 where
+pub record IsPrintBegun (line : Text) (w : Simulation) (out_old out_new : Option (List ℕ))
+    : Type 0 where
   pub command : Command
   pub end : Simulation
   pub spelled : SpellsCommand (line_words line) command
   pub done : IsDoneBegun command w end out_old out_new
 
--- a text is not told whole: what was printed before it was not flushed, and it is not begun, or a beginning of it was written
-pub data IsTellingCut (text : Text) (failed : FailedStreams) (old new : Written) : Failure → Type 0 where
-  not_flushed : {f : Failure} → IsOutputCut failed f → Appends old.out new.out [] → new.err ≡ old.err
+-- a text is not told whole: what was printed before it was not flushed, and it is not begun,
+-- or a beginning of it was written
+pub data IsTellingCut (text : Text) (failed : FailedStreams) (old new : Written)
+    : Failure → Type 0 where
+  not_flushed : {f : Failure} → IsOutputCut failed f → Appends old.out new.out []
+      → new.err ≡ old.err
       → IsTellingCut text failed old new f
-  in_telling : {f : Failure} → IsErrorCut failed f → Appends old.out new.out [] → IsBegun old.err new.err text
+  in_telling : {f : Failure} → IsErrorCut failed f → Appends old.out new.out []
+      → IsBegun old.err new.err text
       → IsTellingCut text failed old new f
 
 -- an answer is a refusal, and that is not told whole
-pub record IsEventAnswerCut (number : ℕ) (answer : Answer) (failed : FailedStreams) (old new : Written) (f : Failure) : Type 0 where
+pub record IsEventAnswerCut (number : ℕ) (answer : Answer) (failed : FailedStreams)
+    (old new : Written) (f : Failure) : Type 0 where
   pub fault : WorldFault
   pub refused : answer ≡ Err fault
   pub told : IsTellingCut (world_refusal_line number fault) failed old new f
 
 -- a line is refused, what it prints was written, and its refusal is not told whole
-pub record IsRefusalCut (number : ℕ) (line : Text) (w : Simulation) (failed : FailedStreams) (old new : Written) (f : Failure) : Type 0 where
+pub record IsRefusalCut (number : ℕ) (line : Text) (w : Simulation) (failed : FailedStreams)
+    (old new : Written) (f : Failure) : Type 0 where
   pub command : Command
   pub end : Simulation
   pub spelled : SpellsCommand (line_words line) command
@@ -55,22 +62,29 @@ pub record IsRefusalCut (number : ℕ) (line : Text) (w : Simulation) (failed : 
   pub does : DoesCommand command w (Err fault) text end
   pub out_then : Option (List ℕ)
   pub printed : Appends old.out out_then text
-  pub told : IsTellingCut (world_refusal_line number fault) failed (record old { out = out_then }) new f
+  pub told :
+      IsTellingCut (world_refusal_line number fault) failed (record old { out = out_then }) new f
 
--- a line is cut: before it does anything, where there is no room for the choices of a walk or for a text; in what it prints; in its refusal;
--- or where it cannot be read, and that is not told whole
-pub data IsLineCut (number : ℕ) (line : Text) (w : Simulation) (failed : FailedStreams) (old new : Written) : Failure → Type 0 where
-  no_room_for : NeedsRoom (line_words line) → new ≡ old → IsLineCut number line w failed old new failure.Memory
-  in_print : {f : Failure} → IsOutputCut failed f → IsPrintBegun line w old.out new.out → new.err ≡ old.err
+-- a line is cut: before it does anything, where there is no room for the choices of a walk or for a
+-- text; in what it prints; in its refusal; or where it cannot be read, and that is not told whole
+pub data IsLineCut (number : ℕ) (line : Text) (w : Simulation) (failed : FailedStreams)
+    (old new : Written) : Failure → Type 0 where
+  no_room_for : NeedsRoom (line_words line) → new ≡ old
+      → IsLineCut number line w failed old new failure.Memory
+  in_print : {f : Failure} → IsOutputCut failed f → IsPrintBegun line w old.out new.out
+      → new.err ≡ old.err
       → IsLineCut number line w failed old new f
-  in_refusal : {f : Failure} → IsRefusalCut number line w failed old new f → IsLineCut number line w failed old new f
-  in_unreadable : {f : Failure} → IsUnreadable line → IsTellingCut (unreadable_line number line) failed old new f
+  in_refusal : {f : Failure} → IsRefusalCut number line w failed old new f
+      → IsLineCut number line w failed old new f
+  in_unreadable : {f : Failure} → IsUnreadable line
+      → IsTellingCut (unreadable_line number line) failed old new f
       → IsLineCut number line w failed old new f
 
 -- ---- a script
 
 -- a line is cut, and those before it have run: what they write was written
-pub record IsCutAtLine (lines : List (ℕ × Text)) (w : Simulation) (failed : FailedStreams) (old new : Written) (f : Failure) : Type 0 where
+pub record IsCutAtLine (lines : List (ℕ × Text)) (w : Simulation) (failed : FailedStreams)
+    (old new : Written) (f : Failure) : Type 0 where
   pub before : List (ℕ × Text)
   pub number : ℕ
   pub line : Text
@@ -81,41 +95,62 @@ pub record IsCutAtLine (lines : List (ℕ × Text)) (w : Simulation) (failed : F
   pub run : IsScriptRun before w mid old between
   pub cut : IsLineCut number line mid failed between new f
 
--- a script is cut: before its first line, for want of memory; at a line; or behind its last, where what it printed is not flushed
-pub data IsScriptCut (script : Text) (w : Simulation) (failed : FailedStreams) (old new : Written) : Failure → Type 0 where
+-- a script is cut: before its first line, for want of memory; at a line; or behind its last, where
+-- what it printed is not flushed
+pub data IsScriptCut (script : Text) (w : Simulation) (failed : FailedStreams) (old new : Written)
+    : Failure → Type 0 where
   no_lines : new ≡ old → IsScriptCut script w failed old new failure.Memory
-  in_line : {f : Failure} → IsCutAtLine (numbered_from 1 script) w failed old new f → IsScriptCut script w failed old new f
-  behind_lines : {f : Failure} (end : Simulation) → IsOutputCut failed f → IsScriptRun (numbered_from 1 script) w end old new
+  in_line : {f : Failure} → IsCutAtLine (numbered_from 1 script) w failed old new f
+      → IsScriptCut script w failed old new f
+  behind_lines : {f : Failure} (end : Simulation) → IsOutputCut failed f
+      → IsScriptRun (numbered_from 1 script) w end old new
       → IsScriptCut script w failed old new f
 
 -- ---- a simulation
 
--- a file is cut: nothing is told of it, for want of memory, or a beginning of why it holds no configuration
-pub data IsFileCut (file : NamedFile) (failed : FailedStreams) (err_old err_new : Option (List ℕ)) : Failure → Type 0 where
+-- a file is cut: nothing is told of it, for want of memory, or a beginning
+-- of why it holds no configuration
+pub data IsFileCut (file : NamedFile) (failed : FailedStreams) (err_old err_new : Option (List ℕ))
+    : Failure → Type 0 where
   no_config : err_new ≡ err_old → IsFileCut file failed err_old err_new failure.Memory
-  in_fault : {f : Failure} (fault : ConfigFault) → IsErrorCut failed f → IsRefusedFor (text_in file) fault
+  in_fault : {f : Failure} (fault : ConfigFault) → IsErrorCut failed f
+      → IsRefusedFor (text_in file) fault
       → IsBegun err_old err_new (refused_line file fault) → IsFileCut file failed err_old err_new f
 
--- configurations open no world: nothing is told, for want of memory, or a beginning of that two of them are of one router
-pub data IsOpeningCut (files : List NamedFile) (configs : List Config) (failed : FailedStreams) (err_old err_new : Option (List ℕ)) : Failure → Type 0 where
+-- configurations open no world: nothing is told, for want of memory, or a beginning of
+-- that two of them are of one router
+pub data IsOpeningCut (files : List NamedFile) (configs : List Config) (failed : FailedStreams)
+    (err_old err_new : Option (List ℕ)) : Failure → Type 0 where
   no_room : err_new ≡ err_old → IsOpeningCut files configs failed err_old err_new failure.Memory
-  in_twins : {f : Failure} (text : Text) → IsErrorCut failed f → SharesRouter files configs text → IsBegun err_old err_new text
+  in_twins : {f : Failure} (text : Text) → IsErrorCut failed f → SharesRouter files configs text
+      → IsBegun err_old err_new text
       → IsOpeningCut files configs failed err_old err_new f
 
--- there is no world of files: nothing is told, for want of memory, or a beginning of why the first that is refused is that,
--- or of that two of them are of one router
-pub data IsWorldCut (files : List NamedFile) (failed : FailedStreams) (err_old err_new : Option (List ℕ)) : Failure → Type 0 where
+-- there is no world of files: nothing is told, for want of memory, or a beginning of why the first
+-- that is refused is that, or of that two of them are of one router
+pub data IsWorldCut (files : List NamedFile) (failed : FailedStreams)
+    (err_old err_new : Option (List ℕ)) : Failure → Type 0 where
   no_world : err_new ≡ err_old → IsWorldCut files failed err_old err_new failure.Memory
-  in_file : {f : Failure} (file : NamedFile) (fault : ConfigFault) → IsErrorCut failed f → IsFirstRefused file fault files
-      → IsBegun err_old err_new (refused_line file fault) → IsWorldCut files failed err_old err_new f
-  in_same_router : {f : Failure} (configs : List Config) (text : Text) → IsErrorCut failed f → AreConfigs files configs → SharesRouter files configs text
+  in_file : {f : Failure} (file : NamedFile) (fault : ConfigFault) → IsErrorCut failed f
+      → IsFirstRefused file fault files
+      → IsBegun err_old err_new (refused_line file fault)
+      → IsWorldCut files failed err_old err_new f
+  in_same_router : {f : Failure} (configs : List Config) (text : Text) → IsErrorCut failed f
+      → AreConfigs files configs → SharesRouter files configs text
       → IsBegun err_old err_new text → IsWorldCut files failed err_old err_new f
 
--- a simulation is cut: at the first file that could not be read, before there is a world, or in its script
-pub data IsSimulationCut (script : NamedFile) (files : List NamedFile) (failed : FailedStreams) (old new : Written) : Failure → Type 0 where
-  in_unread : {f : Failure} (file : NamedFile) → IsErrorCut failed f → IsFirstUnread file (script ∷ files)
-      → IsBegun old.err new.err (unread_line file) → new.out ≡ old.out → IsSimulationCut script files failed old new f
-  in_world : {f : Failure} → AreFilesRead (script ∷ files) → IsWorldCut files failed old.err new.err f → new.out ≡ old.out
+-- a simulation is cut: at the first file that could not be read, before
+-- there is a world, or in its script
+pub data IsSimulationCut (script : NamedFile) (files : List NamedFile) (failed : FailedStreams)
+    (old new : Written) : Failure → Type 0 where
+  in_unread : {f : Failure} (file : NamedFile) → IsErrorCut failed f
+      → IsFirstUnread file (script ∷ files)
+      → IsBegun old.err new.err (unread_line file) → new.out ≡ old.out
       → IsSimulationCut script files failed old new f
-  in_script : {f : Failure} (start : WorldValue) → AreFilesRead (script ∷ files) → IsWorldOf files start
-      → IsScriptCut (text_in script) (begun_in start) failed old new f → IsSimulationCut script files failed old new f
+  in_world : {f : Failure} → AreFilesRead (script ∷ files)
+      → IsWorldCut files failed old.err new.err f → new.out ≡ old.out
+      → IsSimulationCut script files failed old new f
+  in_script : {f : Failure} (start : WorldValue) → AreFilesRead (script ∷ files)
+      → IsWorldOf files start
+      → IsScriptCut (text_in script) (begun_in start) failed old new f
+      → IsSimulationCut script files failed old new f

@@ -25,20 +25,26 @@ use Rattle.ospf_sim.specs.declared.text.Simulated.{Simulated}
 
 -- ---- lines
 
--- what a line of this number comes to: it is run as in a script, or it cannot be read, changes nothing, and that is told
+-- what a line of this number comes to: it is run as in a script, or it cannot be read,
+-- changes nothing, and that is told
 pub data AnswersLine (number : ℕ) (line : Text) (w w' : Simulation) (out err : Text) : Type 0 where
   is_run : RunsLine number line w w' out err → AnswersLine number line w w' out err
-  is_unreadable : IsUnreadable line → w' ≡ w → out ≡ [] → err ≡ unreadable_line number line → AnswersLine number line w w' out err
+  is_unreadable : IsUnreadable line → w' ≡ w → out ≡ [] → err ≡ unreadable_line number line
+      → AnswersLine number line w w' out err
 
--- lines with their numbers, one after another, up to the end: the prompt stands before each, and before the end
-pub data AnswersLines (prompt : Text) : List (ℕ × Text) → Simulation → Simulation → Text → Text → Type 0 where
+-- lines with their numbers, one after another, up to the end: the prompt stands
+-- before each, and before the end
+pub data AnswersLines (prompt : Text)
+    : List (ℕ × Text) → Simulation → Simulation → Text → Text → Type 0 where
   at_end : {w : Simulation} → AnswersLines prompt [] w w prompt []
-  one_line : {number : ℕ} {line : Text} {lines : List (ℕ × Text)} {w mid w' : Simulation} {out outs err errs : Text}
+  one_line : {number : ℕ} {line : Text} {lines : List (ℕ × Text)} {w mid w' : Simulation}
+      {out outs err errs : Text}
       → AnswersLine number line w mid out err → AnswersLines prompt lines mid w' outs errs
       → AnswersLines prompt ((number, line) ∷ lines) w w' (prompt ++ out ++ outs) (err ++ errs)
 
 -- what a line comes to is what was written
-pub record IsLineAnswered (number : ℕ) (line : Text) (w w' : Simulation) (old new : Written) : Type 0 where
+pub record IsLineAnswered (number : ℕ) (line : Text) (w w' : Simulation) (old new : Written)
+    : Type 0 where
   pub out : Text
   pub err : Text
   pub answers : AnswersLine number line w w' out err
@@ -46,7 +52,8 @@ pub record IsLineAnswered (number : ℕ) (line : Text) (w w' : Simulation) (old 
   pub err_written : Appends old.err new.err err
 
 -- what lines come to is what was written
-pub record AreAnswered (prompt : Text) (lines : List (ℕ × Text)) (w w' : Simulation) (old new : Written) : Type 0 where
+pub record AreAnswered (prompt : Text) (lines : List (ℕ × Text)) (w w' : Simulation)
+    (old new : Written) : Type 0 where
   pub out : Text
   pub err : Text
   pub answers : AnswersLines prompt lines w w' out err
@@ -68,7 +75,8 @@ IsPiece true piece old new = IsPieceRead piece old new
 IsPiece false piece old new = IsAtEnd old
 
 -- all lines of a text are answered, which is the whole input where that is known
-pub record IsAllAnswered (input : Option (List ℕ)) (prompt : Text) (w w' : Simulation) (old new : Written) : Type 0 where
+pub record IsAllAnswered (input : Option (List ℕ)) (prompt : Text) (w w' : Simulation)
+    (old new : Written) : Type 0 where
   pub text : Text
   pub whole : IfSome input (λ bytes. bytes ≡ text)
   pub answered : AreAnswered prompt (numbered_from 1 text) w w' old new
@@ -76,7 +84,8 @@ pub record IsAllAnswered (input : Option (List ℕ)) (prompt : Text) (w w' : Sim
 -- ---- an input that is cut
 
 -- a line is answered, and the prompt behind it is not written whole
-pub record IsPromptCut (prompt : Text) (number : ℕ) (line : Text) (w : Simulation) (failed : FailedStreams) (old new : Written) (f : Failure) : Type 0 where
+pub record IsPromptCut (prompt : Text) (number : ℕ) (line : Text) (w : Simulation)
+    (failed : FailedStreams) (old new : Written) (f : Failure) : Type 0 where
   pub end : Simulation
   pub out_then : Option (List ℕ)
   pub answered : IsLineAnswered number line w end old (record new { out = out_then })
@@ -84,12 +93,16 @@ pub record IsPromptCut (prompt : Text) (number : ℕ) (line : Text) (w : Simulat
   pub cut : IsOutputCut failed f
 
 -- a line is cut, or the prompt behind it
-pub data IsTurnCut (prompt : Text) (number : ℕ) (line : Text) (w : Simulation) (failed : FailedStreams) (old new : Written) (f : Failure) : Type 0 where
-  in_answer : IsLineCut number line w failed old new f → IsTurnCut prompt number line w failed old new f
-  in_prompt : IsPromptCut prompt number line w failed old new f → IsTurnCut prompt number line w failed old new f
+pub data IsTurnCut (prompt : Text) (number : ℕ) (line : Text) (w : Simulation)
+    (failed : FailedStreams) (old new : Written) (f : Failure) : Type 0 where
+  in_answer : IsLineCut number line w failed old new f
+      → IsTurnCut prompt number line w failed old new f
+  in_prompt : IsPromptCut prompt number line w failed old new f
+      → IsTurnCut prompt number line w failed old new f
 
 -- the last of these lines is cut, and those before it are answered
-pub record IsLastCut (prompt : Text) (lines : List (ℕ × Text)) (w : Simulation) (failed : FailedStreams) (old new : Written) (f : Failure) : Type 0 where
+pub record IsLastCut (prompt : Text) (lines : List (ℕ × Text)) (w : Simulation)
+    (failed : FailedStreams) (old new : Written) (f : Failure) : Type 0 where
   pub before : List (ℕ × Text)
   pub number : ℕ
   pub line : Text
@@ -103,9 +116,12 @@ pub record IsLastCut (prompt : Text) (lines : List (ℕ × Text)) (w : Simulatio
 abbrev pub IsReadOf : Option (List ℕ) → Text → Type 0
 IsReadOf input text = IfSome input (λ bytes. (rest : Text) × (bytes ≡ text ++ rest))
 
--- the lines of an input are cut: before the first, in the prompt; where the next is not read; or at the last that was read
-pub data IsSessionCut (input : Option (List ℕ)) (prompt : Text) (w : Simulation) (failed : FailedStreams) (old new : Written) : Failure → Type 0 where
-  in_first_prompt : {f : Failure} → IsOutputCut failed f → IsBegun old.out new.out prompt → new.err ≡ old.err
+-- the lines of an input are cut: before the first, in the prompt; where the next is not
+-- read; or at the last that was read
+pub data IsSessionCut (input : Option (List ℕ)) (prompt : Text) (w : Simulation)
+    (failed : FailedStreams) (old new : Written) : Failure → Type 0 where
+  in_first_prompt : {f : Failure} → IsOutputCut failed f → IsBegun old.out new.out prompt
+      → new.err ≡ old.err
       → IsSessionCut input prompt w failed old new f
   in_reading : {f : Failure} (text : Text) (end : Simulation) → IsOfInput f → IsReadOf input text
       → AreAnswered prompt (numbered_from 1 text) w end old new
@@ -117,7 +133,8 @@ pub data IsSessionCut (input : Option (List ℕ)) (prompt : Text) (w : Simulatio
 -- ---- a console
 
 -- all lines of the input are answered, in a world of the configurations
-pub record IsConsoled (input : Option (List ℕ)) (prompt : Text) (files : List NamedFile) (simulated : Simulated) (old new : Written) : Type 0 where
+pub record IsConsoled (input : Option (List ℕ)) (prompt : Text) (files : List NamedFile)
+    (simulated : Simulated) (old new : Written) : Type 0 where
   pub read : AreFilesRead files
   pub start : WorldValue
   pub end : Simulation
@@ -126,38 +143,47 @@ pub record IsConsoled (input : Option (List ℕ)) (prompt : Text) (files : List 
   pub all : IsAllAnswered input prompt (begun_in start) end old new
 
 -- no line is answered, since there is no world of the configurations, of which it is told why
-pub record IsNoConsole (files : List NamedFile) (simulated : Simulated) (old new : Written) : Type 0 where
+pub record IsNoConsole (files : List NamedFile) (simulated : Simulated) (old new : Written)
+    : Type 0 where
   pub read : AreFilesRead files
   pub no_world : IsNoWorld files old.err new.err
   pub none : simulated.left ≡ None
   pub same_out : new.out ≡ old.out
 
 -- what comes of a console, by its status
-abbrev pub ConsoleComes : Status → Option (List ℕ) → Text → List NamedFile → Simulated → Written → Written → Type 0
+abbrev pub ConsoleComes : Status → Option (List ℕ) → Text → List NamedFile → Simulated → Written
+    → Written → Type 0
 ConsoleComes status.Done input prompt files = IsConsoled input prompt files
 ConsoleComes status.Refused input prompt files = IsNoConsole files
 ConsoleComes _ input prompt files = λ simulated old new. ⊤
 
 -- the first file that could not be read is told, and no line is answered
-pub record IsUnreadOf (files : List NamedFile) (left : Option Simulation) (old new : Written) : Type 0 where
+pub record IsUnreadOf (files : List NamedFile) (left : Option Simulation) (old new : Written)
+    : Type 0 where
   pub file : NamedFile
   pub first : IsFirstUnread file files
   pub told : Appends old.err new.err (unread_line file)
   pub none : left ≡ None
   pub same_out : new.out ≡ old.out
 
--- a console is cut: at the first file that could not be read, before there is a world, or in the lines of its input
-pub data IsConsoleCut (input : Option (List ℕ)) (prompt : Text) (files : List NamedFile) (failed : FailedStreams) (old new : Written) : Failure → Type 0 where
+-- a console is cut: at the first file that could not be read, before there is a
+-- world, or in the lines of its input
+pub data IsConsoleCut (input : Option (List ℕ)) (prompt : Text) (files : List NamedFile)
+    (failed : FailedStreams) (old new : Written) : Failure → Type 0 where
   in_unread : {f : Failure} (file : NamedFile) → IsErrorCut failed f → IsFirstUnread file files
-      → IsBegun old.err new.err (unread_line file) → new.out ≡ old.out → IsConsoleCut input prompt files failed old new f
-  in_world : {f : Failure} → AreFilesRead files → IsWorldCut files failed old.err new.err f → new.out ≡ old.out
+      → IsBegun old.err new.err (unread_line file) → new.out ≡ old.out
+      → IsConsoleCut input prompt files failed old new f
+  in_world : {f : Failure} → AreFilesRead files → IsWorldCut files failed old.err new.err f
+      → new.out ≡ old.out
       → IsConsoleCut input prompt files failed old new f
   in_session : {f : Failure} (start : WorldValue) → AreFilesRead files → IsWorldOf files start
       → IsSessionCut input prompt (begun_in start) failed old new f
       → IsConsoleCut input prompt files failed old new f
 
--- the console was cut by a failure, which was told last, as far as it could be, and of which the status is
-pub record IsConsoleFailed (input : Option (List ℕ)) (prompt : Text) (files : List NamedFile) (failed : FailedStreams) (end : Status) (old new : Written) : Type 0 where
+-- the console was cut by a failure, which was told last, as far as it could
+-- be, and of which the status is
+pub record IsConsoleFailed (input : Option (List ℕ)) (prompt : Text) (files : List NamedFile)
+    (failed : FailedStreams) (end : Status) (old new : Written) : Type 0 where
   pub cause : Failure
   pub failed_then : FailedStreams
   pub err_then : Option (List ℕ)
@@ -166,7 +192,10 @@ pub record IsConsoleFailed (input : Option (List ℕ)) (prompt : Text) (files : 
   pub status_is : end ≡ failure_status cause
 
 -- a file could not be read, or a failure cut the console
-pub data IsConsoleStopped (input : Option (List ℕ)) (prompt : Text) (files : List NamedFile) (left : Option Simulation) (failed : FailedStreams) (end : Status) (old new : Written) : Type 0 where
-  is_unread : end ≡ status.Stream → IsUnreadOf files left old new → IsConsoleStopped input prompt files left failed end old new
+pub data IsConsoleStopped (input : Option (List ℕ)) (prompt : Text) (files : List NamedFile)
+    (left : Option Simulation) (failed : FailedStreams) (end : Status) (old new : Written)
+    : Type 0 where
+  is_unread : end ≡ status.Stream → IsUnreadOf files left old new
+      → IsConsoleStopped input prompt files left failed end old new
   is_failure : left ≡ None → IsConsoleFailed input prompt files failed end old new
       → IsConsoleStopped input prompt files left failed end old new

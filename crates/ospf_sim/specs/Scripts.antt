@@ -17,7 +17,8 @@ use Rattle.ospf_commands.specs.declared.simulation.Simulation.{Simulation}
 
 -- a line that is refused, and why
 abbrev pub world_refusal_line : ℕ → WorldFault → Text
-world_refusal_line number fault = codes "line " ++ decimal number ++ codes ": " ++ world_fault_text fault ++ codes "\n"
+world_refusal_line number fault =
+    codes "line " ++ decimal number ++ codes ": " ++ world_fault_text fault ++ codes "\n"
 
 -- a line that cannot be read
 abbrev pub not_a_command_line : ℕ → Text
@@ -36,21 +37,25 @@ abbrev pub told_of : ℕ → Answer → Text
 told_of number (Ok done) = []
 told_of number (Err fault) = world_refusal_line number fault
 
--- what a line of this number comes to: the simulation after it, and what is written on standard output and on standard error
+-- what a line of this number comes to: the simulation after it, and what is written on
+-- standard output and on standard error
 pub data RunsLine (number : ℕ) (line : Text) (w w' : Simulation) (out err : Text) : Type 0 where
   is_passed_over : IsBlank line → w' ≡ w → out ≡ [] → err ≡ [] → RunsLine number line w w' out err
-  is_taken : (c : Command) (answer : Answer) → SpellsCommand (line_words line) c → DoesCommand c w answer out w' → err ≡ told_of number answer
+  is_taken : (c : Command) (answer : Answer) → SpellsCommand (line_words line) c
+      → DoesCommand c w answer out w' → err ≡ told_of number answer
       → RunsLine number line w w' out err
 
 -- lines with their numbers, one after another: a refused one ends nothing
 pub data RunsLines : List (ℕ × Text) → Simulation → Simulation → Text → Text → Type 0 where
   no_line : {w : Simulation} → RunsLines [] w w [] []
-  one_line : {number : ℕ} {line : Text} {lines : List (ℕ × Text)} {w mid w' : Simulation} {out outs err errs : Text}
+  one_line : {number : ℕ} {line : Text} {lines : List (ℕ × Text)} {w mid w' : Simulation}
+      {out outs err errs : Text}
       → RunsLine number line w mid out err → RunsLines lines mid w' outs errs
       → RunsLines ((number, line) ∷ lines) w w' (out ++ outs) (err ++ errs)
 
 -- what lines write is what was written
-pub record IsScriptRun (lines : List (ℕ × Text)) (w w' : Simulation) (old new : Written) : Type 0 where
+pub record IsScriptRun (lines : List (ℕ × Text)) (w w' : Simulation) (old new : Written)
+    : Type 0 where
   pub out : Text
   pub err : Text
   pub runs : RunsLines lines w w' out err
@@ -58,7 +63,8 @@ pub record IsScriptRun (lines : List (ℕ × Text)) (w w' : Simulation) (old new
   pub err_written : Appends old.err new.err err
 
 -- the line of this number is the first that cannot be read, and those before it have run
-pub record EndsAtLine (lines : List (ℕ × Text)) (number : ℕ) (line : Text) (w w' : Simulation) (old new : Written) : Type 0 where
+pub record EndsAtLine (lines : List (ℕ × Text)) (number : ℕ) (line : Text) (w w' : Simulation)
+    (old new : Written) : Type 0 where
   pub before : List (ℕ × Text)
   pub after : List (ℕ × Text)
   pub lines_are : lines ≡ before ++ (number, line) ∷ after
@@ -66,7 +72,8 @@ pub record EndsAtLine (lines : List (ℕ × Text)) (number : ℕ) (line : Text) 
   pub run : IsScriptRun before w w' old new
 
 -- what a line writes is what was written
-pub record IsRunLine (number : ℕ) (line : Text) (w w' : Simulation) (old new : Written) : Type 0 where
+pub record IsRunLine (number : ℕ) (line : Text) (w w' : Simulation) (old new : Written)
+    : Type 0 where
   pub out : Text
   pub err : Text
   pub runs : RunsLine number line w w' out err
@@ -84,7 +91,8 @@ abbrev pub LineComes : Bool → Line → Simulation → Simulation → Written �
 LineComes true line = IsRunLine line.number line.text.now
 LineComes false line = IsNotRead line.text.now
 
--- a script of which a line cannot be read: the lines before it have run, and of the first such line it is told that it is no command
+-- a script of which a line cannot be read: the lines before it have run, and of the first such line
+-- it is told that it is no command
 pub record EndsEarly (script : Text) (w w' : Simulation) (old new : Written) : Type 0 where
   pub number : ℕ
   pub before : List (ℕ × Text)

@@ -19,7 +19,8 @@ use Rattle.ospf_sim.specs.declared.text.Simulated.{Simulated}
 
 -- ---- worlds
 
--- a world of these configurations, no two of one Router ID, in which nothing runs and nothing has happened
+-- a world of these configurations, no two of one Router ID, in which
+-- nothing runs and nothing has happened
 abbrev pub IsNewOf : List Config → WorldValue → Type 0
 IsNewOf configs w = (ShareRouter configs → ⊥) × (w ≡ new_world configs)
 
@@ -29,18 +30,22 @@ pub record IsWorldOf (files : List NamedFile) (w : WorldValue) : Type 0 where
   pub are_configs : AreConfigs files configs
   pub new : IsNewOf configs w
 
--- there is no such world, and it is told why: a file holds no configuration, or two routers have one Router ID
+-- there is no such world, and it is told why: a file holds no configuration, or
+-- two routers have one Router ID
 pub data IsNoWorld (files : List NamedFile) (old new : Option (List ℕ)) : Type 0 where
   no_config : IsRefusalTold files old new → IsNoWorld files old new
-  same_router : (configs : List Config) → AreConfigs files configs → AreTwinsTold files configs old new → IsNoWorld files old new
+  same_router : (configs : List Config) → AreConfigs files configs
+      → AreTwinsTold files configs old new → IsNoWorld files old new
 
 -- a new world of configurations, or it is told that two of them are of one router
-abbrev pub OpensWorld : List NamedFile → List Config → Option WorldValue → Option (List ℕ) → Option (List ℕ) → Type 0
+abbrev pub OpensWorld : List NamedFile → List Config → Option WorldValue → Option (List ℕ)
+    → Option (List ℕ) → Type 0
 OpensWorld files configs (Some w) old new = IsNewOf configs w × (new ≡ old)
 OpensWorld files configs None old new = AreTwinsTold files configs old new
 
 -- the world of the files, or what is told where they make none
-abbrev pub WorldComes : List NamedFile → Option WorldValue → Option (List ℕ) → Option (List ℕ) → Type 0
+abbrev pub WorldComes : List NamedFile → Option WorldValue → Option (List ℕ) → Option (List ℕ)
+    → Type 0
 WorldComes files (Some w) old new = IsWorldOf files w × (new ≡ old)
 WorldComes files None old new = IsNoWorld files old new
 
@@ -52,7 +57,8 @@ status_of_script true = status.Done
 status_of_script false = status.Refused
 
 -- a script runs from this world, whole or up to a line that cannot be read, as the status says
-pub record RunsWhole (script : NamedFile) (start : WorldValue) (simulated : Simulated) (whole : Bool) (old new : Written) : Type 0 where
+pub record RunsWhole (script : NamedFile) (start : WorldValue) (simulated : Simulated)
+    (whole : Bool) (old new : Written) : Type 0 where
   pub end : Simulation
   pub left : simulated.left ≡ Some end
   pub comes : ScriptComes whole (text_in script) (begun_in start) end old new
@@ -64,7 +70,8 @@ ScriptRunsTo status.Refused script start simulated = RunsWhole script start simu
 ScriptRunsTo _ script start simulated = λ old new. ⊥
 
 -- the whole script has run, in a world of the configurations
-pub record IsSimulated (script : NamedFile) (files : List NamedFile) (simulated : Simulated) (old new : Written) : Type 0 where
+pub record IsSimulated (script : NamedFile) (files : List NamedFile) (simulated : Simulated)
+    (old new : Written) : Type 0 where
   pub read : AreFilesRead (script ∷ files)
   pub start : WorldValue
   pub end : Simulation
@@ -73,7 +80,8 @@ pub record IsSimulated (script : NamedFile) (files : List NamedFile) (simulated 
   pub run : IsScriptRun (numbered_from 1 (text_in script)) (begun_in start) end old new
 
 -- the script has run up to a line that cannot be read, of which that is told
-pub record IsScriptCutShort (script : NamedFile) (files : List NamedFile) (simulated : Simulated) (old new : Written) : Type 0 where
+pub record IsScriptCutShort (script : NamedFile) (files : List NamedFile) (simulated : Simulated)
+    (old new : Written) : Type 0 where
   pub read : AreFilesRead (script ∷ files)
   pub start : WorldValue
   pub end : Simulation
@@ -82,7 +90,8 @@ pub record IsScriptCutShort (script : NamedFile) (files : List NamedFile) (simul
   pub early : EndsEarly (text_in script) (begun_in start) end old new
 
 -- no line has run, since there is no world of the configurations, of which it is told why
-pub record IsNotBegun (script : NamedFile) (files : List NamedFile) (simulated : Simulated) (old new : Written) : Type 0 where
+pub record IsNotBegun (script : NamedFile) (files : List NamedFile) (simulated : Simulated)
+    (old new : Written) : Type 0 where
   pub read : AreFilesRead (script ∷ files)
   pub no_world : IsNoWorld files old.err new.err
   pub none : simulated.left ≡ None
@@ -94,7 +103,8 @@ IsScriptRefused script files simulated old new =
     IsNotBegun script files simulated old new ⊎ IsScriptCutShort script files simulated old new
 
 -- what comes of a simulation, by its status
-abbrev pub ComesOfScript : Status → NamedFile → List NamedFile → Simulated → Written → Written → Type 0
+abbrev pub ComesOfScript : Status → NamedFile → List NamedFile → Simulated → Written → Written
+    → Type 0
 ComesOfScript status.Done = IsSimulated
 ComesOfScript status.Refused = IsScriptRefused
 ComesOfScript _ = λ script files simulated old new. ⊤

@@ -13,16 +13,20 @@ use Rattle.ospf_files.specs.declared.streams.FailedStreams.{FailedStreams}
 use Rattle.ospf_sim.specs.Begun.{IsSimulationCut}
 use Rattle.ospf_commands.specs.declared.simulation.Simulation.{Simulation}
 
--- the first file that could not be read is told, the script's before the configurations', and no line has run
-pub record IsScriptUnreadTold (script : NamedFile) (files : List NamedFile) (left : Option Simulation) (old new : Written) : Type 0 where
+-- the first file that could not be read is told, the script's before the
+-- configurations', and no line has run
+pub record IsScriptUnreadTold (script : NamedFile) (files : List NamedFile)
+    (left : Option Simulation) (old new : Written) : Type 0 where
   pub file : NamedFile
   pub first : IsFirstUnread file (script ∷ files)
   pub told : Appends old.err new.err (unread_line file)
   pub none : left ≡ None
   pub same_out : new.out ≡ old.out
 
--- the simulation was cut by a failure, which was told last, as far as it could be, and of which the status is
-pub record IsFailureLast (script : NamedFile) (files : List NamedFile) (failed : FailedStreams) (end : Status) (old new : Written) : Type 0 where
+-- the simulation was cut by a failure, which was told last, as far as it could
+-- be, and of which the status is
+pub record IsFailureLast (script : NamedFile) (files : List NamedFile) (failed : FailedStreams)
+    (end : Status) (old new : Written) : Type 0 where
   pub cause : Failure
   pub failed_then : FailedStreams
   pub err_then : Option (List ℕ)
@@ -31,6 +35,9 @@ pub record IsFailureLast (script : NamedFile) (files : List NamedFile) (failed :
   pub status_is : end ≡ failure_status cause
 
 -- a file could not be read, or a failure cut the simulation
-pub data IsStopped (script : NamedFile) (files : List NamedFile) (left : Option Simulation) (failed : FailedStreams) (end : Status) (old new : Written) : Type 0 where
-  is_unread : end ≡ status.Stream → IsScriptUnreadTold script files left old new → IsStopped script files left failed end old new
-  is_failure : left ≡ None → IsFailureLast script files failed end old new → IsStopped script files left failed end old new
+pub data IsStopped (script : NamedFile) (files : List NamedFile) (left : Option Simulation)
+    (failed : FailedStreams) (end : Status) (old new : Written) : Type 0 where
+  is_unread : end ≡ status.Stream → IsScriptUnreadTold script files left old new
+      → IsStopped script files left failed end old new
+  is_failure : left ≡ None → IsFailureLast script files failed end old new
+      → IsStopped script files left failed end old new

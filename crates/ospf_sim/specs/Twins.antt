@@ -26,11 +26,14 @@ pub record AreFirstTwins (configs : List Config) (i j : ℕ) : Type 0 where
 -- the fault, and behind it the Router ID and the files
 abbrev pub same_router_lines : RouterId → NamedFile → NamedFile → Text
 same_router_lines router one other =
-    same_router_line ++ (codes "  " ++ number_text router.0 ++ codes ": ") ++ string_bytes one.name ++ codes ", " ++ string_bytes other.name
+    same_router_line ++ (codes "  " ++ number_text router.0 ++ codes ": ") ++ string_bytes one.name
+    ++ codes ", " ++ string_bytes other.name
     ++ codes "\n"
 
--- the files hold configurations of which two have one Router ID, and this is told of the first that has that of an earlier one
-pub record SharesRouter (files : List NamedFile) (configs : List Config) (text : Text) : Type 0 where
+-- the files hold configurations of which two have one Router ID, and this is told of the first
+-- that has that of an earlier one
+pub record SharesRouter (files : List NamedFile) (configs : List Config) (text : Text)
+    : Type 0 where
   pub i : ℕ
   pub j : ℕ
   pub first : AreFirstTwins configs i j
@@ -42,4 +45,5 @@ pub record SharesRouter (files : List NamedFile) (configs : List Config) (text :
 
 -- that is told
 abbrev pub AreTwinsTold : List NamedFile → List Config → Option (List ℕ) → Option (List ℕ) → Type 0
-AreTwinsTold files configs old new = (text : Text) × SharesRouter files configs text × Appends old new text
+AreTwinsTold files configs old new =
+    (text : Text) × SharesRouter files configs text × Appends old new text

@@ -9,8 +9,8 @@ use ospf_files::{FailedStreams, Failure, NamedFile, config_in, tell_refused};
 use std::alloc::{AllocError, Global};
 use std::io::Write;
 
-// The configurations of files; of the first that is none its fault is told. Where that fails, a beginning of it was
-// written.
+// The configurations of files; of the first that is none its fault is told. Where that fails,
+// a beginning of it was written.
 pub(crate) fn read_configs<E: Write>(
     alloc: Global,
     files: &[NamedFile],

@@ -25,17 +25,20 @@ pub struct Console<'a, R: BufRead + Drop> {
     pub prompt: &'a str,
 }
 
-/// Runs the lines of an input, each as soon as it is read, in a world of the configurations that files hold.
+/// Runs the lines of an input, each as soon as it is read, in a world of the
+/// configurations that files hold.
 ///
-/// The prompt is printed before each line is read, and again before the end; by then all that the lines before print and
-/// tell is written and flushed. A line ends with a line feed, which a carriage return may precede, or with the input. What
-/// the printing lines print is written to `out`. A line that is refused is told on `err`, and so is one that cannot be
-/// read; the next is read after both. Before the first line is read, these end the simulation, each told on `err`: a file
-/// that could not be read, with status `Stream`; the first that holds no configuration, with status `Refused`; and two
-/// configurations of one Router ID, with status `Refused`. Status `Memory` says that memory ran out, and `Stream` that a
-/// write failed, or the input was not read to its end; which it was is told on `err`, as far as that can be written. What
-/// the lines before print and tell is written then, and of the last a beginning, as of `sim_text`, or all of it and a
-/// beginning of the prompt. The watch is told meanwhile how far the rounds of a line have come.
+/// The prompt is printed before each line is read, and again before the end; by then all that the
+/// lines before print and tell is written and flushed. A line ends with a line feed, which a
+/// carriage return may precede, or with the input. What the printing lines print is written to
+/// `out`. A line that is refused is told on `err`, and so is one that cannot be read; the next is
+/// read after both. Before the first line is read, these end the simulation, each told on `err`: a
+/// file that could not be read, with status `Stream`; the first that holds no configuration, with
+/// status `Refused`; and two configurations of one Router ID, with status `Refused`. Status
+/// `Memory` says that memory ran out, and `Stream` that a write failed, or the input was not read
+/// to its end; which it was is told on `err`, as far as that can be written. What the lines before
+/// print and tell is written then, and of the last a beginning, as of `sim_text`, or all of it and
+/// a beginning of the prompt. The watch is told meanwhile how far the rounds of a line have come.
 pub fn console_text<R: BufRead + Drop, O: Write, E: Write, V: Watch>(
     alloc: Global,
     console: Console<'_, R>,
@@ -116,7 +119,8 @@ fn converse<R: BufRead + Drop, O: Write, E: Write, V: Watch>(
     }
 }
 
-// Answers the lines of an input, up to its end. Where it fails at a line, those before it are answered.
+// Answers the lines of an input, up to its end. Where it fails at a
+// line, those before it are answered.
 fn answer_lines<R: BufRead + Drop, O: Write, E: Write, V: Watch>(
     simulation: &mut Simulation,
     console: Console<'_, R>,
@@ -156,7 +160,8 @@ fn answer_lines<R: BufRead + Drop, O: Write, E: Write, V: Watch>(
     Err(Failure::Input)
 }
 
-// Reads, in place of what it was, the piece of an input up to a line feed, or to the end. The answer is whether there is one.
+// Reads, in place of what it was, the piece of an input up to a line feed, or to the end. The
+// answer is whether there is one.
 fn read_piece<R: BufRead>(input: &mut R, piece: &mut Vec<u8>) -> Result<bool, Failure>
     ensures read { IfOk result (λ more. IsPiece more piece.new.items (R.remaining input.old)
         (R.remaining input.new)) }
@@ -177,8 +182,8 @@ fn is_ended(piece: &[u8]) -> bool
     matches!(piece, [.., b'\n'])
 }
 
-// Answers a line: it is run, or it is told that it cannot be read. Where that fails, no more than a beginning of what it
-// writes was written.
+// Answers a line: it is run, or it is told that it cannot be read. Where that fails, no more than a
+// beginning of what it writes was written.
 fn answer_line<O: Write, E: Write, V: Watch>(
     simulation: &mut Simulation,
     line: &Line<'_>,

@@ -1,8 +1,9 @@
-//! The simulator of an area: scripts that start and stop routers, let time pass, pass on datagrams, and print what the
-//! routers know.
+//! The simulator of an area: scripts that start and stop routers, let time pass, pass on datagrams,
+//! and print what the routers know.
 //!
-//! `sim_text` runs a script in a network of routers that files configure (`specs/Simulations`), and `console_text` the lines that are
-//! given at a console (`specs/Consoles`). What each command does stands in `specs/Commands` of `ospf_commands`.
+//! `sim_text` runs a script in a network of routers that files configure (`specs/Simulations`), and
+//! `console_text` the lines that are given at a console (`specs/Consoles`). What each command does
+//! stands in `specs/Commands` of `ospf_commands`.
 #![tactic(auto)]
 
 mod configs;

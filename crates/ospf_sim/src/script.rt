@@ -14,8 +14,8 @@ use ospf_world::WorldFault;
 use std::alloc::{AllocError, Global};
 use std::io::Write;
 
-/// Runs the lines of a script, up to the first that cannot be read, and tells of that one. The answer is whether all could
-/// be read. Where it fails at a line, those before it have run.
+/// Runs the lines of a script, up to the first that cannot be read, and tells of that one. The
+/// answer is whether all could be read. Where it fails at a line, those before it have run.
 pub(crate) fn run_script<O: Write, E: Write, V: Watch>(
     simulation: &mut Simulation,
     script: &[u8],
@@ -44,8 +44,8 @@ pub(crate) fn run_script<O: Write, E: Write, V: Watch>(
     Ok(true)
 }
 
-// Runs a line. The answer is whether it can be read. Where that fails, no more than a beginning of what it writes was
-// written.
+// Runs a line. The answer is whether it can be read. Where that fails, no more than a beginning
+// of what it writes was written.
 pub(crate) fn run_line<O: Write, E: Write, V: Watch>(
     simulation: &mut Simulation,
     line: &Line<'_>,

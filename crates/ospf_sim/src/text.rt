@@ -46,15 +46,17 @@ impl Simulated {
 
 /// Runs the lines of a script, in order, in a world of the configurations that files hold.
 ///
-/// What the printing lines print is written to `out`. A line that is refused is told on `err`, and the script goes on; the
-/// first that cannot be read ends it, and is told on `err`, with status `Refused`. Before the first line runs, these end the
-/// simulation, each told on `err`: a file that could not be read, with status `Stream`; the first that holds no
-/// configuration, with status `Refused`; and two configurations of one Router ID, with status `Refused`. Status `Memory`
-/// says that memory ran out, and `Stream` that a write failed; which it was is told on `err`, as far as that can be written.
-/// Before that, where no line has run, no more is written than a beginning of what is told of one of the files, or of the
-/// Router ID. Else what the lines before one print and tell is, and of that line a beginning of what it prints, or all of
-/// that and a beginning of what is told of it; or what all lines print and tell, where only the last flush failed. The
-/// watch is told meanwhile how far the rounds of a line have come.
+/// What the printing lines print is written to `out`. A line that is refused is told on `err`, and
+/// the script goes on; the first that cannot be read ends it, and is told on `err`, with status
+/// `Refused`. Before the first line runs, these end the simulation, each told on `err`: a file that
+/// could not be read, with status `Stream`; the first that holds no configuration, with status
+/// `Refused`; and two configurations of one Router ID, with status `Refused`. Status `Memory` says
+/// that memory ran out, and `Stream` that a write failed; which it was is told on `err`, as far as
+/// that can be written. Before that, where no line has run, no more is written than a beginning of
+/// what is told of one of the files, or of the Router ID. Else what the lines before one print and
+/// tell is, and of that line a beginning of what it prints, or all of that and a beginning of what
+/// is told of it; or what all lines print and tell, where only the last flush failed. The watch is
+/// told meanwhile how far the rounds of a line have come.
 pub fn sim_text<O: Write, E: Write, V: Watch>(
     alloc: Global,
     script: &NamedFile,
@@ -167,7 +169,8 @@ pub(crate) fn end_unread<E: Write>(
     }
 }
 
-// The world of the configurations in files, in which nothing runs; where there is none it is told why.
+// The world of the configurations in files, in which nothing runs;
+// where there is none it is told why.
 pub(crate) fn new_world<E: Write>(
     alloc: Global,
     files: &[NamedFile],

@@ -20,12 +20,14 @@ put_of (Gone _) = []
 
 -- whether the first prefix stands before the second
 unfoldable pub stands_before : Prefix → Prefix → Bool
-stands_before p q = nat_lt p.address.0 q.address.0 || ((p.address.0 == q.address.0) && nat_lt p.length q.length)
+stands_before p q =
+    nat_lt p.address.0 q.address.0 || ((p.address.0 == q.address.0) && nat_lt p.length q.length)
 
 -- the table after one change: what stands before its prefix, its route, and what stands behind
 unfoldable pub changed : List Route → Change → List Route
 changed routes change =
-    filter (λ r. stands_before r.prefix (prefix_of change)) routes ++ (put_of change ++ filter (λ r. stands_before (prefix_of change) r.prefix) routes)
+    filter (λ r. stands_before r.prefix (prefix_of change)) routes
+    ++ (put_of change ++ filter (λ r. stands_before (prefix_of change) r.prefix) routes)
 
 -- the table after all changes
 unfoldable pub edited : List Route → List Change → List Route
@@ -44,7 +46,8 @@ PutsHops (Gone _) = ⊤
 abbrev pub Reaches : List Route → Prefix → Type 0
 Reaches routes prefix = (r : Route) × Contains routes r × (r.prefix ≡ prefix)
 
--- the route stands in the new table and not in the old one, which has another one to its prefix or none
+-- the route stands in the new table and not in the old one, which has
+-- another one to its prefix or none
 abbrev pub IsNewRoute : List Route → List Route → Route → Type 0
 IsNewRoute old new route = Contains new route × (Contains old route → ⊥)
 
@@ -58,11 +61,20 @@ StandsFirst old new Old = IsPrefixBefore old new
 StandsFirst old new New = IsPrefixBefore new old
 StandsFirst old new Both = old ≡ new
 
--- what is next in two tables, from these places on: a route of one that stands before all that the other has left, or a route of each to one prefix
+-- what is next in two tables, from these places on: a route of one that stands before all that the
+-- other has left, or a route of each to one prefix
 abbrev pub IsMergeStep : List Route → ℕ → List Route → ℕ → MergeStep → Type 0
-IsMergeStep old i new j Old = (i < length old) × (j < length new → (d e : Route) → IsPrefixBefore (slice_index_or old i d).prefix (slice_index_or new j e).prefix)
-IsMergeStep old i new j New = (j < length new) × (i < length old → (d e : Route) → IsPrefixBefore (slice_index_or new j e).prefix (slice_index_or old i d).prefix)
-IsMergeStep old i new j Both = (i < length old) × (j < length new) × ((d e : Route) → (slice_index_or old i d).prefix ≡ (slice_index_or new j e).prefix)
+IsMergeStep old i new j Old =
+    (i < length old)
+    × (j < length new → (d e : Route)
+    → IsPrefixBefore (slice_index_or old i d).prefix (slice_index_or new j e).prefix)
+IsMergeStep old i new j New =
+    (j < length new)
+    × (i < length old → (d e : Route)
+    → IsPrefixBefore (slice_index_or new j e).prefix (slice_index_or old i d).prefix)
+IsMergeStep old i new j Both =
+    (i < length old) × (j < length new)
+    × ((d e : Route) → (slice_index_or old i d).prefix ≡ (slice_index_or new j e).prefix)
 
 -- an edit for which there is memory: its changes, and how many routes the table may have
 pub record PlannedEdit : Type 0 where
@@ -88,4 +100,5 @@ pub record IsParted (prefix : Prefix) (left made left_after made_after : List Ro
 
 -- the first route that is left stands so to the prefix
 abbrev pub FirstIs : (Prefix → Prefix → Type 0) → List Route → Prefix → Type 0
-FirstIs R left prefix = (0 < length left) × ((d : Route) → R (slice_index_or left 0 d).prefix prefix)
+FirstIs R left prefix =
+    (0 < length left) × ((d : Route) → R (slice_index_or left 0 d).prefix prefix)

@@ -13,7 +13,8 @@ use Rattle.ospf_edges.specs.Items.{graph_in, items_of_all}
 use Rattle.ospf_graph.specs.Paths.{AreStartsInOrder}
 use Rattle.ospf_edges.specs.declared.items.GraphItem.{GraphItem}
 
--- what a kept tree is: the LSAs that it was made of, without their links of types 3 and 4, its root, and how often its search looked at a candidate
+-- what a kept tree is: the LSAs that it was made of, without their links of types 3 and 4, its
+-- root, and how often its search looked at a candidate
 pub record KeptSearch : Type 0 where
   pub graph : List Advertisement
   pub root : RouterId
@@ -22,16 +23,19 @@ pub record KeptSearch : Type 0 where
 -- small distances, one for each vertex, and both lists in the order of their vertices
 pub record AreWellFormed (paths : ShortestPaths) : Type 0 where
   pub near : All (λ s. s.distance < 2 ^ 63) paths.settled.items
-  pub one : (v : Vertex) (d k : ℕ) → AtIn paths.settled.items v d → AtIn paths.settled.items v k → d ≡ k
+  pub one : (v : Vertex) (d k : ℕ) → AtIn paths.settled.items v d → AtIn paths.settled.items v k
+      → d ≡ k
   pub settled_in_order : IsNonDecreasingBy (λ s. vertex_code s.vertex) paths.settled.items
   pub starts_in_order : AreStartsInOrder paths.starts.items
 
 -- the shortest paths are those of the edges
 abbrev pub IsTreeOf : List Advertisement → RouterId → ShortestPaths → Type 0
-IsTreeOf adverts root paths = IsTree (IsEdge adverts) (Router root) (AtIn paths.settled.items) (StartsIn paths.starts.items)
+IsTreeOf adverts root paths =
+    IsTree (IsEdge adverts) (Router root) (AtIn paths.settled.items) (StartsIn paths.starts.items)
 
 -- the shortest paths of the graph that the items tell of
-pub record IsKeptFor (items : List GraphItem) (root : RouterId) (paths : ShortestPaths) : Type 0 where
+pub record IsKeptFor (items : List GraphItem) (root : RouterId) (paths : ShortestPaths)
+    : Type 0 where
   pub told : AreWellFormed paths
   pub whole : items ≡ items_of_all (graph_in items)
   pub tree : IsTreeOf (graph_in items) root paths

@@ -21,11 +21,13 @@ use Rattle.ospf_spf.specs.declared.routes.Reach.{Reach}
 pub record IsBestCost (reaches : List Reach) (prefix : Prefix) (cost : ℕ) : Type 0 where
   pub end : Vertex
   pub attained : Contains reaches (record { prefix = prefix; vertex = end; cost = cost })
-  pub least : (v : Vertex) (k : ℕ) → Contains reaches (record { prefix = prefix; vertex = v; cost = k }) → cost ≤ k
+  pub least : (v : Vertex) (k : ℕ)
+      → Contains reaches (record { prefix = prefix; vertex = v; cost = k }) → cost ≤ k
 
 -- no reach of the prefix
 abbrev pub HasNoReach : List Reach → Prefix → Type 0
-HasNoReach reaches prefix = (v : Vertex) (k : ℕ) → Contains reaches (record { prefix = prefix; vertex = v; cost = k }) → ⊥
+HasNoReach reaches prefix =
+    (v : Vertex) (k : ℕ) → Contains reaches (record { prefix = prefix; vertex = v; cost = k }) → ⊥
 
 -- what is known of a least cost: there is no reach, or this is it
 abbrev pub IsLeastReach : List Reach → Prefix → Option ℕ → Type 0
@@ -50,11 +52,13 @@ IsChosenEnd reaches end = (other : Reach) → Contains reaches other → Exclude
 abbrev pub network_reach : Prefix → ℕ → ℕ → Reach
 network_reach prefix n cost = record { prefix = prefix; vertex = Network n; cost = cost }
 
--- what is known of the networks of a prefix at a cost: there is none, or this is the largest Link State ID
+-- what is known of the networks of a prefix at a cost: there is none, or
+-- this is the largest Link State ID
 abbrev pub IsLargestOf : List Reach → Prefix → ℕ → Option ℕ → Type 0
 IsLargestOf reaches prefix cost None = (n : ℕ) → Contains reaches (network_reach prefix n cost) → ⊥
 IsLargestOf reaches prefix cost (Some id) =
-    Contains reaches (network_reach prefix id cost) × ((n : ℕ) → Contains reaches (network_reach prefix n cost) → n ≤ id)
+    Contains reaches (network_reach prefix id cost)
+    × ((n : ℕ) → Contains reaches (network_reach prefix n cost) → n ≤ id)
 
 -- a router, or this network
 abbrev pub IsRouterOr : Option ℕ → Vertex → Type 0
@@ -73,12 +77,14 @@ pub record AddsHops (P : NextHop → Type 0) (old new : List NextHop) : Type 0 w
 
 -- the hop of a start that the vertex has
 abbrev pub HasHop : List VertexStart → Vertex → NextHop → Type 0
-HasHop starts v h = (x : Start) × Contains starts (record { vertex = v; start = x }) × (h ≡ hop_of_start x)
+HasHop starts v h =
+    (x : Start) × Contains starts (record { vertex = v; start = x }) × (h ≡ hop_of_start x)
 
 -- the hop of a start of a chosen end of the prefix at this cost
 abbrev pub HasHopOf : List Reach → List VertexStart → Prefix → ℕ → NextHop → Type 0
 HasHopOf reaches starts prefix cost h =
-    (end : Reach) × Contains reaches end × (end.prefix ≡ prefix) × (end.cost ≡ cost) × IsChosenEnd reaches end × HasHop starts end.vertex h
+    (end : Reach) × Contains reaches end × (end.prefix ≡ prefix) × (end.cost ≡ cost)
+    × IsChosenEnd reaches end × HasHop starts end.vertex h
 
 -- the reach of an end whose vertex is at this distance
 abbrev pub reach_of : End → ℕ → Reach
@@ -86,19 +92,24 @@ reach_of e d = record { prefix = e.prefix; vertex = e.vertex; cost = d + e.cost 
 
 -- as far as something is reached, the ends are those of the listing
 abbrev pub AreEndsWithin : List Advertisement → List Settled → List End → Type 0
-AreEndsWithin adverts settled ends = (e : End) (d : ℕ) → AtIn settled e.vertex d → Contains ends e ↔ IsEnd adverts e.prefix e.vertex e.cost
+AreEndsWithin adverts settled ends =
+    (e : End) (d : ℕ) → AtIn settled e.vertex d
+    → Contains ends e ↔ IsEnd adverts e.prefix e.vertex e.cost
 
 -- the reach of one of these ends
 abbrev pub IsReachOf : List End → List Settled → Reach → Type 0
-IsReachOf ends settled r = (e : End) × Contains ends e × (d : ℕ) × AtIn settled e.vertex d × (r ≡ reach_of e d)
+IsReachOf ends settled r =
+    (e : End) × Contains ends e × (d : ℕ) × AtIn settled e.vertex d × (r ≡ reach_of e d)
 
 -- the least cost, and the hops of the chosen ends at it
-pub record IsRouteOf (reaches : List Reach) (starts : List VertexStart) (route : Route) : Type 0 where
+pub record IsRouteOf (reaches : List Reach) (starts : List VertexStart) (route : Route)
+    : Type 0 where
   pub cost : IsBestCost reaches route.prefix route.cost
   pub hops : AddsHops (HasHopOf reaches starts route.prefix route.cost) [] route.hops
 
 -- the least cost, and the hops of the chosen ends at it, of those of these ends that are reached
-pub record IsRouteBy (ends : List End) (settled : List Settled) (starts : List VertexStart) (route : Route) : Type 0 where
+pub record IsRouteBy (ends : List End) (settled : List Settled) (starts : List VertexStart)
+    (route : Route) : Type 0 where
   pub reaches : List Reach
   pub reaches_are : (r : Reach) → Contains reaches r ↔ IsReachOf ends settled r
   pub route_is : IsRouteOf reaches starts route
@@ -115,12 +126,16 @@ AreReachesInOrder reaches = IsNonDecreasingBy (λ r. prefix_code r.prefix) reach
 pub record IsGroup (reaches : List Reach) (place end : ℕ) : Type 0 where
   pub more : place < end
   pub within : end ≤ length reaches
-  pub same : (k : ℕ) (d : Reach) → place ≤ k → k < end → (slice_index_or reaches place d).prefix ≡ (slice_index_or reaches k d).prefix
-  pub other : (d : Reach) → end < length reaches → (slice_index_or reaches place d).prefix ≡ (slice_index_or reaches end d).prefix → ⊥
+  pub same : (k : ℕ) (d : Reach) → place ≤ k → k < end
+      → (slice_index_or reaches place d).prefix ≡ (slice_index_or reaches k d).prefix
+  pub other : (d : Reach) → end < length reaches
+      → (slice_index_or reaches place d).prefix ≡ (slice_index_or reaches end d).prefix → ⊥
 
 -- IsReach prefix v k: the shortest paths reach an end v of the prefix, at the cost k
--- the route of least cost, with the hops of the routers at that cost and of the largest network at it
-pub record IsReachedRoute (IsReach : Prefix → Vertex → ℕ → Type 0) (Starts : Vertex → Start → Type 0) (route : Route) : Type 0 where
+-- the route of least cost, with the hops of the routers at that cost
+-- and of the largest network at it
+pub record IsReachedRoute (IsReach : Prefix → Vertex → ℕ → Type 0)
+    (Starts : Vertex → Start → Type 0) (route : Route) : Type 0 where
   pub end : Vertex
   pub reached : IsReach route.prefix end route.cost
   pub least : (v : Vertex) (k : ℕ) → IsReach route.prefix v k → route.cost ≤ k

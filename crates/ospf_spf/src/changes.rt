@@ -62,8 +62,9 @@ impl RouteTable {
     ghost use Rattle.ospf_graph.specs.declared.route.Route.{Route};
     ghost use Rattle.ospf_spf.specs.Changes.{edited, IsChangeBefore, IsGone, IsNewRoute, PutsHops};
 
-    /// The changes that lead to another table, in the order of tables: one for each prefix at which the two
-    /// differ, in cost or in hops, and no other. It takes as many steps as both have routes.
+    /// The changes that lead to another table, in the order of tables: one for each
+    /// prefix at which the two differ, in cost or in hops, and no other. It takes as
+    /// many steps as both have routes.
     ///
     /// `AllocError` where memory runs out.
     pub fn changes(&self, alloc: Global, to: &RouteTable) -> Result<Vec<Change>, AllocError>

@@ -33,15 +33,16 @@ impl Model for Edit {
 
     ghost view = { λ e. record { changes = e.changes.items; room = vec_capacity e.room } };
 
-    ghost invariant = { λ e. (e.room.items ≡ []) × AllPairs IsChangeBefore e.changes.items × All PutsHops e.changes.items };
+    ghost invariant = { λ e. (e.room.items ≡ []) × AllPairs IsChangeBefore e.changes.items
+        × All PutsHops e.changes.items };
 }
 
 impl Edit {
     ghost use Rattle.std.specs.Prelude.{◌≡◌, ◌≤◌, ◌+◌, All, AllPairs, IfOk, length};
     ghost use Rattle.ospf_spf.specs.Changes.{IsChangeBefore, PutsHops};
 
-    /// An edit by these changes, which are in the order of tables, of tables that have at most as many routes
-    /// as this one.
+    /// An edit by these changes, which are in the order of tables, of tables that have at
+    /// most as many routes as this one.
     ///
     /// `AllocError` where memory runs out.
     pub fn new(alloc: Global, table: &RouteTable, changes: &[Change]) -> Result<Edit, AllocError>

@@ -38,8 +38,8 @@ pub struct Reach {
     pub cost: u64,
 }
 
-/// The routes over a tree, from all ends that it reaches of a listing that has the root's LSA (RFC 2328,
-/// section 16.1): to each prefix that the root has a way to, in the order of the prefixes.
+/// The routes over a tree, from all ends that it reaches of a listing that has the root's LSA (RFC
+/// 2328, section 16.1): to each prefix that the root has a way to, in the order of the prefixes.
 ///
 /// `AllocError` where memory runs out.
 pub fn table_of(
@@ -59,7 +59,8 @@ pub fn table_of(
     Ok(routes)
 }
 
-/// The route to a prefix over paths that are kept, of ends that have all of the prefix; nothing where the paths reach none.
+/// The route to a prefix over paths that are kept, of ends that have all of the prefix;
+/// nothing where the paths reach none.
 ///
 /// `AllocError` where memory runs out.
 pub fn route_by(
@@ -308,8 +309,8 @@ fn hops_by(
     Ok(Hops::of(hops))
 }
 
-// The network that counts at a prefix and cost: the one of the largest Link State ID (own choice among
-// networks of one prefix).
+// The network that counts at a prefix and cost: the one of the largest Link State ID (own choice
+// among networks of one prefix).
 fn chosen_network(prefix: Prefix, cost: u64, reaches: &[Reach]) -> Option<u32>
     ensures { IsLargestOf reaches.now prefix cost result }
 {
@@ -419,8 +420,8 @@ fn hop_from(start: Start) -> NextHop
     }
 }
 
-// Leaves each hop once, where there are twice as many as were left the last time, so that doubles never take up
-// more room than the hops themselves. It tells how many are left.
+// Leaves each hop once, where there are twice as many as were left the last time, so that doubles
+// never take up more room than the hops themselves. It tells how many are left.
 fn leave_once(hops: &mut Vec<NextHop>, left: usize) -> usize
     ensures { (hop : NextHop) → Contains hops.new.items hop ↔ Contains hops.old.items hop }
 {

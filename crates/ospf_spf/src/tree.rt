@@ -15,10 +15,10 @@ use ospf_lsa::Listing;
 use std::alloc::{AllocError, Global};
 use std::marker::Model;
 
-/// The shortest paths from a router over a listing's graph, for this listing and all others of the same
-/// graph: of the same keys, and key by key the same links of types 1 and 2 in order, or the same mask and
-/// attached routers in order (RFC 2328, section 16.1). Ages, numbers, options, flags and links of types 3
-/// and 4 are free.
+/// The shortest paths from a router over a listing's graph, for this listing and all others of the
+/// same graph: of the same keys, and key by key the same links of types 1 and 2 in order, or the
+/// same mask and attached routers in order (RFC 2328, section 16.1). Ages, numbers, options, flags
+/// and links of types 3 and 4 are free.
 #[derive(Drop)]
 pub struct Tree {
     root: RouterId,
@@ -32,7 +32,11 @@ impl Model for Tree {
 
     ghost Value = { KeptSearch };
 
-    ghost view = { λ t. record { graph = graph_in t.items.items; root = t.root; looks = t.paths.looks } };
+    ghost view = { λ t. record {
+      graph = graph_in t.items.items;
+      root = t.root;
+      looks = t.paths.looks;
+    } };
 
     ghost invariant = { λ t. IsKeptFor t.items.items t.root t.paths };
 }
@@ -62,8 +66,8 @@ impl Tree {
         are_items_of(&self.items, listing)
     }
 
-    /// The routing table of a listing that the tree holds for, at the tree's root (RFC 2328, sections 16.1
-    /// and 16.1.1). A root whose router-LSA is not listed reaches nothing.
+    /// The routing table of a listing that the tree holds for, at the tree's root (RFC 2328,
+    /// sections 16.1 and 16.1.1). A root whose router-LSA is not listed reaches nothing.
     ///
     /// `AllocError` where memory runs out.
     pub fn routes(&self, alloc: Global, listing: &Listing) -> Result<RouteTable, AllocError>
@@ -79,8 +83,8 @@ impl Tree {
         Ok(RouteTable::of_routes(routes))
     }
 
-    /// How often the search looked at its candidates, as far as a `u64` goes: each time one was put among
-    /// those that wait, and each time the next was asked for.
+    /// How often the search looked at its candidates, as far as a `u64` goes: each time one was put
+    /// among those that wait, and each time the next was asked for.
     pub fn looks(&self) -> u64
         ensures { result ≡ self.now.looks }
     {

@@ -30,7 +30,8 @@ pub record Sends (out : OutputsValue) (p : Meaning) : Type 0 where
   pub reads : packet_of datagram.bytes ≡ Some p
 
 -- the packet heard came in on link l from q, and by these headers of it names the instance
-pub record Hears (headers : BodyMeaning → List LsaHeader) (heard : Option Received) (l : ℕ) (q : RouterId) (i : Instance) : Type 0 where
+pub record Hears (headers : BodyMeaning → List LsaHeader) (heard : Option Received) (l : ℕ)
+    (q : RouterId) (i : Instance) : Type 0 where
   pub received : Received
   pub is_heard : heard ≡ Some received
   pub link : received.link ≡ l
@@ -46,26 +47,38 @@ abbrev pub IsAcknowledged : Option Received → ℕ → RouterId → Instance �
 IsAcknowledged heard l q i = Hears acknowledging_headers_of heard l q i
 
 -- an LSA of these contents was held before, was heard in an Update, or is issued now
-pub data HasContents (heard : Option Received) (before : AreaValue) (out : OutputsValue) (content : List ℕ) : Type 0 where
-  Held : (lsa : List ℕ) → HasCopy before lsa → contents lsa ≡ content → HasContents heard before out content
-  Heard : (received : Received) (lsa : List ℕ) → heard ≡ Some received → Contains (lsas_of received.packet.body) lsa → contents lsa ≡ content → HasContents heard before out content
-  Issued : (lsa : List ℕ) → Contains out.issued lsa → contents lsa ≡ content → HasContents heard before out content
+pub data HasContents (heard : Option Received) (before : AreaValue) (out : OutputsValue)
+    (content : List ℕ) : Type 0 where
+  Held : (lsa : List ℕ) → HasCopy before lsa → contents lsa ≡ content
+      → HasContents heard before out content
+  Heard : (received : Received) (lsa : List ℕ) → heard ≡ Some received
+      → Contains (lsas_of received.packet.body) lsa → contents lsa ≡ content
+      → HasContents heard before out content
+  Issued : (lsa : List ℕ) → Contains out.issued lsa → contents lsa ≡ content
+      → HasContents heard before out content
 
--- q on link l has told of i in the packet heard, or in a DD packet of one that covers i: in the packet heard, or in one
--- that put it on the request list
-pub data HasWord (heard : Option Received) (before : AreaValue) (l : ℕ) (q : RouterId) (i : Instance) : Type 0 where
+-- q on link l has told of i in the packet heard, or in a DD packet of one that covers i: in the
+-- packet heard, or in one that put it on the request list
+pub data HasWord (heard : Option Received) (before : AreaValue) (l : ℕ) (q : RouterId)
+    (i : Instance) : Type 0 where
   Acknowledged : IsAcknowledged heard l q i → HasWord heard before l q i
   Described : (j : Instance) → IsDescribed heard l q j → Covers j i → HasWord heard before l q i
   Requested : (j : Instance) → Asks before l q j → Covers j i → HasWord heard before l q i
 
--- the new LSA took the old one's place: it was heard in an Update and installed, or is issued, with a greater number.
--- What is taken while there is a copy of its key is installed
-pub data TakesItsPlace (heard : Option Received) (out : OutputsValue) (old new : List ℕ) : Type 0 where
-  Installed : (received : Received) → heard ≡ Some received → Contains (lsas_of received.packet.body) new → Contains out.taken (instance_of new) → TakesItsPlace heard out old new
-  Issued : Contains out.issued new → (instance_of old).number <ℤ (instance_of new).number → TakesItsPlace heard out old new
+-- the new LSA took the old one's place: it was heard in an Update and installed, or is issued, with
+-- a greater number. What is taken while there is a copy of its key is installed
+pub data TakesItsPlace (heard : Option Received) (out : OutputsValue) (old new : List ℕ)
+    : Type 0 where
+  Installed : (received : Received) → heard ≡ Some received
+      → Contains (lsas_of received.packet.body) new → Contains out.taken (instance_of new)
+      → TakesItsPlace heard out old new
+  Issued : Contains out.issued new → (instance_of old).number <ℤ (instance_of new).number
+      → TakesItsPlace heard out old new
 
--- an LSA took the place of the copy of instance i that the database had, at its age then, and is newer than it (13.1)
-pub record IsReplaced (heard : Option Received) (before : AreaValue) (out : OutputsValue) (i : Instance) : Type 0 where
+-- an LSA took the place of the copy of instance i that the database had, at its age
+-- then, and is newer than it (13.1)
+pub record IsReplaced (heard : Option Received) (before : AreaValue) (out : OutputsValue)
+    (i : Instance) : Type 0 where
   pub old : List ℕ
   pub new : List ℕ
   pub copy : HasCopy before old
@@ -74,61 +87,83 @@ pub record IsReplaced (heard : Option Received) (before : AreaValue) (out : Outp
   pub newer : recency (header_of new) (header_of old) ≡ Newer
   pub stored : TakesItsPlace heard out old new
 
--- why an instance may leave q's retransmission list: q acknowledged it, a newer LSA took the place of its copy, or q is
--- below Exchange
-pub data MayLeave (heard : Option Received) (before : AreaValue) (out : OutputsValue) (after : AreaValue) (l : ℕ) (q : RouterId) (i : Instance) : Type 0 where
+-- why an instance may leave q's retransmission list: q acknowledged it, a newer LSA took the place
+-- of its copy, or q is below Exchange
+pub data MayLeave (heard : Option Received) (before : AreaValue) (out : OutputsValue)
+    (after : AreaValue) (l : ℕ) (q : RouterId) (i : Instance) : Type 0 where
   Acknowledged : IsAcknowledged heard l q i → MayLeave heard before out after l q i
-  Replaced : IsReplaced heard before out i → (HoldsInstance after i → Brings out i) → MayLeave heard before out after l q i
-  Fell : is_exchanging (state_in (neighbour after l q)) ≡ false → MayLeave heard before out after l q i
+  Replaced : IsReplaced heard before out i → (HoldsInstance after i → Brings out i)
+      → MayLeave heard before out after l q i
+  Fell : is_exchanging (state_in (neighbour after l q)) ≡ false
+      → MayLeave heard before out after l q i
 
--- a copy that was held before, at this age, or at another where no packet was heard or it has come to MaxAge
+-- a copy that was held before, at this age, or at another where no packet was
+-- heard or it has come to MaxAge
 pub record WasKept (heard : Option Received) (before : AreaValue) (lsa : List ℕ) : Type 0 where
   pub old : List ℕ
   pub copy : HasCopy before old
   pub same : contents old ≡ contents lsa
   pub age : (old ≡ lsa) ⊎ ((heard ≡ None) ⊎ ((header_of lsa).age ≡ max_age))
 
--- an instance stays on q's retransmission list, and a copy of it that the database has after the step was held before
-pub record WaitsOn (heard : Option Received) (before after : AreaValue) (l : ℕ) (q : RouterId) (i : Instance) : Type 0 where
+-- an instance stays on q's retransmission list, and a copy of it that the database has
+-- after the step was held before
+pub record WaitsOn (heard : Option Received) (before after : AreaValue) (l : ℕ) (q : RouterId)
+    (i : Instance) : Type 0 where
   pub awaits : Awaits after l q i
   pub kept : (lsa : List ℕ) → HasCopy after lsa → instance_of lsa ≡ i → WasKept heard before lsa
 
 -- an LSA with MaxSequenceNumber was held, heard or issued
-pub record HasLargest (heard : Option Received) (before : AreaValue) (out : OutputsValue) : Type 0 where
+pub record HasLargest (heard : Option Received) (before : AreaValue) (out : OutputsValue)
+    : Type 0 where
   pub lsa : List ℕ
   pub has : HasContents heard before out (contents lsa)
   pub number : (instance_of lsa).number ≡ max_sequence_number
 
 -- how numbers are used: each issued LSA has a number above all that its run had (12.1.6)
-pub record Numbers (heard : Option Received) (before : AreaValue) (out : OutputsValue) (after : AreaValue) : Type 0 where
+pub record Numbers (heard : Option Received) (before : AreaValue) (out : OutputsValue)
+    (after : AreaValue) : Type 0 where
   pub own : (lsa : List ℕ) → Contains out.issued lsa → (key_of lsa).router ≡ before.router
-  pub above : (lsa : List ℕ) → Contains out.issued lsa → kept_number before (key_of lsa) <ℤ (instance_of lsa).number
-  pub rising : AllPairs (λ a b. key_of a ≡ key_of b → (instance_of a).number <ℤ (instance_of b).number) out.issued
-  pub kept : (key : LsaKey) → among out.ended key ≡ false → kept_number before key ≤ℤ kept_number after key
-  pub known : (lsa : List ℕ) → Contains out.issued lsa → among out.ended (key_of lsa) ≡ false → (instance_of lsa).number ≤ℤ kept_number after (key_of lsa)
+  pub above : (lsa : List ℕ) → Contains out.issued lsa
+      → kept_number before (key_of lsa) <ℤ (instance_of lsa).number
+  pub rising : AllPairs
+      (λ a b. key_of a ≡ key_of b → (instance_of a).number <ℤ (instance_of b).number) out.issued
+  pub kept : (key : LsaKey) → among out.ended key ≡ false
+      → kept_number before key ≤ℤ kept_number after key
+  pub known : (lsa : List ℕ) → Contains out.issued lsa → among out.ended (key_of lsa) ≡ false
+      → (instance_of lsa).number ≤ℤ kept_number after (key_of lsa)
   pub again : (key : LsaKey) → among out.ended key ≡ true → kept_number after key ≡ lowest_number
   pub ends : (key : LsaKey) → among out.ended key ≡ true → HasLargest heard before out
 
--- what a part of a step, and a whole step, answers for to other routers. Nothing here speaks of one kind of part
-pub record Accounts (heard : Option Received) (before : AreaValue) (out : OutputsValue) (after : AreaValue) : Type 0 where
+-- what a part of a step, and a whole step, answers for to other routers. Nothing
+-- here speaks of one kind of part
+pub record Accounts (heard : Option Received) (before : AreaValue) (out : OutputsValue)
+    (after : AreaValue) : Type 0 where
   pub same_router : after.router ≡ before.router
   pub bears : (p : Meaning) → Sends out p → p.router ≡ before.router
   -- what is held and sent on was held, heard or issued, unchanged but for its age
   pub database : (lsa : List ℕ) → HasCopy after lsa → HasContents heard before out (contents lsa)
-  pub updates : (p : Meaning) (lsa : List ℕ) → Sends out p → Contains (lsas_of p.body) lsa → HasContents heard before out (contents lsa)
+  pub updates : (p : Meaning) (lsa : List ℕ) → Sends out p → Contains (lsas_of p.body) lsa
+      → HasContents heard before out (contents lsa)
   -- what it can name, and names, it could name before or brings now
   pub names : (i : Instance) → CanName after i → CanName before i ⊎ Brings out i
-  pub named : (p : Meaning) (i : Instance) → Sends out p → Lists (headers_in_body p.body) i → CanName before i ⊎ Brings out i
+  pub named : (p : Meaning) (i : Instance) → Sends out p → Lists (headers_in_body p.body) i
+      → CanName before i ⊎ Brings out i
   pub holds : (i : Instance) → HoldsInstance after i → HoldsInstance before i ⊎ Brings out i
   -- what it asks of q, q told in a DD packet
-  pub asks : (l : ℕ) (q : RouterId) (i : Instance) → Asks after l q i → Asks before l q i ⊎ IsDescribed heard l q i
-  pub leaves : (l : ℕ) (q : RouterId) (i : Instance) → Awaits before l q i → WaitsOn heard before after l q i ⊎ MayLeave heard before out after l q i
-  pub listed : (l : ℕ) (q : RouterId) (i : Instance) → Brings out i → HoldsInstance after i → is_exchanging (state_in (neighbour after l q)) ≡ true → Awaits after l q i ⊎ HasWord heard before l q i
+  pub asks : (l : ℕ) (q : RouterId) (i : Instance) → Asks after l q i
+      → Asks before l q i ⊎ IsDescribed heard l q i
+  pub leaves : (l : ℕ) (q : RouterId) (i : Instance) → Awaits before l q i
+      → WaitsOn heard before after l q i ⊎ MayLeave heard before out after l q i
+  pub listed : (l : ℕ) (q : RouterId) (i : Instance) → Brings out i → HoldsInstance after i
+      → is_exchanging (state_in (neighbour after l q)) ≡ true
+      → Awaits after l q i ⊎ HasWord heard before l q i
   pub numbers : Numbers heard before out after
 
 -- no neighbour enters Exchange
 abbrev pub NoneEntersExchange : AreaValue → AreaValue → Type 0
-NoneEntersExchange before after = (l : ℕ) (q : RouterId) → is_exchanging (state_in (neighbour after l q)) ≡ true → is_exchanging (state_in (neighbour before l q)) ≡ true
+NoneEntersExchange before after =
+    (l : ℕ) (q : RouterId) → is_exchanging (state_in (neighbour after l q)) ≡ true
+    → is_exchanging (state_in (neighbour before l q)) ≡ true
 
 -- an LSA that was held, at another age
 pub record WasHeld (before : AreaValue) (content : List ℕ) : Type 0 where
@@ -136,21 +171,29 @@ pub record WasHeld (before : AreaValue) (content : List ℕ) : Type 0 where
   pub copy : HasCopy before lsa
   pub same : contents lsa ≡ content
 
--- a part of a step that installs and issues nothing: what it holds and asks for it did before, what it names it could
--- name before or took without a copy, and lists are left by what the neighbour names or by a neighbour below Exchange
-pub record Adjusts (heard : Option Received) (before : AreaValue) (out : OutputsValue) (after : AreaValue) : Type 0 where
+-- a part of a step that installs and issues nothing: what it holds and asks for it did before, what
+-- it names it could name before or took without a copy, and lists are left by what the neighbour
+-- names or by a neighbour below Exchange
+pub record Adjusts (heard : Option Received) (before : AreaValue) (out : OutputsValue)
+    (after : AreaValue) : Type 0 where
   pub same_router : after.router ≡ before.router
   pub bears : (p : Meaning) → Sends out p → p.router ≡ before.router
   pub copies : (lsa : List ℕ) → HasCopy after lsa → WasKept heard before lsa
-  pub updates : (p : Meaning) (lsa : List ℕ) → Sends out p → Contains (lsas_of p.body) lsa → WasHeld before (contents lsa)
+  pub updates : (p : Meaning) (lsa : List ℕ) → Sends out p → Contains (lsas_of p.body) lsa
+      → WasHeld before (contents lsa)
   pub names : (i : Instance) → CanName after i → CanName before i ⊎ Brings out i
-  pub named : (p : Meaning) (i : Instance) → Sends out p → Lists (headers_in_body p.body) i → CanName before i
-  pub asks : (l : ℕ) (q : RouterId) (i : Instance) → Asks after l q i → Asks before l q i ⊎ IsDescribed heard l q i
-  pub leaves : (l : ℕ) (q : RouterId) (i : Instance) → Awaits before l q i → Awaits after l q i ⊎ (IsAcknowledged heard l q i ⊎ (is_exchanging (state_in (neighbour after l q)) ≡ false))
+  pub named : (p : Meaning) (i : Instance) → Sends out p → Lists (headers_in_body p.body) i
+      → CanName before i
+  pub asks : (l : ℕ) (q : RouterId) (i : Instance) → Asks after l q i
+      → Asks before l q i ⊎ IsDescribed heard l q i
+  pub leaves : (l : ℕ) (q : RouterId) (i : Instance) → Awaits before l q i
+      → Awaits after l q i
+      ⊎ (IsAcknowledged heard l q i ⊎ (is_exchanging (state_in (neighbour after l q)) ≡ false))
   pub lists : ListsAreHeld before → ListsAreHeld after
   pub unheld : (i : Instance) → Brings out i → HoldsInstance after i → ⊥
   pub issues_none : out.issued ≡ []
-  pub kept : (key : LsaKey) → among out.ended key ≡ false → kept_number after key ≡ kept_number before key
+  pub kept : (key : LsaKey) → among out.ended key ≡ false
+      → kept_number after key ≡ kept_number before key
   pub again : (key : LsaKey) → among out.ended key ≡ true → kept_number after key ≡ lowest_number
   pub gone : (key : LsaKey) → among out.ended key ≡ true → copy_of after key ≡ None
   pub ends : (key : LsaKey) → among out.ended key ≡ true → HasLargest heard before out

@@ -1,4 +1,5 @@
--- What an event does at first, in front of the parts of a step that follow (RFC 2328, sections 8.2, 9.3 and 14).
+-- What an event does at first, in front of the parts of a step that follow (RFC
+-- 2328, sections 8.2, 9.3 and 14).
 use Rattle.std.specs.Prelude.{◌≡◌, ◌++◌, ℕ, List, Some}
 use Rattle.ospf_base.specs.declared.ids.Addr.{Addr}
 use Rattle.ospf_packet.specs.Meaning.{Meaning}
@@ -14,16 +15,19 @@ use Rattle.ospf_step.specs.Step.Event.{Datagram}
 -- a datagram comes in on the link from this address, and is this packet
 abbrev pub IsArrival : Event → ℕ → Addr → Meaning → Type 0
 IsArrival e link source p =
-    (destination : Addr) × (bytes : List ℕ) × (e ≡ Datagram link source destination bytes) × (packet_of bytes ≡ Some p)
+    (destination : Addr) × (bytes : List ℕ) × (e ≡ Datagram link source destination bytes)
+    × (packet_of bytes ≡ Some p)
 
--- the event's own parts lead from the one state to the other: whatever parts follow, and put out what is read as it was sent,
--- all together are the chain of both
+-- the event's own parts lead from the one state to the other: whatever parts follow, and put out
+-- what is read as it was sent, all together are the chain of both
 abbrev pub BeginsChain : Event → AreaValue → OutputsValue → AreaValue → OutputsValue → Type 0
 BeginsChain e s out t mid_out =
     (rest : List Part) (u : AreaValue) (out' : OutputsValue) → AreReadAsSent out'.sent →
-    PutsOut (λ o. Chain rest t o u) mid_out out' → PutsOut (λ o. Chain (first_parts e ++ rest) s o u) out out'
+    PutsOut (λ o. Chain rest t o u) mid_out out'
+    → PutsOut (λ o. Chain (first_parts e ++ rest) s o u) out out'
 
 -- they are what a part on a link does
 abbrev pub BeginsWork : Event → (LinkValue → Neighbourhood) → ℕ → AreaValue → OutputsValue → Type 0
 BeginsWork e part link s out =
-    (t : AreaValue) (mid_out : OutputsValue) → WorksOn part link s out mid_out t → BeginsChain e s out t mid_out
+    (t : AreaValue) (mid_out : OutputsValue) → WorksOn part link s out mid_out t
+    → BeginsChain e s out t mid_out

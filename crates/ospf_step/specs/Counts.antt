@@ -48,10 +48,13 @@ with_drop dropped.NoNeighbour c = record c { no_neighbour = one_drop_more c.no_n
 with_drop dropped.WrongRouter c = record c { wrong_router = one_drop_more c.wrong_router }
 with_drop dropped.State c = record c { state = one_drop_more c.state }
 
--- one more that came in on a link was dropped for a cause: on a link that is not there nothing is counted
+-- one more that came in on a link was dropped for a cause: on a link that
+-- is not there nothing is counted
 abbrev pub with_drop_on : ℕ → Dropped → List DropCounts → List DropCounts
 with_drop_on link cause counts =
-    if nat_lt link (length counts) then set counts link (with_drop cause (get_or counts link no_drops)) else counts
+    if nat_lt link (length counts)
+    then set counts link (with_drop cause (get_or counts link no_drops))
+    else counts
 
 -- none was dropped yet on any of the links, of which there are as many as of these
 abbrev pub none_dropped_on : {A : Type 0} → List A → List DropCounts

@@ -12,14 +12,17 @@ use Rattle.ospf_step.specs.Receipt.{drop_of}
 use Rattle.ospf_step.specs.declared.dropped.Dropped.{Dropped}
 use Rattle.ospf_step.specs.declared.dropped.Dropped.TheVariants as dropped
 
--- why a datagram that comes on a link is dropped, if it is; on one that is not there it is read by nobody
+-- why a datagram that comes on a link is dropped, if it is; on one that is
+-- not there it is read by nobody
 abbrev pub drop_on : Option LinkValue → AreaValue → Addr → Addr → Option Meaning → Option Dropped
 drop_on None s source destination m = Some dropped.Packet
-drop_on (Some link) s source destination m = drop_of (local_of (own_of s) link) link.iface link.neighbours s.area source destination m
+drop_on (Some link) s source destination m =
+    drop_of (local_of (own_of s) link) link.iface link.neighbours s.area source destination m
 
 -- why an event is dropped, if it is: only datagrams are
 abbrev pub dropped_by : Event → AreaValue → Option Dropped
-dropped_by (Datagram link source destination bytes) s = drop_on (slice_get s.links link) s source destination (packet_of bytes)
+dropped_by (Datagram link source destination bytes) s =
+    drop_on (slice_get s.links link) s source destination (packet_of bytes)
 dropped_by Tick s = None
 dropped_by (LinkUp link) s = None
 dropped_by (LinkDown link) s = None

@@ -1,4 +1,5 @@
--- How every step ends: elections with AdjOK?, own LSAs, and removals (RFC 2328, sections 9.4, 12.4 and 14).
+-- How every step ends: elections with AdjOK?, own LSAs, and removals (RFC
+-- 2328, sections 9.4, 12.4 and 14).
 use Rattle.ospf_area.specs.Outputs.{AreReadAsSent, OutputsValue}
 use Rattle.ospf_area.specs.State.{AreaValue}
 use Rattle.ospf_links.specs.Elections.{ElectsAll}

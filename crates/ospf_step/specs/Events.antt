@@ -1,11 +1,13 @@
--- What a router is stepped with, as the laws of a step read it (RFC 2328, sections 8.2, 9.2 and 14).
+-- What a router is stepped with, as the laws of a step read it (RFC
+-- 2328, sections 8.2, 9.2 and 14).
 use Rattle.ospf_step.specs.Step as laws
 use Rattle.ospf_step.specs.declared.event.Event.{Event}
 use Rattle.ospf_step.specs.declared.event.Event.TheVariants as given
 
 -- the event as the laws read it: a datagram with its bytes, and all else as it is
 abbrev pub happening : Event → laws.Event
-happening (given.Datagram link source destination bytes) = laws.Event.Datagram link source destination bytes.now
+happening (given.Datagram link source destination bytes) =
+    laws.Event.Datagram link source destination bytes.now
 happening given.Tick = laws.Event.Tick
 happening (given.LinkUp link) = laws.Event.LinkUp link
 happening (given.LinkDown link) = laws.Event.LinkDown link

@@ -1,4 +1,5 @@
--- What a router keeps between the parts of a step, so that each can be taken (RFC 2328, sections 8.2, 9.3 and 12.4).
+-- What a router keeps between the parts of a step, so that each can be taken (RFC
+-- 2328, sections 8.2, 9.3 and 12.4).
 use Rattle.std.specs.Prelude.{◌≡◌, true}
 use Rattle.std.specs.List.{AllByRecursion}
 use Rattle.ospf_base.specs.declared.ids.RouterId.{RouterId}
@@ -6,7 +7,8 @@ use Rattle.ospf_adjacency.specs.Elections.{AreOfLink, elects_in}
 use Rattle.ospf_area.specs.State.{AreaValue, LinkValue}
 use Rattle.ospf_originate.specs.Sound.{IsSound}
 
--- a link of the router: no neighbour is the router itself, and where an election is due, one comes about
+-- a link of the router: no neighbour is the router itself, and where an
+-- election is due, one comes about
 pub record IsFitLink (router : RouterId) (link : LinkValue) : Type 0 where
   pub own : link.iface.settings.router ≡ router
   pub neighbours : AreOfLink link.iface link.neighbours

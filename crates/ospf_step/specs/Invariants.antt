@@ -8,7 +8,8 @@ use Rattle.ospf_area.specs.State.{AreaValue, LinkValue, neighbour}
 
 -- the neighbours of each link are in rising Router ID
 abbrev pub AreRising : List LinkValue → Type 0
-AreRising links = (l : ℕ) (link : LinkValue) → slice_get links l ≡ Some link → AreNeighboursRising link.neighbours
+AreRising links =
+    (l : ℕ) (link : LinkValue) → slice_get links l ≡ Some link → AreNeighboursRising link.neighbours
 
 -- nothing waits for the acknowledgement of router q on link l while that is below Exchange (10.1)
 abbrev pub NoneWaitsBelow : AreaValue → ℕ → RouterId → Type 0

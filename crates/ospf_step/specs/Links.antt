@@ -16,12 +16,15 @@ use Rattle.ospf_step.specs.Words.{CanName}
 use Rattle.ospf_step.specs.Accounts.{WasHeld}
 use Rattle.ospf_step.specs.Neighbours.{NeighbourGoes, told_by}
 
--- the area has other links, and all else is as it was but for the next DD number and the keys sent, which no law reads
+-- the area has other links, and all else is as it was but for the next DD number and
+-- the keys sent, which no law reads
 abbrev pub ChangesLinks : AreaValue → AreaValue → Type 0
-ChangesLinks before after = after ≡ record before { links = after.links; next_dd = after.next_dd; sent = after.sent }
+ChangesLinks before after =
+    after ≡ record before { links = after.links; next_dd = after.next_dd; sent = after.sent }
 
 -- link l becomes another, and these datagrams go out
-pub record OnOneLink (l : ℕ) (link link' : LinkValue) (ds : List SentValue) (before : AreaValue) (out : OutputsValue) (after : AreaValue) : Type 0 where
+pub record OnOneLink (l : ℕ) (link link' : LinkValue) (ds : List SentValue) (before : AreaValue)
+    (out : OutputsValue) (after : AreaValue) : Type 0 where
   pub at : slice_get before.links l ≡ Some link
   pub links : after.links ≡ set before.links l link'
   pub rest : ChangesLinks before after
@@ -44,15 +47,19 @@ AreKnown s ds = (d : SentValue) → Contains ds d → IsKnownPacket s d.packet
 abbrev pub EntersNot : Option NeighbourValue → Option NeighbourValue → Type 0
 EntersNot o o' = is_exchanging (state_in o') ≡ true → is_exchanging (state_in o) ≡ true
 
--- neighbours of a link go on, come and leave, by what is told of them, and no acknowledgement is delayed
-pub record LinkGoes (s : AreaValue) (told : RouterId → List LsaHeader) (b a : LinkValue) : Type 0 where
-  pub goes : (q : RouterId) → NeighbourGoes s (told q) (neighbour_of b.neighbours q) (neighbour_of a.neighbours q)
+-- neighbours of a link go on, come and leave, by what is told of them,
+-- and no acknowledgement is delayed
+pub record LinkGoes (s : AreaValue) (told : RouterId → List LsaHeader) (b a : LinkValue)
+    : Type 0 where
+  pub goes : (q : RouterId)
+      → NeighbourGoes s (told q) (neighbour_of b.neighbours q) (neighbour_of a.neighbours q)
   pub waiting : (h : LsaHeader) → Contains a.delayed h → Contains b.delayed h
 
 -- and none comes into Exchange
 pub record LinkQuiet (s : AreaValue) (b a : LinkValue) : Type 0 where
   pub link : LinkGoes s (λ q. []) b a
-  pub enters : (q : RouterId) → EntersNot (neighbour_of b.neighbours q) (neighbour_of a.neighbours q)
+  pub enters : (q : RouterId)
+      → EntersNot (neighbour_of b.neighbours q) (neighbour_of a.neighbours q)
 
 -- a link that may not be there has become another
 abbrev pub Each : (LinkValue → LinkValue → Type 0) → Option LinkValue → Option LinkValue → Type 0
@@ -67,7 +74,8 @@ AllEach P bs cs = (l : ℕ) → Each P (slice_get bs l) (slice_get cs l)
 
 -- all links go by what is told on them
 abbrev pub AllGo : AreaValue → Option Received → List LinkValue → List LinkValue → Type 0
-AllGo s heard bs cs = (l : ℕ) → Each (LinkGoes s (told_by heard l)) (slice_get bs l) (slice_get cs l)
+AllGo s heard bs cs =
+    (l : ℕ) → Each (LinkGoes s (told_by heard l)) (slice_get bs l) (slice_get cs l)
 
 -- a link of the area
 abbrev pub IsLinkIn : AreaValue → LinkValue → Type 0

@@ -14,15 +14,19 @@ use Rattle.ospf_packet.specs.PacketOf.{packet_of}
 
 -- room for a new neighbour, and for a Request a neighbour in Exchange or above
 abbrev pub CanTakeOn : BodyMeaning → Origin → LinkValue → Type 0
-CanTakeOn (hello fields heard) f link = neighbour_of link.neighbours f.router ≡ None → length link.neighbours < max_neighbours
+CanTakeOn (hello fields heard) f link =
+    neighbour_of link.neighbours f.router ≡ None → length link.neighbours < max_neighbours
 CanTakeOn (description fields headers) f link = ⊤
-CanTakeOn (request entries) f link = (n : NeighbourValue) → neighbour_of link.neighbours f.router ≡ Some n → is_exchanging n.state ≡ true
+CanTakeOn (request entries) f link =
+    (n : NeighbourValue) → neighbour_of link.neighbours f.router ≡ Some n
+    → is_exchanging n.state ≡ true
 CanTakeOn (update lsas) f link = ⊤
 CanTakeOn (acknowledgment headers) f link = ⊤
 
 -- it has that on the link that the packet came on
 abbrev pub CanTakePacket : Origin → BodyMeaning → AreaValue → Type 0
-CanTakePacket f body s = (link : LinkValue) → slice_get s.links f.link ≡ Some link → CanTakeOn body f link
+CanTakePacket f body s =
+    (link : LinkValue) → slice_get s.links f.link ≡ Some link → CanTakeOn body f link
 
 -- the database is one, and nothing waits for the sender of a packet below Exchange (10.1)
 abbrev pub IsSenderReady : ℕ → Option Meaning → AreaValue → Type 0

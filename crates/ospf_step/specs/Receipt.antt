@@ -22,59 +22,83 @@ use Rattle.ospf_step.specs.declared.dropped.Dropped.TheVariants as dropped
 
 -- ---- where it comes from and goes to
 
--- it is for this interface: for AllSPFRouters, for its address, or for AllDRouters where the router is DR or Backup (8.2)
+-- it is for this interface: for AllSPFRouters, for its address, or for AllDRouters where
+-- the router is DR or Backup (8.2)
 abbrev pub is_destination : Iface → Addr → Bool
-is_destination i a = (a.0 == all_spf_routers.0) || (a.0 == i.settings.address.0) || ((a.0 == all_d_routers.0) && is_dr_or_backup i.state)
+is_destination i a =
+    (a.0 == all_spf_routers.0) || (a.0 == i.settings.address.0)
+    || ((a.0 == all_d_routers.0) && is_dr_or_backup i.state)
 
 -- on a broadcast link it comes from another network (8.2)
 abbrev pub is_foreign : Iface → Addr → Bool
-is_foreign i a = is_broadcast i && not (bit_and a.0 i.settings.mask == bit_and i.settings.address.0 i.settings.mask)
+is_foreign i a =
+    is_broadcast i
+    && not (bit_and a.0 i.settings.mask == bit_and i.settings.address.0 i.settings.mask)
 
 -- ---- who sent it
 
--- the sender among the neighbours: by its address on broadcast links, by its Router ID on point-to-point links (8.2)
+-- the sender among the neighbours: by its address on broadcast links, by its Router
+-- ID on point-to-point links (8.2)
 abbrev pub sender_in : Iface → List NeighbourValue → RouterId → Addr → Option NeighbourValue
 sender_in i ns q source = if is_broadcast i then at_address ns source else neighbour_of ns q
 
--- a neighbour has the Router ID at another address; on a point-to-point link any other router is the neighbour (8.2, 10.5)
+-- a neighbour has the Router ID at another address; on a point-to-point link any other
+-- router is the neighbour (8.2, 10.5)
 abbrev pub is_elsewhere : Iface → List NeighbourValue → RouterId → Bool
 is_elsewhere i ns q = if is_broadcast i then is_some (neighbour_of ns q) else not (is_empty ns)
 
 -- a Hello of a router that is not known
 abbrev pub drop_of_new : Iface → List NeighbourValue → RouterId → Option Dropped
-drop_of_new i ns q = if is_elsewhere i ns q then Some dropped.WrongRouter else if nat_lt (length ns) max_neighbours then None else Some dropped.State
+drop_of_new i ns q =
+    if is_elsewhere i ns q then Some dropped.WrongRouter
+    else if nat_lt (length ns) max_neighbours then None
+    else Some dropped.State
 
 -- a Hello that agrees with the interface
-abbrev pub drop_of_hello : Iface → List NeighbourValue → RouterId → Option NeighbourValue → Option Dropped
+abbrev pub drop_of_hello : Iface → List NeighbourValue → RouterId → Option NeighbourValue
+    → Option Dropped
 drop_of_hello i ns q None = drop_of_new i ns q
 drop_of_hello i ns q (Some n) = if n.router.0 == q.0 then None else Some dropped.WrongRouter
 
 -- a Database Description, which its neighbour takes or drops (10.6)
-abbrev pub drop_of_description : Local → RouterId → Description → List LsaHeader → Option NeighbourValue → Option Dropped
+abbrev pub drop_of_description : Local → RouterId → Description → List LsaHeader
+    → Option NeighbourValue → Option Dropped
 drop_of_description local q d headers None = Some dropped.NoNeighbour
 drop_of_description local q d headers (Some n) =
-    if not (n.router.0 == q.0) then Some dropped.WrongRouter else if dd_dropped local q d headers n then Some dropped.State else None
+    if not (n.router.0 == q.0) then Some dropped.WrongRouter
+    else if dd_dropped local q d headers n then Some dropped.State
+    else None
 
 -- another packet, which is taken in Exchange and above (10.7, 13 and 13.7)
 abbrev pub drop_below_exchange : RouterId → Option NeighbourValue → Option Dropped
 drop_below_exchange q None = Some dropped.NoNeighbour
 drop_below_exchange q (Some n) =
-    if not (n.router.0 == q.0) then Some dropped.WrongRouter else if is_exchanging n.state then None else Some dropped.State
+    if not (n.router.0 == q.0) then Some dropped.WrongRouter
+    else if is_exchanging n.state then None
+    else Some dropped.State
 
--- a Hello agrees in HelloInterval, RouterDeadInterval and the E bit, and on broadcast links in the mask (10.5)
+-- a Hello agrees in HelloInterval, RouterDeadInterval and the E bit, and on
+-- broadcast links in the mask (10.5)
 abbrev pub agrees : Iface → Hello → Bool
-agrees i h = (h.hello_interval == i.settings.hello) && (h.dead_interval == i.settings.dead) && (bit_and h.options router_options == router_options) && ((h.mask == i.settings.mask) || not (is_broadcast i))
+agrees i h =
+    (h.hello_interval == i.settings.hello) && (h.dead_interval == i.settings.dead)
+    && (bit_and h.options router_options == router_options)
+    && ((h.mask == i.settings.mask) || not (is_broadcast i))
 
 -- by what the packet says
-abbrev pub drop_by_body : Local → BodyMeaning → Iface → List NeighbourValue → RouterId → Option NeighbourValue → Option Dropped
-drop_by_body local (hello fields heard) i ns q sender = if agrees i fields then drop_of_hello i ns q sender else Some dropped.HelloMismatch
-drop_by_body local (description fields headers) i ns q sender = drop_of_description local q fields headers sender
+abbrev pub drop_by_body : Local → BodyMeaning → Iface → List NeighbourValue → RouterId
+    → Option NeighbourValue → Option Dropped
+drop_by_body local (hello fields heard) i ns q sender =
+    if agrees i fields then drop_of_hello i ns q sender else Some dropped.HelloMismatch
+drop_by_body local (description fields headers) i ns q sender =
+    drop_of_description local q fields headers sender
 drop_by_body local (request entries) i ns q sender = drop_below_exchange q sender
 drop_by_body local (update lsas) i ns q sender = drop_below_exchange q sender
 drop_by_body local (acknowledgment headers) i ns q sender = drop_below_exchange q sender
 
 -- why a packet is dropped, if it is: the first cause that applies
-abbrev pub drop_of_packet : Local → Iface → List NeighbourValue → AreaId → Addr → Addr → Meaning → Option Dropped
+abbrev pub drop_of_packet : Local → Iface → List NeighbourValue → AreaId → Addr → Addr → Meaning
+    → Option Dropped
 drop_of_packet local i ns area source destination m =
     if is_down i.state then Some dropped.Packet
     else if not (m.area.0 == area.0) then Some dropped.Area
@@ -84,6 +108,8 @@ drop_of_packet local i ns area source destination m =
     else drop_by_body local m.body i ns m.router (sender_in i ns m.router source)
 
 -- why a datagram is dropped, if it is; one that is no packet says nothing
-abbrev pub drop_of : Local → Iface → List NeighbourValue → AreaId → Addr → Addr → Option Meaning → Option Dropped
+abbrev pub drop_of : Local → Iface → List NeighbourValue → AreaId → Addr → Addr → Option Meaning
+    → Option Dropped
 drop_of local i ns area source destination None = Some dropped.Packet
-drop_of local i ns area source destination (Some m) = drop_of_packet local i ns area source destination m
+drop_of local i ns area source destination (Some m) =
+    drop_of_packet local i ns area source destination m

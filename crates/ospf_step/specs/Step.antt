@@ -16,7 +16,8 @@ use Rattle.ospf_step.specs.Neighbours.{NeighboursGo, Quiet}
 use Rattle.ospf_step.specs.Packets.{Received}
 use Rattle.ospf_step.specs.Parts.{LsaPart, IssuePart, ExpiryPart, AgesPart, RemovalPart}
 
--- what a router is stepped with: a datagram that comes in on a link, a second that passes, or a link that comes or goes
+-- what a router is stepped with: a datagram that comes in on a link, a second that
+-- passes, or a link that comes or goes
 pub data Event : Type 0 where
   Datagram : (link : ℕ) (source destination : Addr) (bytes : List ℕ) → Event
   Tick : Event
@@ -25,7 +26,8 @@ pub data Event : Type 0 where
 
 -- the packet that an event brings, and its link
 abbrev pub heard_in : Event → Option Received
-heard_in (Datagram link source destination bytes) = option_map (λ p. record { link = link; packet = p }) (packet_of bytes)
+heard_in (Datagram link source destination bytes) =
+    option_map (λ p. record { link = link; packet = p }) (packet_of bytes)
 heard_in Tick = None
 heard_in (LinkUp link) = None
 heard_in (LinkDown link) = None
@@ -50,7 +52,9 @@ pub data Part : Type 0 where
   Removals : Part  -- 14
 
 -- first this and then that, with the outputs of both
-pub record Then (First : OutputsValue → AreaValue → Type 0) (Next : AreaValue → OutputsValue → AreaValue → Type 0) (out : OutputsValue) (after : AreaValue) : Type 0 where
+pub record Then (First : OutputsValue → AreaValue → Type 0)
+    (Next : AreaValue → OutputsValue → AreaValue → Type 0) (out : OutputsValue) (after : AreaValue)
+    : Type 0 where
   pub mid : AreaValue
   pub first_out : OutputsValue
   pub next_out : OutputsValue
@@ -59,18 +63,21 @@ pub record Then (First : OutputsValue → AreaValue → Type 0) (Next : AreaValu
   pub both : out ≡ then_outputs first_out next_out
 
 -- so many of one kind, one after another
-abbrev pub Times : ℕ → (AreaValue → OutputsValue → AreaValue → Type 0) → AreaValue → OutputsValue → AreaValue → Type 0
+abbrev pub Times : ℕ → (AreaValue → OutputsValue → AreaValue → Type 0) → AreaValue → OutputsValue
+    → AreaValue → Type 0
 Times zero R before out after = Becomes before no_outputs out after
 Times (suc n) R before out after = Then (R before) (Times n R) out after
 
 -- what is flooded may empty a request list
-abbrev pub AndRequests : (AreaValue → OutputsValue → AreaValue → Type 0) → AreaValue → OutputsValue → AreaValue → Type 0
+abbrev pub AndRequests : (AreaValue → OutputsValue → AreaValue → Type 0) → AreaValue → OutputsValue
+    → AreaValue → Type 0
 AndRequests R before out after = Then (R before) Quiet out after
 
 -- an own LSA is issued or flushed (12.4, 14.1)
 pub data OwnStep (before : AreaValue) (out : OutputsValue) (after : AreaValue) : Type 0 where
   Issue : (lsa : List ℕ) → AndRequests (IssuePart lsa) before out after → OwnStep before out after
-  Flush : (key : LsaKey) (copy : Entry) → AndRequests (ExpiryPart key copy) before out after → OwnStep before out after
+  Flush : (key : LsaKey) (copy : Entry) → AndRequests (ExpiryPart key copy) before out after
+      → OwnStep before out after
 
 -- a copy has come to MaxAge (14)
 pub record ExpiryStep (before : AreaValue) (out : OutputsValue) (after : AreaValue) : Type 0 where
@@ -82,13 +89,15 @@ pub record ExpiryStep (before : AreaValue) (out : OutputsValue) (after : AreaVal
 abbrev pub IsPart : Part → AreaValue → OutputsValue → AreaValue → Type 0
 IsPart (HelloComes f p) before out after = Quiet before out after
 -- here alone a neighbour may come into Exchange, and here alone requests are noted
-IsPart (DdComes f p) before out after = NeighboursGo (Some (record { link = f.link; packet = p })) before out after
+IsPart (DdComes f p) before out after =
+    NeighboursGo (Some (record { link = f.link; packet = p })) before out after
 IsPart (RequestComes f p) before out after = Quiet before out after
 IsPart (LsaComes f lsa) before out after = LsaPart f lsa before out after
 -- by one header of an Acknowledgment (13.7)
 IsPart (HeaderComes f h) before out after = Becomes (header_met f h before) no_outputs out after
 -- they go to the sender of the Update, as many in a packet as fit (13.5)
-IsPart (DirectAcknowledgements f) before out after = Becomes (record before { direct = [] }) (sends (direct_out f before)) out after
+IsPart (DirectAcknowledgements f) before out after =
+    Becomes (record before { direct = [] }) (sends (direct_out f before)) out after
 IsPart (LinkChanges link up) before out after = Quiet before out after
 IsPart Ages before out after = (n : ℕ) × Then (AgesPart before) (Times n ExpiryStep) out after
 IsPart Timers before out after = Quiet before out after
@@ -98,7 +107,8 @@ IsPart Repeats before out after = Quiet before out after
 IsPart Requests before out after = Quiet before out after
 IsPart Elections before out after = Quiet before out after
 IsPart OwnLsas before out after =
-    (n : ℕ) × Then (Times n OwnStep before) (λ s. Becomes (record s { heard = [] }) no_outputs) out after
+    (n : ℕ)
+    × Then (Times n OwnStep before) (λ s. Becomes (record s { heard = [] }) no_outputs) out after
 IsPart Removals before out after = RemovalPart before out after
 
 -- the parts, one after another
@@ -121,7 +131,11 @@ parts_of_packet f p (acknowledgment headers) = map (λ h. HeaderComes f h) heade
 -- what an event brings
 abbrev pub first_parts : Event → List Part
 first_parts (Datagram link source destination bytes) =
-    elim (packet_of bytes) [ None ↦ [] | Some p ↦ parts_of_packet (record { link = link; router = p.router; address = source }) p p.body ]
+    elim (packet_of bytes) [
+      | None ↦ []
+      | Some p ↦
+          parts_of_packet (record { link = link; router = p.router; address = source }) p p.body
+    ]
 first_parts Tick = Ages ∷ Timers ∷ Hellos ∷ Acknowledgements ∷ Repeats ∷ []
 first_parts (LinkUp link) = LinkChanges link true ∷ []
 first_parts (LinkDown link) = LinkChanges link false ∷ []
@@ -130,8 +144,12 @@ first_parts (LinkDown link) = LinkChanges link false ∷ []
 abbrev pub last_parts : List Part
 last_parts = Elections ∷ OwnLsas ∷ Removals ∷ []
 
--- a step of a router that drops these events: they change nothing, and any other is taken in parts. What is sent is read
--- again
-pub data StepLaws (is_dropped : Event → AreaValue → Bool) (event : Event) (before : AreaValue) (out : OutputsValue) (after : AreaValue) : Type 0 where
-  Drops : is_dropped event before ≡ true → Becomes before no_outputs out after → StepLaws is_dropped event before out after
-  Takes : is_dropped event before ≡ false → AreReadAsSent out.sent → Chain (first_parts event ++ last_parts) before out after → StepLaws is_dropped event before out after
+-- a step of a router that drops these events: they change nothing, and any other is taken in
+-- parts. What is sent is read again
+pub data StepLaws (is_dropped : Event → AreaValue → Bool) (event : Event) (before : AreaValue)
+    (out : OutputsValue) (after : AreaValue) : Type 0 where
+  Drops : is_dropped event before ≡ true → Becomes before no_outputs out after
+      → StepLaws is_dropped event before out after
+  Takes : is_dropped event before ≡ false → AreReadAsSent out.sent
+      → Chain (first_parts event ++ last_parts) before out after
+      → StepLaws is_dropped event before out after

@@ -15,8 +15,10 @@ pub record Takes (e : Event) (s : AreaValue) (out : OutputsValue) (after : AreaV
   pub event : TakesEvent e s no_outputs mid_out mid
   pub end : EndsStep mid mid_out out after
 
--- an event that is dropped, for the first cause that applies, changes nothing and puts nothing out, and any other is taken
-pub record StepsArea (e : Event) (s : AreaValue) (dropped : Option Dropped) (out : OutputsValue) (after : AreaValue) : Type 0 where
+-- an event that is dropped, for the first cause that applies, changes nothing and puts
+-- nothing out, and any other is taken
+pub record StepsArea (e : Event) (s : AreaValue) (dropped : Option Dropped) (out : OutputsValue)
+    (after : AreaValue) : Type 0 where
   pub cause : dropped ≡ dropped_by e s
   pub unchanged : dropped ≢ None → after ≡ s
   pub silent : dropped ≢ None → out ≡ no_outputs

@@ -1,4 +1,5 @@
--- What an event does to the router before the step ends (RFC 2328, sections 9.3, 10.5 to 10.7, 13 and 13.7).
+-- What an event does to the router before the step ends (RFC 2328, sections
+-- 9.3, 10.5 to 10.7, 13 and 13.7).
 use Rattle.std.specs.Prelude.{ℕ, [], Option, None, Some, slice_get}
 use Rattle.ospf_base.specs.declared.ids.Addr.{Addr}
 use Rattle.ospf_area.specs.Outputs.{OutputsValue}
@@ -21,31 +22,44 @@ use Rattle.ospf_update.specs.Updates.{TakesUpdate}
 -- ---- packets (8.2)
 
 -- what a packet of this origin says is taken
-abbrev pub TakesBody : BodyMeaning → Origin → AreaValue → OutputsValue → OutputsValue → AreaValue → Type 0
-TakesBody (hello fields heard) f s out out' after = WorksOn (hello_part (own_of s) f fields (names heard s.router) s.next_dd) f.link s out out' after
-TakesBody (description fields headers) f s out out' after = WorksOn (description_part (own_of s) f fields headers s.database s.next_dd) f.link s out out' after
+abbrev pub TakesBody : BodyMeaning → Origin → AreaValue → OutputsValue → OutputsValue → AreaValue
+    → Type 0
+TakesBody (hello fields heard) f s out out' after =
+    WorksOn (hello_part (own_of s) f fields (names heard s.router) s.next_dd) f.link s out out'
+    after
+TakesBody (description fields headers) f s out out' after =
+    WorksOn (description_part (own_of s) f fields headers s.database s.next_dd) f.link s out out'
+    after
 -- the keys whose copies answer a Request are marked as sent in this tick (13, step 8)
 TakesBody (request entries) f s out out' after =
-    let marks = marked_all (answered_on (slice_get s.links f.link) f.router s.database entries) s.sent in
-    WorksOn (request_part (own_of s) f s.database entries s.next_dd) f.link (record s { sent = marks }) out out' after
+    let marks = marked_all (answered_on (slice_get s.links f.link) f.router s.database entries)
+    s.sent in
+    WorksOn (request_part (own_of s) f s.database entries s.next_dd) f.link
+    (record s { sent = marks }) out out' after
 TakesBody (update lsas) f s out out' after = TakesUpdate f lsas s out out' after
-TakesBody (acknowledgment headers) f s out out' after = Becomes (headers_met f headers s) (and_sends out []) out' after
+TakesBody (acknowledgment headers) f s out out' after =
+    Becomes (headers_met f headers s) (and_sends out []) out' after
 
 -- where a packet comes from
 abbrev pub origin_of : ℕ → Addr → Meaning → Origin
 origin_of link source m = record { link = link; router = m.router; address = source }
 
 -- a datagram that is not dropped is a packet
-abbrev pub TakesDatagram : ℕ → Addr → Option Meaning → AreaValue → OutputsValue → OutputsValue → AreaValue → Type 0
+abbrev pub TakesDatagram : ℕ → Addr → Option Meaning → AreaValue → OutputsValue → OutputsValue
+    → AreaValue → Type 0
 TakesDatagram link source None s out out' after = ⊥
-TakesDatagram link source (Some m) s out out' after = TakesBody m.body (origin_of link source m) s out out' after
+TakesDatagram link source (Some m) s out out' after =
+    TakesBody m.body (origin_of link source m) s out out' after
 
 -- ---- events
 
 -- what an event that is not dropped does
 abbrev pub TakesEvent : Event → AreaValue → OutputsValue → OutputsValue → AreaValue → Type 0
-TakesEvent (Datagram link source destination bytes) s out out' after = TakesDatagram link source (packet_of bytes) s out out' after
+TakesEvent (Datagram link source destination bytes) s out out' after =
+    TakesDatagram link source (packet_of bytes) s out out' after
 TakesEvent Tick s out out' after = TakesTick s out out' after
 TakesEvent (LinkUp link) s out out' after =
-    Becomes (link_changed link_up link s) (and_sends out (up_out_on (slice_get s.links link) (own_of s) link)) out' after
-TakesEvent (LinkDown link) s out out' after = Becomes (link_changed link_down link s) (and_sends out []) out' after
+    Becomes (link_changed link_up link s)
+    (and_sends out (up_out_on (slice_get s.links link) (own_of s) link)) out' after
+TakesEvent (LinkDown link) s out out' after =
+    Becomes (link_changed link_down link s) (and_sends out []) out' after

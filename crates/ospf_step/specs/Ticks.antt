@@ -10,11 +10,13 @@ use Rattle.ospf_links.specs.Repeats.{keys_out, link_repeated, link_repeats_out, 
 use Rattle.ospf_update.specs.Acks.{delayed_out_on, undelayed_link}
 use Rattle.ospf_update.specs.Aging.{TickAges}
 
--- what is due is sent again on each link (10.8, 10.9, 13.6), and the keys whose copies go out are marked (13, step 8)
+-- what is due is sent again on each link (10.8, 10.9, 13.6), and the keys whose copies
+-- go out are marked (13, step 8)
 abbrev pub RepeatsAll : AreaValue → OutputsValue → OutputsValue → AreaValue → Type 0
 RepeatsAll s out out' after =
     let marks = marked_all (flat_map (keys_out (own_of s) s.database) s.links) s.sent in
-    OnEachLink (link_repeated (own_of s) s.database) (link_repeats_out (own_of s) s.database) (record s { sent = marks }) out out' after
+    OnEachLink (link_repeated (own_of s) s.database) (link_repeats_out (own_of s) s.database)
+    (record s { sent = marks }) out out' after
 
 -- a tick: ages, timers, Hellos, acknowledgements and repeats, in this order
 pub record TakesTick (s : AreaValue) (out out' : OutputsValue) (after : AreaValue) : Type 0 where
@@ -32,6 +34,7 @@ pub record TakesTick (s : AreaValue) (out out' : OutputsValue) (after : AreaValu
   -- the delayed acknowledgements (13.5)
   pub acknowledged : AreaValue
   pub acknowledged_out : OutputsValue
-  pub acknowledgements : OnEachLink undelayed_link (delayed_out_on (own_of helloed)) helloed helloed_out acknowledged_out acknowledged
+  pub acknowledgements : OnEachLink undelayed_link (delayed_out_on (own_of helloed)) helloed
+      helloed_out acknowledged_out acknowledged
   -- what is sent again (10.8, 10.9, 13.6)
   pub repeats : RepeatsAll acknowledged acknowledged_out out' after

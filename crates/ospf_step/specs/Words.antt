@@ -26,14 +26,16 @@ Asks s l q i = Lists (elim (neighbour s l q) [ None ↦ [] | Some n ↦ n.reques
 abbrev pub delayed : AreaValue → ℕ → List LsaHeader
 delayed s l = elim (slice_get s.links l) [ None ↦ [] | Some link ↦ link.delayed ]
 
--- the instances that a router can name to others: in a packet sent from now on there is no other, but for those
--- that it installs or issues first. The summary list has what is still to be described to q (10); the last DD packet sent to q
--- may be sent again (10.8)
+-- the instances that a router can name to others: in a packet sent from now on there is no other,
+-- but for those that it installs or issues first. The summary list has what is still to be
+-- described to q (10); the last DD packet sent to q may be sent again (10.8)
 pub data CanName (s : AreaValue) (i : Instance) : Type 0 where
   InDatabase : HoldsInstance s i → CanName s i
   OnRetransmissionList : (l : ℕ) (q : RouterId) → Awaits s l q i → CanName s i
-  OnSummaryList : (l : ℕ) (q : RouterId) → Lists (elim (neighbour s l q) [ None ↦ [] | Some n ↦ n.summary ]) i → CanName s i
-  InLastDd : (l : ℕ) (q : RouterId) → Lists (elim (neighbour s l q) [ None ↦ [] | Some n ↦ n.last_dd ]) i → CanName s i
+  OnSummaryList : (l : ℕ) (q : RouterId)
+      → Lists (elim (neighbour s l q) [ None ↦ [] | Some n ↦ n.summary ]) i → CanName s i
+  InLastDd : (l : ℕ) (q : RouterId)
+      → Lists (elim (neighbour s l q) [ None ↦ [] | Some n ↦ n.last_dd ]) i → CanName s i
   ToAcknowledge : (l : ℕ) → Lists (delayed s l) i → CanName s i
   ToAcknowledgeNow : Lists s.direct i → CanName s i
 
@@ -41,11 +43,13 @@ pub data CanName (s : AreaValue) (i : Instance) : Type 0 where
 abbrev pub ListsAreHeld : AreaValue → Type 0
 ListsAreHeld s = (l : ℕ) (q : RouterId) (i : Instance) → Awaits s l q i → HoldsInstance s i
 
--- what holds of each state that a router comes to, beside what its types say: each copy is an LSA, no number kept for an
--- own key is below that of its copy, and what waits for an acknowledgement is held
+-- what holds of each state that a router comes to, beside what its types say: each copy
+-- is an LSA, no number kept for an own key is below that of its copy, and what waits
+-- for an acknowledgement is held
 pub record IsSoundState (s : AreaValue) : Type 0 where
   pub lsas : (lsa : List ℕ) → HasCopy s lsa → IsLsa lsa
-  pub numbers : (lsa : List ℕ) → HasCopy s lsa → (key_of lsa).router ≡ s.router → (instance_of lsa).number ≤ℤ kept_number s (key_of lsa)
+  pub numbers : (lsa : List ℕ) → HasCopy s lsa → (key_of lsa).router ≡ s.router
+      → (instance_of lsa).number ≤ℤ kept_number s (key_of lsa)
   pub lists : ListsAreHeld s
 
 -- ---- what it puts out

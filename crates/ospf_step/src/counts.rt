@@ -86,8 +86,8 @@ pub fn none_dropped_on<T>(links: &[T], alloc: Global) -> Result<Vec<DropCounts>,
     Ok(counts)
 }
 
-/// Counts what came in on a link and was dropped, if anything did and was, in the counts of all links. On a link that is not
-/// there nothing is counted.
+/// Counts what came in on a link and was dropped, if anything did and was, in the counts of all
+/// links. On a link that is not there nothing is counted.
 pub fn count_dropped(counts: &mut [DropCounts], link: Option<usize>, dropped: Option<Dropped>)
     ensures { counts.new ≡ with_dropped_on link dropped counts.old }
 {

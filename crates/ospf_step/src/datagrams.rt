@@ -26,7 +26,8 @@ use ospf_packet::{Body, Headers, Packet};
 use ospf_update::{on_header, on_update};
 use std::alloc::{AllocError, Global};
 
-/// Takes a datagram that comes on a link. Answers why it is dropped, if it is; then nothing has changed.
+/// Takes a datagram that comes on a link. Answers why it is dropped, if
+/// it is; then nothing has changed.
 pub(crate) fn take_datagram(
     area: &mut Area,
     link: usize,

@@ -15,8 +15,9 @@ use ospf_iface::Iface;
 use ospf_neighbour::{MAX_NEIGHBOURS, Neighbour};
 use ospf_packet::{Body, Description, Headers, Packet};
 
-/// The packet that a datagram is, which came from `source` on a link and is for `destination`, or the first cause that it is
-/// dropped for (RFC 2328, sections 8.2, 10.5 to 10.7, 13 and 13.7). Nothing changes, and no memory is taken.
+/// The packet that a datagram is, which came from `source` on a link and is for `destination`, or
+/// the first cause that it is dropped for (RFC 2328, sections 8.2, 10.5 to 10.7, 13 and 13.7).
+/// Nothing changes, and no memory is taken.
 pub fn receive<'a>(
     bytes: &'a [u8],
     source: Addr,
@@ -55,7 +56,8 @@ fn drop_of_packet(
     ensures { result ≡ drop_of_packet local iface.now neighbours.now area source destination
         (said packet.now) }
 {
-    // (9.1, 8.2) In this order: the interface, the Area ID, the Router ID, the destination and the source.
+    // (9.1, 8.2) In this order: the interface, the Area ID, the Router ID,
+    // the destination and the source.
     if iface.state.is_down() {
         Some(Dropped::Packet)
     } else if packet.area.0 != area.0 {

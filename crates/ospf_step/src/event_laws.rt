@@ -1,5 +1,5 @@
-//! Laws: what an event does, in front of what follows, is the chain of its parts. What is put out in the end is read, and so
-//! what was put out before.
+//! Laws: what an event does, in front of what follows, is the chain of its parts. What is put out
+//! in the end is read, and so what was put out before.
 
 ghost use Rattle.std.specs.Prelude.{◌≡◌, ◌++◌, Bool, List, slice_get, ℕ};
 ghost use Rattle.ospf_base.specs.declared.ids.Addr.{Addr};
@@ -23,8 +23,8 @@ ghost use Rattle.ospf_step.specs.Step.{Chain, Event, Part, first_parts};
 ghost use Rattle.ospf_step.specs.Takes.{origin_of};
 ghost use Rattle.ospf_step.specs.Invariants.{NoneWaitsBelow};
 
-/// A datagram that is a packet, by what it says; a Database Description where nothing waits for the acknowledgement of its
-/// router while that is below Exchange (RFC 2328, section 10.1).
+/// A datagram that is a packet, by what it says; a Database Description where nothing waits for the
+/// acknowledgement of its router while that is below Exchange (RFC 2328, section 10.1).
 pub fn datagrams_are_chains()
     // A Hello (10.5).
     ensures hello { (e : Event) (link : ℕ) (source : Addr) (p : Meaning) →

@@ -1,4 +1,5 @@
-//! Laws: what a packet does on a link, or a link that goes up or down, is a part put behind the outputs so far.
+//! Laws: what a packet does on a link, or a link that goes up or down, is a part
+//! put behind the outputs so far.
 
 ghost use Rattle.std.specs.Prelude.{◌≡◌, Bool, List, false, slice_get, true, ℕ};
 ghost use Rattle.ospf_base.specs.declared.ids.LsaKey.{LsaKey};
@@ -39,7 +40,8 @@ pub fn descriptions_put_out()
         PutsOut (λ o. IsPart (Part.DdComes f p) s o t) out out' }
 {}
 
-/// A Request that comes, of a neighbour that may not be there. The keys whose copies go out are marked.
+/// A Request that comes, of a neighbour that may not be there. The keys
+/// whose copies go out are marked.
 pub fn requests_put_out()
     ensures { (f : Origin) (p : Meaning) (entries : List RequestEntry) (marks : List LsaKey)
         (s t : AreaValue) (out out' : OutputsValue) →

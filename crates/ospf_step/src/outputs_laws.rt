@@ -19,7 +19,8 @@ pub fn database_is_one(area: &Area)
     let _entries = area.database.entries();
 }
 
-/// Nothing waits for the acknowledgement of a neighbour on a link while that is below Exchange (RFC 2328, section 10.1).
+/// Nothing waits for the acknowledgement of a neighbour on a link while that is below
+/// Exchange (RFC 2328, section 10.1).
 pub fn none_waits_below(area: &Area, link: usize, router: RouterId)
     ensures { NoneWaitsBelow area.now link router }
 {

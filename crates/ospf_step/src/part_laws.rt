@@ -1,4 +1,5 @@
-//! Laws: what the contracts of the calls below say of the outputs so far and of those after, is a part put behind them.
+//! Laws: what the contracts of the calls below say of the outputs so far and of those
+//! after, is a part put behind them.
 
 ghost use Rattle.std.specs.Prelude.{◌≡◌, ◌++◌, ◌∷◌, [], Bool, false, List, Some, map, suc, ℕ};
 ghost use Rattle.ospf_update.specs.Acks.{undelayed_link, delayed_out_on};
@@ -48,7 +49,8 @@ pub fn updates_are_chains()
         ++ rest) s o u) out out' }
 {}
 
-/// What is done with the headers of an Acknowledgment, and then what follows, is the chain of its parts.
+/// What is done with the headers of an Acknowledgment, and then what
+/// follows, is the chain of its parts.
 pub fn headers_are_chains()
     ensures { (f : Origin) (hs : List LsaHeader) (rest : List Part) (s t u : AreaValue)
         (out out' : OutputsValue) →
@@ -86,7 +88,8 @@ pub fn flushes_put_out()
         PutsOut (λ o. AndRequests (ExpiryPart key copy) s o t) out out' }
 {}
 
-/// Own LSAs that are issued or flushed, one after the other, are a part once what was to be answered is forgotten.
+/// Own LSAs that are issued or flushed, one after the other, are a part once what
+/// was to be answered is forgotten.
 pub fn own_steps_put_out()
     ensures none { (s : AreaValue) (out : OutputsValue) →
         PutsOut (λ o. Times 0 OwnStep s o s) out out }

@@ -33,9 +33,10 @@ pub struct StepResult {
     pub dropped: Option<Dropped>,
 }
 
-/// Takes an event. A datagram that is dropped, for the first cause that applies, changes nothing and puts nothing out; what
-/// any other event does is followed by the elections that are due, the router's own LSAs, and the LSAs that leave the
-/// database. Each step keeps the laws of a step, and from a sound state it answers to other routers for all that it does.
+/// Takes an event. A datagram that is dropped, for the first cause that applies, changes nothing
+/// and puts nothing out; what any other event does is followed by the elections that are due, the
+/// router's own LSAs, and the LSAs that leave the database. Each step keeps the laws of a step, and
+/// from a sound state it answers to other routers for all that it does.
 ///
 /// `AllocError` where memory runs out; then the router is to be stopped.
 pub fn step(area: &mut Area, event: Event<'_>, alloc: Global) -> Result<StepResult, AllocError>

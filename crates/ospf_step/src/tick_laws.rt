@@ -1,4 +1,5 @@
-//! Laws: what a tick does on all links is a part put behind the outputs so far, and the whole tick is the chain of its parts.
+//! Laws: what a tick does on all links is a part put behind the outputs so far, and the whole
+//! tick is the chain of its parts.
 
 ghost use Rattle.std.specs.Prelude.{◌≡◌, List, map};
 ghost use Rattle.ospf_links.specs.Repeats.{link_repeats_out, link_repeated};

@@ -1,4 +1,5 @@
--- What is printed of a failure: a line for each route that it changes, and a line of how many these are.
+-- What is printed of a failure: a line for each route that it changes,
+-- and a line of how many these are.
 use Rattle.std.specs.Prelude.{ℕ, Bool, true, false, List, [], ◌++◌, codes, count_by, decimal, flat_map, if◌then◌else◌}
 use Rattle.ospf_base.specs.Text.{prefix_text}
 use Rattle.ospf_graph.specs.Text.{hops_text}
@@ -16,13 +17,17 @@ use Rattle.ospf_table.specs.declared.totals.Totals.{Totals}
 abbrev pub costs_text : ℕ → ℕ → List ℕ
 costs_text before after = decimal before ++ codes ">" ++ decimal after
 
--- the prefix that is lost; or the prefix with the costs of before and after, or with its cost, and the hops of after
+-- the prefix that is lost; or the prefix with the costs of before and after, or with
+-- its cost, and the hops of after
 abbrev pub loss_line : Route → Loss → List ℕ
 loss_line before Gone = codes " gone " ++ prefix_text before.prefix ++ codes "\n"
 loss_line before Cut = codes " cut " ++ prefix_text before.prefix ++ codes "\n"
 loss_line before (Dearer after) =
-    codes " cost " ++ prefix_text before.prefix ++ codes " " ++ costs_text before.cost after.cost ++ codes " " ++ hops_text after.hops ++ codes "\n"
-loss_line before (Moved after) = codes " hops " ++ prefix_text before.prefix ++ codes " " ++ decimal after.cost ++ codes " " ++ hops_text after.hops ++ codes "\n"
+    codes " cost " ++ prefix_text before.prefix ++ codes " " ++ costs_text before.cost after.cost
+    ++ codes " " ++ hops_text after.hops ++ codes "\n"
+loss_line before (Moved after) =
+    codes " hops " ++ prefix_text before.prefix ++ codes " " ++ decimal after.cost ++ codes " "
+    ++ hops_text after.hops ++ codes "\n"
 
 -- the failure, and what it does to the route
 abbrev pub change_line : AreaFailure → RouteChange → List ℕ
@@ -54,13 +59,22 @@ is_moved _ = false
 abbrev pub count_of : (Loss → Bool) → List RouteChange → ℕ
 count_of is changes = count_by (λ change. is change.loss) changes
 
--- the prefixes that are cut off, those that are gone, those that cost more, and those of other hops at the same cost
+-- the prefixes that are cut off, those that are gone, those that cost more, and those
+-- of other hops at the same cost
 abbrev pub totals_of : List RouteChange → Totals
-totals_of changes = record { cut = count_of is_cut changes; gone = count_of is_gone changes; cost = count_of is_dearer changes; hops = count_of is_moved changes }
+totals_of changes =
+    record {
+      cut = count_of is_cut changes;
+      gone = count_of is_gone changes;
+      cost = count_of is_dearer changes;
+      hops = count_of is_moved changes;
+    }
 
 -- how many changes of each sort there are
 abbrev pub totals_text : Totals → List ℕ
-totals_text t = codes "cut " ++ decimal t.cut ++ codes " gone " ++ decimal t.gone ++ codes " cost " ++ decimal t.cost ++ codes " hops " ++ decimal t.hops
+totals_text t =
+    codes "cut " ++ decimal t.cut ++ codes " gone " ++ decimal t.gone ++ codes " cost "
+    ++ decimal t.cost ++ codes " hops " ++ decimal t.hops
 
 -- the line of a failure with how many changes of each sort there are
 abbrev pub totals_line : AreaFailure → Totals → List ℕ
@@ -70,4 +84,6 @@ totals_line failure t = area_failure_text failure ++ codes " " ++ totals_text t 
 
 -- a line for each change where that is wanted, and behind them the totals
 abbrev pub failure_lines : Bool → AreaFailure → List RouteChange → List ℕ
-failure_lines each failure changes = (if each then flat_map (change_line failure) changes else []) ++ totals_line failure (totals_of changes)
+failure_lines each failure changes =
+    (if each then flat_map (change_line failure) changes else [])
+    ++ totals_line failure (totals_of changes)

@@ -1,4 +1,5 @@
--- What stands written where memory runs out, a stream fails or the published table is closed before all is written.
+-- What stands written where memory runs out, a stream fails or the published table
+-- is closed before all is written.
 use Rattle.std.specs.Prelude.{◌≡◌, ◌⊎◌, ℕ, List, [], ◌++◌, IfSome, Option}
 use Rattle.std.specs.Io.KnownBytes.{Appends}
 use Rattle.ospf_base.specs.declared.ids.Addr.{Addr}
@@ -18,7 +19,8 @@ use Rattle.ospf_table.specs.Refusal.{refusal_line}
 use Rattle.ospf_table.specs.declared.table.EntryFault.{EntryFault}
 
 -- a beginning of the lookups of the first addresses was written
-pub record AreLookupsBegun (table : List Route) (addresses : List Addr) (old new : Option (List ℕ)) : Type 0 where
+pub record AreLookupsBegun (table : List Route) (addresses : List Addr) (old new : Option (List ℕ))
+    : Type 0 where
   pub before : List Addr
   pub after : List Addr
   pub addresses_are : addresses ≡ before ++ after
@@ -27,7 +29,8 @@ pub record AreLookupsBegun (table : List Route) (addresses : List Addr) (old new
   pub begun : IsBegun old new lines
 
 -- a beginning of the output for the first addresses was written
-pub record IsOutputBegun (table : List Route) (addresses : List Addr) (old new : Option (List ℕ)) : Type 0 where
+pub record IsOutputBegun (table : List Route) (addresses : List Addr) (old new : Option (List ℕ))
+    : Type 0 where
   pub before : List Addr
   pub after : List Addr
   pub addresses_are : addresses ≡ before ++ after
@@ -35,7 +38,8 @@ pub record IsOutputBegun (table : List Route) (addresses : List Addr) (old new :
   pub output : IsOutput table before text
   pub begun : IsBegun old new text
 
--- why the output is not whole: memory ran out, standard output is noted as failed, or the published table was closed
+-- why the output is not whole: memory ran out, standard output is noted as failed, or
+-- the published table was closed
 abbrev pub IsLookupCut : FailedStreams → Failure → Type 0
 IsLookupCut failed f = IsOutputCut failed f ⊎ (f ≡ failure.Closed)
 
@@ -47,38 +51,54 @@ pub record IsLineRefusalBegun (input old new : Option (List ℕ)) : Type 0 where
   pub begun : IsBegun old new (refusal_line number fault)
 
 -- a beginning of the warning of the root was written
-pub record IsTableWarningBegun (listing : List (List ℕ)) (root : RouterId) (old new : Option (List ℕ)) : Type 0 where
+pub record IsTableWarningBegun (listing : List (List ℕ)) (root : RouterId)
+    (old new : Option (List ℕ)) : Type 0 where
   pub warning : List ℕ
   pub warned : IsWarning listing root warning
   pub begun : IsBegun old new warning
 
 -- the warning of the root was written
-pub record IsWarned (listing : List (List ℕ)) (root : RouterId) (old new : Option (List ℕ)) : Type 0 where
+pub record IsWarned (listing : List (List ℕ)) (root : RouterId) (old new : Option (List ℕ))
+    : Type 0 where
   pub warning : List ℕ
   pub warned : IsWarning listing root warning
   pub written : Appends old new warning
 
--- the table of a listing is cut: its warning, or it is want of memory before the output begins, or the output
-pub data IsTableCut (listing : List (List ℕ)) (root : RouterId) (addresses : List Addr) (failed : FailedStreams) (old new : Written) : Failure → Type 0 where
-  in_warning : {f : Failure} → IsErrorCut failed f → IsTableWarningBegun listing root old.err new.err → new.out ≡ old.out
+-- the table of a listing is cut: its warning, or it is want of memory before
+-- the output begins, or the output
+pub data IsTableCut (listing : List (List ℕ)) (root : RouterId) (addresses : List Addr)
+    (failed : FailedStreams) (old new : Written) : Failure → Type 0 where
+  in_warning : {f : Failure} → IsErrorCut failed f
+      → IsTableWarningBegun listing root old.err new.err → new.out ≡ old.out
       → IsTableCut listing root addresses failed old new f
-  no_table : IsWarned listing root old.err new.err → new.out ≡ old.out → IsTableCut listing root addresses failed old new failure.Memory
-  in_output : {f : Failure} (table : List Route) → IsLookupCut failed f → IsWarned listing root old.err new.err
-      → IsTable (advertisements_of listing) root table → IsOutputBegun table addresses old.out new.out
+  no_table : IsWarned listing root old.err new.err → new.out ≡ old.out
+      → IsTableCut listing root addresses failed old new failure.Memory
+  in_output : {f : Failure} (table : List Route) → IsLookupCut failed f
+      → IsWarned listing root old.err new.err
+      → IsTable (advertisements_of listing) root table
+      → IsOutputBegun table addresses old.out new.out
       → IsTableCut listing root addresses failed old new f
 
--- the answer is cut: the input was not read, or what is told of a line that is refused, or the table
-pub data IsTableAnswerCut (input : Option (List ℕ)) (root : RouterId) (addresses : List Addr) (failed : FailedStreams) (old new : Written) (f : Failure) : Type 0 where
-  in_input : IsOfInput f → new.out ≡ old.out → new.err ≡ old.err → IsTableAnswerCut input root addresses failed old new f
-  in_refusal : IsErrorCut failed f → IsLineRefusalBegun input old.err new.err → new.out ≡ old.out → IsTableAnswerCut input root addresses failed old new f
-  in_table : (listing : List (List ℕ)) → IfSome input (λ bytes. Reads bytes [] listing) → IsTableCut listing root addresses failed old new f
+-- the answer is cut: the input was not read, or what is told of a line that is refused, or the
+-- table
+pub data IsTableAnswerCut (input : Option (List ℕ)) (root : RouterId) (addresses : List Addr)
+    (failed : FailedStreams) (old new : Written) (f : Failure) : Type 0 where
+  in_input : IsOfInput f → new.out ≡ old.out → new.err ≡ old.err
+      → IsTableAnswerCut input root addresses failed old new f
+  in_refusal : IsErrorCut failed f → IsLineRefusalBegun input old.err new.err → new.out ≡ old.out
+      → IsTableAnswerCut input root addresses failed old new f
+  in_table : (listing : List (List ℕ)) → IfSome input (λ bytes. Reads bytes [] listing)
+      → IsTableCut listing root addresses failed old new f
       → IsTableAnswerCut input root addresses failed old new f
 
--- the answer was cut by a failure, which was told last, as far as it could be, and of which the status is
-pub record IsTableCutShort (input : Option (List ℕ)) (root : RouterId) (addresses : List Addr) (failed : FailedStreams) (old new : Written) (status : Status) : Type 0 where
+-- the answer was cut by a failure, which was told last, as far as it could
+-- be, and of which the status is
+pub record IsTableCutShort (input : Option (List ℕ)) (root : RouterId) (addresses : List Addr)
+    (failed : FailedStreams) (old new : Written) (status : Status) : Type 0 where
   pub cause : Failure
   pub failed_then : FailedStreams
   pub err_then : Option (List ℕ)
-  pub cut : IsTableAnswerCut input root addresses failed_then old (record new { err = err_then }) cause
+  pub cut :
+      IsTableAnswerCut input root addresses failed_then old (record new { err = err_then }) cause
   pub last : IsTold failed_then failed err_then new.err (failure_line cause)
   pub status_is : status ≡ failure_status cause

@@ -21,16 +21,19 @@ HasFirstFault decoded f = (bytes : List ℕ) × (decoded ≡ Ok bytes) × IsFirs
 abbrev pub text_of : List ℕ → List ℕ
 text_of line = if ends_with_byte 10 line then strip_last 13 (strip_last 10 line) else line
 
--- the text spells an LSA, and the new listing is the old one with that LSA, unless its age is MaxAge
+-- the text spells an LSA, and the new listing is the old one with that LSA, unless its age is
+-- MaxAge
 pub record IsLineListed (text : List ℕ) (old new : List (List ℕ)) : Type 0 where
   pub lsa : List ℕ
   pub decoded : decode_of text ≡ Ok lsa
   pub is_lsa : IsLsa lsa
-  pub new_is : (((header_of lsa).age ≡ 3600) × (new ≡ old)) ⊎ (((header_of lsa).age ≢ 3600) × IsInserted lsa old new)
+  pub new_is : (((header_of lsa).age ≡ 3600) × (new ≡ old))
+      ⊎ (((header_of lsa).age ≢ 3600) × IsInserted lsa old new)
 
 -- what a text makes of a listing
 abbrev pub IsTaken : List ℕ → List (List ℕ) → List (List ℕ) → Type 0
-IsTaken text old new = (IsBlank text × (new ≡ old)) ⊎ ((IsBlank text → ⊥) × IsLineListed text old new)
+IsTaken text old new =
+    (IsBlank text × (new ≡ old)) ⊎ ((IsBlank text → ⊥) × IsLineListed text old new)
 
 -- the text spells an LSA below age MaxAge, and one of its key is listed
 pub record IsSecond (text : List ℕ) (listing : List (List ℕ)) : Type 0 where
@@ -57,7 +60,8 @@ first_text input = text_of (take_through 10 input)
 -- the lines of the input, one after the other, make the new listing of the old one
 pub data Reads : List ℕ → List (List ℕ) → List (List ℕ) → Type 0 where
   at_end : {listing : List (List ℕ)} → Reads [] listing listing
-  at_line : {input : List ℕ} {old next new : List (List ℕ)} → input ≢ [] → IsTaken (first_text input) old next
+  at_line : {input : List ℕ} {old next new : List (List ℕ)} → input ≢ []
+      → IsTaken (first_text input) old next
       → Reads (drop_through 10 input) next new → Reads input old new
 
 -- the line of this number is the first that is refused, for this fault

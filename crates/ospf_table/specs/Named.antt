@@ -20,14 +20,21 @@ HasName failures word f = Contains failures f × (area_failure_text f ≡ word)
 
 -- a link of the list in the subnet that the word is, other than this
 abbrev pub HasOther : List failure.AreaFailure → List ℕ → failure.AreaFailure → Type 0
-HasOther failures word f = (other : failure.AreaFailure) × Contains failures other × IsLinkInSubnet word other × (other ≡ f → ⊥)
+HasOther failures word f =
+    (other : failure.AreaFailure) × Contains failures other × IsLinkInSubnet word other
+    × (other ≡ f → ⊥)
 
 -- the only link of the list in the subnet that the word is
-pub record IsOnlyIn (failures : List failure.AreaFailure) (word : List ℕ) (f : failure.AreaFailure) : Type 0 where
+pub record IsOnlyIn (failures : List failure.AreaFailure) (word : List ℕ) (f : failure.AreaFailure)
+    : Type 0 where
   pub listed : Contains failures f
   pub there : IsLinkInSubnet word f
-  pub alone : (other : failure.AreaFailure) → Contains failures other → IsLinkInSubnet word other → other ≡ f
+  pub alone : (other : failure.AreaFailure) → Contains failures other → IsLinkInSubnet word other
+      → other ≡ f
 
--- the word names a failure of the list: by its name, or where it is the name of none, a link by its subnet, which no other link of the list has
+-- the word names a failure of the list: by its name, or where it is the name of none, a link by its
+-- subnet, which no other link of the list has
 abbrev pub IsNamed : List failure.AreaFailure → List ℕ → failure.AreaFailure → Type 0
-IsNamed failures word f = HasName failures word f ⊎ (((other : failure.AreaFailure) → HasName failures word other → ⊥) × IsOnlyIn failures word f)
+IsNamed failures word f =
+    HasName failures word f
+    ⊎ (((other : failure.AreaFailure) → HasName failures word other → ⊥) × IsOnlyIn failures word f)

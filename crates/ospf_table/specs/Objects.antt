@@ -28,12 +28,17 @@ hop_names hops = array (items_of (map (λ hop. string (hop_text hop)) hops))
 
 -- what a route costs, and its hops
 abbrev pub reach_data : Route → Data
-reach_data r = object (member (codes "cost") (number (unsigned r.cost)) (member (codes "hops") (hop_names r.hops) no_members))
+reach_data r =
+    object
+    (member (codes "cost") (number (unsigned r.cost))
+    (member (codes "hops") (hop_names r.hops) no_members))
 
 -- the route as it was, what becomes of it, its prefix, and in whose table it is
 abbrev pub lost_members : RouterId → Route → List ℕ → Members
 lost_members router before loss =
-    member (codes "before") (reach_data before) (member (codes "loss") (string loss) (member (codes "prefix") (string (prefix_text before.prefix))
+    member (codes "before") (reach_data before)
+    (member (codes "loss") (string loss)
+    (member (codes "prefix") (string (prefix_text before.prefix))
     (member (codes "router") (string (number_text router.0)) no_members)))
 
 -- the object of a route that is lost
@@ -42,7 +47,8 @@ lost_data router before loss = object (lost_members router before loss)
 
 -- and the route that takes its place
 abbrev pub turned_data : RouterId → Route → Route → List ℕ → Data
-turned_data router before after loss = object (member (codes "after") (reach_data after) (lost_members router before loss))
+turned_data router before after loss =
+    object (member (codes "after") (reach_data after) (lost_members router before loss))
 
 -- by what becomes of it
 abbrev pub loss_data : RouterId → Route → Loss → Data
@@ -72,5 +78,9 @@ count_data n = if nat_lt n (2 ^ 64) then number (unsigned n) else string (decima
 -- how many are changed, by how, the name of the failure and its kind; and what follows
 abbrev pub counted_members : AreaFailure → (cut gone cost hops : ℕ) → Members → Members
 counted_members failure cut gone cost hops rest =
-    member (codes "cost") (count_data cost) (member (codes "cut") (count_data cut) (member (codes "failure") (string (area_failure_text failure))
-    (member (codes "gone") (count_data gone) (member (codes "hops") (count_data hops) (member (codes "kind") (string (failure_kind failure)) rest)))))
+    member (codes "cost") (count_data cost)
+    (member (codes "cut") (count_data cut)
+    (member (codes "failure") (string (area_failure_text failure))
+    (member (codes "gone") (count_data gone)
+    (member (codes "hops") (count_data hops)
+    (member (codes "kind") (string (failure_kind failure)) rest)))))

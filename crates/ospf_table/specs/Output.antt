@@ -22,7 +22,8 @@ pub record IsNoRouteLine (table : List Route) (address : ℕ) (line : List ℕ) 
   pub none : (route : Route) → Contains table route → Holds route.prefix address → ⊥
   pub line_is : line ≡ lookup_none_line address
 
--- the line has the route of longest prefix that holds the address (RFC 2328, section 11.1), and the first of its hops
+-- the line has the route of longest prefix that holds the address (RFC 2328, section
+-- 11.1), and the first of its hops
 pub record IsBestLine (table : List Route) (address : ℕ) (line : List ℕ) : Type 0 where
   pub route : Route
   pub best : IsBest table address route
@@ -31,14 +32,16 @@ pub record IsBestLine (table : List Route) (address : ℕ) (line : List ℕ) : T
   pub hops : route.hops ≡ hop ∷ others
   pub line_is : line ≡ found_text address route.prefix route.cost hop ++ codes "\n"
 
--- the line of an address: no route holds it, or the route of longest prefix that does, with the first of its hops
+-- the line of an address: no route holds it, or the route of longest prefix that
+-- does, with the first of its hops
 abbrev pub IsLookupLine : List Route → ℕ → List ℕ → Type 0
 IsLookupLine table address line = IsNoRouteLine table address line ⊎ IsBestLine table address line
 
 -- a line for each address, in their order
 pub data AreLookups : List Route → List Addr → List ℕ → Type 0 where
   no_more : {table : List Route} → AreLookups table [] []
-  one_more : {table : List Route} {address : Addr} {rest : List Addr} {line lines : List ℕ} → IsLookupLine table address.0 line
+  one_more : {table : List Route} {address : Addr} {rest : List Addr} {line lines : List ℕ}
+      → IsLookupLine table address.0 line
       → AreLookups table rest lines → AreLookups table (address ∷ rest) (line ++ lines)
 
 -- the routes, and after them the lookups
@@ -53,15 +56,19 @@ unlisted_line root = number_text root.0 ++ codes ": no router-LSA of this router
 
 -- LSAs are listed, and none is the root's router-LSA (RFC 2328, section 12.4.1)
 abbrev pub IsUnlisted : List (List ℕ) → RouterId → Type 0
-IsUnlisted listing root = (listing ≢ []) × (HasKey listing (record { kind = Router; id = root.0; router = root }) → ⊥)
+IsUnlisted listing root =
+    (listing ≢ []) × (HasKey listing (record { kind = Router; id = root.0; router = root }) → ⊥)
 
 -- what is said on standard error of the root: that its router-LSA is not listed, where others are
 abbrev pub IsWarning : List (List ℕ) → RouterId → List ℕ → Type 0
 IsWarning listing root text =
-    (IsUnlisted listing root × (text ≡ unlisted_line root)) ⊎ ((IsUnlisted listing root → ⊥) × (text ≡ []))
+    (IsUnlisted listing root × (text ≡ unlisted_line root))
+    ⊎ ((IsUnlisted listing root → ⊥) × (text ≡ []))
 
--- what is printed for an input: the routing table of the root over its LSAs, and the lookups in it; and the warning of the root
-pub record IsTableAnswer (input : List ℕ) (root : RouterId) (addresses : List Addr) (text warning : List ℕ) : Type 0 where
+-- what is printed for an input: the routing table of the root over its LSAs, and the lookups in
+-- it; and the warning of the root
+pub record IsTableAnswer (input : List ℕ) (root : RouterId) (addresses : List Addr)
+    (text warning : List ℕ) : Type 0 where
   pub listing : List (List ℕ)
   pub reads : Reads input [] listing
   pub warned : IsWarning listing root warning
@@ -70,7 +77,8 @@ pub record IsTableAnswer (input : List ℕ) (root : RouterId) (addresses : List 
   pub output : IsOutput table addresses text
 
 -- the answer for an input stands on standard output, and its warning on standard error
-pub record IsTableAnswered (input : List ℕ) (root : RouterId) (addresses : List Addr) (old new : Written) : Type 0 where
+pub record IsTableAnswered (input : List ℕ) (root : RouterId) (addresses : List Addr)
+    (old new : Written) : Type 0 where
   pub text : List ℕ
   pub warning : List ℕ
   pub is : IsTableAnswer input root addresses text warning

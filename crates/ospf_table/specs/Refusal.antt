@@ -20,7 +20,8 @@ entry_fault_text (entry.Listing fault) = listing_fault_text fault
 
 -- the line of this number is refused for this fault
 abbrev pub refusal_line : ℕ → EntryFault → List ℕ
-refusal_line number fault = codes "line " ++ (decimal number ++ (codes ": " ++ (entry_fault_text fault ++ codes "\n")))
+refusal_line number fault =
+    codes "line " ++ (decimal number ++ (codes ": " ++ (entry_fault_text fault ++ codes "\n")))
 
 -- a line of the input is the first that is refused, and that is told of it
 pub record IsLineRefusalTold (input : List ℕ) (old new : Option (List ℕ)) : Type 0 where

@@ -9,7 +9,8 @@ use Rattle.ospf_table.specs.declared.sums.Sums.{Sums}
 -- the sums, and the line of a failure
 abbrev pub sums_text : Sums → List ℕ
 sums_text s =
-    codes "cut " ++ decimal s.cut ++ codes " gone " ++ decimal s.gone ++ codes " cost " ++ decimal s.cost ++ codes " hops " ++ decimal s.hops ++ codes " routers "
+    codes "cut " ++ decimal s.cut ++ codes " gone " ++ decimal s.gone ++ codes " cost "
+    ++ decimal s.cost ++ codes " hops " ++ decimal s.hops ++ codes " routers "
     ++ decimal s.routers
 
 -- the line of a failure with its sums

@@ -11,9 +11,10 @@ use ospf_whatif::{AreaFailure, Loss, RouteChange};
 use std::alloc::{AllocError, Global};
 use std::fmt::{self, Display, Formatter, Write};
 
-/// What is printed of a failure that makes these changes: with `each`, a line for each of them, such as
-/// `3.3.3.3 gone 172.16.0.3/32`, `2.2.2.2 cut 172.16.0.2/32`, `1.1.1.1@10.1.0.3 cost 10.0.0.12/30 17>22 10.0.0.1>2.2.2.2` or
-/// `@10.1.0.3 hops 10.2.0.0/24 15 10.0.0.1>2.2.2.2`; then how many there are, as `2.2.2.2 cut 1 gone 0 cost 0 hops 0`.
+/// What is printed of a failure that makes these changes: with `each`, a line for each of them,
+/// such as `3.3.3.3 gone 172.16.0.3/32`, `2.2.2.2 cut 172.16.0.2/32`, `1.1.1.1@10.1.0.3 cost
+/// 10.0.0.12/30 17>22 10.0.0.1>2.2.2.2` or `@10.1.0.3 hops 10.2.0.0/24 15 10.0.0.1>2.2.2.2`; then
+/// how many there are, as `2.2.2.2 cut 1 gone 0 cost 0 hops 0`.
 ///
 /// `AllocError` where memory runs out.
 pub fn failure_lines(

@@ -14,8 +14,8 @@ use std::alloc::{AllocError, Global};
 use std::collections::BTreeMap;
 use std::marker::Model;
 
-// LSAs below age `MAX_AGE` that came in any order, at most one a key. A listing moves all that stands behind an LSA that
-// is put in; a map does not.
+// LSAs below age `MAX_AGE` that came in any order, at most one a key. A listing moves all that
+// stands behind an LSA that is put in; a map does not.
 #[derive(Drop)]
 pub(crate) struct LineEntries {
     lsas: BTreeMap<LsaKey, Lsa>,
@@ -42,8 +42,8 @@ impl LineEntries {
         }
     }
 
-    // Puts an LSA in where its key belongs: `Twice` where there is one of its key, else `MaxAge` at that age, else `Memory`
-    // where memory runs out.
+    // Puts an LSA in where its key belongs: `Twice` where there is one of its key, else `MaxAge` at
+    // that age, else `Memory` where memory runs out.
     pub(crate) fn add(&mut self, lsa: Lsa) -> Result<(), ListingFault>
         ensures ok { OnOk result (IsInserted lsa self.old self.new) }
         ensures err { OnErr result (self.new ≡ self.old) }

@@ -1,5 +1,4 @@
-//! Routing tables of LSAs that are read as lines of text, and lookups in them; and what a failure changes in a table, as
-//! lines and as JSON.
+//! Routing tables of LSAs read as lines of text, lookups in them, and what failures change there.
 //!
 //! `table_text` is the whole: it reads, calculates, publishes, writes and looks up.
 #![tactic(auto)]

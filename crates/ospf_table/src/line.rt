@@ -52,8 +52,8 @@ impl Display for LineFault {
 
 /// The LSA whose bytes the text spells in hexadecimal digits of either case.
 ///
-/// The error is `NotHex` where the text spells no bytes, `Lsa` with the first fault of bytes that are
-/// no LSA, and `LsaFault::Memory` where memory ran out.
+/// The error is `NotHex` where the text spells no bytes, `Lsa` with the first fault of bytes that
+/// are no LSA, and `LsaFault::Memory` where memory ran out.
 pub fn lsa_line(alloc: Global, text: &str) -> Result<Lsa, LineFault>
     ensures lsa { IfOk result (λ lsa. (decode_of text.now ≡ Ok lsa) × IsLsa lsa) }
     ensures not_hex { IfErr result (λ e. e ≡ LineFault.NotHex → IsErr (decode_of text.now)) }

@@ -16,7 +16,7 @@ use std::alloc::Global;
 use std::io::Write;
 use std::sync::Wait;
 
-// Publishes a table alone, and lets a seat learn it. The writer's end closes the seat, and waits by `rt`.
+// Publishes a table, and lets a seat learn it. The writer's end closes the seat; it waits by `rt`.
 pub(crate) fn publish_once<W: Wait + Drop>(
     alloc: Global,
     rt: W,
@@ -58,7 +58,7 @@ pub(crate) fn print_lookups<W: Wait + Drop, O: Write>(
     Ok(())
 }
 
-// What the seat finds, which knows all that was published. Nothing is published meanwhile: the writer is here.
+// What the seat finds, which knows all that was published: the writer is here meanwhile.
 fn look_up<W: Wait + Drop>(
     writer: &mut Writer<W>,
     seat: &mut Seat,

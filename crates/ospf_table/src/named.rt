@@ -8,8 +8,9 @@ ghost use Rattle.ospf_table.specs.Named.{HasName, HasOther, IsLinkInSubnet, IsNa
 use ospf_whatif::AreaFailure;
 use std::alloc::{AllocError, Global};
 
-/// The failure of a list that a word names: by its name, or where no failure has it as its name, the link in the subnet
-/// that the word is, where no other link of the list is in that subnet. `None` where the word names none.
+/// The failure of a list that a word names: by its name, or where no failure has it as its name,
+/// the link in the subnet that the word is, where no other link of the list is in that subnet.
+/// `None` where the word names none.
 ///
 /// `AllocError` where memory runs out.
 pub fn find_failure(

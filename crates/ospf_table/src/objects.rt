@@ -12,8 +12,7 @@ use ospf_whatif::{AreaFailure, Loss, RouteChange};
 use serde_json::{Map, Value, json, put};
 use std::alloc::{AllocError, Global};
 
-/// Values without floats as an array of JSON on a line, without spaces, the members of each object in the order of their
-/// names.
+/// Values without floats as an array of JSON on a line, the members of objects by their names.
 ///
 /// `AllocError` where memory runs out.
 pub fn objects_line(alloc: Global, objects: Vec<Value>) -> Result<String, AllocError>
@@ -25,8 +24,9 @@ pub fn objects_line(alloc: Global, objects: Vec<Value>) -> Result<String, AllocE
     Ok(line)
 }
 
-/// The members of an object that tells of a failure: its name as `failure`, its `kind`, and how many routes it changes, as
-/// `cut`, `gone`, `cost` and `hops`. A number of more than 64 bits is a string of its digits.
+/// The members of an object that tells of a failure: its name as `failure`, its `kind`, and
+/// how many routes it changes, as `cut`, `gone`, `cost` and `hops`. A number of more than 64
+/// bits is a string of its digits.
 ///
 /// `AllocError` where memory runs out.
 pub fn counted_members(
@@ -75,8 +75,9 @@ fn count_value(alloc: Global, count: u128) -> Result<Value, AllocError>
     }
 }
 
-/// Adds an object for each route that changes at a router: the `router`, the `prefix`, the `loss` by one of the words `cut`,
-/// `gone`, `cost` and `hops`, and the cost and hops of the route `before`, and of that in its place, if there is one, `after`.
+/// Adds an object for each route that changes at a router: the `router`, the `prefix`, the `loss`
+/// by one of the words `cut`, `gone`, `cost` and `hops`, and the cost and hops of the route
+/// `before`, and of that in its place, if there is one, `after`.
 ///
 /// `AllocError` where memory runs out.
 pub fn add_changes(

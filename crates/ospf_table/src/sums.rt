@@ -8,7 +8,7 @@ use ospf_whatif::{AreaFailure, RouteChange};
 use std::alloc::{AllocError, Global};
 use std::fmt::{self, Display, Formatter, Write};
 
-/// How many pairs of a router and a prefix of its table a failure changes, and how; and in the tables of how many routers.
+/// How many pairs of a router and a prefix a failure changes, and how; and of how many routers.
 #[derive(Clone, Copy, Debug, PartialEq, Eq)]
 pub struct Sums {
     /// Reached no more, and still told.

@@ -147,16 +147,16 @@ pub fn is_unlisted(listing: &Listing, root: RouterId) -> bool
     !listing.lsas().is_empty() && listing.get(&key).is_none()
 }
 
-/// Reads LSAs, one a line in hexadecimal, and writes the routing table of a router over them, and for
-/// each address the route that it takes.
+/// Reads LSAs, a line of hexadecimal each, and writes a router's table and the lookups in it.
 ///
-/// A line ends in a line feed, which a carriage return may precede, or at the end of the input. One of
-/// spaces alone is skipped. An LSA at `MAX_AGE` is checked, and left out of the table. Once all is read the
-/// table is published, by `rt`, and written, and the addresses are looked up from a seat that learned it. Where
-/// LSAs are listed and the root's router-LSA is not among them, `err` says so. The first line that is refused is
-/// told on `err`, with status `Refused`. Status `Memory` says that memory ran out, or there was no place for the
-/// seat, and `Stream` that a read or a write failed, or the published table was closed; what it was is told on
-/// `err`, as far as that can be written. Then no more than a beginning of the table and the lookups is written, and
+/// A line ends in a line feed, which a carriage return may precede, or at the end of the input. One
+/// of spaces alone is skipped. An LSA at `MAX_AGE` is checked, and left out of the table. Once all
+/// is read the table is published, by `rt`, and written, and the addresses are looked up from a
+/// seat that learned it. Where LSAs are listed and the root's router-LSA is not among them, `err`
+/// says so. The first line that is refused is told on `err`, with status `Refused`. Status `Memory`
+/// says that memory ran out, or there was no place for the seat, and `Stream` that a read or a
+/// write failed, or the published table was closed; what it was is told on `err`, as far as that
+/// can be written. Then no more than a beginning of the table and the lookups is written, and
 /// nothing where the input was not read.
 pub fn table_text<W: Wait + Drop, R: BufRead + Drop, O: Write, E: Write>(
     alloc: Global,
@@ -404,7 +404,7 @@ fn print_answer<W: Wait + Drop, O: Write>(
     )
 }
 
-// Prints the routes of a table, and where a table that was published sends what is on its way to the addresses.
+// Prints the routes of a table, and where one that was published sends what goes to the addresses.
 fn print_table<W: Wait + Drop, O: Write>(
     alloc: Global,
     writer: &mut Writer<W>,

@@ -27,12 +27,15 @@ no_socket_text fault = sockets_text fault.port ++ cause_text fault.cause
 
 -- a port that is named is that of an interface
 abbrev pub IsPortIn : List Interface → Option Port → Type 0
-IsPortIn interfaces (Some port) = (interface : Interface) × Contains interfaces interface × (interface.port ≡ Some port)
+IsPortIn interfaces (Some port) =
+    (interface : Interface) × Contains interfaces interface × (interface.port ≡ Some port)
 IsPortIn interfaces None = ⊤
 
--- why no wire is opened for these interfaces: one has no port; a socket was refused, of which the port is one of theirs; or memory ran out
+-- why no wire is opened for these interfaces: one has no port; a socket was refused, of which the
+-- port is one of theirs; or memory ran out
 abbrev pub IsUnopened : List Interface → OpenFault → Type 0
-IsUnopened interfaces fault.NoPort = (interface : Interface) × Contains interfaces interface × (interface.port ≡ None)
+IsUnopened interfaces fault.NoPort =
+    (interface : Interface) × Contains interfaces interface × (interface.port ≡ None)
 IsUnopened interfaces (fault.Socket no_socket) = IsPortIn interfaces no_socket.port
 IsUnopened interfaces fault.Memory = ⊤
 

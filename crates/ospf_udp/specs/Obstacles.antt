@@ -25,32 +25,41 @@ IsReadAs file (Ok config) = IsConfigIn (text_in file) config
 IsReadAs file (Err fault) = IsRefusedFor (text_in file) fault
 
 -- there is a floor, all files could be read, and they hold these configurations
-pub record Hold (floor : Option (List ℕ)) (files : List NamedFile) (configs : List Config) : Type 0 where
+pub record Hold (floor : Option (List ℕ)) (files : List NamedFile) (configs : List Config)
+    : Type 0 where
   pub least : ℤ
   pub has_floor : HasFloor floor least
   pub read : AreFilesRead files
   pub are_configs : AreConfigs files configs
 
--- a socket of the router of a file could not be made; a port that is named is that of one of its interfaces
-pub record IsSocketless (file : NamedFile) (files : List NamedFile) (configs : List Config) (no_socket : NoSocket) : Type 0 where
+-- a socket of the router of a file could not be made; a port that is named
+-- is that of one of its interfaces
+pub record IsSocketless (file : NamedFile) (files : List NamedFile) (configs : List Config)
+    (no_socket : NoSocket) : Type 0 where
   pub place : ℕ
   pub config : Config
   pub file_at : slice_get files place ≡ Some file
   pub config_at : slice_get configs place ≡ Some config
   pub port : IsPortIn config.interfaces.items no_socket.port
 
--- what keeps the routers of files from running, the first of these that does: the floor; a file that could not be read; one that holds no
--- configuration; two routers of one Router ID; an interface without a port; a socket that could not be made
+-- what keeps the routers of files from running, the first of these that does: the floor; a file
+-- that could not be read; one that holds no configuration; two routers of one Router ID; an
+-- interface without a port; a socket that could not be made
 abbrev pub Hinders : Option (List ℕ) → List NamedFile → Obstacle → Type 0
 Hinders floor files obstacle.NoNumber = (least : ℤ) → IsFloorOf floor least → ⊥
 Hinders floor files obstacle.GreatestFloor = IsFloorOf floor max_sequence_number
-Hinders floor files (obstacle.Unread file) = (least : ℤ) × HasFloor floor least × IsFirstUnread file.now files
-Hinders floor files (obstacle.NoConfig file fault) = (least : ℤ) × HasFloor floor least × AreFilesRead files × IsFirstRefused file.now fault files
-Hinders floor files obstacle.SameRouter = (configs : List Config) × Hold floor files configs × ShareRouter configs
+Hinders floor files (obstacle.Unread file) =
+    (least : ℤ) × HasFloor floor least × IsFirstUnread file.now files
+Hinders floor files (obstacle.NoConfig file fault) =
+    (least : ℤ) × HasFloor floor least × AreFilesRead files × IsFirstRefused file.now fault files
+Hinders floor files obstacle.SameRouter =
+    (configs : List Config) × Hold floor files configs × ShareRouter configs
 Hinders floor files (obstacle.NoPort file) =
-    (configs : List Config) × Hold floor files configs × (ShareRouter configs → ⊥) × IsFirstPortless file.now files configs
+    (configs : List Config) × Hold floor files configs × (ShareRouter configs → ⊥)
+    × IsFirstPortless file.now files configs
 Hinders floor files (obstacle.NoSocket file no_socket) =
-    (configs : List Config) × (least : ℤ) × IsPlan floor files configs least × IsSocketless file.now files configs no_socket
+    (configs : List Config) × (least : ℤ) × IsPlan floor files configs least
+    × IsSocketless file.now files configs no_socket
 
 -- the line that tells something of a file
 abbrev pub line_about : NamedFile → List ℕ → List ℕ
@@ -58,7 +67,8 @@ line_about file text = string_bytes file.name ++ codes ": " ++ text ++ codes "\n
 
 -- the line of a file of whose interfaces one has no socket, and below it the port and why
 abbrev pub no_socket_line : NamedFile → NoSocket → List ℕ
-no_socket_line file no_socket = string_bytes file.name ++ codes ": socket\n  " ++ no_socket_text no_socket ++ codes "\n"
+no_socket_line file no_socket =
+    string_bytes file.name ++ codes ": socket\n  " ++ no_socket_text no_socket ++ codes "\n"
 
 -- the line that tells of it
 abbrev pub obstacle_line : Obstacle → List ℕ
@@ -76,7 +86,8 @@ obstacle_status (obstacle.Unread file) = status.Stream
 obstacle_status (obstacle.NoSocket file no_socket) = status.Stream
 obstacle_status _ = status.Refused
 
--- what fails before anything is written: memory ran out, or a table that the routers of a plan published was closed
+-- what fails before anything is written: memory ran out, or a table that the routers
+-- of a plan published was closed
 pub data IsEarly (floor : Option (List ℕ)) (files : List NamedFile) : Failure → Type 0 where
   no_memory : IsEarly floor files failure.Memory
   closed : HasPlan floor files → IsEarly floor files failure.Closed
@@ -90,11 +101,15 @@ IsStop floor files (stop.Failure failure) = IsEarly floor files failure
 
 -- why no configurations come of files that were read, where there is a floor
 abbrev pub IsStopOfConfigs : List NamedFile → Stop → Type 0
-IsStopOfConfigs files s = (floor : Option (List ℕ)) (least : ℤ) → HasFloor floor least → AreFilesRead files → IsStop floor files s
+IsStopOfConfigs files s =
+    (floor : Option (List ℕ)) (least : ℤ) → HasFloor floor least → AreFilesRead files
+    → IsStop floor files s
 
--- why the routers of these configurations, where they are the plan of the files, did not run to their end
+-- why the routers of these configurations, where they are the plan of the
+-- files, did not run to their end
 abbrev pub IsStopOfPlan : List NamedFile → List Config → Stop → Type 0
-IsStopOfPlan files configs s = (floor : Option (List ℕ)) (least : ℤ) → IsPlan floor files configs least → IsStop floor files s
+IsStopOfPlan files configs s =
+    (floor : Option (List ℕ)) (least : ℤ) → IsPlan floor files configs least → IsStop floor files s
 
 -- what failed before anything was written, where there is a plan
 abbrev pub FailsPlan : List NamedFile → Failure → Type 0

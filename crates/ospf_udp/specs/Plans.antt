@@ -1,4 +1,5 @@
--- What is found before any socket is made: the floor, the files, the configurations in them, and their ports.
+-- What is found before any socket is made: the floor, the files, the
+-- configurations in them, and their ports.
 use Rattle.std.specs.Prelude.{◌≡◌, ◌≢◌, ◌<◌, ℕ, ℤ, List, All, Option, None, Some, IsSome, slice_get}
 use Rattle.ospf_base.specs.declared.ids.RouterId.{RouterId}
 use Rattle.ospf_config.specs.Configs.{ShareRouter}
@@ -36,18 +37,21 @@ abbrev pub HasPorts : Config → Type 0
 HasPorts config = All (λ interface. IsSome interface.port) config.interfaces.items
 
 -- the first file with an interface that has no port
-pub record IsFirstPortless (file : NamedFile) (files : List NamedFile) (configs : List Config) : Type 0 where
+pub record IsFirstPortless (file : NamedFile) (files : List NamedFile) (configs : List Config)
+    : Type 0 where
   pub place : ℕ
   pub config : Config
   pub file_at : slice_get files place ≡ Some file
   pub config_at : slice_get configs place ≡ Some config
   pub portless : HasPorts config → ⊥
-  pub before : (k : ℕ) (other : Config) → k < place → slice_get configs k ≡ Some other → HasPorts other
+  pub before : (k : ℕ) (other : Config) → k < place → slice_get configs k ≡ Some other
+      → HasPorts other
 
 -- ---- all of it
 
 -- what is to run: the floor, and the configurations in the files, of one Router ID each, with ports
-pub record IsPlan (floor : Option (List ℕ)) (files : List NamedFile) (configs : List Config) (least : ℤ) : Type 0 where
+pub record IsPlan (floor : Option (List ℕ)) (files : List NamedFile) (configs : List Config)
+    (least : ℤ) : Type 0 where
   pub has_floor : HasFloor floor least
   pub read : AreFilesRead files
   pub are_configs : AreConfigs files configs

@@ -4,7 +4,8 @@ use std::alloc::{AllocError, Global};
 use std::sync::Arc;
 use std::sync::atomic::{AtomicBool, Ordering};
 
-/// Tells wires to end: all that have another of it, also in other threads. What is told comes to a wire within a tick.
+/// Tells wires to end: all that have another of it, also in other threads. What is told
+/// comes to a wire within a tick.
 #[derive(Drop)]
 pub struct Ending(Arc<AtomicBool, Global>);
 

@@ -10,7 +10,8 @@ use std::alloc::AllocError;
 /// The bytes before the packet.
 const HEADER: usize = 8;
 
-/// The longest datagram that is taken: a longer one holds more than the longest packet, of 16,384 bytes.
+/// The longest datagram that is taken: a longer one holds more than the
+/// longest packet, of 16,384 bytes.
 const LONGEST_TAKEN: usize = 16392;
 
 /// What a datagram holds; the packet is the first `length` bytes of the buffer that it came in.
@@ -21,8 +22,8 @@ pub(crate) struct Frame {
     pub length: usize,
 }
 
-/// Reads the datagram of so many bytes that stands at the front of the buffer, and moves its packet there. `None` where it is passed
-/// over.
+/// Reads the datagram of so many bytes that stands at the front of the buffer, and moves its packet
+/// there. `None` where it is passed over.
 pub(crate) fn read_frame(buffer: &mut [u8; LONGEST], count: usize) -> Option<Frame>
     requires { count ≤ 16393 }
     ensures frame { IfSome result (λ f. IsFrameOf (take count buffer.old) f.source f.destination

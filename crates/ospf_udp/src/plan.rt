@@ -1,4 +1,5 @@
-//! What is found before any socket is made: the floor, the files, the configurations in them, and their ports.
+//! What is found before any socket is made: the floor, the files, the
+//! configurations in them, and their ports.
 
 ghost use Rattle.std.specs.Prelude.{◌≡◌, ◌↔◌, All, ℤ, IfOk, IfErr, IfSome, IfNone, IsTrue, length, option_map, string_bytes};
 ghost use Rattle.ospf_files.specs.Listed.{AreConfigs, AreFilesRead};
@@ -27,7 +28,8 @@ pub struct Plan {
     pub floor: i32,
 }
 
-/// Finds what is to run: the floor, and the configurations in the files; or the first thing that keeps them from running.
+/// Finds what is to run: the floor, and the configurations in the files; or the first
+/// thing that keeps them from running.
 pub fn prepare<'a>(
     alloc: Global,
     floor: &Option<String>,

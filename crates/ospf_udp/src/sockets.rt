@@ -29,7 +29,8 @@ pub(crate) struct Sockets<C: Clock + Drop> {
     up: usize,
     // The link that is read first.
     first: usize,
-    // Whether a tick was the last to come: then the sockets are next, so that neither keeps the other waiting.
+    // Whether a tick was the last to come: then the sockets are next, so that
+    // neither keeps the other waiting.
     ticked: bool,
     // What is sent.
     datagram: Vec<u8>,
@@ -67,8 +68,8 @@ impl<C: Clock + Drop> Sockets<C> {
         })
     }
 
-    /// Waits for what comes next: first the links come up, then come ticks and datagrams, and the end after the last tick, or
-    /// where the ending was told.
+    /// Waits for what comes next: first the links come up, then come ticks and datagrams, and the
+    /// end after the last tick, or where the ending was told.
     pub(crate) fn next_arrival(&mut self, buffer: &mut [u8; LONGEST]) -> io::Result<Arrival>
         ensures handed { IfOk result (λ arrival. self.new.ticks.taken
             ≡ self.old.ticks.taken + arrival_ticks arrival) }
@@ -90,7 +91,8 @@ impl<C: Clock + Drop> Sockets<C> {
         Err(io::Error::from(ErrorKind::TimedOut))
     }
 
-    /// Sends to each peer of the link. What finds no room or no listener is lost, as on any network.
+    /// Sends to each peer of the link. What finds no room or no
+    /// listener is lost, as on any network.
     pub(crate) fn send_to_peers(&mut self, sent: &Sent) -> io::Result<()>
         ensures { self.new.ticks ≡ self.old.ticks }
     {

@@ -10,7 +10,8 @@ use crate::ending::Ending;
 use std::io::{self, ErrorKind};
 use std::time::{Clock, Duration, Instant};
 
-/// The ticks of a wire: each is due one period after the last was due, so that none is lost, and no delay adds up.
+/// The ticks of a wire: each is due one period after the last was due, so that none
+/// is lost, and no delay adds up.
 #[derive(Drop)]
 pub(crate) struct Ticks<C: Clock + Drop> {
     clock: C,

@@ -14,12 +14,14 @@ use std::marker::Model;
 use std::net::Net;
 use std::time::{Clock, Duration};
 
-/// A wire with one socket for each link, on 127.0.0.1. A datagram is the source address, the destination address and the packet;
-/// one that is shorter than the addresses, or longer than any packet, is passed over. First the links come up; a tick comes each
-/// period, and none is lost where a step was slow; the end comes after the last tick, or within a tick of when it is told.
+/// A wire with one socket for each link, on 127.0.0.1. A datagram is the source address, the
+/// destination address and the packet; one that is shorter than the addresses, or longer than any
+/// packet, is passed over. First the links come up; a tick comes each period, and none is lost
+/// where a step was slow; the end comes after the last tick, or within a tick of when it is told.
 ///
-/// It waits by the system, and takes no processor while nothing comes. It tells how many ticks it has handed over, and when the
-/// end comes, and nothing else of its traffic: nobody can say what a socket carries.
+/// It waits by the system, and takes no processor while nothing comes. It tells how many
+/// ticks it has handed over, and when the end comes, and nothing else of its traffic: nobody
+/// can say what a socket carries.
 #[derive(Drop)]
 pub struct UdpWire<C: Clock + Drop> {
     sockets: Sockets<C>,
@@ -32,15 +34,21 @@ impl<C: Clock + Drop> Model for UdpWire<C> {
 
     ghost Value = { UdpValue };
 
-    ghost view = { λ w. record { failed = w.failed; handed = w.sockets.ticks.taken; span = record { ticks = w.sockets.ticks.most; may_be_told = is_some w.sockets.ticks.ending } } };
+    ghost view = { λ w. record {
+      failed = w.failed;
+      handed = w.sockets.ticks.taken;
+      span =
+          record { ticks = w.sockets.ticks.most; may_be_told = is_some w.sockets.ticks.ending };
+    } };
 }
 
 impl<C: Clock + Drop> UdpWire<C> {
-    /// Makes a socket for each interface of a configuration: so many ticks, one a period, will come, or ticks without a last one
-    /// where there is no number; and the end before that, where it is told by the ending, if there is one.
+    /// Makes a socket for each interface of a configuration: so many ticks, one a period, will
+    /// come, or ticks without a last one where there is no number; and the end before that, where
+    /// it is told by the ending, if there is one.
     ///
-    /// `NoPort` where an interface has no port, `Socket` where a socket could not be made, and `Memory` where memory ran out; for
-    /// the first interface at which one of them holds.
+    /// `NoPort` where an interface has no port, `Socket` where a socket could not be made, and
+    /// `Memory` where memory ran out; for the first interface at which one of them holds.
     pub fn open<N: Net>(
         net: &N,
         alloc: Global,

@@ -29,13 +29,17 @@ AcknowledgementsAreOrdered = (headers : List LsaHeader) → IsOrdered headers (i
 abbrev pub acknowledgment_of : Own → List LsaHeader → Meaning
 acknowledgment_of own headers = packet_from own (acknowledgment headers)
 
--- what is sent are these packets: they have the headers in order of key, as many in each as fit, and each fits
-pub record AreAcknowledgments (own : Own) (way : Way) (mtu : ℕ) (headers : List LsaHeader) (packets : List (List LsaHeader)) : Type 0 where
+-- what is sent are these packets: they have the headers in order of key, as
+-- many in each as fit, and each fits
+pub record AreAcknowledgments (own : Own) (way : Way) (mtu : ℕ) (headers : List LsaHeader)
+    (packets : List (List LsaHeader)) : Type 0 where
   pub sent : acks_out own way mtu headers ≡ flat_map (ack_out own way) packets
   pub packed : ArePacked (acknowledgment_of own) mtu (in_order headers) packets
   pub fit : AllByRecursion (IsWithin (acknowledgment_of own) mtu) packets
 
 -- where one header fits the MTU
 abbrev pub AcknowledgementsArePacked : Type 0
-AcknowledgementsArePacked = (own : Own) (way : Way) (mtu : ℕ) (headers : List LsaHeader) → ip_header + packet_header + lsa_header ≤ mtu
+AcknowledgementsArePacked =
+    (own : Own) (way : Way) (mtu : ℕ) (headers : List LsaHeader)
+    → ip_header + packet_header + lsa_header ≤ mtu
     → (packets : List (List LsaHeader)) × AreAcknowledgments own way mtu headers packets

@@ -1,4 +1,5 @@
--- How acknowledgements are sent (RFC 2328, section 13.5): in order of key, as many in a packet as fit.
+-- How acknowledgements are sent (RFC 2328, section 13.5): in order of
+-- key, as many in a packet as fit.
 use Rattle.std.specs.Prelude.{◌==◌, ◌&&◌, ◌||◌, ◌+◌, ◌-◌, ◌/◌, ℕ, zero, suc, min, Bool, List, [], ◌∷◌, drop, length, map, nat_lt, slice_get, take, if◌then◌else◌, None, Some}
 use Rattle.std.specs.List.{flat_map, fold}
 use Rattle.ospf_base.specs.Constants.{ip_header, lsa_header, packet_header}
@@ -18,7 +19,10 @@ use Rattle.ospf_area.specs.declared.sending.Way.{Way}
 
 -- by LS type, then by Link State ID, then by Advertising Router
 abbrev pub header_precedes : LsaHeader → LsaHeader → Bool
-header_precedes a b = nat_lt a.kind b.kind || ((a.kind == b.kind) && (nat_lt a.id b.id || ((a.id == b.id) && nat_lt a.router.0 b.router.0)))
+header_precedes a b =
+    nat_lt a.kind b.kind
+    || ((a.kind == b.kind)
+    && (nat_lt a.id b.id || ((a.id == b.id) && nat_lt a.router.0 b.router.0)))
 
 -- a header behind those that it does not precede
 abbrev pub put_in_order : LsaHeader → List LsaHeader → List LsaHeader
@@ -39,7 +43,9 @@ ack_room mtu = (mtu - (ip_header + packet_header)) / lsa_header
 unfoldable pub cut : ℕ → ℕ → List LsaHeader → List (List LsaHeader)
 cut zero room hs = []
 cut (suc n) room [] = []
-cut (suc n) room (h ∷ hs) = take (min room (length (h ∷ hs))) (h ∷ hs) ∷ cut n room (drop (min room (length (h ∷ hs))) (h ∷ hs))
+cut (suc n) room (h ∷ hs) =
+    take (min room (length (h ∷ hs))) (h ∷ hs)
+    ∷ cut n room (drop (min room (length (h ∷ hs))) (h ∷ hs))
 
 -- the headers of each packet, where this many have room in one
 abbrev pub packets : ℕ → List LsaHeader → List (List LsaHeader)
@@ -73,14 +79,17 @@ ack_parcels destination mtu hs = packed_parcels destination (ack_room mtu) (in_o
 abbrev pub direct_out : Origin → AreaValue → List SentValue
 direct_out f s = elim (slice_get s.links f.link) [
   | None ↦ []
-  | Some link ↦ acks_out (own_of s) (way_out f.link link.iface (to_address link.iface f.address)) link.settings.mtu s.direct
+  | Some link ↦
+      acks_out (own_of s) (way_out f.link link.iface (to_address link.iface f.address))
+      link.settings.mtu s.direct
 ]
 
 -- ---- delayed ones, at the next tick
 
 -- to where flooded Updates go
 abbrev pub delayed_out_on : Own → ℕ → LinkValue → List SentValue
-delayed_out_on own l link = acks_out own (way_out l link.iface (flooding_address link.iface)) link.settings.mtu link.delayed
+delayed_out_on own l link =
+    acks_out own (way_out l link.iface (flooding_address link.iface)) link.settings.mtu link.delayed
 
 -- a link on which no acknowledgement waits
 abbrev pub undelayed_link : LinkValue → LinkValue

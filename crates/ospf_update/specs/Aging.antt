@@ -36,27 +36,36 @@ noted key went s = if went then record s { sent = marked key true s.sent } else 
 abbrev pub copy_flooded : LsaKey → AreaValue → AreaValue
 copy_flooded key s = elim (database_entry s key) [
   | None ↦ s
-  | Some e ↦ noted key (goes_anywhere (key_of (lsa_of e)) (header_of (lsa_of e)) None s.links) (flooded_area (lsa_of e) None s)
+  | Some e ↦
+      noted key (goes_anywhere (key_of (lsa_of e)) (header_of (lsa_of e)) None s.links)
+      (flooded_area (lsa_of e) None s)
 ]
 
 -- the Updates that flood the database's copy of a key (13.3)
 abbrev pub copy_flood_out : LsaKey → AreaValue → List SentValue
-copy_flood_out key s = elim (database_entry s key) [ None ↦ [] | Some e ↦ flooding_updates (own_of s) (lsa_of e) None s.links ]
+copy_flood_out key s =
+    elim (database_entry s key) [
+      | None ↦ []
+      | Some e ↦ flooding_updates (own_of s) (lsa_of e) None s.links
+    ]
 
 -- and directly after it come LoadingDone and the next Requests
 abbrev pub SendsCopy : LsaKey → AreaValue → OutputsValue → OutputsValue → AreaValue → Type 0
 SendsCopy key before out out' after =
-    Becomes (turned_area (copy_flooded key before)) (and_sends out (copy_flood_out key before ++ turn_out (copy_flooded key before))) out' after
+    Becomes (turned_area (copy_flooded key before))
+    (and_sends out (copy_flood_out key before ++ turn_out (copy_flooded key before))) out' after
 
 -- ---- a tick (14)
 
 -- all ages rise, and a tick begins in which nothing was sent
 pub record AgesRise (before after : AreaValue) : Type 0 where
   pub database : Ages before.database after.database
-  pub rest : after ≡ record before { database = after.database; tick = (before.tick + 1) % 2 ^ 64; sent = [] }
+  pub rest : after
+      ≡ record before { database = after.database; tick = (before.tick + 1) % 2 ^ 64; sent = [] }
 
 -- all ages rise, and the copies that come to MaxAge go to all, in order of key
-pub record TickAges (before : AreaValue) (out out' : OutputsValue) (after : AreaValue) : Type 0 where
+pub record TickAges (before : AreaValue) (out out' : OutputsValue) (after : AreaValue)
+    : Type 0 where
   pub mid : AreaValue
   pub rise : AgesRise before mid
   pub sends : InTurn SendsCopy (reached_at max_age mid.database) mid out out' after
@@ -64,8 +73,10 @@ pub record TickAges (before : AreaValue) (out out' : OutputsValue) (after : Area
 -- ---- a flush (14.1)
 
 -- the copy's age becomes MaxAge, and nothing else of it changes; then it goes to all
-pub record Flushes (key : LsaKey) (before : AreaValue) (out out' : OutputsValue) (after : AreaValue) : Type 0 where
+pub record Flushes (key : LsaKey) (before : AreaValue) (out out' : OutputsValue) (after : AreaValue)
+    : Type 0 where
   pub mid : AreaValue
-  pub database : Puts key (option_map lsdb.expired (held_of before.database key)) before.database mid.database
+  pub database :
+      Puts key (option_map lsdb.expired (held_of before.database key)) before.database mid.database
   pub rest : mid ≡ record before { database = mid.database }
   pub sends : SendsCopy key mid out out' after

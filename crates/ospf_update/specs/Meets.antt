@@ -1,4 +1,5 @@
--- What an LSA of an Update does, and a header of an Acknowledgment (RFC 2328, sections 13 and 13.7).
+-- What an LSA of an Update does, and a header of an Acknowledgment
+-- (RFC 2328, sections 13 and 13.7).
 use Rattle.std.specs.Prelude.{◌≡◌, ◌+◌, ◌%◌, ◌^◌, ◌++◌, ℕ, Bool, true, Option, None, Some, is_some, List, [], ◌∷◌, slice_get, if◌then◌else◌}
 use Rattle.ospf_base.specs.Constants.{router_options}
 use Rattle.ospf_base.specs.declared.ids.Instance.{Instance}
@@ -37,25 +38,33 @@ use Rattle.ospf_area.specs.declared.sending.Own.{Own}
 
 -- it is flooded out of all links
 abbrev pub flooded_area : List ℕ → Option Origin → AreaValue → AreaValue
-flooded_area lsa from s = record s { links = flooded_links (key_of lsa) (header_of lsa) from s.tick s.links }
+flooded_area lsa from s =
+    record s { links = flooded_links (key_of lsa) (header_of lsa) from s.tick s.links }
 
 -- it is put in its key's place (13.2)
 pub record InstallsIn (lsa : List ℕ) (by_flooding : Bool) (before after : AreaValue) : Type 0 where
-  pub database : lsdb.Installs (entry_from lsa before.tick by_flooding) before.database after.database
+  pub database :
+      lsdb.Installs (entry_from lsa before.tick by_flooding) before.database after.database
   pub rest : after ≡ record before { database = after.database }
 
 -- the Updates by which it is
 abbrev pub store_updates : List ℕ → Option Origin → AreaValue → List SentValue
 store_updates lsa from s = flooding_updates (own_of s) lsa from (released (key_of lsa) s.links)
 
--- its old copy leaves all retransmission lists, then it is flooded, then it takes the old copy's place (13, steps 5b to
--- 5d). It came from a neighbour, or is the router's own
+-- its old copy leaves all retransmission lists, then it is flooded, then it takes the old copy's
+-- place (13, steps 5b to 5d). It came from a neighbour, or is the router's own
 pub record Stores (lsa : List ℕ) (from : Option Origin) (before after : AreaValue) : Type 0 where
-  pub database : lsdb.Installs (entry_from lsa before.tick (is_some from)) before.database after.database
+  pub database :
+      lsdb.Installs (entry_from lsa before.tick (is_some from)) before.database after.database
   pub rest : after ≡ record before {
     database = after.database;
-    links = flooded_links (key_of lsa) (header_of lsa) from before.tick (released (key_of lsa) before.links);
-    sent = marked (key_of lsa) (goes_anywhere (key_of lsa) (header_of lsa) from (released (key_of lsa) before.links)) before.sent;
+    links =
+        flooded_links (key_of lsa) (header_of lsa) from before.tick
+        (released (key_of lsa) before.links);
+    sent =
+        marked (key_of lsa)
+        (goes_anywhere (key_of lsa) (header_of lsa) from (released (key_of lsa) before.links))
+        before.sent;
     numbering = counts (key_of lsa) (header_of lsa).number before;
     greatest = greatest_after (key_of lsa) (header_of lsa).number before;
   }
@@ -66,20 +75,29 @@ pub record Stores (lsa : List ℕ) (from : Option Origin) (before after : AreaVa
 abbrev pub rule_met : AreaValue → Origin → List ℕ → Option LsaRule
 rule_met s f lsa =
     if is_taken_in (origin_neighbour s.links f)
-    then Some (lsa_rule (header_of lsa) (database_entry s (key_of lsa)) (some_link_loading s.links) (is_requested_of (key_of lsa) (origin_neighbour s.links f)) s.tick)
+    then Some
+    (lsa_rule (header_of lsa) (database_entry s (key_of lsa)) (some_link_loading s.links)
+    (is_requested_of (key_of lsa) (origin_neighbour s.links f)) s.tick)
     else None
 
 -- a self-originated LSA is to be answered at the end of the step (13.4)
 abbrev pub heard_by : LsaKey → AreaValue → AreaValue
-heard_by key s = if is_self_originated s.router s.links key then record s { heard = s.heard ++ key ∷ [] } else s
+heard_by key s =
+    if is_self_originated s.router s.links key then record s { heard = s.heard ++ key ∷ [] } else s
 
 -- it is newer: it is stored and flooded, and acknowledged by the table (13, step 5)
-pub record Admits (f : Origin) (lsa : List ℕ) (before : AreaValue) (out out' : OutputsValue) (after : AreaValue) : Type 0 where
+pub record Admits (f : Origin) (lsa : List ℕ) (before : AreaValue) (out out' : OutputsValue)
+    (after : AreaValue) : Type 0 where
   pub mid : AreaValue
   pub stores : Stores lsa (Some f) before mid
   pub state : after ≡ heard_by (key_of lsa)
-      (acknowledging (answer_at (case_of_newer (flooded_back (key_of lsa) (header_of lsa) (Some f) (released (key_of lsa) before.links))) f mid.links) f (header_of lsa) mid)
-  pub outputs : out' ≡ and_takes (and_sends out (store_updates lsa (Some f) before)) (instance_of lsa)
+      (acknowledging
+      (answer_at
+      (case_of_newer
+      (flooded_back (key_of lsa) (header_of lsa) (Some f) (released (key_of lsa) before.links))) f
+      mid.links) f (header_of lsa) mid)
+  pub outputs :
+      out' ≡ and_takes (and_sends out (store_updates lsa (Some f) before)) (instance_of lsa)
 
 -- ---- the exchange of databases begins again
 
@@ -88,23 +106,37 @@ abbrev pub first_dd_on : Own → Origin → ℕ → Option LinkValue → List Se
 first_dd_on own f number None = []
 first_dd_on own f number (Some link) =
     datagrams (way_out f.link link.iface (to_address link.iface f.address))
-    (packet_from own (meaning.description (record { mtu = link.settings.mtu; options = router_options; flags = first_flags; number = number }) []))
+    (packet_from own
+    (meaning.description
+    (record {
+      mtu = link.settings.mtu;
+      options = router_options;
+      flags = first_flags;
+      number = number;
+    }) []))
 
 -- the neighbour is back in ExStart, with the next DD sequence number
 abbrev pub restarted : Origin → AreaValue → AreaValue
-restarted f s = record s { links = changed_at f (Restarts s.next_dd) s.tick s.links; next_dd = (s.next_dd + 1) % 2 ^ 32 }
+restarted f s =
+    record s {
+      links = changed_at f (Restarts s.next_dd) s.tick s.links;
+      next_dd = (s.next_dd + 1) % 2 ^ 32;
+    }
 
 -- ---- the same instance as the copy
 
 -- where it was waited for, that ends; it is acknowledged by the table (13, step 7)
 abbrev pub duplicated : Origin → List ℕ → AreaValue → AreaValue
 duplicated f lsa s =
-    acknowledging (answer_at (case_of_same (is_awaited_of (instance_of lsa) (origin_neighbour s.links f))) f s.links) f (header_of lsa)
+    acknowledging
+    (answer_at (case_of_same (is_awaited_of (instance_of lsa) (origin_neighbour s.links f))) f
+    s.links) f (header_of lsa)
     (record s { links = changed_at f (Acknowledges (instance_of lsa)) s.tick s.links })
 
 -- ---- older than the copy
 
--- the copy that goes back: there is none where it was sent in an Update in this tick, or is about to leave (13, step 8)
+-- the copy that goes back: there is none where it was sent in an Update in this tick, or
+-- is about to leave (13, step 8)
 abbrev pub reply_to : AreaValue → LsaKey → Option (List ℕ)
 reply_to s key = elim (database_entry s key) [
   | None ↦ None
@@ -114,7 +146,9 @@ reply_to s key = elim (database_entry s key) [
 -- an LSA in an Update to the neighbour
 abbrev pub lsa_out_on : Own → Origin → List ℕ → Option LinkValue → List SentValue
 lsa_out_on own f lsa None = []
-lsa_out_on own f lsa (Some link) = update_out own (way_out f.link link.iface (to_address link.iface f.address)) (sent_lsa link.settings.transmit_delay lsa ∷ [])
+lsa_out_on own f lsa (Some link) =
+    update_out own (way_out f.link link.iface (to_address link.iface f.address))
+    (sent_lsa link.settings.transmit_delay lsa ∷ [])
 
 -- it goes back
 abbrev pub reply_out : Option (List ℕ) → Origin → AreaValue → List SentValue
@@ -124,25 +158,36 @@ reply_out (Some lsa) f s = lsa_out_on (own_of s) f lsa (slice_get s.links f.link
 -- it was sent to the neighbour, and in an Update in this tick
 abbrev pub replied : Option (List ℕ) → Origin → LsaKey → AreaValue → AreaValue
 replied None f key s = s
-replied (Some lsa) f key s = record s { links = changed_at f (IsSent (instance_of lsa)) s.tick s.links; sent = marked key true s.sent }
+replied (Some lsa) f key s =
+    record s {
+      links = changed_at f (IsSent (instance_of lsa)) s.tick s.links;
+      sent = marked key true s.sent;
+    }
 
 -- ---- the rules together
 
 -- what an LSA does by the rule that it meets (13, steps 4 to 8)
-abbrev pub MeetsRule : Option LsaRule → Origin → List ℕ → AreaValue → OutputsValue → OutputsValue → AreaValue → Type 0
+abbrev pub MeetsRule : Option LsaRule → Origin → List ℕ → AreaValue → OutputsValue → OutputsValue
+    → AreaValue → Type 0
 -- its sender is below Exchange: nothing happens
 MeetsRule None f lsa before out out' after = Becomes before out out' after
 -- it is at MaxAge and not known: it is acknowledged, and nothing else (step 4)
 MeetsRule (Some AcknowledgesExpired) f lsa before out out' after =
-    Becomes (acknowledging (answer_at Expired f before.links) f (header_of lsa) before) (and_takes out (instance_of lsa)) out' after
+    Becomes (acknowledging (answer_at Expired f before.links) f (header_of lsa) before)
+    (and_takes out (instance_of lsa)) out' after
 -- its copy came less than MinLSArrival ago: nothing happens (step 5a)
 MeetsRule (Some TooSoon) f lsa before out out' after = Becomes before out out' after
 MeetsRule (Some Installs) f lsa before out out' after = Admits f lsa before out out' after
 -- it was asked for, and is no newer than the copy: BadLSReq (step 6)
-MeetsRule (Some BadRequest) f lsa before out out' after = Becomes (restarted f before) (and_sends out (first_dd_on (own_of before) f before.next_dd (slice_get before.links f.link))) out' after
-MeetsRule (Some Duplicate) f lsa before out out' after = Becomes (duplicated f lsa before) out out' after
+MeetsRule (Some BadRequest) f lsa before out out' after =
+    Becomes (restarted f before)
+    (and_sends out (first_dd_on (own_of before) f before.next_dd (slice_get before.links f.link)))
+    out' after
+MeetsRule (Some Duplicate) f lsa before out out' after =
+    Becomes (duplicated f lsa before) out out' after
 MeetsRule (Some Stale) f lsa before out out' after =
-    Becomes (replied (reply_to before (key_of lsa)) f (key_of lsa) before) (and_sends out (reply_out (reply_to before (key_of lsa)) f before)) out' after
+    Becomes (replied (reply_to before (key_of lsa)) f (key_of lsa) before)
+    (and_sends out (reply_out (reply_to before (key_of lsa)) f before)) out' after
 
 -- one LSA of an Update, from the outputs so far to those after it (13)
 abbrev pub MeetsLsa : Origin → List ℕ → AreaValue → OutputsValue → OutputsValue → AreaValue → Type 0
@@ -153,9 +198,13 @@ MeetsLsa f lsa before out out' after = MeetsRule (rule_met before f lsa) f lsa b
 -- the instance that it names: that of the copy, where this is the same (13.7)
 abbrev pub named_by : LsaHeader → Option Entry → Option Instance
 named_by h None = None
-named_by h (Some copy) = elim (recency h (header_at copy)) [ Same ↦ Some (instance_at copy) | _ ↦ None ]
+named_by h (Some copy) =
+    elim (recency h (header_at copy)) [ Same ↦ Some (instance_at copy) | _ ↦ None ]
 
 -- the router once the neighbour acknowledged it
 abbrev pub header_met : Origin → LsaHeader → AreaValue → AreaValue
 header_met f h s =
-    elim (named_by h (copy_in_database s.database (key_of_header h))) [ None ↦ s | Some i ↦ record s { links = changed_at f (Acknowledges i) s.tick s.links } ]
+    elim (named_by h (copy_in_database s.database (key_of_header h))) [
+      | None ↦ s
+      | Some i ↦ record s { links = changed_at f (Acknowledges i) s.tick s.links }
+    ]

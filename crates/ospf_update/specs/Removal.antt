@@ -18,7 +18,10 @@ use Rattle.ospf_area.specs.declared.state.Numbering.{Numbering}
 
 -- some neighbour of the router has yet to acknowledge the instance
 abbrev pub some_awaits : Instance → List LinkValue → Bool
-some_awaits i links = list_any (λ (link : LinkValue). list_any (λ (n : NeighbourValue). is_listed i n.retransmission) link.neighbours) links
+some_awaits i links =
+    list_any
+    (λ (link : LinkValue). list_any (λ (n : NeighbourValue). is_listed i n.retransmission)
+    link.neighbours) links
 
 -- an LSA at MaxAge that is on no retransmission list (14)
 abbrev pub is_leaving : List LinkValue → Entry → Bool
@@ -26,7 +29,9 @@ is_leaving links e = (e.age == max_age) && not (some_awaits (instance_at e) link
 
 -- the keys of those that leave, in order: none while some neighbour is in Exchange or Loading
 abbrev pub leaving : AreaValue → List LsaKey
-leaving s = if some_link_loading s.links then [] else map (λ e. key_in e.contents) (filter (is_leaving s.links) (entries s.database))
+leaving s =
+    if some_link_loading s.links then []
+    else map (λ e. key_in e.contents) (filter (is_leaving s.links) (entries s.database))
 
 -- ---- numbering runs that end
 
@@ -49,7 +54,9 @@ reset_one key n = if is_numbering_of key n then record n { kept = lowest_number 
 
 -- the numbers of the key begin again
 abbrev pub reset : LsaKey → List Numbering → List Numbering
-reset key ns = if list_any (is_numbering_of key) ns then map (reset_one key) ns else ns ++ record { key = key; kept = lowest_number; issued_at = None } ∷ []
+reset key ns =
+    if list_any (is_numbering_of key) ns then map (reset_one key) ns
+    else ns ++ record { key = key; kept = lowest_number; issued_at = None } ∷ []
 
 -- it is told that this key has left
 abbrev pub and_ends : OutputsValue → LsaKey → OutputsValue
@@ -58,7 +65,12 @@ and_ends out key = record out { ended = out.ended ++ key ∷ [] }
 -- ---- they leave
 
 -- one of them is taken out
-pub record RemovesOne (key : LsaKey) (before : AreaValue) (out out' : OutputsValue) (after : AreaValue) : Type 0 where
+pub record RemovesOne (key : LsaKey) (before : AreaValue) (out out' : OutputsValue)
+    (after : AreaValue) : Type 0 where
   pub database : Puts key (removed (held_of before.database key)) before.database after.database
-  pub rest : after ≡ record before { database = after.database; numbering = (if ends_run before key then reset key before.numbering else before.numbering) }
+  pub rest : after
+      ≡ record before {
+        database = after.database;
+        numbering = (if ends_run before key then reset key before.numbering else before.numbering);
+      }
   pub outputs : out' ≡ (if ends_run before key then and_ends out key else out)

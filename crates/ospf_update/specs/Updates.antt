@@ -22,15 +22,16 @@ use Rattle.ospf_area.specs.declared.flooding.Origin.{Origin}
 use Rattle.ospf_area.specs.declared.sending.Own.{Own}
 
 -- an LSA meets its rule, and directly after it come LoadingDone and the next Requests
-pub record MeetsAndTurns (f : Origin) (lsa : List ℕ) (before : AreaValue) (out out' : OutputsValue) (after : AreaValue) : Type 0 where
+pub record MeetsAndTurns (f : Origin) (lsa : List ℕ) (before : AreaValue) (out out' : OutputsValue)
+    (after : AreaValue) : Type 0 where
   pub mid : AreaValue
   pub so_far : OutputsValue
   pub meets : MeetsLsa f lsa before out so_far mid
   pub state : after ≡ turned_area mid
   pub outputs : out' ≡ and_sends so_far (turn_out mid)
 
--- the bytes are an LSA of LS type 3, 4 or 5, as far as that is looked at: they are as long as it says, and its checksum
--- holds (13, step 1)
+-- the bytes are an LSA of LS type 3, 4 or 5, as far as that is looked at: they are as long as it
+-- says, and its checksum holds (13, step 1)
 pub record IsOtherLsa (bytes : List ℕ) : Type 0 where
   pub long : lsa_header ≤ length bytes
   pub length_is : number_at 18 2 bytes ≡ length bytes
@@ -44,21 +45,29 @@ pub record ComesToBePassed (f : Origin) (bytes : List ℕ) (s : AreaValue) : Typ
 
 -- it is acknowledged to its sender (13.5), and nothing else
 pub data AnswersOther (f : Origin) (bytes : List ℕ) (before after : AreaValue) : Type 0 where
-  Acknowledged : ComesToBePassed f bytes before → after ≡ record before { direct = before.direct ++ header_of bytes ∷ [] } → AnswersOther f bytes before after
-  LeftAlone : (ComesToBePassed f bytes before → ⊥) → after ≡ before → AnswersOther f bytes before after
+  Acknowledged : ComesToBePassed f bytes before
+      → after ≡ record before { direct = before.direct ++ header_of bytes ∷ [] }
+      → AnswersOther f bytes before after
+  LeftAlone : (ComesToBePassed f bytes before → ⊥) → after ≡ before
+      → AnswersOther f bytes before after
 
--- a slice that is no LSA of a known LS type: nothing happens, but where those of LS types 3, 4 and 5 are passed over
+-- a slice that is no LSA of a known LS type: nothing happens, but where those of LS
+-- types 3, 4 and 5 are passed over
 abbrev pub PassesOver : Bool → Origin → List ℕ → AreaValue → AreaValue → Type 0
 PassesOver false f bytes before after = after ≡ before
 PassesOver true f bytes before after = AnswersOther f bytes before after
 
 -- a slice is an LSA, or is passed over (13, steps 1 to 3)
-pub data TakesSlice (f : Origin) (bytes : List ℕ) (before : AreaValue) (out out' : OutputsValue) (after : AreaValue) : Type 0 where
-  Met : IsLsa bytes → MeetsAndTurns f bytes before out out' after → TakesSlice f bytes before out out' after
-  PassedOver : (IsLsa bytes → ⊥) → PassesOver before.passes_over f bytes before after → out' ≡ out → TakesSlice f bytes before out out' after
+pub data TakesSlice (f : Origin) (bytes : List ℕ) (before : AreaValue) (out out' : OutputsValue)
+    (after : AreaValue) : Type 0 where
+  Met : IsLsa bytes → MeetsAndTurns f bytes before out out' after
+      → TakesSlice f bytes before out out' after
+  PassedOver : (IsLsa bytes → ⊥) → PassesOver before.passes_over f bytes before after → out' ≡ out
+      → TakesSlice f bytes before out out' after
 
 -- an Update: its LSAs, and then the direct acknowledgements
-pub record TakesUpdate (f : Origin) (slices : List (List ℕ)) (before : AreaValue) (out out' : OutputsValue) (after : AreaValue) : Type 0 where
+pub record TakesUpdate (f : Origin) (slices : List (List ℕ)) (before : AreaValue)
+    (out out' : OutputsValue) (after : AreaValue) : Type 0 where
   pub mid : AreaValue
   pub so_far : OutputsValue
   pub takes : InTurn (TakesSlice f) slices before out so_far mid

@@ -68,7 +68,8 @@ pub fn send_delayed(
     Ok(())
 }
 
-// The headers in order of key. Those of one key stay in the order in which they came, so the sort is a stable one.
+// The headers in order of key. Those of one key stay in the order in which they
+// came, so the sort is a stable one.
 fn in_order(headers: &[LsaHeader], alloc: Global) -> Result<Vec<LsaHeader>, AllocError>
     ensures { IfOk result (λ v. v.items ≡ in_order headers.now) }
 {

@@ -17,8 +17,8 @@ use ospf_base::{LsaKey, MAX_AGE};
 use ospf_lsa::{Lsa, LsaView};
 use std::alloc::{AllocError, Global};
 
-/// LoadingDone and the next Requests of all neighbours, where they are due (RFC 2328, sections 10.3 and 10.9): after each
-/// flood.
+/// LoadingDone and the next Requests of all neighbours, where they are due (RFC 2328, sections
+/// 10.3 and 10.9): after each flood.
 ///
 /// `AllocError` where memory runs out; then the router is to be stopped.
 pub fn turn_in(area: &mut Area, out: &mut Outputs, alloc: Global) -> Result<(), AllocError>
@@ -44,7 +44,8 @@ pub fn send_copy(
     turn_in(area, out, alloc)
 }
 
-/// A tick passes (section 14): all ages rise, and the copies that come to `MAX_AGE` are flooded to all, in order of key.
+/// A tick passes (section 14): all ages rise, and the copies that come to `MAX_AGE` are
+/// flooded to all, in order of key.
 ///
 /// `AllocError` where memory runs out; then the router is to be stopped.
 #[tactic(auto, using(crate::proofs::AgeLemmas::none_expire))]

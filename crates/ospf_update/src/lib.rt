@@ -1,5 +1,5 @@
-//! What Updates and the clock do to one router's area (RFC 2328, sections 13 and 14): what each LSA of an Update meets, how
-//! LSAs are acknowledged, how they age, are flushed, and leave.
+//! What Updates and the clock do to one router's area (RFC 2328, sections 13 and 14): what each LSA
+//! of an Update meets, how LSAs are acknowledged, how they age, are flushed, and leave.
 #![tactic(auto)]
 
 mod acks;

@@ -30,8 +30,8 @@ use ospf_lsa::{Lsa, LsaHeader, LsaView, Recency, newer};
 use ospf_lsdb::EntryView;
 use std::alloc::{AllocError, Global};
 
-/// Takes a header of an Acknowledgment from the neighbour of the origin, which is in Exchange or above (RFC 2328, section
-/// 13.7). No memory is taken.
+/// Takes a header of an Acknowledgment from the neighbour of the origin, which is in Exchange or
+/// above (RFC 2328, section 13.7). No memory is taken.
 pub fn on_header(area: &mut Area, from: Origin, header: &LsaHeader)
     ensures { area.new ≡ header_met from header.now area.old }
 {
@@ -46,8 +46,9 @@ pub fn on_header(area: &mut Area, from: Origin, header: &LsaHeader)
     }
 }
 
-/// Stores an LSA and floods it (section 13, step 5): its old copy leaves all retransmission lists, then it is flooded,
-/// then it takes the old copy's place. `from` tells where it came from; without it, it is the router's own.
+/// Stores an LSA and floods it (section 13, step 5): its old copy leaves all retransmission lists,
+/// then it is flooded, then it takes the old copy's place. `from` tells where it came from;
+/// without it, it is the router's own.
 ///
 /// `AllocError` where memory runs out; then the router is to be stopped.
 pub fn store(
@@ -76,7 +77,8 @@ pub fn store(
     Ok(flooded)
 }
 
-/// Which rule an LSA of an Update meets (section 13), if its sender is in Exchange or above. No memory is taken.
+/// Which rule an LSA of an Update meets (section 13), if its sender is in
+/// Exchange or above. No memory is taken.
 pub fn rule_met(area: &Area, from: Origin, lsa: &LsaView) -> Option<LsaRule>
     ensures { result ≡ rule_met area.now from lsa.now }
 {
@@ -91,8 +93,8 @@ pub fn rule_met(area: &Area, from: Origin, lsa: &LsaView) -> Option<LsaRule>
     Some(lsa_rule(&header, copy, loading, requested, area.tick))
 }
 
-/// BadLSReq or SeqNumberMismatch of the neighbour of the origin, which is in Exchange or above: its exchange of databases
-/// begins again (section 10.3).
+/// BadLSReq or SeqNumberMismatch of the neighbour of the origin, which is in Exchange or above: its
+/// exchange of databases begins again (section 10.3).
 ///
 /// `AllocError` where memory runs out; then the router is to be stopped.
 pub fn restart(

@@ -17,9 +17,10 @@ use ospf_lsa::{LsaHeader, LsaView};
 use ospf_packet::Lsas;
 use std::alloc::{AllocError, Global};
 
-/// Takes an Update from the neighbour of the origin, which is in Exchange or above (RFC 2328, section 13): each LSA in its
-/// turn, with the Requests that come of it, and then the direct acknowledgements. The neighbours are visited for these
-/// Requests after the first LSA, and again only where a flood, a restart or a Request came before.
+/// Takes an Update from the neighbour of the origin, which is in Exchange or above (RFC 2328,
+/// section 13): each LSA in its turn, with the Requests that come of it, and then the direct
+/// acknowledgements. The neighbours are visited for these Requests after the first LSA, and again
+/// only where a flood, a restart or a Request came before.
 ///
 /// `AllocError` where memory runs out; then the router is to be stopped.
 pub fn on_update(
@@ -38,8 +39,8 @@ pub fn on_update(
     send_direct(area, from, out, alloc)
 }
 
-// An LSA, and then LoadingDone and the Requests that come of it. No neighbour is visited for these where none waited for a
-// turn before, and the rule leaves it so. Answers whether none waits now.
+// An LSA, and then LoadingDone and the Requests that come of it. No neighbour is visited for these
+// where none waited for a turn before, and the rule leaves it so. Answers whether none waits now.
 fn take_lsa(
     area: &mut Area,
     from: Origin,
@@ -87,8 +88,8 @@ fn turn_and_tell(area: &mut Area, out: &mut Outputs, alloc: Global) -> Result<bo
     Ok(out.sent.len() == before)
 }
 
-// A slice that is no LSA of a known LS type. Where LSAs of LS types 3, 4 and 5 are passed over, one of these is acknowledged
-// to its sender.
+// A slice that is no LSA of a known LS type. Where LSAs of LS types 3, 4 and 5 are passed over, one
+// of these is acknowledged to its sender.
 fn pass_over(area: &mut Area, from: Origin, bytes: &[u8]) -> Result<(), AllocError>
     ensures { OnOk result (PassesOver area.old.passes_over from bytes.now area.old area.new) }
 {
@@ -98,8 +99,8 @@ fn pass_over(area: &mut Area, from: Origin, bytes: &[u8]) -> Result<(), AllocErr
     Ok(())
 }
 
-// Whether bytes are an LSA of LS type 3, 4 or 5, as far as that is looked at: they are as long as it says, and its
-// checksum holds.
+// Whether bytes are an LSA of LS type 3, 4 or 5, as far as that is looked at: they are as long as
+// it says, and its checksum holds.
 fn is_other_lsa(bytes: &[u8]) -> bool
     ensures { IsTrue result ↔ IsOtherLsa bytes.now }
 {

@@ -38,7 +38,8 @@ cause_words (Some cause) = codes ", would be dropped: " ++ dropped_text cause ++
 -- the line of a script that delivers a datagram, and behind a # what it is, and of whom
 abbrev pub offer_text : ℕ → RouterId → ℕ → Text → RouterId → Option Dropped → Text
 offer_text number router link kind from cause =
-    codes "deliver " ++ decimal number ++ codes " " ++ number_text router.0 ++ codes " " ++ decimal link ++ codes " # " ++ kind ++ codes " of "
+    codes "deliver " ++ decimal number ++ codes " " ++ number_text router.0 ++ codes " "
+    ++ decimal link ++ codes " # " ++ kind ++ codes " of "
     ++ number_text from.0 ++ cause_words cause
 
 -- a delivery to this router
@@ -49,7 +50,8 @@ is_offer_to r _ = false
 -- a delivery, told by the datagram and by what the router would do with it
 abbrev pub delivery_line : Option AreaValue → Datagram → WorldEvent → Text
 delivery_line area g (event.Deliver d q l) =
-    offer_text d q l (kind_words (slice_get g.sent.bytes 1)) g.router (cause_of (laws.Event.Datagram l g.sent.source g.sent.destination g.sent.bytes) area)
+    offer_text d q l (kind_words (slice_get g.sent.bytes 1)) g.router
+    (cause_of (laws.Event.Datagram l g.sent.source g.sent.destination g.sent.bytes) area)
 delivery_line area g _ = []
 
 -- its line, where it is to this router
@@ -67,4 +69,5 @@ offer_lines w r area e = flat_map (offer_line area r e.1) (offers_of w.slots e.0
 -- of the datagrams that a round offers to the router the last so many, the newest first
 abbrev pub datagram_lines : WorldValue → RouterId → ℕ → Option AreaValue → Text
 datagram_lines w r most area =
-    flat_map (offer_lines w r area) (take most (filter (has_offer_to w r) (reverse (enumerate_from 0 w.logs.datagrams))))
+    flat_map (offer_lines w r area)
+    (take most (filter (has_offer_to w r) (reverse (enumerate_from 0 w.logs.datagrams))))

@@ -11,13 +11,18 @@ use Rattle.ospf_packet.specs.declared.body.Hello.{Hello}
 use Rattle.ospf_views.specs.declared.detail.Detail.{Detail}
 use Rattle.ospf_views.specs.declared.detail.Detail.TheVariants as detail
 
--- the first field in which a Hello does not agree with an interface, with both values; none where it agrees
+-- the first field in which a Hello does not agree with an interface, with
+-- both values; none where it agrees
 abbrev pub hello_detail : Iface → Hello → Option Detail
 hello_detail i h =
-    if not (h.hello_interval == i.settings.hello) then Some (detail.HelloInterval h.hello_interval i.settings.hello)
-    else if not (h.dead_interval == i.settings.dead) then Some (detail.DeadInterval h.dead_interval i.settings.dead)
-    else if not (bit_and h.options router_options == router_options) then Some (detail.Options h.options)
-    else if is_broadcast i && not (h.mask == i.settings.mask) then Some (detail.Mask h.mask i.settings.mask)
+    if not (h.hello_interval == i.settings.hello)
+    then Some (detail.HelloInterval h.hello_interval i.settings.hello)
+    else if not (h.dead_interval == i.settings.dead)
+    then Some (detail.DeadInterval h.dead_interval i.settings.dead)
+    else if not (bit_and h.options router_options == router_options)
+    then Some (detail.Options h.options)
+    else if is_broadcast i && not (h.mask == i.settings.mask)
+    then Some (detail.Mask h.mask i.settings.mask)
     else None
 
 -- a Database Description of an MTU over the interface's
@@ -32,7 +37,8 @@ body_detail l (request entries) = None
 body_detail l (update lsas) = None
 body_detail l (acknowledgment headers) = None
 
--- of what a datagram says that comes on a link, the first field that does not fit the link, if there is one
+-- of what a datagram says that comes on a link, the first field that does
+-- not fit the link, if there is one
 abbrev pub packet_detail : LinkValue → Option Meaning → Option Detail
 packet_detail l None = None
 packet_detail l (Some m) = body_detail l m.body
@@ -49,8 +55,14 @@ detail_on (Some s) link m = link_detail (slice_get s.links link) m
 
 -- the field, and what stands there and here
 abbrev pub detail_text : Detail → List ℕ
-detail_text (detail.HelloInterval there here) = codes "HelloInterval " ++ decimal there ++ codes " there, " ++ decimal here ++ codes " here"
-detail_text (detail.DeadInterval there here) = codes "RouterDeadInterval " ++ decimal there ++ codes " there, " ++ decimal here ++ codes " here"
-detail_text (detail.Options there) = codes "Options " ++ decimal there ++ codes " there, " ++ decimal router_options ++ codes " here"
-detail_text (detail.Mask there here) = codes "mask " ++ number_text there ++ codes " there, " ++ number_text here ++ codes " here"
-detail_text (detail.Mtu there here) = codes "MTU " ++ decimal there ++ codes " there, " ++ decimal here ++ codes " here"
+detail_text (detail.HelloInterval there here) =
+    codes "HelloInterval " ++ decimal there ++ codes " there, " ++ decimal here ++ codes " here"
+detail_text (detail.DeadInterval there here) =
+    codes "RouterDeadInterval " ++ decimal there ++ codes " there, " ++ decimal here
+    ++ codes " here"
+detail_text (detail.Options there) =
+    codes "Options " ++ decimal there ++ codes " there, " ++ decimal router_options ++ codes " here"
+detail_text (detail.Mask there here) =
+    codes "mask " ++ number_text there ++ codes " there, " ++ number_text here ++ codes " here"
+detail_text (detail.Mtu there here) =
+    codes "MTU " ++ decimal there ++ codes " there, " ++ decimal here ++ codes " here"

@@ -13,7 +13,8 @@ use Rattle.ospf_step.specs.declared.dropped.Dropped.TheVariants as dropped
 use Rattle.ospf_views.specs.Details.{detail_on, detail_text}
 use Rattle.ospf_views.specs.declared.detail.Detail.{Detail}
 
--- a field that does not fit explains that a Hello does not agree, or that a Database Description is not taken
+-- a field that does not fit explains that a Hello does not agree, or that a
+-- Database Description is not taken
 abbrev pub detail_for : Dropped → Option Detail → Option Detail
 detail_for dropped.HelloMismatch detail = detail
 detail_for dropped.State detail = detail
@@ -27,7 +28,8 @@ detail_words (Some detail) = codes ": " ++ detail_text detail
 -- where the datagram came from, the cause, and the field
 abbrev pub reason_line : Addr → Dropped → Option Detail → List ℕ
 reason_line source cause detail =
-    codes "  would drop the last datagram of " ++ number_text source.0 ++ codes ": " ++ dropped_text cause ++ detail_words detail ++ codes "\n"
+    codes "  would drop the last datagram of " ++ number_text source.0 ++ codes ": "
+    ++ dropped_text cause ++ detail_words detail ++ codes "\n"
 
 -- nothing of one that is taken
 abbrev pub reason_by : Addr → Option Detail → Option Dropped → List ℕ
@@ -36,4 +38,6 @@ reason_by source detail (Some cause) = reason_line source cause (detail_for caus
 
 -- of a datagram that comes on a link of a router now
 abbrev pub drop_reason : Option AreaValue → ℕ → SentValue → List ℕ
-drop_reason area link g = reason_by g.source (detail_on area link (packet_of g.bytes)) (cause_of (Datagram link g.source g.destination g.bytes) area)
+drop_reason area link g =
+    reason_by g.source (detail_on area link (packet_of g.bytes))
+    (cause_of (Datagram link g.source g.destination g.bytes) area)

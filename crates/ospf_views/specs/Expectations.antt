@@ -42,7 +42,8 @@ has_full other (Some s) = list_any (is_full_on other) s.links
 
 -- a route to the prefix (section 11)
 abbrev pub is_route_to : Prefix → Route → Bool
-is_route_to prefix route = route.prefix.address.0 == prefix.address.0 && route.prefix.length == prefix.length
+is_route_to prefix route =
+    route.prefix.address.0 == prefix.address.0 && route.prefix.length == prefix.length
 
 -- a hop is one of these
 unfoldable pub IsAmong : List NextHop → NextHop → Type 0
@@ -58,9 +59,11 @@ HasHops wanted hops = (wanted ≡ []) ⊎ (AreAmong wanted hops × AreAmong hops
 
 -- of this cost, by these hops
 unfoldable pub IsRouteAt : Prefix → ℕ → List NextHop → Route → Type 0
-IsRouteAt prefix cost hops route = IsTrue (is_route_to prefix route) × (route.cost ≡ cost) × HasHops hops route.hops
+IsRouteAt prefix cost hops route =
+    IsTrue (is_route_to prefix route) × (route.cost ≡ cost) × HasHops hops route.hops
 
--- the router has the other one as a Full neighbour; no neighbour on a link; a route of this cost by these hops; no route
+-- the router has the other one as a Full neighbour; no neighbour on a link; a route of
+-- this cost by these hops; no route
 abbrev pub IsMet : Wanted → RouterValue → Type 0
 IsMet (wanted.Full other) x = IsTrue (has_full other x.area)
 IsMet (wanted.NoNeighbour link) x = neighbours_on x.area link ≡ []

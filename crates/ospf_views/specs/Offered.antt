@@ -24,11 +24,13 @@ is_delivery_to r link _ = false
 
 -- a round offers the datagram of this number to the link
 abbrev pub is_for_link : WorldValue → RouterId → ℕ → Option RouterId → ℕ × Datagram → Bool
-is_for_link w r link from e = is_sent_by from e.1 && list_any (is_delivery_to r link) (offers_of w.slots e.0 e.1)
+is_for_link w r link from e =
+    is_sent_by from e.1 && list_any (is_delivery_to r link) (offers_of w.slots e.0 e.1)
 
 -- the last one of which that holds
 abbrev pub last_to : WorldValue → RouterId → ℕ → Option RouterId → Option (ℕ × Datagram)
-last_to w r link from = find (is_for_link w r link from) (reverse (enumerate_from 0 w.logs.datagrams))
+last_to w r link from =
+    find (is_for_link w r link from) (reverse (enumerate_from 0 w.logs.datagrams))
 
 -- nothing where there is none
 abbrev pub drop_in : Option AreaValue → ℕ → Option (ℕ × Datagram) → Text
@@ -41,4 +43,5 @@ last_drop w r link from area = drop_in area link (last_to w r link from)
 
 -- what the link waits for, or a Router ID on it, and that; none where there is no such link
 abbrev pub why_lines : WorldValue → RouterId → ℕ → Option RouterId → Option AreaValue → Option Text
-why_lines w r link from area = option_map (λ waits. waits ++ last_drop w r link from area) (why_of area link from)
+why_lines w r link from area =
+    option_map (λ waits. waits ++ last_drop w r link from area) (why_of area link from)

@@ -17,7 +17,8 @@ use Rattle.ospf_script.specs.declared.command.View.TheVariants as view
 -- a neighbour: the number of the link, its Router ID, its state
 abbrev pub neighbour_line : ℕ → NeighbourValue → Text
 neighbour_line link n =
-    decimal link ++ codes " " ++ number_text n.router.0 ++ codes " " ++ state_text n.state ++ codes "\n"
+    decimal link ++ codes " " ++ number_text n.router.0 ++ codes " " ++ state_text n.state
+    ++ codes "\n"
 
 -- the neighbours of a link, a line each
 abbrev pub link_neighbour_lines : ℕ → List NeighbourValue → Text
@@ -26,7 +27,8 @@ link_neighbour_lines link neighbours = flat_map (neighbour_line link) neighbours
 -- those of the first so many links
 unfoldable pub links_lines : ℕ → Option AreaValue → Text
 links_lines zero area = []
-links_lines (suc link) area = links_lines link area ++ link_neighbour_lines link (neighbours_on area link)
+links_lines (suc link) area =
+    links_lines link area ++ link_neighbour_lines link (neighbours_on area link)
 
 -- those of all links, of which a configuration has at most 32, by link and Router ID
 abbrev pub neighbours_lines : RouterValue → Text
@@ -57,9 +59,11 @@ view_lines view.Floor = floor_alone_line
 
 -- the line above it: what it is, of which router, and what stands in a line
 abbrev pub heading : View → RouterId → Text
-heading view.Neighbours r = codes "neighbours of " ++ number_text r.0 ++ codes ": link, Router ID, state\n"
+heading view.Neighbours r =
+    codes "neighbours of " ++ number_text r.0 ++ codes ": link, Router ID, state\n"
 heading view.Listing r =
-    codes "listing of " ++ number_text r.0 ++ codes ": kind, Link State ID, Advertising Router, number, checksum\n"
+    codes "listing of " ++ number_text r.0
+    ++ codes ": kind, Link State ID, Advertising Router, number, checksum\n"
 heading view.Table r = codes "table of " ++ number_text r.0 ++ codes ": prefix, cost, next hops\n"
 heading view.Floor r = codes "floor of " ++ number_text r.0 ++ codes "\n"
 

@@ -17,12 +17,16 @@ refusal_text refusal = codes "line " ++ decimal refusal.number ++ codes ": " ++ 
 
 -- a neighbour: its link, its Router ID and its state
 abbrev pub neighbour_text : NeighbourShown → Text
-neighbour_text neighbour = decimal neighbour.link ++ codes " " ++ number_text neighbour.router.0 ++ codes " " ++ state_text neighbour.state
+neighbour_text neighbour =
+    decimal neighbour.link ++ codes " " ++ number_text neighbour.router.0 ++ codes " "
+    ++ state_text neighbour.state
 
--- the kind, the Link State ID, the Advertising Router, the sequence number in eight hexadecimal digits and the checksum in four
+-- the kind, the Link State ID, the Advertising Router, the sequence number in eight hexadecimal
+-- digits and the checksum in four
 abbrev pub listed_text : Instance → Text
 listed_text i =
-    lsa_kind_text i.key.kind ++ codes " " ++ number_text i.key.id ++ codes " " ++ number_text i.key.router.0 ++ codes " "
+    lsa_kind_text i.key.kind ++ codes " " ++ number_text i.key.id ++ codes " "
+    ++ number_text i.key.router.0 ++ codes " "
     ++ floor_text i.number ++ codes " " ++ hexadecimal 4 i.sum
 
 -- each Router ID before a space
@@ -31,4 +35,5 @@ routers_text routers = flat_map (λ router. number_text router.0 ++ codes " ") r
 
 -- a walk: the routers on it, its cost and how it ends
 abbrev pub walk_text : WalkShown → Text
-walk_text walk = routers_text walk.routers.now ++ codes "cost " ++ decimal walk.cost ++ codes " " ++ walk.end.now
+walk_text walk =
+    routers_text walk.routers.now ++ codes "cost " ++ decimal walk.cost ++ codes " " ++ walk.end.now

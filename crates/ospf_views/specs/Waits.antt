@@ -21,36 +21,49 @@ use Rattle.ospf_views.specs.Texts.{listed_text}
 
 -- the number of a link, and a neighbour there in a state
 unfoldable pub stands_line : ℕ → RouterId → NeighbourState → List ℕ
-stands_line link q s = codes "link " ++ decimal link ++ codes " neighbour " ++ number_text q.0 ++ codes " " ++ state_text s ++ codes "\n"
+stands_line link q s =
+    codes "link " ++ decimal link ++ codes " neighbour " ++ number_text q.0 ++ codes " "
+    ++ state_text s ++ codes "\n"
 
 -- in 2-Way: the election, or nothing (10.4)
 abbrev pub two_way_waits : IfaceState → ℕ → List ℕ
-two_way_waits iface.Waiting wait = codes "  waits for the end of Waiting, in " ++ decimal wait ++ codes " ticks\n"
+two_way_waits iface.Waiting wait =
+    codes "  waits for the end of Waiting, in " ++ decimal wait ++ codes " ticks\n"
 two_way_waits _ wait = codes "  waits for nothing: no adjacency is wanted\n"
 
 -- in Exchange: the other's next Database Description (10.8)
 abbrev pub exchange_waits : Exchanging → List ℕ
 exchange_waits e =
-    if e.is_master then codes "  waits for the slave's Database Description of number " ++ decimal e.number ++ codes "\n"
-    else codes "  waits for the master's Database Description behind number " ++ decimal e.number ++ codes "\n"
+    if e.is_master
+    then codes "  waits for the slave's Database Description of number " ++ decimal e.number
+    ++ codes "\n"
+    else codes "  waits for the master's Database Description behind number " ++ decimal e.number
+    ++ codes "\n"
 
 -- what the state waits for
 unfoldable pub state_waits : NeighbourState → Iface → NeighbourValue → List ℕ
 state_waits state.Down i n = codes "  waits for a Hello\n"
-state_waits state.Init i n = codes "  waits for a Hello that lists " ++ number_text i.settings.router.0 ++ codes "\n"
+state_waits state.Init i n =
+    codes "  waits for a Hello that lists " ++ number_text i.settings.router.0 ++ codes "\n"
 state_waits state.TwoWay i n = two_way_waits i.state i.wait
-state_waits state.ExStart i n = codes "  waits for a Database Description that settles who is master\n"
+state_waits state.ExStart i n =
+    codes "  waits for a Database Description that settles who is master\n"
 state_waits state.Exchange i n = exchange_waits n.exchanging
 state_waits state.Loading i n = []
 state_waits state.Full i n = []
 
 -- the name of an LS type (A.4.1)
 abbrev pub type_text : ℕ → List ℕ
-type_text kind = if kind == 1 then codes "router" else if kind == 2 then codes "network" else codes "type " ++ decimal kind
+type_text kind =
+    if kind == 1 then codes "router"
+    else if kind == 2 then codes "network"
+    else codes "type " ++ decimal kind
 
 -- an LSA on the request list
 abbrev pub request_line : LsaHeader → List ℕ
-request_line h = codes "    " ++ type_text h.kind ++ codes " " ++ number_text h.id ++ codes " " ++ number_text h.router.0 ++ codes "\n"
+request_line h =
+    codes "    " ++ type_text h.kind ++ codes " " ++ number_text h.id ++ codes " "
+    ++ number_text h.router.0 ++ codes "\n"
 
 -- how many LSAs are to come by Request, and how many of them the last one named
 unfoldable pub requested_text : ℕ → List ℕ
@@ -67,7 +80,8 @@ requests_line count asked = requested_text count ++ asked_text asked
 -- the LSAs that are to come by Request, the first three of them named (10.9)
 unfoldable pub request_waits : List LsaHeader → ℕ → List ℕ
 request_waits requests asked =
-    if length requests == 0 then [] else requests_line (length requests) asked ++ flat_map request_line (take 3 requests)
+    if length requests == 0 then []
+    else requests_line (length requests) asked ++ flat_map request_line (take 3 requests)
 
 -- an instance on the retransmission list
 abbrev pub retransmission_line : Listed → List ℕ
@@ -80,7 +94,8 @@ acknowledgements_line count = codes "  waits for acknowledgements: " ++ decimal 
 -- the instances that it has not acknowledged, the first three of them named (13.6)
 unfoldable pub acknowledgement_waits : List Listed → List ℕ
 acknowledgement_waits listed =
-    if length listed == 0 then [] else acknowledgements_line (length listed) ++ flat_map retransmission_line (take 3 listed)
+    if length listed == 0 then []
+    else acknowledgements_line (length listed) ++ flat_map retransmission_line (take 3 listed)
 
 -- in Full, nothing where both lists are empty
 unfoldable pub full_waits : NeighbourState → List LsaHeader → List Listed → List ℕ
@@ -103,12 +118,14 @@ alone_waits _ = codes "  waits for a Hello\n"
 -- the number of a link, and its interface
 unfoldable pub interface_line : ℕ → Iface → List ℕ
 interface_line link i =
-    codes "link " ++ decimal link ++ codes " interface " ++ iface_text i.state ++ codes " dr " ++ number_text i.dr.0
+    codes "link " ++ decimal link ++ codes " interface " ++ iface_text i.state ++ codes " dr "
+    ++ number_text i.dr.0
     ++ codes " backup " ++ number_text i.backup.0 ++ codes "\n"
 
 -- the lines of a link: what it waits for alone, or of each neighbour
 unfoldable pub neighbours_why : ℕ → Iface → List NeighbourValue → List ℕ
-neighbours_why link i ns = if length ns == 0 then alone_waits i.state else flat_map (neighbour_why link i) ns
+neighbours_why link i ns =
+    if length ns == 0 then alone_waits i.state else flat_map (neighbour_why link i) ns
 
 -- a link, and what it and its neighbours wait for
 abbrev pub link_why : ℕ → LinkValue → List ℕ

@@ -14,8 +14,8 @@ use ospf_world::{World, WorldEvent};
 use std::alloc::{AllocError, Global};
 use std::fmt::{self, Display, Formatter, Write};
 
-/// The last datagrams that a round offers to a router, at most so many, the newest first: each delivery as the line of a script,
-/// with what it is, of whom, and why it would be dropped, behind a `#`. `AllocError` where memory runs out.
+/// The last deliveries of a round to a router, at most so many, the newest first: lines of a script
+/// that say what each is and why it would be dropped. `AllocError` where memory runs out.
 pub fn datagram_lines(
     world: &World,
     router: &Router,
@@ -112,7 +112,7 @@ fn offer_line(
     }
 }
 
-// A datagram that is offered to a link of a router: its number, what it is, of whom, and why it would be dropped.
+// A datagram offered to a link: its number, what it is, of whom, and why it would be dropped.
 #[derive(Clone, Copy)]
 struct OfferShown {
     number: usize,

@@ -53,8 +53,8 @@ impl Display for Detail {
     }
 }
 
-/// Of a datagram that comes on a link of a router, the first field that does not fit: of a Hello those in which it has to agree
-/// (RFC 2328, section 10.5), of a Database Description its MTU (section 10.6); else `None`. No memory is taken.
+/// The first field of a datagram that does not fit the link: of a Hello where it has to agree (RFC
+/// 2328, section 10.5), of a Database Description its MTU (10.6); else `None`. It takes no memory.
 pub fn detail_of(router: &Router, link: usize, bytes: &[u8]) -> Option<Detail>
     ensures { result ≡ detail_on router.now.area link (packet_of bytes.now) }
 {

@@ -21,7 +21,7 @@ struct DropShown {
     detail: Option<Detail>,
 }
 
-/// As `  would drop the last datagram of 10.0.0.2: R6 HelloMismatch: HelloInterval 5 there, 10 here`.
+/// As ` would drop the last datagram of 10.0.0.2: R9 State`, with a field that does not fit.
 impl Display for DropShown {
     ghost use Rattle.std.specs.Prelude.{Some};
     ghost use Rattle.ospf_views.specs.Drops.{reason_line};
@@ -36,7 +36,7 @@ impl Display for DropShown {
     }
 }
 
-/// Why a router would drop a datagram that comes on a link now, a line: the cause, and the field that does not fit; or nothing.
+/// Why a router would drop a datagram that comes on a link now, with the field that does not fit.
 ///
 /// `AllocError` where memory runs out.
 pub fn drop_reason(

@@ -40,7 +40,7 @@ pub fn unmet_line(alloc: Global, expected: &Expected) -> Result<String, AllocErr
     format!(in alloc; "not met: {expected}\n")
 }
 
-/// Writes that what is wanted of a router, by its Router ID, is not met, and what stood there: its neighbours, or its table.
+/// Writes that what is wanted of a router is not met, and its neighbours or its table.
 ///
 /// `Failure` where memory runs out or the stream fails: then a beginning of it was written.
 pub fn write_unmet<O: Write>(

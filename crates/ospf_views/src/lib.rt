@@ -1,7 +1,6 @@
-//! Lines that show a router: its neighbours, what it lists, its routes and its floor, and why it stands as it does.
-//!
-//! `write_view` writes what `ospfd sim` and `ospfd run` print, `why` what a link or a neighbour waits for, `drop_reason` why a
-//! datagram is dropped; `is_met` says whether a router is as it is expected to be, `datagram_lines` what a round offers to it.
+//! Lines that show a router: neighbours, listing, routes, floor, and why it stands as it does.
+//! `write_view` writes what `ospfd sim` and `run` print, `why` what a link or neighbour waits for,
+//! `drop_reason` why a datagram is dropped, `is_met` whether a router is as it is expected to be.
 #![tactic(auto)]
 
 mod datagrams;

@@ -12,7 +12,7 @@ use ospf_router::Router;
 use ospf_world::{World, WorldEvent};
 use std::alloc::{AllocError, Global};
 
-/// What a link waits for, or a router on it, and why it would drop what was sent to it last; `None` where there is no link.
+/// What a link or a router on it waits for, and why it would drop the last; `None` without a link.
 ///
 /// `AllocError` where memory runs out.
 pub fn why_lines(
@@ -35,7 +35,7 @@ pub fn why_lines(
     }
 }
 
-// Why the router would drop the last datagram that a round offers to a link, of one router where it is given; else nothing.
+// Why it would drop the last datagram that a round offers to a link, of one router if given.
 fn last_drop(
     world: &World,
     router: &Router,

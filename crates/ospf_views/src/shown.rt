@@ -51,7 +51,7 @@ impl Display for NeighbourShown {
 #[derive(Clone, Copy, Debug, PartialEq, Eq)]
 pub struct ListedShown(pub Instance);
 
-/// As `router 1.1.1.1 1.1.1.1 80000002 e02d`: kind, Link State ID, Advertising Router, sequence number and checksum.
+/// As `router 1.1.1.1 1.1.1.1 80000002 e02d`: kind, ID, Advertising Router, number, checksum.
 impl Display for ListedShown {
     ghost use Rattle.std.specs.Prelude.{Some};
     ghost use Rattle.ospf_views.specs.Texts.{listed_text};

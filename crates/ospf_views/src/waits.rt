@@ -23,7 +23,7 @@ const ROUTER_TYPE: u8 = 1;
 
 const NETWORK_TYPE: u8 = 2;
 
-/// What a link of a router waits for, or a Router ID on it, a line each; `None` where there is no such link, or no more.
+/// What a link waits for, or a Router ID on it, a line each; `None` for no such link, or no more.
 ///
 /// `AllocError` where memory runs out.
 pub fn why(
@@ -104,7 +104,8 @@ impl Display for WhyRouter<'_> {
     ghost use Rattle.ospf_neighbour.specs.Neighbours.{neighbour_of};
     ghost use Rattle.ospf_views.specs.Waits.{one_why};
 
-    ghost output = { λ why. Some (one_why why.number why.link.now why.router (neighbour_of why.link.now.neighbours why.router)) };
+    ghost output = { λ why. Some (one_why why.number why.link.now why.router
+        (neighbour_of why.link.now.neighbours why.router)) };
 
     fn fmt<W: Write>(&self, f: &mut Formatter<W>) -> fmt::Result {
         let link = self.link;

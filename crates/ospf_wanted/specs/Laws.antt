@@ -9,13 +9,19 @@ use Rattle.ospf_wanted.specs.Wanted.{wanted_lsas, wanted_key, wanted_of}
 
 -- no two wanted LSAs are of one key: each is the one of its key
 abbrev pub WantedAreOfTheirKeys : Type 0
-WantedAreOfTheirKeys = (stub_router : Bool) (router : RouterId) (links : List LinkValue) → AreApart links
-    → AllByRecursion (λ w. wanted_of (wanted_lsas stub_router router links) (wanted_key w) ≡ Some w) (wanted_lsas stub_router router links)
+WantedAreOfTheirKeys =
+    (stub_router : Bool) (router : RouterId) (links : List LinkValue) → AreApart links
+    → AllByRecursion (λ w. wanted_of (wanted_lsas stub_router router links) (wanted_key w) ≡ Some w)
+    (wanted_lsas stub_router router links)
 
 -- all of them are the router's own
 abbrev pub WantedAreOwn : Type 0
-WantedAreOwn = (stub_router : Bool) (router : RouterId) (links : List LinkValue) → AllByRecursion (λ w. (wanted_key w).router ≡ router) (wanted_lsas stub_router router links)
+WantedAreOwn =
+    (stub_router : Bool) (router : RouterId) (links : List LinkValue)
+    → AllByRecursion (λ w. (wanted_key w).router ≡ router) (wanted_lsas stub_router router links)
 
 -- what a router of links that are set up wants can be made: only want of memory is in the way
 abbrev pub WantedCanBeMade : Type 0
-WantedCanBeMade = (stub_router : Bool) (router : RouterId) (links : List LinkValue) → AreSetUp links → AllByRecursion CanBeMade (wanted_lsas stub_router router links)
+WantedCanBeMade =
+    (stub_router : Bool) (router : RouterId) (links : List LinkValue) → AreSetUp links
+    → AllByRecursion CanBeMade (wanted_lsas stub_router router links)

@@ -29,7 +29,8 @@ abbrev pub CanBeMadeIf : ℤ → Option WantedValue → Type 0
 CanBeMadeIf number None = ⊤
 CanBeMadeIf number (Some w) = HasAll (Needs number w)
 
--- why it is not known whether a copy says what is wanted of its key, if anything: the wanted LSA cannot be made
+-- why it is not known whether a copy says what is wanted of its key, if
+-- anything: the wanted LSA cannot be made
 abbrev pub IsUnmadeIf : Option WantedValue → LsaFault → Type 0
 IsUnmadeIf None f = ⊥
 IsUnmadeIf (Some w) f = IsUnmade (Needs first_number w) f

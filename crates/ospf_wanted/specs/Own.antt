@@ -6,4 +6,5 @@ use Rattle.ospf_wanted.specs.Wanted.{WantedValue}
 -- a wanted LSA as it is held
 abbrev pub wanted_value : OwnLsa → WantedValue
 wanted_value (got.Router router links) = WantedValue.RouterLsa router links.items
-wanted_value (got.Network id router mask routers) = WantedValue.NetworkLsa id router mask routers.items
+wanted_value (got.Network id router mask routers) =
+    WantedValue.NetworkLsa id router mask routers.items

@@ -12,7 +12,8 @@ use Rattle.ospf_wanted.specs.Wanted.{is_full, is_full_before, is_full_behind, li
 -- what stands behind these bytes, where others begin with them
 unfoldable pub behind : List ℕ → Option (List ℕ) → Option (List ℕ)
 behind front None = None
-behind front (Some bytes) = if bytes_eq (take (length front) bytes) front then Some (drop (length front) bytes) else None
+behind front (Some bytes) =
+    if bytes_eq (take (length front) bytes) front then Some (drop (length front) bytes) else None
 
 -- nothing stands behind them
 unfoldable pub is_end : Option (List ℕ) → Bool
@@ -22,13 +23,15 @@ is_end (Some (byte ∷ rest)) = false
 
 -- the bytes of the link to a neighbour, which there is where it is fully adjacent (12.4.1)
 unfoldable pub router_link_bytes : Bool → LinkValue → NeighbourValue → List ℕ
-router_link_bytes stub_router a n = if is_full n then link_bytes (router_link stub_router a n) else []
+router_link_bytes stub_router a n =
+    if is_full n then link_bytes (router_link stub_router a n) else []
 
 -- the bytes of the links of a link
 unfoldable pub links_bytes : Bool → LinkValue → List ℕ
 links_bytes stub_router a = flat_map link_bytes (links_of_link stub_router a)
 
--- the bytes of the ID of a fully adjacent neighbour that stands before a router, and of one that stands behind it (12.4.2)
+-- the bytes of the ID of a fully adjacent neighbour that stands before a router, and of one
+-- that stands behind it (12.4.2)
 unfoldable pub lower_bytes : RouterId → NeighbourValue → List ℕ
 lower_bytes router n = if is_full_before router n then router_bytes n.router else []
 

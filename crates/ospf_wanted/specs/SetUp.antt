@@ -6,7 +6,8 @@ use Rattle.ospf_base.specs.declared.interface.InterfaceKind.TheVariants.{PointTo
 use Rattle.ospf_neighbour.specs.Neighbours.{max_neighbours}
 use Rattle.ospf_area.specs.State.{LinkValue}
 
--- a link as a router has it: its mask has no hole, it has few neighbours, and one at most where it has two ends
+-- a link as a router has it: its mask has no hole, it has few neighbours, and
+-- one at most where it has two ends
 pub record IsSetUp (link : LinkValue) : Type 0 where
   pub mask : IsMask link.iface.settings.mask
   pub few : length link.neighbours ≤ max_neighbours
@@ -15,7 +16,8 @@ pub record IsSetUp (link : LinkValue) : Type 0 where
 -- no two links have one address
 abbrev pub AreApart : List LinkValue → Type 0
 AreApart [] = Unit {0}
-AreApart (l ∷ ls) = AllByRecursion (λ o. o.iface.settings.address.0 ≢ l.iface.settings.address.0) ls × AreApart ls
+AreApart (l ∷ ls) =
+    AllByRecursion (λ o. o.iface.settings.address.0 ≢ l.iface.settings.address.0) ls × AreApart ls
 
 -- the most links that a router has
 abbrev pub max_links : ℕ

@@ -1,4 +1,5 @@
--- The LSAs of its own that a router wants (RFC 2328, sections 12.4.1 and 12.4.2; for a stub router RFC 6987).
+-- The LSAs of its own that a router wants (RFC 2328, sections 12.4.1 and
+-- 12.4.2; for a stub router RFC 6987).
 use Rattle.std.specs.Prelude.{◌==◌, ◌&&◌, ◌||◌, ◌∷◌, ◌++◌, ℕ, Bool, true, false, List, [], Option, map, filter, find, nat_lt, bit_and, if◌then◌else◌}
 use Rattle.std.specs.List.{list_any, flat_map}
 use Rattle.ospf_base.specs.declared.ids.Kind.TheVariants.{Router, Network}
@@ -14,8 +15,8 @@ use Rattle.ospf_base.specs.Keys.{same_key}
 use Rattle.ospf_neighbour.specs.Neighbour.{NeighbourValue}
 use Rattle.ospf_neighbour.specs.declared.machine.NeighbourState.TheVariants.{Full}
 
--- an LSA that is wanted, without its number: a router-LSA of a router with these links; or a network-LSA of this Link
--- State ID and router, with the network's mask and these attached routers
+-- an LSA that is wanted, without its number: a router-LSA of a router with these links; or a
+-- network-LSA of this Link State ID and router, with the network's mask and these attached routers
 pub data WantedValue : Type 0 where
   RouterLsa : (router : RouterId) (links : List Link) → WantedValue
   NetworkLsa : (id : ℕ) (router : RouterId) (mask : ℕ) (routers : List RouterId) → WantedValue
@@ -30,45 +31,66 @@ is_full n = elim n.state [ Full ↦ true | _ ↦ false ]
 abbrev pub is_dr_of : LinkValue → Bool
 is_dr_of a = elim a.iface.state [ Dr ↦ true | _ ↦ false ] && list_any is_full a.neighbours
 
--- the link is one to a transit network: the router is fully adjacent to the Designated Router, or is that itself and
--- fully adjacent to someone (12.4.1.2)
+-- the link is one to a transit network: the router is fully adjacent to the Designated Router, or
+-- is that itself and fully adjacent to someone (12.4.1.2)
 abbrev pub is_transit : LinkValue → Bool
-is_transit a = list_any (λ (n : NeighbourValue). is_full n && (n.address.0 == a.iface.dr.0)) a.neighbours || is_dr_of a
+is_transit a =
+    list_any (λ (n : NeighbourValue). is_full n && (n.address.0 == a.iface.dr.0)) a.neighbours
+    || is_dr_of a
 
 -- ---- the links of the router-LSA
 
--- the metric of links to routers and to transit networks: a stub router's are MaxLinkMetric (RFC 6987)
+-- the metric of links to routers and to transit networks: a stub
+-- router's are MaxLinkMetric (RFC 6987)
 abbrev pub through_metric : Bool → ℕ → ℕ
 through_metric stub_router cost = if stub_router then 0xffff else cost
 
 -- to a router (12.4.1.1)
 abbrev pub router_link : Bool → LinkValue → NeighbourValue → Link
 router_link stub_router a n =
-    record { id = n.router.0; link_data = a.iface.settings.address.0; kind = PointToPoint; metric = through_metric stub_router a.settings.cost }
+    record {
+      id = n.router.0;
+      link_data = a.iface.settings.address.0;
+      kind = PointToPoint;
+      metric = through_metric stub_router a.settings.cost;
+    }
 
 -- to a transit network (12.4.1.2)
 abbrev pub network_link : Bool → LinkValue → Link
 network_link stub_router a =
-    record { id = a.iface.dr.0; link_data = a.iface.settings.address.0; kind = Transit; metric = through_metric stub_router a.settings.cost }
+    record {
+      id = a.iface.dr.0;
+      link_data = a.iface.settings.address.0;
+      kind = Transit;
+      metric = through_metric stub_router a.settings.cost;
+    }
 
 -- to the link's own subnet (12.4.1.1, option 2, and 12.4.1.2)
 abbrev pub subnet_link : LinkValue → Link
 subnet_link a =
-    record { id = bit_and a.iface.settings.address.0 a.iface.settings.mask; link_data = a.iface.settings.mask; kind = Stub; metric = a.settings.cost }
+    record {
+      id = bit_and a.iface.settings.address.0 a.iface.settings.mask;
+      link_data = a.iface.settings.mask;
+      kind = Stub;
+      metric = a.settings.cost;
+    }
 
--- the links of a link that is up (12.4.1): on one with two ends to the fully adjacent neighbour, and then to the subnet; on a
--- broadcast link to its transit network, or else to its subnet (12.4.1.2)
+-- the links of a link that is up (12.4.1): on one with two ends to the fully
+-- adjacent neighbour, and then to the subnet; on a broadcast link to its transit
+-- network, or else to its subnet (12.4.1.2)
 unfoldable pub links_of_link : Bool → LinkValue → List Link
 links_of_link stub_router a =
     if is_down a.iface.state then []
     else elim a.iface.settings.kind [
-      | kind.PointToPoint ↦ map (router_link stub_router a) (filter is_full a.neighbours) ++ subnet_link a ∷ []
+      | kind.PointToPoint ↦
+          map (router_link stub_router a) (filter is_full a.neighbours) ++ subnet_link a ∷ []
       | kind.Broadcast ↦ (if is_transit a then network_link stub_router a else subnet_link a) ∷ []
     ]
 
 -- ---- network-LSAs
 
--- the fully adjacent neighbours whose IDs stand before this one, and those whose IDs stand behind it
+-- the fully adjacent neighbours whose IDs stand before this one, and
+-- those whose IDs stand behind it
 abbrev pub is_full_before : RouterId → NeighbourValue → Bool
 is_full_before router n = is_full n && nat_lt n.router.0 router.0
 
@@ -79,22 +101,31 @@ is_full_behind router n = is_full n && nat_lt router.0 n.router.0
 -- the routers of the network: this one and those fully adjacent to it, whose IDs rise (12.4.2)
 abbrev pub attached_routers : RouterId → List NeighbourValue → List RouterId
 attached_routers router ns =
-    map (λ n. n.router) (filter (is_full_before router) ns) ++ (router ∷ map (λ n. n.router) (filter (is_full_behind router) ns))
+    map (λ n. n.router) (filter (is_full_before router) ns)
+    ++ (router ∷ map (λ n. n.router) (filter (is_full_behind router) ns))
 
 -- the network-LSA of a link, which its Designated Router wants (12.4.2)
 unfoldable pub networks_at : RouterId → LinkValue → List WantedValue
 networks_at router a =
-    if is_dr_of a then NetworkLsa a.iface.settings.address.0 router a.iface.settings.mask (attached_routers router a.neighbours) ∷ [] else []
+    if is_dr_of a
+    then NetworkLsa a.iface.settings.address.0 router a.iface.settings.mask
+    (attached_routers router a.neighbours) ∷ []
+    else []
 
 -- that network-LSA, wanted or not
 unfoldable pub network_of : RouterId → LinkValue → WantedValue
-network_of router a = NetworkLsa a.iface.settings.address.0 router a.iface.settings.mask (attached_routers router a.neighbours)
+network_of router a =
+    NetworkLsa a.iface.settings.address.0 router a.iface.settings.mask
+    (attached_routers router a.neighbours)
 
 -- ---- all of them
 
--- a router wants its router-LSA, and the network-LSAs of its links, which are in configuration order (12.4)
+-- a router wants its router-LSA, and the network-LSAs of its links, which
+-- are in configuration order (12.4)
 unfoldable pub wanted_lsas : Bool → RouterId → List LinkValue → List WantedValue
-wanted_lsas stub_router router links = RouterLsa router (flat_map (links_of_link stub_router) links) ∷ flat_map (networks_at router) links
+wanted_lsas stub_router router links =
+    RouterLsa router (flat_map (links_of_link stub_router) links)
+    ∷ flat_map (networks_at router) links
 
 -- what names a wanted LSA (12.1)
 abbrev pub wanted_key : WantedValue → LsaKey

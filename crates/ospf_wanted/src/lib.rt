@@ -1,5 +1,5 @@
-//! The LSAs of its own that a router wants (RFC 2328, section 12.4): what they say, how they are made, and whether a copy
-//! says the same.
+//! The LSAs of its own that a router wants (RFC 2328, section 12.4): what they say, how they are
+//! made, and whether a copy says the same.
 #![tactic(auto)]
 
 mod laws;

@@ -22,7 +22,8 @@ use ospf_base::{Age, InterfaceKind, OPTIONS, RouterId, u16_at};
 use ospf_lsa::{Link, LsaHeader, LsaView};
 use ospf_neighbour::Neighbour;
 
-/// Whether an LSA is the router-LSA that is wanted, number and checksum aside (RFC 2328, section 12.4.1).
+/// Whether an LSA is the router-LSA that is wanted, number and checksum
+/// aside (RFC 2328, section 12.4.1).
 pub fn says_router(
     copy: &LsaView<'_>,
     stub_router: bool,
@@ -37,7 +38,8 @@ pub fn says_router(
     is_router_lsa(copy, router, rest)
 }
 
-/// Whether an LSA is the network-LSA that is wanted of a link, number and checksum aside (RFC 2328, section 12.4.2).
+/// Whether an LSA is the network-LSA that is wanted of a link, number and checksum
+/// aside (RFC 2328, section 12.4.2).
 pub fn says_network(copy: &LsaView<'_>, router: RouterId, link: &AreaLink) -> bool
     ensures { result ≡ says (contents copy.now)
         (NetworkLsa link.now.iface.settings.address.0 router link.now.iface.settings.mask
@@ -160,7 +162,8 @@ fn link_bytes(link: &Link) -> [u8; 12]
     [a, b, c, d, e, f, g, h, link.kind.byte(), 0, i, j]
 }
 
-// Whether an LSA is the router-LSA of links, number and checksum aside, where these bytes stand behind them.
+// Whether an LSA is the router-LSA of links, number and checksum aside, where
+// these bytes stand behind them.
 fn is_router_lsa(lsa: &LsaView<'_>, router: RouterId, rest: Option<&[u8]>) -> bool
     ensures { (links : List Link) → option_copied rest.entry
         ≡ behind (flat_map link_bytes links) (Some (drop 24 lsa.now)) →
@@ -199,8 +202,8 @@ fn link_count(size: u16) -> u16
     (size - 24) / 12
 }
 
-// Whether an LSA has a header's Options, type, Link State ID, Advertising Router and length, and these first bytes of its
-// body.
+// Whether an LSA has a header's Options, type, Link State ID, Advertising Router and length, and
+// these first bytes of its body.
 fn has_front(lsa: &[u8], header: &LsaHeader, body: &[u8]) -> bool
     requires { 24 ≤ length lsa.now }
     ensures { result ≡ (bytes_eq (take 10 (drop 2 lsa.now)) (take 10 (header_bytes header.now))
@@ -308,7 +311,8 @@ fn past_higher<'a>(
     }
 }
 
-// Whether an LSA is the network-LSA of routers, number and checksum aside, where these bytes stand behind them.
+// Whether an LSA is the network-LSA of routers, number and checksum aside, where
+// these bytes stand behind them.
 fn is_network_lsa(
     lsa: &LsaView<'_>,
     id: u32,

@@ -57,16 +57,17 @@ impl OwnLsa {
     }
 }
 
-/// Whether the router is the Designated Router of a link, and fully adjacent to someone there: then it wants a
-/// network-LSA of it (RFC 2328, section 12.4.2).
+/// Whether the router is the Designated Router of a link, and fully adjacent to someone there: then
+/// it wants a network-LSA of it (RFC 2328, section 12.4.2).
 pub fn is_dr_of(link: &AreaLink) -> bool
     ensures { result ≡ is_dr_of link.now }
 {
     matches!(link.iface.state, IfaceState::Dr) && some_full(link.neighbours.all())
 }
 
-/// The LSAs that a router wants (RFC 2328, section 12.4), over its links in configuration order: its router-LSA, and the
-/// network-LSA of each link of which it is the Designated Router and fully adjacent to someone.
+/// The LSAs that a router wants (RFC 2328, section 12.4), over its links in configuration
+/// order: its router-LSA, and the network-LSA of each link of which it is the Designated Router
+/// and fully adjacent to someone.
 ///
 /// `AllocError` where memory runs out.
 #[tactic(auto, unfolding(crate::specs::Wanted::wanted_lsas))]
@@ -268,7 +269,8 @@ fn through_metric(stub_router: bool, cost: u16) -> u16
     if stub_router { MAX_LINK_METRIC } else { cost }
 }
 
-// Whether a link is one to a transit network. A Designated Router has a fully adjacent neighbour soon found.
+// Whether a link is one to a transit network. A Designated Router has a fully
+// adjacent neighbour soon found.
 #[tactic(auto, using(crate::proofs::SaidLemmas::either))]
 fn is_transit(link: &AreaLink) -> bool
     ensures { result ≡ is_transit link.now }

@@ -12,26 +12,37 @@ use Rattle.ospf_whatif.specs.declared.effect.Loss.TheVariants.{Cut, Dearer, Gone
 use Rattle.ospf_whatif.specs.declared.effect.RouteChange.{RouteChange}
 use Rattle.ospf_whatif.specs.declared.failure.AreaFailure.{AreaFailure}
 
--- what becomes of a route where the area is left as `left`, and the table as `after`: no route to its prefix, which nobody tells or somebody does; or one that
--- costs more, or the same over other next hops
+-- what becomes of a route where the area is left as `left`, and the table as `after`:
+-- no route to its prefix, which nobody tells or somebody does; or one that costs more,
+-- or the same over other next hops
 abbrev pub IsLoss : List Advertisement → List Route → Route → Loss → Type 0
-IsLoss left after route Gone = (Reaches after route.prefix → ⊥) × (IsAdvertised left route.prefix → ⊥)
+IsLoss left after route Gone =
+    (Reaches after route.prefix → ⊥) × (IsAdvertised left route.prefix → ⊥)
 IsLoss left after route Cut = (Reaches after route.prefix → ⊥) × IsAdvertised left route.prefix
-IsLoss left after route (Dearer new) = Contains after new × (new.prefix ≡ route.prefix) × (route.cost < new.cost)
-IsLoss left after route (Moved new) = Contains after new × (new.prefix ≡ route.prefix) × (new.cost ≡ route.cost) × (new.hops ≡ route.hops → ⊥)
+IsLoss left after route (Dearer new) =
+    Contains after new × (new.prefix ≡ route.prefix) × (route.cost < new.cost)
+IsLoss left after route (Moved new) =
+    Contains after new × (new.prefix ≡ route.prefix) × (new.cost ≡ route.cost)
+    × (new.hops ≡ route.hops → ⊥)
 
 -- the order of changes: by the prefixes of their routes
 abbrev pub IsRouteChangeBefore : RouteChange → RouteChange → Type 0
 IsRouteChangeBefore c d = IsRouteBefore c.before d.before
 
--- what becomes of the routes of a table where the area is left as `left`: in order, so each once, exactly those that the table of what is left does not have
-pub record IsEffectIn (left : List Advertisement) (root : RouterId) (before : List Route) (effect : List RouteChange) : Type 0 where
+-- what becomes of the routes of a table where the area is left as `left`: in order, so each once,
+-- exactly those that the table of what is left does not have
+pub record IsEffectIn (left : List Advertisement) (root : RouterId) (before : List Route)
+    (effect : List RouteChange) : Type 0 where
   pub after : List Route
   pub is_after : IsTable left root after
   pub in_order : AllPairs IsRouteChangeBefore effect
-  pub listed : (route : Route) → ((loss : Loss) × Contains effect (record { before = route; loss = loss })) ↔ (Contains before route × (Contains after route → ⊥))
+  pub listed : (route : Route)
+      → ((loss : Loss) × Contains effect (record { before = route; loss = loss }))
+      ↔ (Contains before route × (Contains after route → ⊥))
   pub losses : All (λ c. IsLoss left after c.before c.loss) effect
 
 -- what becomes of them where something fails
-abbrev pub IsEffect : List Advertisement → RouterId → AreaFailure → List Route → List RouteChange → Type 0
-IsEffect adverts root failure before effect = IsEffectIn (without failure adverts) root before effect
+abbrev pub IsEffect : List Advertisement → RouterId → AreaFailure → List Route → List RouteChange
+    → Type 0
+IsEffect adverts root failure before effect =
+    IsEffectIn (without failure adverts) root before effect

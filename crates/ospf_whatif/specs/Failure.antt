@@ -35,24 +35,30 @@ abbrev pub is_stub_of : Link → Prefix → Bool
 is_stub_of l prefix = by_kind l.kind
   where
     by_kind : LinkKind → Bool
-    by_kind kind.Stub = (l.link_data == mask_of prefix.length) && (bit_and l.id (mask_of prefix.length) == prefix.address.0)
+    by_kind kind.Stub =
+        (l.link_data == mask_of prefix.length)
+        && (bit_and l.id (mask_of prefix.length) == prefix.address.0)
     by_kind _ = false
 
 -- its Link Data lies in the prefix
 abbrev pub is_on : Link → Prefix → Bool
 is_on l prefix = bit_and l.link_data (mask_of prefix.length) == prefix.address.0
 
--- what an interface to a router in a subnet makes (section 12.4.1.1): a type 1 link from an address there, and the type 3 link to the subnet
+-- what an interface to a router in a subnet makes (section 12.4.1.1): a type 1 link from an address
+-- there, and the type 3 link to the subnet
 abbrev pub is_wire_end : Link → RouterId → Prefix → Bool
 is_wire_end l router subnet = (is_link_to l router && is_on l subnet) || is_stub_of l subnet
 
 -- ---- failures
 
--- the links that the router-LSA of a router has lost once its routers have told of the failure: an interface that is down makes no link, and one that is
--- up makes none to a router that it hears no more (section 12.4.1)
+-- the links that the router-LSA of a router has lost once its routers have told of the failure:
+-- an interface that is down makes no link, and one that is up makes none to a router that it
+-- hears no more (section 12.4.1)
 abbrev pub takes : failure.AreaFailure → RouterId → Link → Bool
-takes (fails.Link a b subnet) router l = ((router.0 == a.0) && is_wire_end l b subnet) || ((router.0 == b.0) && is_wire_end l a subnet)
-takes (Links a b) router l = ((router.0 == a.0) && is_link_to l b) || ((router.0 == b.0) && is_link_to l a)
+takes (fails.Link a b subnet) router l =
+    ((router.0 == a.0) && is_wire_end l b subnet) || ((router.0 == b.0) && is_wire_end l a subnet)
+takes (Links a b) router l =
+    ((router.0 == a.0) && is_link_to l b) || ((router.0 == b.0) && is_link_to l a)
 takes (Attachment attached network) router l = (router.0 == attached.0) && is_transit_of l network
 takes (Network network) router l = is_transit_of l network
 takes (Router gone) router l = (router.0 == gone.0) || is_link_to l gone
@@ -63,7 +69,8 @@ takes (Router gone) router l = (router.0 == gone.0) || is_link_to l gone
 abbrev pub kept_links : failure.AreaFailure → RouterId → List Link → List Link
 kept_links f router links = filter (λ l. not (takes f router l)) links
 
--- network-LSAs stay as they are: a router without a link to the network is not on it, whatever the network-LSA names (section 16.1)
+-- network-LSAs stay as they are: a router without a link to the network is not on it, whatever the
+-- network-LSA names (section 16.1)
 abbrev pub left_of_lsa : failure.AreaFailure → Advertisement → Advertisement
 left_of_lsa f (router_lsa router links) = router_lsa router (kept_links f router links)
 left_of_lsa f (network_lsa n router mask attached) = network_lsa n router mask attached

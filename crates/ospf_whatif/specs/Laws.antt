@@ -17,22 +17,29 @@ use Rattle.ospf_whatif.specs.declared.failure.AreaFailure.{AreaFailure}
 -- after a failure no prefix is reached that was not reached before, and none at a lower cost
 abbrev pub FailuresTakeAway : Type 0
 FailuresTakeAway =
-    (failure : AreaFailure) (adverts : List Advertisement) (root : RouterId) (before after : List Route) →
-    IsTable adverts root before → IsTable (without failure adverts) root after → (route : Route) → Contains after route →
+    (failure : AreaFailure) (adverts : List Advertisement) (root : RouterId)
+    (before after : List Route) →
+    IsTable adverts root before → IsTable (without failure adverts) root after → (route : Route)
+    → Contains after route →
     (old : Route) × Contains before old × (old.prefix ≡ route.prefix) × (old.cost ≤ route.cost)
 
 -- no edge comes from a failure
 abbrev pub FailuresMakeNoEdge : Type 0
-FailuresMakeNoEdge = (failure : AreaFailure) (adverts : List Advertisement) (e : Edge) → IsEdge (without failure adverts) e → IsEdge adverts e
+FailuresMakeNoEdge =
+    (failure : AreaFailure) (adverts : List Advertisement) (e : Edge)
+    → IsEdge (without failure adverts) e → IsEdge adverts e
 
 -- no least path goes over the edge
 abbrev pub IsOffLeastPaths : (Vertex → ℕ → Type 0) → Edge → Type 0
 IsOffLeastPaths At e = (d : ℕ) → At e.from d → At e.to (d + e.cost) → ⊥
 
--- a failure that takes only edges which no least path from the root goes over leaves the tree of shortest paths as it is: no search is needed
+-- a failure that takes only edges which no least path from the root goes over leaves the tree of
+-- shortest paths as it is: no search is needed
 abbrev pub TreesStay : Type 0
 TreesStay =
-    (failure : AreaFailure) (adverts : List Advertisement) (root : Vertex) (settled : List Settled) (starts : List VertexStart) →
+    (failure : AreaFailure) (adverts : List Advertisement) (root : Vertex) (settled : List Settled)
+    (starts : List VertexStart) →
     IsTree (IsEdge adverts) root (AtIn settled) (StartsIn starts) →
-    ((e : Edge) → IsEdge adverts e → IsEdge (without failure adverts) e ⊎ IsOffLeastPaths (AtIn settled) e) →
+    ((e : Edge) → IsEdge adverts e
+    → IsEdge (without failure adverts) e ⊎ IsOffLeastPaths (AtIn settled) e) →
     IsTree (IsEdge (without failure adverts)) root (AtIn settled) (StartsIn starts)

@@ -1,4 +1,5 @@
--- What a failure takes from the graph of an area, and what a router loses by it (RFC 2328, section 16.1).
+-- What a failure takes from the graph of an area, and what a router loses
+-- by it (RFC 2328, section 16.1).
 use Rattle.std.specs.Prelude.{◌≡◌, ◌<◌, ◌≤◌, ◌⊎◌, ◌++◌, ◌∷◌, ℕ, List, [], AllPairs, Contains, Option, None, Some, length, slice_index_or}
 use Rattle.ospf_base.specs.declared.prefix.Prefix.{Prefix}
 use Rattle.ospf_base.specs.declared.ids.RouterId.{RouterId}
@@ -52,10 +53,14 @@ StandsIn adverts e = IsEnd adverts e.prefix e.vertex e.cost
 
 -- its edges and its ends are those of the area that its failure does not leave
 pub record IsOutage (adverts : List Advertisement) (outage : Outage) : Type 0 where
-  pub edges_gone : (e : Edge) → Contains outage.edges.items e → IsEdge adverts e × (IsEdge (left_of_area adverts outage) e → ⊥)
-  pub edges_or : (e : Edge) → IsEdge adverts e → Contains outage.edges.items e ⊎ IsEdge (left_of_area adverts outage) e
-  pub ends_gone : (e : End) → Contains outage.ends.items e → StandsIn (left_of_area adverts outage) e → ⊥
-  pub ends_or : (e : End) → StandsIn adverts e → Contains outage.ends.items e ⊎ StandsIn (left_of_area adverts outage) e
+  pub edges_gone : (e : Edge) → Contains outage.edges.items e
+      → IsEdge adverts e × (IsEdge (left_of_area adverts outage) e → ⊥)
+  pub edges_or : (e : Edge) → IsEdge adverts e
+      → Contains outage.edges.items e ⊎ IsEdge (left_of_area adverts outage) e
+  pub ends_gone : (e : End) → Contains outage.ends.items e
+      → StandsIn (left_of_area adverts outage) e → ⊥
+  pub ends_or : (e : End) → StandsIn adverts e
+      → Contains outage.ends.items e ⊎ StandsIn (left_of_area adverts outage) e
 
 -- ---- a root
 
@@ -68,23 +73,30 @@ pub record IsKeptRoot (adverts : List Advertisement) (kept : KeptRoot) : Type 0 
 -- ---- what the root loses
 
 -- its paths before and after, which reach no vertex otherwise but these
-pub record IsLeftOver (adverts : List Advertisement) (outage : Outage) (root : RouterId) (changed : List Vertex) (before after : KeptTree) : Type 0 where
+pub record IsLeftOver (adverts : List Advertisement) (outage : Outage) (root : RouterId)
+    (changed : List Vertex) (before after : KeptTree) : Type 0 where
   pub was : IsTree (IsEdge adverts) (Router root) (AtIn before.settled) (StartsIn before.starts)
-  pub now : IsTree (IsEdge (left_of_area adverts outage)) (Router root) (AtIn after.settled) (StartsIn after.starts)
+  pub now : IsTree (IsEdge (left_of_area adverts outage)) (Router root) (AtIn after.settled)
+      (StartsIn after.starts)
   pub same : IsSameBut changed before after
 
 -- an end of the prefix goes, or one is at one of these vertices
 abbrev pub MayChange : List Advertisement → List End → List Vertex → Prefix → Type 0
 MayChange adverts gone changed prefix =
-    ((e : End) × Contains gone e × (e.prefix ≡ prefix)) ⊎ ((v : Vertex) × (cost : ℕ) × Contains changed v × IsEnd adverts prefix v cost)
+    ((e : End) × Contains gone e × (e.prefix ≡ prefix))
+    ⊎ ((v : Vertex) × (cost : ℕ) × Contains changed v × IsEnd adverts prefix v cost)
 
--- what becomes of a route where the area is left so: no way to its prefix, which nobody tells or somebody does; or a route that costs more, or the same over
--- other next hops
+-- what becomes of a route where the area is left so: no way to its prefix, which nobody tells or
+-- somebody does; or a route that costs more, or the same over other next hops
 abbrev pub IsLostAs : List Advertisement → RouterId → Route → Loss → Type 0
-IsLostAs left root route Gone = (Way left root route.prefix → ⊥) × (IsAdvertised left route.prefix → ⊥)
+IsLostAs left root route Gone =
+    (Way left root route.prefix → ⊥) × (IsAdvertised left route.prefix → ⊥)
 IsLostAs left root route Cut = (Way left root route.prefix → ⊥) × IsAdvertised left route.prefix
-IsLostAs left root route (Dearer new) = IsRoute left root new × (new.prefix ≡ route.prefix) × (route.cost < new.cost)
-IsLostAs left root route (Moved new) = IsRoute left root new × (new.prefix ≡ route.prefix) × (new.cost ≡ route.cost) × (new.hops ≡ route.hops → ⊥)
+IsLostAs left root route (Dearer new) =
+    IsRoute left root new × (new.prefix ≡ route.prefix) × (route.cost < new.cost)
+IsLostAs left root route (Moved new) =
+    IsRoute left root new × (new.prefix ≡ route.prefix) × (new.cost ≡ route.cost)
+    × (new.hops ≡ route.hops → ⊥)
 
 -- the route stays, or this becomes of it
 abbrev pub StaysOr : List Advertisement → RouterId → Route → Option Loss → Type 0
@@ -95,7 +107,9 @@ StaysOr left root route (Some loss) = IsLostAs left root route loss
 abbrev pub IsLossBy : Route → Route → Option Loss → Type 0
 IsLossBy before after None = before ≡ after
 IsLossBy before after (Some loss) =
-    (before ≡ after → ⊥) × (((before.cost < after.cost) × (loss ≡ Dearer after)) ⊎ ((after.cost ≤ before.cost) × (loss ≡ Moved after)))
+    (before ≡ after → ⊥)
+    × (((before.cost < after.cost) × (loss ≡ Dearer after))
+    ⊎ ((after.cost ≤ before.cost) × (loss ≡ Moved after)))
 
 -- one of some edges leaves the vertex, and is not among others
 abbrev pub HasOtherFrom : List Edge → List Edge → Vertex → Type 0
@@ -106,18 +120,30 @@ abbrev pub IsToldBy : List Advertisement → List End → Prefix → Type 0
 IsToldBy left ends prefix = (e : End) × Contains ends e × (e.prefix ≡ prefix) × IsLive left e.vertex
 
 -- the graph, what goes from it, and the root's paths over what is left
-pub record AreOverLeft (adverts : List Advertisement) (root : RouterId) (area : AreaGraph) (outage : Outage) (paths : KeptTree) : Type 0 where
+pub record AreOverLeft (adverts : List Advertisement) (root : RouterId) (area : AreaGraph)
+    (outage : Outage) (paths : KeptTree) : Type 0 where
   pub graph : IsAreaGraph adverts area
   pub outage_is : IsOutage adverts outage
-  pub tree : IsTree (IsEdge (left_of_area adverts outage)) (Router root) (AtIn paths.settled) (StartsIn paths.starts)
+  pub tree : IsTree (IsEdge (left_of_area adverts outage)) (Router root) (AtIn paths.settled)
+      (StartsIn paths.starts)
 
 -- the route stays, or is added with what becomes of it
-abbrev pub AddsLoss : List Advertisement → RouterId → Route → List RouteChange → List RouteChange → Type 0
+abbrev pub AddsLoss : List Advertisement → RouterId → Route → List RouteChange → List RouteChange
+    → Type 0
 AddsLoss left root route old new =
-    (IsRoute left root route × (new ≡ old)) ⊎ ((loss : Loss) × IsLostAs left root route loss × (new ≡ old ++ record { before = route; loss = loss } ∷ []))
+    (IsRoute left root route × (new ≡ old))
+    ⊎ ((loss : Loss) × IsLostAs left root route loss
+    × (new ≡ old ++ record { before = route; loss = loss } ∷ []))
 
--- of the first routes, up to this number, these are changes in order; and each at one of these places stays or is among them
-pub record AreChangesTo (left : List Advertisement) (root : RouterId) (routes : List Route) (places : List ℕ) (n : ℕ) (changes : List RouteChange) : Type 0 where
+-- of the first routes, up to this number, these are changes in order; and each at one of
+-- these places stays or is among them
+pub record AreChangesTo (left : List Advertisement) (root : RouterId) (routes : List Route)
+    (places : List ℕ) (n : ℕ) (changes : List RouteChange) : Type 0 where
   pub in_order : AllPairs IsRouteChangeBefore changes
-  pub from : (c : RouteChange) → Contains changes c → (k : ℕ) × (k < n) × (k < length routes) × (c.before ≡ slice_index_or routes k c.before) × IsLostAs left root c.before c.loss
-  pub seen : (k : ℕ) (r : Route) → Contains places k → r ≡ slice_index_or routes k r → (k < n) × (IsRoute left root r ⊎ ((loss : Loss) × Contains changes (record { before = r; loss = loss })))
+  pub from : (c : RouteChange) → Contains changes c
+      → (k : ℕ) × (k < n) × (k < length routes) × (c.before ≡ slice_index_or routes k c.before)
+      × IsLostAs left root c.before c.loss
+  pub seen : (k : ℕ) (r : Route) → Contains places k → r ≡ slice_index_or routes k r
+      → (k < n)
+      × (IsRoute left root r
+      ⊎ ((loss : Loss) × Contains changes (record { before = r; loss = loss })))

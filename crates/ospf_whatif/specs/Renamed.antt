@@ -1,5 +1,6 @@
--- Transit networks under other names. The Link State ID of a network is the address of its Designated Router, and its
--- network-LSA is that router's (RFC 2328, section 12.4.2): both change when another router takes over.
+-- Transit networks under other names. The Link State ID of a network is the address of its
+-- Designated Router, and its network-LSA is that router's (RFC 2328, section 12.4.2): both change
+-- when another router takes over.
 use Rattle.std.specs.Prelude.{◌≡◌, ◌≤◌, ◌↔◌, ◌⊎◌, ℕ, List, Contains, map}
 use Rattle.ospf_base.specs.Prefixes.{IsPrefixOf}
 use Rattle.ospf_base.specs.declared.ids.RouterId.{RouterId}
@@ -23,9 +24,15 @@ renamed_id name _ id = id
 -- the same link, to the network under its new name
 abbrev pub renamed_link : (ℕ → ℕ) → Link → Link
 renamed_link name l =
-    record { id = renamed_id name l.kind l.id; link_data = l.link_data; kind = l.kind; metric = l.metric }
+    record {
+      id = renamed_id name l.kind l.id;
+      link_data = l.link_data;
+      kind = l.kind;
+      metric = l.metric;
+    }
 
--- the same LSA under the new names; a network-LSA is the new owner's, its Advertising Router (section 12.4.2)
+-- the same LSA under the new names; a network-LSA is the new owner's, its
+-- Advertising Router (section 12.4.2)
 abbrev pub renamed_lsa : (ℕ → ℕ) → (ℕ → RouterId → RouterId) → Advertisement → Advertisement
 renamed_lsa name owner (router_lsa router links) = router_lsa router (map (renamed_link name) links)
 renamed_lsa name owner (network_lsa n router mask attached) =
@@ -47,14 +54,17 @@ abbrev pub IsNetworkNamed : List Advertisement → ℕ → Type 0
 IsNetworkNamed adverts n = IsLinked adverts n ⊎ ((router : RouterId) × IsOwner adverts n router)
 
 -- new names that tell the networks of the area apart, and order them, as the old ones do
-pub record AreNames (name : ℕ → ℕ) (owner : ℕ → RouterId → RouterId) (adverts : List Advertisement) : Type 0 where
+pub record AreNames (name : ℕ → ℕ) (owner : ℕ → RouterId → RouterId) (adverts : List Advertisement)
+    : Type 0 where
   -- no two networks get one name
-  pub apart : (m n : ℕ) → IsNetworkNamed adverts m → IsNetworkNamed adverts n → name m ≡ name n → m ≡ n
+  pub apart : (m n : ℕ) → IsNetworkNamed adverts m → IsNetworkNamed adverts n → name m ≡ name n
+      → m ≡ n
   -- the owners of one network keep their order: of its LSAs the one of the largest Router ID counts
   pub owners : (n : ℕ) (q r : RouterId) → IsOwner adverts n q → IsOwner adverts n r →
       q.0 ≤ r.0 ↔ (owner n q).0 ≤ (owner n r).0
   -- the new name lies in the prefix of the network, as the old one does
-  pub prefixes : (n mask : ℕ) (attached : List RouterId) (prefix : Prefix) → IsNetwork adverts n mask attached →
+  pub prefixes : (n mask : ℕ) (attached : List RouterId) (prefix : Prefix)
+      → IsNetwork adverts n mask attached →
       IsPrefixOf n mask prefix ↔ IsPrefixOf (name n) mask prefix
   -- the networks of one prefix keep their order: of those as near the one of the largest ID counts
   pub order : (prefix : Prefix) (m n : ℕ) → IsEnd adverts prefix (Network m) 0 →

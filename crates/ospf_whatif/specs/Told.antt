@@ -15,4 +15,5 @@ IsLive adverts (Network n) = (e : Edge) × IsEdge adverts e × (e.from ≡ Netwo
 
 -- the prefix stands at one of those
 abbrev pub IsAdvertised : List Advertisement → Prefix → Type 0
-IsAdvertised adverts prefix = (v : Vertex) × (cost : ℕ) × IsEnd adverts prefix v cost × IsLive adverts v
+IsAdvertised adverts prefix =
+    (v : Vertex) × (cost : ℕ) × IsEnd adverts prefix v cost × IsLive adverts v

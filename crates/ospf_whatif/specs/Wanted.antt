@@ -20,14 +20,19 @@ wanted_links stub_router links = flat_map (links_of_link stub_router) links
 
 -- the failure takes none of the links that these interfaces make
 abbrev pub AreSpared : AreaFailure → RouterId → Bool → List LinkValue → Type 0
-AreSpared f router stub_router links = AllByRecursion (λ l. takes f router l ≡ false) (wanted_links stub_router links)
+AreSpared f router stub_router links =
+    AllByRecursion (λ l. takes f router l ≡ false) (wanted_links stub_router links)
 
--- the router wants what the failure leaves of what it wanted, where one of its interfaces has changed
-abbrev pub IsLeft : AreaFailure → RouterId → Bool → (front : List LinkValue) (before after : LinkValue) (back : List LinkValue) → Type 0
+-- the router wants what the failure leaves of what it wanted, where
+-- one of its interfaces has changed
+abbrev pub IsLeft : AreaFailure → RouterId → Bool
+    → (front : List LinkValue) (before after : LinkValue) (back : List LinkValue) → Type 0
 IsLeft f router stub_router front before after back =
-    kept_links f router (wanted_links stub_router (front ++ before ∷ back)) ≡ wanted_links stub_router (front ++ after ∷ back)
+    kept_links f router (wanted_links stub_router (front ++ before ∷ back))
+    ≡ wanted_links stub_router (front ++ after ∷ back)
 
--- an interface of a point-to-point link that is up, in this subnet, with no neighbour but this router
+-- an interface of a point-to-point link that is up, in this subnet,
+-- with no neighbour but this router
 pub record IsWireUp (l : LinkValue) (other : RouterId) (subnet : Prefix) : Type 0 where
   pub up : is_down l.iface.state ≡ false
   pub kind_is : l.iface.settings.kind ≡ kind.PointToPoint
@@ -37,9 +42,11 @@ pub record IsWireUp (l : LinkValue) (other : RouterId) (subnet : Prefix) : Type 
 -- the interface goes down
 abbrev pub LinksGoDown : Type 0
 LinksGoDown =
-    (router other : RouterId) (subnet : Prefix) (stub_router : Bool) (front back : List LinkValue) (before after : LinkValue) →
+    (router other : RouterId) (subnet : Prefix) (stub_router : Bool) (front back : List LinkValue)
+    (before after : LinkValue) →
     IsWireUp before other subnet → is_down after.iface.state ≡ true →
-    AreSpared (fails.Link router other subnet) router stub_router front → AreSpared (fails.Link router other subnet) router stub_router back →
+    AreSpared (fails.Link router other subnet) router stub_router front
+    → AreSpared (fails.Link router other subnet) router stub_router back →
     IsLeft (fails.Link router other subnet) router stub_router front before after back
 
 -- the failure of a router's attachment to a network, or of the network
@@ -53,17 +60,23 @@ IsNetworkFailure (fails.Router _) _ _ = ⊥
 -- an interface to a transit network goes down
 abbrev pub InterfacesGoDown : Type 0
 InterfacesGoDown =
-    (router : RouterId) (stub_router : Bool) (front back : List LinkValue) (before after : LinkValue) →
-    is_down before.iface.state ≡ false → before.iface.settings.kind ≡ kind.Broadcast → is_transit before ≡ true → is_down after.iface.state ≡ true →
+    (router : RouterId) (stub_router : Bool) (front back : List LinkValue)
+    (before after : LinkValue) →
+    is_down before.iface.state ≡ false → before.iface.settings.kind ≡ kind.Broadcast
+    → is_transit before ≡ true → is_down after.iface.state ≡ true →
     (f : AreaFailure) → IsNetworkFailure f router before.iface.dr.0 →
-    AreSpared f router stub_router front → AreSpared f router stub_router back → IsLeft f router stub_router front before after back
+    AreSpared f router stub_router front → AreSpared f router stub_router back
+    → IsLeft f router stub_router front before after back
 
 -- the neighbour on a point-to-point link is heard no more, and the interface stays up
 abbrev pub RoutersStop : Type 0
 RoutersStop =
-    (router gone : RouterId) (subnet : Prefix) (stub_router : Bool) (front back : List LinkValue) (before after : LinkValue) →
-    router.0 ≢ gone.0 → IsWireUp before gone subnet → after.iface ≡ before.iface → after.settings ≡ before.settings → after.neighbours ≡ [] →
-    AreSpared (fails.Router gone) router stub_router front → AreSpared (fails.Router gone) router stub_router back →
+    (router gone : RouterId) (subnet : Prefix) (stub_router : Bool) (front back : List LinkValue)
+    (before after : LinkValue) →
+    router.0 ≢ gone.0 → IsWireUp before gone subnet → after.iface ≡ before.iface
+    → after.settings ≡ before.settings → after.neighbours ≡ [] →
+    AreSpared (fails.Router gone) router stub_router front
+    → AreSpared (fails.Router gone) router stub_router back →
     IsLeft (fails.Router gone) router stub_router front before after back
 
 -- an interface that is up, on a transit network
@@ -77,8 +90,8 @@ abbrev pub KeepTheirNames : (ℕ → ℕ) → Bool → List LinkValue → Type 0
 KeepTheirNames name stub_router links =
     AllByRecursion (λ l. renamed_link name l ≡ l) (wanted_links stub_router links)
 
--- another router becomes the Designated Router of a network, and the interface stays on the network: the router wants the
--- links of before, under the network's new name
+-- another router becomes the Designated Router of a network, and the interface stays on the
+-- network: the router wants the links of before, under the network's new name
 abbrev pub DesignatedRoutersChange : Type 0
 DesignatedRoutersChange =
     (name : ℕ → ℕ) (stub_router : Bool) (front back : List LinkValue) (before after : LinkValue) →

@@ -47,11 +47,12 @@ impl From<LsaFault> for WithoutFault {
     }
 }
 
-/// The LSAs of an area after a failure, once its routers have told of it: those of the same keys, without the links
-/// that the failure takes. What it does not touch stays byte for byte; a changed router-LSA has its number and age 0.
+/// The LSAs of an area after a failure, once its routers have told of it: those of the same keys,
+/// without the links that the failure takes. What it does not touch stays byte for byte; a changed
+/// router-LSA has its number and age 0.
 ///
-/// `Links` where a changed router-LSA keeps more links than can be told in one of `LARGEST_LSA` bytes, which are 1,361; else
-/// `Memory`.
+/// `Links` where a changed router-LSA keeps more links than can be told in one of `LARGEST_LSA`
+/// bytes, which are 1,361; else `Memory`.
 pub fn without(
     alloc: Global,
     listing: &Listing,

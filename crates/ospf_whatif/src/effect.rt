@@ -13,7 +13,8 @@ use ospf_graph::Route;
 pub enum Loss {
     /// Its prefix is reached no more, and nobody in the area tells it any more.
     Gone,
-    /// Its prefix is reached no more, though somebody in the area tells it: the area has come apart.
+    /// Its prefix is reached no more, though somebody in the area
+    /// tells it: the area has come apart.
     Cut,
     /// Its prefix costs more, by this route.
     Dearer(Route),

@@ -8,16 +8,19 @@ use ospf_lsa::{Link, LinkKind};
 
 /// What fails in an area.
 ///
-/// Failures are in the order of their variants, and those of a variant in that of its fields, the first first.
+/// Failures are in the order of their variants, and those of a variant in that
+/// of its fields, the first first.
 #[derive(Clone, Copy, Debug, PartialEq, Eq, PartialOrd, Ord)]
 pub enum AreaFailure {
-    /// A point-to-point link: that of two routers in one subnet. The interfaces at both ends go down.
+    /// A point-to-point link: that of two routers in one subnet. The
+    /// interfaces at both ends go down.
     Link {
         a: RouterId,
         b: RouterId,
         subnet: Prefix,
     },
-    /// All point-to-point links between two routers, of which no subnet is known: the adjacencies end.
+    /// All point-to-point links between two routers, of which no subnet
+    /// is known: the adjacencies end.
     Links {
         a: RouterId,
         b: RouterId,

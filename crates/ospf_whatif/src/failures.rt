@@ -18,8 +18,8 @@ use ospf_graph::{Edge, Vertex};
 use ospf_lsa::{Listing, Lsa};
 use std::alloc::{AllocError, Global};
 
-/// What may fail in an area, each once, in the order of `AreaFailure`: links with a subnet, other links, attachments,
-/// networks and routers, each by its routers, its subnet or its network.
+/// What may fail in an area, each once, in the order of `AreaFailure`: links with a subnet, other
+/// links, attachments, networks and routers, each by its routers, its subnet or its network.
 ///
 /// `AllocError` where memory runs out.
 pub fn single_failures(alloc: Global, listing: &Listing) -> Result<Vec<AreaFailure>, AllocError>

@@ -14,20 +14,20 @@ pub fn failures_make_no_edge()
     ensures { FailuresMakeNoEdge }
 {}
 
-/// A failure that takes only edges which no least path from a root goes over leaves the root's tree of shortest paths
-/// as it is.
+/// A failure that takes only edges which no least path from a root goes over leaves the root's
+/// tree of shortest paths as it is.
 pub fn trees_stay()
     ensures { TreesStay }
 {}
 
-/// Routing tables depend on the Link State IDs and the Advertising Routers of transit networks in nothing but the order
-/// of the networks of one prefix.
+/// Routing tables depend on the Link State IDs and the Advertising Routers of transit networks in
+/// nothing but the order of the networks of one prefix.
 pub fn networks_are_but_names()
     ensures { NetworksAreButNames }
 {}
 
-/// Of network-LSAs nothing counts for routing tables but the masks, and which attached routers link back
-/// (RFC 2328, section 16.1, step 2b).
+/// Of network-LSAs nothing counts for routing tables but the masks, and which attached routers link
+/// back (RFC 2328, section 16.1, step 2b).
 pub fn only_links_back_count()
     ensures { OnlyLinksBackCount }
 {}

@@ -1,9 +1,11 @@
-//! What an area comes to without a link, an attachment, a network or a router of it: the LSAs that its routers would
-//! have after the failure, and what changes in a routing table (RFC 2328, sections 12.4.1 and 16.1).
+//! What an area comes to without a link, an attachment, a network or a router of it: the LSAs
+//! that its routers would have after the failure, and what changes in a routing table (RFC
+//! 2328, sections 12.4.1 and 16.1).
 //!
-//! That what routers then want to list is what is left here is a law (`links_go_down`, `interfaces_go_down`,
-//! `routers_stop`). Those on a network with another Designated Router list it under another name
-//! (`designated_routers_change`), which changes no routing table (`networks_are_but_names`, `only_links_back_count`).
+//! That what routers then want to list is what is left here is a law (`links_go_down`,
+//! `interfaces_go_down`, `routers_stop`). Those on a network with another Designated Router list it
+//! under another name (`designated_routers_change`), which changes no routing table
+//! (`networks_are_but_names`, `only_links_back_count`).
 #![tactic(auto)]
 
 mod area;

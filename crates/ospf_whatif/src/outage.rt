@@ -16,7 +16,8 @@ use ospf_lsa::Listing;
 use ospf_spf::{ends_in_order, ends_to, is_same_prefix};
 use std::alloc::{AllocError, Global};
 
-/// The edges of an area and the ends of its prefixes (RFC 2328, section 16.1), in the order in which they are looked for.
+/// The edges of an area and the ends of its prefixes (RFC 2328, section 16.1), in the
+/// order in which they are looked for.
 #[derive(Drop)]
 pub struct AreaGraph {
     pub(crate) edges: Vec<Edge>,

@@ -55,10 +55,11 @@ impl KeptRoot {
         Ok(KeptRoot { root, paths })
     }
 
-    /// What becomes of the routes of the router's table where a failure takes this from the area of a listing: each route that
-    /// the table of the area after the failure does not have, once, in the order of prefixes. No other prefix is reached after
-    /// a failure, and none at a lower cost (`failures_take_away`). Where no least path goes over an edge that the failure
-    /// takes there is no search, and only routes are looked at whose prefix loses an end.
+    /// What becomes of the routes of the router's table where a failure takes this from the area of
+    /// a listing: each route that the table of the area after the failure does not have, once, in
+    /// the order of prefixes. No other prefix is reached after a failure, and none at a lower cost
+    /// (`failures_take_away`). Where no least path goes over an edge that the failure takes there
+    /// is no search, and only routes are looked at whose prefix loses an end.
     ///
     /// `AllocError` where memory runs out.
     pub fn effect(
@@ -113,7 +114,8 @@ fn is_last(paths: &KeptPaths, edge: &Edge) -> bool
     from + edge.cost as u64 == to
 }
 
-// What becomes of the routes of a table, by the paths over what is left, which reach no vertex otherwise than before but these.
+// What becomes of the routes of a table, by the paths over what is left, which reach no vertex
+// otherwise than before but these.
 fn changes_over(
     alloc: Global,
     listing: &Listing,

@@ -2,26 +2,26 @@
 
 ghost use Rattle.ospf_whatif.specs.Wanted.{DesignatedRoutersChange, InterfacesGoDown, LinksGoDown, RoutersStop};
 
-/// Where the interface of a point-to-point link goes down, the router wants exactly the links that `Failure::Link` leaves
-/// (RFC 2328, section 12.4.1).
+/// Where the interface of a point-to-point link goes down, the router wants exactly the links that
+/// `Failure::Link` leaves (RFC 2328, section 12.4.1).
 pub fn links_go_down()
     ensures { LinksGoDown }
 {}
 
-/// Where the interface to a transit network goes down, the router wants exactly the links that `Failure::Attachment`
-/// leaves, and `Failure::Network` too.
+/// Where the interface to a transit network goes down, the router wants exactly the links that
+/// `Failure::Attachment` leaves, and `Failure::Network` too.
 pub fn interfaces_go_down()
     ensures { InterfacesGoDown }
 {}
 
-/// Where a router on a point-to-point link is heard no more, its neighbour wants exactly the links that `Failure::Router`
-/// leaves.
+/// Where a router on a point-to-point link is heard no more, its neighbour wants exactly the links
+/// that `Failure::Router` leaves.
 pub fn routers_stop()
     ensures { RoutersStop }
 {}
 
-/// Where another router becomes the Designated Router of a transit network, a router that stays on it wants exactly the
-/// links of before, under the new name of the network.
+/// Where another router becomes the Designated Router of a transit network, a router that stays on
+/// it wants exactly the links of before, under the new name of the network.
 pub fn designated_routers_change()
     ensures { DesignatedRoutersChange }
 {}

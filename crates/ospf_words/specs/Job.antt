@@ -31,7 +31,8 @@ abbrev pub IsToldOf : JobFault → Option (List ℕ) → Option (List ℕ) → T
 IsToldOf (fault.Address word) old new = Appends old new (address_line (string_bytes word))
 IsToldOf _ old new = ⊤
 
--- the fault of words that are to be values: this holds of the word that it names, unless memory ran out
+-- the fault of words that are to be values: this holds of the word that
+-- it names, unless memory ran out
 abbrev pub IsFaultOfValue : (List ℕ → Type 0) → JobFault → Type 0
 IsFaultOfValue P (fault.Words e) = ⊥
 IsFaultOfValue P (fault.Address word) = P (string_bytes word)
@@ -45,4 +46,5 @@ IsFaultOfNoValue _ = ⊤
 -- what becomes of an error of `clap`: want of memory is told as that
 abbrev pub IsFaultOfWords : Error → JobFault → Type 0
 IsFaultOfWords e f =
-    ((kind_of e ≡ OutOfMemory) × (f ≡ fault.Memory)) ⊎ ((kind_of e ≢ OutOfMemory) × (f ≡ fault.Words e))
+    ((kind_of e ≡ OutOfMemory) × (f ≡ fault.Memory))
+    ⊎ ((kind_of e ≢ OutOfMemory) × (f ≡ fault.Words e))

@@ -43,7 +43,8 @@ pub record IsWrongInFailures (entered : Option (Text × List Row)) (word : Text)
 pub record IsWrongInPath (entered : Option (Text × List Row)) (word : Text) : Type 0 where
   pub rows : List Row
   pub path : entered ≡ Some (codes "path", rows)
-  pub has_end : (first_of (codes "from") rows ≡ Some word) ⊎ (first_of (codes "address") rows ≡ Some word)
+  pub has_end :
+      (first_of (codes "from") rows ≡ Some word) ⊎ (first_of (codes "address") rows ≡ Some word)
   pub wrong : IsNoAddress word
 
 -- what is to be looked up in a run spells no address
@@ -55,7 +56,9 @@ pub record IsWrongInRun (entered : Option (Text × List Row)) (word : Text) : Ty
 
 -- the first word that is to be an address, and spells none
 abbrev pub IsWrongValue : Option (Text × List Row) → Text → Type 0
-IsWrongValue entered word = IsWrongInTable entered word ⊎ IsWrongInFailures entered word ⊎ IsWrongInPath entered word ⊎ IsWrongInRun entered word
+IsWrongValue entered word =
+    IsWrongInTable entered word ⊎ IsWrongInFailures entered word ⊎ IsWrongInPath entered word
+    ⊎ IsWrongInRun entered word
 
 -- there is no text that is read as a number of 64 bits
 abbrev pub IsNoNumber : Option Text → Type 0
@@ -63,11 +66,15 @@ IsNoNumber text = (t : Text) (number : ℕ) → text ≡ Some t → IsNumber t n
 
 -- some text is read as no number of 32 bits
 abbrev pub HasNoChoice : List Text → Type 0
-HasNoChoice texts = (text : Text) × Contains texts text × ((number : ℕ) → IsNumber text number → number < 2 ^ 32 → ⊥)
+HasNoChoice texts =
+    (text : Text) × Contains texts text
+    × ((number : ℕ) → IsNumber text number → number < 2 ^ 32 → ⊥)
 
 -- what `path` lacks: one of its ends, or a choice
 abbrev pub LacksInPath : List Row → Type 0
-LacksInPath rows = (first_of (codes "from") rows ≡ None) ⊎ (first_of (codes "address") rows ≡ None) ⊎ HasNoChoice (unwrap_or (all_of (codes "choices") rows) [])
+LacksInPath rows =
+    (first_of (codes "from") rows ≡ None) ⊎ (first_of (codes "address") rows ≡ None)
+    ⊎ HasNoChoice (unwrap_or (all_of (codes "choices") rows) [])
 
 -- what `run` lacks beside its ticks: the number of milliseconds, or files
 abbrev pub LacksInRun : List Row → Type 0
@@ -76,20 +83,31 @@ LacksInRun rows = IsNoNumber (one_of (codes "tick") rows) ⊎ (all_of (codes "fi
 -- a table is to be printed as JSON, and something is to be looked up in it or left out
 abbrev pub IsMoreInJson : List Row → Type 0
 IsMoreInJson rows =
-    IsFlag (one_of (codes "json") rows) true × ((unwrap_or (all_of (codes "addresses") rows) [] ≢ []) ⊎ (unwrap_or (all_of (codes "without") rows) [] ≢ []))
+    IsFlag (one_of (codes "json") rows) true
+    × ((unwrap_or (all_of (codes "addresses") rows) [] ≢ [])
+    ⊎ (unwrap_or (all_of (codes "without") rows) [] ≢ []))
 
 -- all faults are to be told, and as JSON
 abbrev pub IsAllInJson : List Row → Type 0
-IsAllInJson rows = IsFlag (one_of (codes "all") rows) true × IsFlag (one_of (codes "json") rows) true
+IsAllInJson rows =
+    IsFlag (one_of (codes "all") rows) true × IsFlag (one_of (codes "json") rows) true
 
--- what the words enter is no `table` with a root, but one with `--json` and more, no `failures` with a root, no `lsas` but one with both flags, no `path` with both ends and choices, no `check` with files but one with `--all` and `--json`, no `sim` with both, and no `run` with numbers and files
+-- what the words enter is no `table` with a root, but one with `--json` and more, no
+-- `failures` with a root, no `lsas` but one with both flags, no `path` with both ends and
+-- choices, no `check` with files but one with `--all` and `--json`, no `sim` with both, and
+-- no `run` with numbers and files
 pub record IsNoJob (entered : Option (Text × List Row)) : Type 0 where
-  pub no_table : (rows : List Row) → entered ≡ Some (codes "table", rows) → (first_of (codes "root") rows ≡ None) ⊎ IsMoreInJson rows
-  pub no_failures : (rows : List Row) → entered ≡ Some (codes "failures", rows) → first_of (codes "root") rows ≡ None
-  pub no_lsas : (rows : List Row) → entered ≡ Some (codes "lsas", rows) → IsFlag (one_of (codes "dot") rows) true × IsFlag (one_of (codes "json") rows) true
+  pub no_table : (rows : List Row) → entered ≡ Some (codes "table", rows)
+      → (first_of (codes "root") rows ≡ None) ⊎ IsMoreInJson rows
+  pub no_failures : (rows : List Row) → entered ≡ Some (codes "failures", rows)
+      → first_of (codes "root") rows ≡ None
+  pub no_lsas : (rows : List Row) → entered ≡ Some (codes "lsas", rows)
+      → IsFlag (one_of (codes "dot") rows) true × IsFlag (one_of (codes "json") rows) true
   pub no_path : (rows : List Row) → entered ≡ Some (codes "path", rows) → LacksInPath rows
-  pub no_check : (rows : List Row) → entered ≡ Some (codes "check", rows) → (all_of (codes "files") rows ≡ None) ⊎ IsAllInJson rows
-  pub no_sim : (rows : List Row) → entered ≡ Some (codes "sim", rows) → (first_of (codes "script") rows ≡ None) ⊎ (all_of (codes "files") rows ≡ None)
+  pub no_check : (rows : List Row) → entered ≡ Some (codes "check", rows)
+      → (all_of (codes "files") rows ≡ None) ⊎ IsAllInJson rows
+  pub no_sim : (rows : List Row) → entered ≡ Some (codes "sim", rows)
+      → (first_of (codes "script") rows ≡ None) ⊎ (all_of (codes "files") rows ≡ None)
   pub no_run : (rows : List Row) → entered ≡ Some (codes "run", rows)
       → IsNoNumber (one_of (codes "ticks") rows) ⊎ LacksInRun rows
 
@@ -98,14 +116,18 @@ abbrev pub IsJobIfAny : Option (Text × List Row) → Option Job → Type 0
 IsJobIfAny entered (Some job) = IsJobOf entered job
 IsJobIfAny entered None = IsNoJob entered
 
--- the words are refused for this, where the ticks of a run are a number: `clap` refuses them by an error of this kind, or a value is
--- no address
+-- the words are refused for this, where the ticks of a run are a number: `clap` refuses them by an
+-- error of this kind, or a value is no address
 abbrev pub IsUncounted : List Text → JobFault → Type 0
 IsUncounted words (fault.Words e) =
-    IsAmong (kind_of e) (fault_of command_app words) ⊎ ((fault_of command_app words ≡ []) × IsNoJob (subcommand_of command_app words))
-IsUncounted words (fault.Address word) = IsWrongValue (subcommand_of command_app words) (string_bytes word)
+    IsAmong (kind_of e) (fault_of command_app words)
+    ⊎ ((fault_of command_app words ≡ []) × IsNoJob (subcommand_of command_app words))
+IsUncounted words (fault.Address word) =
+    IsWrongValue (subcommand_of command_app words) (string_bytes word)
 IsUncounted words fault.Memory = ⊤
 
--- the words are refused for this: for that, or where they ask for a run without a last tick a value is no address
+-- the words are refused for this: for that, or where they ask for a run without a
+-- last tick a value is no address
 abbrev pub IsUnasked : List Text → JobFault → Type 0
-IsUnasked words f = IsUncounted words f ⊎ IsFaultOfValue (IsWrongValue (subcommand_of endless_app words)) f
+IsUnasked words f =
+    IsUncounted words f ⊎ IsFaultOfValue (IsWrongValue (subcommand_of endless_app words)) f

@@ -45,7 +45,9 @@ addresses_rule = record (new_rule (codes "addresses")) {
 
 -- an option that may be given more than once, with a word each time
 abbrev pub without_rule : Rule
-without_rule = record (new_rule (codes "without")) { long = Some (codes "without"); action = Some Append; value_names = 1 }
+without_rule =
+    record (new_rule (codes "without"))
+    { long = Some (codes "without"); action = Some Append; value_names = 1 }
 
 -- a flag of this name
 abbrev pub flag_rule : Text → Rule
@@ -53,7 +55,12 @@ flag_rule name = record (new_rule name) { long = Some name; action = Some SetTru
 
 -- the command `table`: a root, then addresses, what is left out, and a flag
 abbrev pub table_app : App
-table_app = with_rule (with_rule (with_rule (with_rule (new_app (codes "table")) root_rule) addresses_rule) without_rule) (flag_rule (codes "json"))
+table_app =
+    with_rule (with_rule (with_rule (with_rule (new_app (codes "table"))
+    root_rule)
+    addresses_rule)
+    without_rule)
+    (flag_rule (codes "json"))
 
 -- one word or more
 abbrev pub files_rule : Rule
@@ -67,13 +74,21 @@ files_rule = record (new_rule (codes "files")) {
 -- the command `check`: four flags, and files
 abbrev pub check_app : App
 check_app =
-    with_rule (with_rule (with_rule (with_rule (with_rule (new_app (codes "check")) (flag_rule (codes "explain"))) (flag_rule (codes "all"))) (flag_rule (codes "area")))
-    (flag_rule (codes "json"))) files_rule
+    with_rule (with_rule (with_rule (with_rule (with_rule (new_app (codes "check"))
+    (flag_rule (codes "explain")))
+    (flag_rule (codes "all")))
+    (flag_rule (codes "area")))
+    (flag_rule (codes "json")))
+    files_rule
 
 -- the command `failures`: a root, and three flags
 abbrev pub failures_app : App
 failures_app =
-    with_rule (with_rule (with_rule (with_rule (new_app (codes "failures")) root_rule) (flag_rule (codes "each"))) (flag_rule (codes "strict"))) (flag_rule (codes "json"))
+    with_rule (with_rule (with_rule (with_rule (new_app (codes "failures"))
+    root_rule)
+    (flag_rule (codes "each")))
+    (flag_rule (codes "strict")))
+    (flag_rule (codes "json"))
 
 -- the word for the file of a script
 abbrev pub script_rule : Rule
@@ -81,7 +96,9 @@ script_rule = one_rule (codes "script")
 
 -- the command `lsas`: two flags
 abbrev pub lsas_app : App
-lsas_app = with_rule (with_rule (new_app (codes "lsas")) (flag_rule (codes "dot"))) (flag_rule (codes "json"))
+lsas_app =
+    with_rule (with_rule (new_app (codes "lsas")) (flag_rule (codes "dot")))
+    (flag_rule (codes "json"))
 
 -- any number of numbers of 32 bits
 abbrev pub choices_rule : Rule
@@ -94,7 +111,11 @@ choices_rule = record (new_rule (codes "choices")) {
 
 -- the command `path`: a router, an address, then choices
 abbrev pub path_app : App
-path_app = with_rule (with_rule (with_rule (new_app (codes "path")) (one_rule (codes "from"))) (one_rule (codes "address"))) choices_rule
+path_app =
+    with_rule (with_rule (with_rule (new_app (codes "path"))
+    (one_rule (codes "from")))
+    (one_rule (codes "address")))
+    choices_rule
 
 -- an option of this name, with a word
 abbrev pub option_rule : Text → Rule
@@ -103,16 +124,25 @@ option_rule name = record (new_rule name) { long = Some name; value_names = 1 }
 -- the command `sim`: a script, files, and the options of what is to be written
 abbrev pub sim_app : App
 sim_app =
-    with_rule (with_rule (with_rule (with_rule (with_rule (with_rule (new_app (codes "sim")) script_rule) files_rule) (option_rule (codes "dot")))
-    (option_rule (codes "pcap"))) (option_rule (codes "log"))) (flag_rule (codes "json"))
+    with_rule (with_rule (with_rule (with_rule (with_rule (with_rule (new_app (codes "sim"))
+    script_rule)
+    files_rule)
+    (option_rule (codes "dot")))
+    (option_rule (codes "pcap")))
+    (option_rule (codes "log")))
+    (flag_rule (codes "json"))
 
 -- how many ticks: a number of at least one
 abbrev pub ticks_rule : Rule
-ticks_rule = record (new_rule (codes "ticks")) { required = true; value_names = 1; parser = Some (Unsigned 1 1000000) }
+ticks_rule =
+    record (new_rule (codes "ticks"))
+    { required = true; value_names = 1; parser = Some (Unsigned 1 1000000) }
 
 -- the milliseconds of a tick: a thousand at the most, and where nothing is said
 abbrev pub tick_rule : Rule
-tick_rule = record (option_rule (codes "tick")) { defaults = codes "1000" ∷ []; parser = Some (Unsigned 1 1000) }
+tick_rule =
+    record (option_rule (codes "tick"))
+    { defaults = codes "1000" ∷ []; parser = Some (Unsigned 1 1000) }
 
 -- after how many ticks tables are printed
 abbrev pub every_rule : Rule
@@ -121,23 +151,43 @@ every_rule = record (option_rule (codes "every")) { parser = Some (Unsigned 1 10
 -- the command `run`: ticks of this rule, files, and options
 abbrev pub run_app : Rule → App
 run_app ticks =
-    with_rule (with_rule (with_rule (with_rule (with_rule (with_rule (with_rule
-    (with_rule (with_rule (with_rule (with_rule (with_rule (with_rule (new_app (codes "run")) ticks) files_rule) tick_rule) (option_rule (codes "lookup")))
-    (option_rule (codes "floor"))) (option_rule (codes "pcap")))
-    (flag_rule (codes "neighbours"))) (flag_rule (codes "listing"))) (flag_rule (codes "drops"))) every_rule) (flag_rule (codes "until-eof")))
-    (option_rule (codes "log"))) (flag_rule (codes "json"))
+    with_rule (with_rule (with_rule (with_rule (with_rule (with_rule
+    (with_rule (with_rule (with_rule (with_rule (with_rule (with_rule (with_rule
+    (new_app (codes "run"))
+    ticks)
+    files_rule)
+    tick_rule)
+    (option_rule (codes "lookup")))
+    (option_rule (codes "floor")))
+    (option_rule (codes "pcap")))
+    (flag_rule (codes "neighbours")))
+    (flag_rule (codes "listing")))
+    (flag_rule (codes "drops")))
+    every_rule)
+    (flag_rule (codes "until-eof")))
+    (option_rule (codes "log")))
+    (flag_rule (codes "json"))
 
 -- the program, before its commands
 abbrev pub ospfd_app : App
 ospfd_app = record (new_app (codes "ospfd")) {
-  top = record (new_app (codes "ospfd")).top { no_binary_name = true; has_version = true; subcommand_required = true };
+  top =
+      record (new_app (codes "ospfd")).top
+      { no_binary_name = true; has_version = true; subcommand_required = true };
 }
 
 -- the program and its commands, where the ticks of a run are of this rule
 abbrev pub app_with : Rule → App
 app_with ticks =
-    with_subcommand (with_subcommand (with_subcommand (with_subcommand (with_subcommand (with_subcommand (with_subcommand ospfd_app table_app.top) failures_app.top)
-    lsas_app.top) path_app.top) check_app.top) sim_app.top) (run_app ticks).top
+    with_subcommand (with_subcommand (with_subcommand
+    (with_subcommand (with_subcommand (with_subcommand (with_subcommand ospfd_app
+    table_app.top)
+    failures_app.top)
+    lsas_app.top)
+    path_app.top)
+    check_app.top)
+    sim_app.top)
+    (run_app ticks).top
 
 -- where they are a number
 abbrev pub command_app : App
@@ -168,8 +218,10 @@ pub record IsTableJob (rows : List Row) (t : TableJob) : Type 0 where
   pub whole : unwrap_or (all_of (codes "without") rows) [] ≡ []
   pub plain : IsFlag (one_of (codes "json") rows) false
 
--- the root and the addresses that `clap` reads after `table`, and the names of what is to be left out
-pub record IsWithoutJob (rows : List Row) (root : RouterId) (names : List (String Global)) (addresses : List Addr) : Type 0 where
+-- the root and the addresses that `clap` reads after `table`, and the
+-- names of what is to be left out
+pub record IsWithoutJob (rows : List Row) (root : RouterId) (names : List (String Global))
+    (addresses : List Addr) : Type 0 where
   pub text : Text
   pub has_root : first_of (codes "root") rows ≡ Some text
   pub root_is : ReadsRouterId text (Ok root)
@@ -178,7 +230,8 @@ pub record IsWithoutJob (rows : List Row) (root : RouterId) (names : List (Strin
   pub some : names ≢ []
   pub plain : IsFlag (one_of (codes "json") rows) false
 
--- the root that `clap` reads after `table`, where it is to be printed as JSON: nothing is to be looked up or left out
+-- the root that `clap` reads after `table`, where it is to be printed as JSON: nothing
+-- is to be looked up or left out
 pub record IsTableInJson (rows : List Row) (root : RouterId) : Type 0 where
   pub text : Text
   pub has_root : first_of (codes "root") rows ≡ Some text
@@ -203,7 +256,8 @@ failures_form true = told.Json
 failures_form false = told.Text
 
 -- the root that `clap` reads after `failures`, and the flags
-pub record IsRootJob (rows : List Row) (root : RouterId) (each strict : Bool) (f : FailuresForm) : Type 0 where
+pub record IsRootJob (rows : List Row) (root : RouterId) (each strict : Bool) (f : FailuresForm)
+    : Type 0 where
   pub text : Text
   pub has_root : first_of (codes "root") rows ≡ Some text
   pub root_is : ReadsRouterId text (Ok root)
@@ -218,16 +272,23 @@ pub record IsAllJob (rows : List Row) (each strict : Bool) (f : FailuresForm) : 
   pub strict_is : IsFlag (one_of (codes "strict") rows) strict
   pub form_is : IsFailuresForm (one_of (codes "json") rows) f
 
--- what is asked of failures: by `failures` at a root, or with `all` as its root at all routers, and by `table` the table without what is named
+-- what is asked of failures: by `failures` at a root, or with `all` as its root at all routers, and
+-- by `table` the table without what is named
 abbrev pub IsFailuresJob : Option (Text × List Row) → FailuresJob → Type 0
-IsFailuresJob entered (Root root each strict f) = (rows : List Row) × (entered ≡ Some (codes "failures", rows)) × IsRootJob rows root each strict f
-IsFailuresJob entered (All each strict f) = (rows : List Row) × (entered ≡ Some (codes "failures", rows)) × IsAllJob rows each strict f
+IsFailuresJob entered (Root root each strict f) =
+    (rows : List Row) × (entered ≡ Some (codes "failures", rows))
+    × IsRootJob rows root each strict f
+IsFailuresJob entered (All each strict f) =
+    (rows : List Row) × (entered ≡ Some (codes "failures", rows)) × IsAllJob rows each strict f
 IsFailuresJob entered (Without root names addresses) =
-    (rows : List Row) × (entered ≡ Some (codes "table", rows)) × IsWithoutJob rows root (vec_items names) (vec_items addresses)
+    (rows : List Row) × (entered ≡ Some (codes "table", rows))
+    × IsWithoutJob rows root (vec_items names) (vec_items addresses)
 
 -- a text is read as this number
 abbrev pub IsNumber : Text → ℕ → Type 0
-IsNumber text number = IsNumeral 10 (without_leading_plus text) × (digits_value 10 (without_leading_plus text) ≡ number)
+IsNumber text number =
+    IsNumeral 10 (without_leading_plus text)
+    × (digits_value 10 (without_leading_plus text) ≡ number)
 
 -- each text is read as the choice at its place
 abbrev pub AreChoices : List Text → List ℕ → Type 0
@@ -236,7 +297,8 @@ AreChoices (text ∷ texts) (choice ∷ choices) = IsNumber text choice × AreCh
 AreChoices _ _ = ⊥
 
 -- the router, the address and the choices that `clap` reads after `path`
-pub record IsPathJob (rows : List Row) (from : RouterId) (address : Addr) (choices : List ℕ) : Type 0 where
+pub record IsPathJob (rows : List Row) (from : RouterId) (address : Addr) (choices : List ℕ)
+    : Type 0 where
   pub from_text : Text
   pub has_from : first_of (codes "from") rows ≡ Some from_text
   pub from_is : ReadsRouterId from_text (Ok from)
@@ -245,19 +307,26 @@ pub record IsPathJob (rows : List Row) (from : RouterId) (address : Addr) (choic
   pub address_is : ReadsAddress address_text (Ok address)
   pub choices_are : AreChoices (unwrap_or (all_of (codes "choices") rows) []) choices
 
--- what is to be printed of LSAs: by `lsas` each in words, or with its flags as a drawing or as JSON, by `table` with `all` as its root, no addresses and nothing left out, all tables, or with its
--- flag the table of a router as JSON, and by `path` a way
+-- what is to be printed of LSAs: by `lsas` each in words, or with its flags as a drawing or as
+-- JSON, by `table` with `all` as its root, no addresses and nothing left out, all tables, or with
+-- its flag the table of a router as JSON, and by `path` a way
 abbrev pub IsInspectJob : Option (Text × List Row) → InspectJob → Type 0
 IsInspectJob entered (Lsas f) =
-    (rows : List Row) × (entered ≡ Some (codes "lsas", rows)) × IsFlag (one_of (codes "dot") rows) false × IsForm (one_of (codes "json") rows) f
+    (rows : List Row) × (entered ≡ Some (codes "lsas", rows))
+    × IsFlag (one_of (codes "dot") rows) false × IsForm (one_of (codes "json") rows) f
 IsInspectJob entered Drawing =
-    (rows : List Row) × (entered ≡ Some (codes "lsas", rows)) × IsFlag (one_of (codes "dot") rows) true × IsFlag (one_of (codes "json") rows) false
+    (rows : List Row) × (entered ≡ Some (codes "lsas", rows))
+    × IsFlag (one_of (codes "dot") rows) true × IsFlag (one_of (codes "json") rows) false
 IsInspectJob entered (Tables f) =
-    (rows : List Row) × (entered ≡ Some (codes "table", rows)) × (first_of (codes "root") rows ≡ Some (codes "all")) × (unwrap_or (all_of (codes "addresses") rows) [] ≡ [])
+    (rows : List Row) × (entered ≡ Some (codes "table", rows))
+    × (first_of (codes "root") rows ≡ Some (codes "all"))
+    × (unwrap_or (all_of (codes "addresses") rows) [] ≡ [])
     × (unwrap_or (all_of (codes "without") rows) [] ≡ []) × IsForm (one_of (codes "json") rows) f
-IsInspectJob entered (Table root) = (rows : List Row) × (entered ≡ Some (codes "table", rows)) × IsTableInJson rows root
+IsInspectJob entered (Table root) =
+    (rows : List Row) × (entered ≡ Some (codes "table", rows)) × IsTableInJson rows root
 IsInspectJob entered (Path from address choices) =
-    (rows : List Row) × (entered ≡ Some (codes "path", rows)) × IsPathJob rows from address (vec_items choices)
+    (rows : List Row) × (entered ≡ Some (codes "path", rows))
+    × IsPathJob rows from address (vec_items choices)
 
 -- what `lsas` is asked for by its flags, of which one at the most is given
 abbrev pub lsas_asked : Bool → Bool → Option InspectJob
@@ -312,9 +381,11 @@ IsNumberIfAny (Some text) None = (number : ℕ) → IsNumber text number → num
 IsNumberIfAny None None = ⊤
 IsNumberIfAny None (Some number) = ⊥
 
--- how many ticks a run has: those that a text is read as; without a last one where `forever` stands in their place
+-- how many ticks a run has: those that a text is read as; without a last one where
+-- `forever` stands in their place
 abbrev pub HasTicks : List Row → Option ℕ → Type 0
-HasTicks rows (Some ticks) = (text : Text) × (one_of (codes "ticks") rows ≡ Some text) × IsNumber text ticks
+HasTicks rows (Some ticks) =
+    (text : Text) × (one_of (codes "ticks") rows ≡ Some text) × IsNumber text ticks
 HasTicks rows None = first_of (codes "ticks") rows ≡ Some (codes "forever")
 
 -- the ticks, the files and the options that `clap` reads after `run`
@@ -348,18 +419,24 @@ IsEndlessJob rows = IsRunWith rows None
 
 -- the job is that of the command that the words enter, with the values that they give it
 abbrev pub IsJobOf : Option (Text × List Row) → Job → Type 0
-IsJobOf entered (job.Table t) = (rows : List Row) × (entered ≡ Some (codes "table", rows)) × IsTableJob rows t
+IsJobOf entered (job.Table t) =
+    (rows : List Row) × (entered ≡ Some (codes "table", rows)) × IsTableJob rows t
 IsJobOf entered (job.Failures f) = IsFailuresJob entered f
 IsJobOf entered (job.Inspect i) = IsInspectJob entered i
-IsJobOf entered (job.Check c) = (rows : List Row) × (entered ≡ Some (codes "check", rows)) × IsCheckJob rows c
-IsJobOf entered (job.Sim s) = (rows : List Row) × (entered ≡ Some (codes "sim", rows)) × IsSimJob rows s
-IsJobOf entered (job.Run r) = (rows : List Row) × (entered ≡ Some (codes "run", rows)) × IsRunJob rows r
+IsJobOf entered (job.Check c) =
+    (rows : List Row) × (entered ≡ Some (codes "check", rows)) × IsCheckJob rows c
+IsJobOf entered (job.Sim s) =
+    (rows : List Row) × (entered ≡ Some (codes "sim", rows)) × IsSimJob rows s
+IsJobOf entered (job.Run r) =
+    (rows : List Row) × (entered ≡ Some (codes "run", rows)) × IsRunJob rows r
 
 -- the words enter a run without a last tick, and the job is that
 abbrev pub IsEndlessIn : Option (Text × List Row) → Job → Type 0
-IsEndlessIn entered j = (rows : List Row) × (entered ≡ Some (codes "run", rows)) × IsEndlessJob rows j
+IsEndlessIn entered j =
+    (rows : List Row) × (entered ≡ Some (codes "run", rows)) × IsEndlessJob rows j
 
--- the job is that of such a run, as `clap` reads the words where any word stands in place of the ticks
+-- the job is that of such a run, as `clap` reads the words where any
+-- word stands in place of the ticks
 abbrev pub IsEndless : List Text → Job → Type 0
 IsEndless words = IsEndlessIn (subcommand_of endless_app words)
 

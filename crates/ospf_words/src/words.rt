@@ -43,10 +43,11 @@ pub fn not_text(alloc: Global) -> JobFault
     }
 }
 
-/// Reads the program's words, without its own name. The word `forever` may stand in place of the ticks of a run.
+/// Reads the program's words, without its own name. The word `forever` may stand
+/// in place of the ticks of a run.
 ///
-/// The error is `Words` where they fit no command, or ask for help or the version, `Address` with the
-/// first word that is to be an address and is none, and `Memory` where memory ran out.
+/// The error is `Words` where they fit no command, or ask for help or the version, `Address` with
+/// the first word that is to be an address and is none, and `Memory` where memory ran out.
 pub fn job(alloc: Global, words: &[&str]) -> Result<Job, JobFault>
     ensures ok { IfOk result (IsAsked (map (λ w. w.now) words.now)) }
     ensures accepted { OnOk result (IsAccepted (map (λ w. w.now) words.now)) }
@@ -75,7 +76,8 @@ fn counted_job(alloc: Global, words: &[&str]) -> Result<Job, JobFault>
     }
 }
 
-// Reads words where the ticks of a run are any word: the job is that of a run without a last tick, if they ask for one.
+// Reads words where the ticks of a run are any word: the job is that of a run without a
+// last tick, if they ask for one.
 fn endless_job(alloc: Global, words: &[&str]) -> Result<Option<Job>, JobFault>
     ensures ok { IfOk result (λ found. IfSome found (IsEndless (map (λ w. w.now) words.now))) }
     ensures accepted { IfOk result (λ found. IfSome found
@@ -150,7 +152,8 @@ fn table_job(alloc: Global, values: &ArgMatches<'_>) -> Result<Option<Job>, JobF
     }
 }
 
-// The values of `table` where nothing is left out: its job, if they have a root. For all roots there are no addresses.
+// The values of `table` where nothing is left out: its job, if they have a root. For
+// all roots there are no addresses.
 fn whole_job(alloc: Global, values: &ArgMatches<'_>) -> Result<Option<Job>, JobFault>
     requires whole { unwrap_or (all_of (codes "without") (rows_of (found_of values.now))) [] ≡ [] }
     requires plain { IsFlag (one_of (codes "json") (rows_of (found_of values.now))) false }
@@ -200,7 +203,8 @@ fn without_job(
     })))
 }
 
-// The values of `table` that ask for JSON: its job, if they have a root, and nothing is looked up or left out.
+// The values of `table` that ask for JSON: its job, if they have a root, and
+// nothing is looked up or left out.
 fn json_job(alloc: Global, values: &ArgMatches<'_>) -> Result<Option<Job>, JobFault>
     requires { IsFlag (one_of (codes "json") (rows_of (found_of values.now))) true }
     ensures ok { IfOk result (IsJobIfAny (Some (codes "table", rows_of (found_of values.now)))) }

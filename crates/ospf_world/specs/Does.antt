@@ -15,9 +15,15 @@ pub record Changes (r : RouterId) (s s' : SlotValue) (before after : List SlotVa
   pub was : slice_get before place ≡ Some s
   pub is : after ≡ slice_set before place s'
 
--- what the event names happens to the router that it names, by the rules of its slot: it is refused, or the router starts
--- exactly as it is configured, stops, or takes the exact step of what the event feeds it. The log of ticks grows by those that
--- are taken, and what the rounds have offered stays. A router that the world does not have is refused
-pub data Does (event : WorldEvent) (before : WorldValue) (result : Result (Unit {0}) WorldFault) (after : WorldValue) : Type 0 where
-  NoRouter : place_of before.slots (router_in event).0 ≡ None → result ≡ Err fault.NoRouter → after ≡ before → Does event before result after
-  AtRouter : (s s' : SlotValue) → Changes (router_in event) s s' before.slots after.slots → SlotSteps event s before.logs result s' after.logs → after.ticks ≡ before.ticks ++ ticked_by event result (length before.logs.datagrams) → after.offered ≡ before.offered → Does event before result after
+-- what the event names happens to the router that it names, by the rules of its slot: it is
+-- refused, or the router starts exactly as it is configured, stops, or takes the exact step of what
+-- the event feeds it. The log of ticks grows by those that are taken, and what the rounds have
+-- offered stays. A router that the world does not have is refused
+pub data Does (event : WorldEvent) (before : WorldValue) (result : Result (Unit {0}) WorldFault)
+    (after : WorldValue) : Type 0 where
+  NoRouter : place_of before.slots (router_in event).0 ≡ None → result ≡ Err fault.NoRouter
+      → after ≡ before → Does event before result after
+  AtRouter : (s s' : SlotValue) → Changes (router_in event) s s' before.slots after.slots
+      → SlotSteps event s before.logs result s' after.logs
+      → after.ticks ≡ before.ticks ++ ticked_by event result (length before.logs.datagrams)
+      → after.offered ≡ before.offered → Does event before result after

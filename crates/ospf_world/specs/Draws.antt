@@ -30,7 +30,8 @@ chosen_of word count = if count == 0 then None else Some (word % count)
 -- a delivery, where there is a link and a datagram
 unfoldable pub drawn_delivery : Words → RouterId → (links datagrams : ℕ) → Option WorldEvent
 drawn_delivery words r links datagrams =
-    option_and_then (λ l. option_map (λ d. Deliver d r l) (chosen_of words.number datagrams)) (chosen_of words.link links)
+    option_and_then (λ l. option_map (λ d. Deliver d r l) (chosen_of words.number datagrams))
+    (chosen_of words.link links)
 
 -- a link that comes up, and one that goes down, where there is one
 unfoldable pub drawn_link_up : Words → RouterId → (links : ℕ) → Option WorldEvent
@@ -44,8 +45,10 @@ drawn_link_down words r links = option_map (λ l. LinkDown r l) (chosen_of words
 abbrev pub drawn_turn : Words → RouterId → Bool → WorldEvent
 drawn_turn words r is_running = if is_running then Stop r else Start r words.number lowest_number
 
--- what is drawn at a router that has so many links and runs or does not, where so many datagrams were sent
-unfoldable pub drawn_for : Words → RouterId → (links : ℕ) → Bool → (datagrams : ℕ) → Option WorldEvent
+-- what is drawn at a router that has so many links and runs or does not,
+-- where so many datagrams were sent
+unfoldable pub drawn_for : Words → RouterId → (links : ℕ) → Bool → (datagrams : ℕ)
+    → Option WorldEvent
 drawn_for words r links is_running datagrams =
     let part = words.kind % 16 in
     if nat_lt part 6 then Some (Tick r)
@@ -61,4 +64,6 @@ drawn_in words datagrams m = drawn_for words m.router m.links (is_some m.running
 -- what is drawn in a world; where there is no router, nothing
 unfoldable pub drawn : Words → World → Option WorldEvent
 drawn words w =
-    option_and_then (λ place. option_and_then (drawn_in words (length w.datagrams)) (slice_get w.routers place)) (chosen_of words.router (length w.routers))
+    option_and_then
+    (λ place. option_and_then (drawn_in words (length w.datagrams)) (slice_get w.routers place))
+    (chosen_of words.router (length w.routers))

@@ -30,11 +30,14 @@ is_sender g s = s.config.router_id.0 == g.router.0
 
 -- the address of the interface that a datagram went out of
 unfoldable pub sending_address : List SlotValue → Datagram → Option InterfaceAddress
-sending_address slots g = option_and_then (λ s. address_at s.config g.sent.link) (find (is_sender g) slots)
+sending_address slots g =
+    option_and_then (λ s. address_at s.config g.sent.link) (find (is_sender g) slots)
 
 -- what a router is offered of a datagram that another one sent, where it runs
 unfoldable pub offers_at : ℕ → InterfaceAddress → Datagram → SlotValue → List WorldEvent
-offers_at d from g s = if is_some s.running && not (is_sender g s) then offers_to d from g.sent.destination s.config else []
+offers_at d from g s =
+    if is_some s.running && not (is_sender g s) then offers_to d from g.sent.destination s.config
+    else []
 
 -- the deliveries that offer a datagram to the links of its network
 abbrev pub offers_by : ℕ → Datagram → List SlotValue → Option InterfaceAddress → List WorldEvent
@@ -43,12 +46,15 @@ offers_by d g slots (Some from) = flat_map (offers_at d from g) slots
 
 -- it is offered to an interface of this address of a router: another one sent it, and this one runs
 abbrev pub is_offered_to : InterfaceAddress → Datagram → SlotValue → InterfaceAddress → Bool
-is_offered_to from g s to = is_some s.running && not (is_sender g s) && is_offered from g.sent.destination to
+is_offered_to from g s to =
+    is_some s.running && not (is_sender g s) && is_offered from g.sent.destination to
 
 -- what is offered of it to an interface of this address, if there is that, of a router on this link
-abbrev pub offered_to : ℕ → InterfaceAddress → Datagram → SlotValue → ℕ → Option InterfaceAddress → List WorldEvent
+abbrev pub offered_to : ℕ → InterfaceAddress → Datagram → SlotValue → ℕ → Option InterfaceAddress
+    → List WorldEvent
 offered_to d from g s link None = []
-offered_to d from g s link (Some to) = if is_offered_to from g s to then Deliver d s.config.router_id link ∷ [] else []
+offered_to d from g s link (Some to) =
+    if is_offered_to from g s to then Deliver d s.config.router_id link ∷ [] else []
 
 -- on this link of a router, if there is that
 abbrev pub offer_on : ℕ → InterfaceAddress → Datagram → ℕ → Option SlotValue → List WorldEvent
@@ -66,7 +72,8 @@ offers_of slots d g = offers_by d g slots (sending_address slots g)
 -- the offers of the next datagram, if there is one
 pub data AreNextOffers (w : WorldValue) (next : Option (List WorldEvent)) : Type 0 where
   NoneNext : slice_get w.logs.datagrams w.offered ≡ None → next ≡ None → AreNextOffers w next
-  Next : (g : Datagram) → slice_get w.logs.datagrams w.offered ≡ Some g → next ≡ Some (offers_of w.slots w.offered g) → AreNextOffers w next
+  Next : (g : Datagram) → slice_get w.logs.datagrams w.offered ≡ Some g
+      → next ≡ Some (offers_of w.slots w.offered g) → AreNextOffers w next
 
 -- ---- what comes of them
 
@@ -74,36 +81,52 @@ pub data AreNextOffers (w : WorldValue) (next : Option (List WorldEvent)) : Type
 abbrev pub passed : WorldValue → WorldValue
 passed w = record { slots = w.slots; logs = w.logs; ticks = w.ticks; offered = w.offered + 1 }
 
--- the next datagram that no round has offered is offered, if there is one: refusals are passed over, and memory that runs out ends
--- it. The datagram then counts as offered, but where there was no memory for the list of its offers
-pub data OffersNext (before : WorldValue) (answer : Result Bool WorldFault) (after : WorldValue) : Type 0 where
-  NoneLeft : slice_get before.logs.datagrams before.offered ≡ None → answer ≡ Ok false → after ≡ before → OffersNext before answer after
+-- the next datagram that no round has offered is offered, if there is one: refusals are passed
+-- over, and memory that runs out ends it. The datagram then counts as offered, but where there was
+-- no memory for the list of its offers
+pub data OffersNext (before : WorldValue) (answer : Result Bool WorldFault) (after : WorldValue)
+    : Type 0 where
+  NoneLeft : slice_get before.logs.datagrams before.offered ≡ None → answer ≡ Ok false
+      → after ≡ before → OffersNext before answer after
   NoRoom : answer ≡ Err (fault.Memory false) → after ≡ before → OffersNext before answer after
-  Offers : (g : Datagram) (refused : ℕ) → slice_get before.logs.datagrams before.offered ≡ Some g → IsRun Does (offers_of before.slots before.offered g) (passed before) (Ok refused) after → answer ≡ Ok true → OffersNext before answer after
-  Ends : (g : Datagram) (f : WorldFault) → slice_get before.logs.datagrams before.offered ≡ Some g → IsRun Does (offers_of before.slots before.offered g) (passed before) (Err f) after → answer ≡ Err f → OffersNext before answer after
+  Offers : (g : Datagram) (refused : ℕ) → slice_get before.logs.datagrams before.offered ≡ Some g
+      → IsRun Does (offers_of before.slots before.offered g) (passed before) (Ok refused) after
+      → answer ≡ Ok true → OffersNext before answer after
+  Ends : (g : Datagram) (f : WorldFault) → slice_get before.logs.datagrams before.offered ≡ Some g
+      → IsRun Does (offers_of before.slots before.offered g) (passed before) (Err f) after
+      → answer ≡ Err f → OffersNext before answer after
 
 -- it goes on with the rest as long as there is a next one
-pub data OffersMore (Next : Result Bool WorldFault → WorldValue → Type 0) (Rest : WorldValue → Result (Unit {0}) WorldFault → WorldValue → Type 0) (result : Result (Unit {0}) WorldFault) (after : WorldValue) : Type 0 where
+pub data OffersMore (Next : Result Bool WorldFault → WorldValue → Type 0)
+    (Rest : WorldValue → Result (Unit {0}) WorldFault → WorldValue → Type 0)
+    (result : Result (Unit {0}) WorldFault) (after : WorldValue) : Type 0 where
   Last : Next (Ok false) after → result ≡ Ok tt → OffersMore Next Rest result after
-  More : (mid : WorldValue) → Next (Ok true) mid → Rest mid result after → OffersMore Next Rest result after
+  More : (mid : WorldValue) → Next (Ok true) mid → Rest mid result after
+      → OffersMore Next Rest result after
   Ended : (f : WorldFault) → Next (Err f) after → result ≡ Err f → OffersMore Next Rest result after
 
 -- so many datagrams at most
 abbrev pub AreOffered : ℕ → WorldValue → Result (Unit {0}) WorldFault → WorldValue → Type 0
 AreOffered zero before result after = (after ≡ before) × (result ≡ Ok tt)
-AreOffered (suc most) before result after = OffersMore (OffersNext before) (AreOffered most) result after
+AreOffered (suc most) before result after =
+    OffersMore (OffersNext before) (AreOffered most) result after
 
--- a round of so many datagrams at most: the ticks, and then the datagrams that no round has offered, with those that arise on the way. Refusals are passed over, and
--- memory that runs out ends it, that for the list of ticks before anything is done
-pub data IsRoundOf (most : ℕ) (before : WorldValue) (result : Result (Unit {0}) WorldFault) (after : WorldValue) : Type 0 where
+-- a round of so many datagrams at most: the ticks, and then the datagrams that no round has
+-- offered, with those that arise on the way. Refusals are passed over, and memory that runs out
+-- ends it, that for the list of ticks before anything is done
+pub data IsRoundOf (most : ℕ) (before : WorldValue) (result : Result (Unit {0}) WorldFault)
+    (after : WorldValue) : Type 0 where
   NoRoom : result ≡ Err (fault.Memory false) → after ≡ before → IsRoundOf most before result after
-  TicksEnd : (f : WorldFault) → IsRun Does (ticks before.slots) before (Err f) after → result ≡ Err f → IsRoundOf most before result after
-  Goes : (refused : ℕ) (mid : WorldValue) → IsRun Does (ticks before.slots) before (Ok refused) mid → AreOffered most mid result after → IsRoundOf most before result after
+  TicksEnd : (f : WorldFault) → IsRun Does (ticks before.slots) before (Err f) after
+      → result ≡ Err f → IsRoundOf most before result after
+  Goes : (refused : ℕ) (mid : WorldValue) → IsRun Does (ticks before.slots) before (Ok refused) mid
+      → AreOffered most mid result after → IsRoundOf most before result after
 
 -- how many datagrams a round offers at most, where nothing else is asked for
 unfoldable pub most_offers : ℕ
 most_offers = 10000
 
 -- a round: one of as many
-abbrev pub IsRound : (before : WorldValue) → Result (Unit {0}) WorldFault → (after : WorldValue) → Type 0
+abbrev pub IsRound : (before : WorldValue) → Result (Unit {0}) WorldFault → (after : WorldValue)
+    → Type 0
 IsRound before result after = IsRoundOf most_offers before result after

@@ -12,7 +12,8 @@ abbrev pub ticked_if : Result (Unit {0}) WorldFault → Ticked → List Ticked
 ticked_if (Ok done) tick = tick ∷ []
 ticked_if (Err fault) tick = []
 
--- what the log of ticks grows by: a tick that its router took, where so many datagrams had been sent
+-- what the log of ticks grows by: a tick that its router took, where
+-- so many datagrams had been sent
 abbrev pub ticked_by : WorldEvent → Result (Unit {0}) WorldFault → ℕ → List Ticked
 ticked_by (Start r dd floor) result sent = []
 ticked_by (Stop r) result sent = []
@@ -24,7 +25,8 @@ ticked_by (Deliver d r l) result sent = []
 -- these events led from the one world to the other, and the log of ticks grew by theirs
 abbrev pub TicksBy : List WorldEvent → World → List Ticked → World → List Ticked → Type 0
 TicksBy [] w ticks w' ticks' = (w' ≡ w) × (ticks' ≡ ticks)
-TicksBy (event ∷ events) w ticks w' ticks' = (mid : World) × (result : Result (Unit {0}) WorldFault) × Comes is_dropped event w result mid
+TicksBy (event ∷ events) w ticks w' ticks' =
+    (mid : World) × (result : Result (Unit {0}) WorldFault) × Comes is_dropped event w result mid
     × TicksBy events mid (ticks ++ ticked_by event result (length w.datagrams)) w' ticks'
 
 -- some events did

@@ -16,18 +16,28 @@ use Rattle.ospf_world.specs.declared.walk.Leg.TheVariants.{Ends, Goes}
 use Rattle.ospf_world.specs.declared.walk.Walk.{Walk}
 
 -- what a hop does, at the cost of its route: it arrives, or goes on at its router, over its link
-pub data LegsOver (A : List Advertisement) (at : RouterId) (hop : NextHop) (cost : ℕ) (leg : Leg) : Type 0 where
+pub data LegsOver (A : List Advertisement) (at : RouterId) (hop : NextHop) (cost : ℕ) (leg : Leg)
+    : Type 0 where
   Here : hop ≡ hops.Attached → leg ≡ Ends cost ends.Arrived → LegsOver A at hop cost leg
-  There : (next : RouterId) (link : ℕ) → IsNext hop next → IsLinkCost A at hop link → leg ≡ Goes next link → LegsOver A at hop cost leg
+  There : (next : RouterId) (link : ℕ) → IsNext hop next → IsLinkCost A at hop link
+      → leg ≡ Goes next link → LegsOver A at hop cost leg
 
 -- what a walk does at one router
 pub data IsLeg (w : World) (address choice : ℕ) (at : RouterId) (leg : Leg) : Type 0 where
   Stops : router_at w at ≡ None → leg ≡ Ends 0 ends.NotRunning → IsLeg w address choice at leg
-  Strays : (x : Running) → router_at w at ≡ Some x → HasNoRoute x.table address → leg ≡ Ends 0 ends.NoRoute → IsLeg w address choice at leg
-  Legs : (x : Running) (route : Route) (hop : NextHop) → router_at w at ≡ Some x → IsBest x.table address route → slice_get route.hops (choice % length route.hops) ≡ Some hop → LegsOver (adverts x) at hop route.cost leg → IsLeg w address choice at leg
+  Strays : (x : Running) → router_at w at ≡ Some x → HasNoRoute x.table address
+      → leg ≡ Ends 0 ends.NoRoute → IsLeg w address choice at leg
+  Legs : (x : Running) (route : Route) (hop : NextHop) → router_at w at ≡ Some x
+      → IsBest x.table address route → slice_get route.hops (choice % length route.hops) ≡ Some hop
+      → LegsOver (adverts x) at hop route.cost leg → IsLeg w address choice at leg
 
 -- the walk of these choices from a router of the world, or why there is none
-pub data Walks (w : World) (from : RouterId) (address : ℕ) (choices : List ℕ) (result : Result Walk WorldFault) : Type 0 where
-  NoRouter : member w from ≡ None → result ≡ Err fault.NoRouter → Walks w from address choices result
-  NoMemory : (m : Member) → member w from ≡ Some m → result ≡ Err (fault.Memory false) → Walks w from address choices result
-  Walked : (m : Member) (walk : Walk) → member w from ≡ Some m → result ≡ Ok walk → WorldWalk w address choices from walk.routers.items walk.cost walk.end → Walks w from address choices result
+pub data Walks (w : World) (from : RouterId) (address : ℕ) (choices : List ℕ)
+    (result : Result Walk WorldFault) : Type 0 where
+  NoRouter : member w from ≡ None → result ≡ Err fault.NoRouter
+      → Walks w from address choices result
+  NoMemory : (m : Member) → member w from ≡ Some m → result ≡ Err (fault.Memory false)
+      → Walks w from address choices result
+  Walked : (m : Member) (walk : Walk) → member w from ≡ Some m → result ≡ Ok walk
+      → WorldWalk w address choices from walk.routers.items walk.cost walk.end
+      → Walks w from address choices result

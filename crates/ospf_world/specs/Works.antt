@@ -31,14 +31,17 @@ pub record HasGreeted (w : WorldValue) (r : RouterId) (g : Datagram) (fields : H
   pub reads : packet_of g.sent.bytes ≡ Some g.sent.packet
   pub says : g.sent.packet.body ≡ hello fields []
 
--- a network of one router, which starts, ticks, and whose first link goes up, none of them refused: then the router runs, its link is
--- up, it has issued an LSA of its own and holds it, and it has sent a Hello
+-- a network of one router, which starts, ticks, and whose first link goes up, none of
+-- them refused: then the router runs, its link is up, it has issued an LSA of its own and
+-- holds it, and it has sent a Hello
 pub record SomeRouterWorks : Type 0 where
   pub config : Config
   pub dd_start : ℕ
   pub floor : ℤ
   pub after : WorldValue
-  pub runs : RunsOn Does (Start config.router_id dd_start floor ∷ Tick config.router_id ∷ LinkUp config.router_id 0 ∷ []) (new_world (config ∷ [])) 0 after 0
+  pub runs : RunsOn Does
+      (Start config.router_id dd_start floor ∷ Tick config.router_id ∷ LinkUp config.router_id 0
+      ∷ []) (new_world (config ∷ [])) 0 after 0
   pub x : Running
   pub at : router_at (world_of after) config.router_id ≡ Some x
   pub link : LinkValue

@@ -15,7 +15,8 @@ use Rattle.ospf_world.specs.declared.ticks.Ticked.{Ticked}
 pub use Rattle.ospf_router.specs.Routers.{RouterValue, listing_of}
 pub use Rattle.ospf_headline.specs.Slots.{IsLent, SlotValue}
 
--- the routers in the order of their configurations, the logs, the ticks that they took, and how many datagrams the rounds have offered
+-- the routers in the order of their configurations, the logs, the ticks that they took, and how
+-- many datagrams the rounds have offered
 pub record WorldValue : Type 0 where
   pub slots : List SlotValue
   pub logs : LogsValue
@@ -24,7 +25,13 @@ pub record WorldValue : Type 0 where
 
 -- what the laws of worlds speak of
 abbrev pub world_of : WorldValue → World
-world_of w = record { routers = map member_of w.slots; datagrams = w.logs.datagrams; issued = w.logs.issued; held = w.logs.held }
+world_of w =
+    record {
+      routers = map member_of w.slots;
+      datagrams = w.logs.datagrams;
+      issued = w.logs.issued;
+      held = w.logs.held;
+    }
 
 -- how the routers are configured
 abbrev pub config_of : SlotValue → Config
@@ -74,27 +81,42 @@ no_logs = record { datagrams = []; issued = []; held = [] }
 
 -- a world of these configurations, in which nothing runs and nothing has happened
 abbrev pub new_world : List Config → WorldValue
-new_world configs = record { slots = map stopped_slot configs; logs = no_logs; ticks = []; offered = 0 }
+new_world configs =
+    record { slots = map stopped_slot configs; logs = no_logs; ticks = []; offered = 0 }
 
--- what comes of these configurations: a new world of them, where no two share a Router ID; none, where two do; or memory ran out
+-- what comes of these configurations: a new world of them, where no two share a Router ID; none,
+-- where two do; or memory ran out
 pub data Opens (configs : List Config) (result : Result WorldValue WorldFault) : Type 0 where
   Begins : (ShareRouter configs → ⊥) → result ≡ Ok (new_world configs) → Opens configs result
   SameRouter : ShareRouter configs → result ≡ Err fault.SameRouter → Opens configs result
   NoMemory : result ≡ Err (fault.Memory false) → Opens configs result
 
--- a configuration is added to those that have a slot: it has the next one, or is of a Router ID that has one, or memory ran out
-pub data AddsConfig (config : Config) (slots : List SlotValue) (places : tree.BTreeMap ℕ ℕ) (result : Result (Unit {0}) WorldFault) (slots' : List SlotValue) (places' : tree.BTreeMap ℕ ℕ) : Type 0 where
-  Added : place_in places config.router_id.0 ≡ None → result ≡ Ok tt → slots' ≡ slots ++ stopped_slot config ∷ [] → ((r : ℕ) → place_in places' r ≡ cond (config.router_id.0 == r) (Some (length slots)) (place_in places r)) → AddsConfig config slots places result slots' places'
-  SameRouter : (k : ℕ) → place_in places config.router_id.0 ≡ Some k → result ≡ Err fault.SameRouter → AddsConfig config slots places result slots' places'
-  NoMemory : result ≡ Err (fault.Memory false) → AddsConfig config slots places result slots' places'
+-- a configuration is added to those that have a slot: it has the next one, or is of a Router ID
+-- that has one, or memory ran out
+pub data AddsConfig (config : Config) (slots : List SlotValue) (places : tree.BTreeMap ℕ ℕ)
+    (result : Result (Unit {0}) WorldFault) (slots' : List SlotValue) (places' : tree.BTreeMap ℕ ℕ)
+    : Type 0 where
+  Added : place_in places config.router_id.0 ≡ None → result ≡ Ok tt
+      → slots' ≡ slots ++ stopped_slot config ∷ []
+      → ((r : ℕ)
+      → place_in places' r
+      ≡ cond (config.router_id.0 == r) (Some (length slots)) (place_in places r))
+      → AddsConfig config slots places result slots' places'
+  SameRouter : (k : ℕ) → place_in places config.router_id.0 ≡ Some k → result ≡ Err fault.SameRouter
+      → AddsConfig config slots places result slots' places'
+  NoMemory : result ≡ Err (fault.Memory false)
+      → AddsConfig config slots places result slots' places'
 
 -- ---- the router of a Router ID
 
 -- it is lent where it runs, and else refused: the world has none, or it does not run
-pub data Lends (w : World) (r : RouterId) (result : Result (Bor RouterValue) WorldFault) : Type 0 where
-  Runs : (m : Member) (x : Bor RouterValue) → member w r ≡ Some m → result ≡ Ok x → IsLent m.running x.now → Lends w r result
+pub data Lends (w : World) (r : RouterId) (result : Result (Bor RouterValue) WorldFault)
+    : Type 0 where
+  Runs : (m : Member) (x : Bor RouterValue) → member w r ≡ Some m → result ≡ Ok x
+      → IsLent m.running x.now → Lends w r result
   NoRouter : member w r ≡ None → result ≡ Err fault.NoRouter → Lends w r result
-  NotRunning : (m : Member) → member w r ≡ Some m → m.running ≡ None → result ≡ Err fault.NotRunning → Lends w r result
+  NotRunning : (m : Member) → member w r ≡ Some m → m.running ≡ None → result ≡ Err fault.NotRunning
+      → Lends w r result
 
 -- the router of a slot is lent where it runs
 pub data LendsSlot (s : SlotValue) (result : Result (Bor RouterValue) WorldFault) : Type 0 where

@@ -52,9 +52,9 @@ pub fn chosen(word: u32, count: usize) -> Option<usize>
     }
 }
 
-/// What is drawn at a router: of sixteen parts six are ticks, seven are deliveries, one is a link that comes up, one a link
-/// that goes down, and one a stop where the router runs, else a start without a floor. Where there is no link, or no
-/// datagram to deliver, nothing happens.
+/// What is drawn at a router: of sixteen parts six are ticks, seven are deliveries, one is a link
+/// that comes up, one a link that goes down, and one a stop where the router runs, else a start
+/// without a floor. Where there is no link, or no datagram to deliver, nothing happens.
 #[tactic(auto, unfolding(crate::specs::Draws::drawn_for))]
 pub fn drawn_at(
     words: &Words,

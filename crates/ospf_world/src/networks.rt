@@ -11,15 +11,16 @@ use ospf_headline::Slot;
 use std::alloc::{AllocError, Global};
 use std::collections::BTreeMap;
 
-/// Where an interface of a world stands: the place of its router's slot, and the number of its link there.
+/// Where an interface of a world stands: the place of its router's slot,
+/// and the number of its link there.
 #[derive(Clone, Copy)]
 pub(crate) struct LinkPlace {
     pub(crate) place: usize,
     pub(crate) link: usize,
 }
 
-/// The interfaces on each network, by the number of the network, in the order of the configurations. Networks of one number
-/// and of prefixes of several lengths stand together.
+/// The interfaces on each network, by the number of the network, in the order of the
+/// configurations. Networks of one number and of prefixes of several lengths stand together.
 pub(crate) type Networks = BTreeMap<u32, Vec<LinkPlace>>;
 
 /// The interfaces of these routers.

@@ -19,9 +19,9 @@ pub(crate) fn address_of(config: &Config, link: usize) -> Option<InterfaceAddres
     Some(interface.address)
 }
 
-/// The deliveries of a datagram, which went out of an interface of this address, to the interfaces at these places: to each
-/// whose router runs and is not the sender, whose prefix is that of the sending interface, and which listens to the destination
-/// (RFC 2328, section 8.1).
+/// The deliveries of a datagram, which went out of an interface of this address, to the interfaces
+/// at these places: to each whose router runs and is not the sender, whose prefix is that of the
+/// sending interface, and which listens to the destination (RFC 2328, section 8.1).
 ///
 /// `AllocError` where memory runs out.
 pub(crate) fn offers_at(
@@ -87,7 +87,8 @@ fn push_on_link(
     Ok(())
 }
 
-// Whether a datagram is offered to an interface of a router: another one sent it, and this one runs.
+// Whether a datagram is offered to an interface of a router: another
+// one sent it, and this one runs.
 fn is_offered_to(
     slot: &Slot,
     from: &InterfaceAddress,
@@ -116,7 +117,8 @@ fn is_beside(one: &InterfaceAddress, other: &InterfaceAddress) -> bool
         && one.address.0 & mask_of(one.length) == other.address.0 & mask_of(other.length)
 }
 
-// Whether an interface listens to a destination: all routers, those that a network elects, or its own address.
+// Whether an interface listens to a destination: all routers, those that a
+// network elects, or its own address.
 fn listens(destination: Addr, to: &InterfaceAddress) -> bool
     ensures { result ≡ is_for destination to.now }
 {

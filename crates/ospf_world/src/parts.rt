@@ -37,15 +37,22 @@ impl Model for Parts {
 
     ghost Value = { WorldValue };
 
-    ghost view = { λ w. record { slots = w.slots.items; logs = w.logs; ticks = w.ticks.items; offered = w.offered } };
+    ghost view = { λ w. record {
+      slots = w.slots.items;
+      logs = w.logs;
+      ticks = w.ticks.items;
+      offered = w.offered;
+    } };
 
-    ghost invariant = { λ w. AreSlotPlaces w.places w.slots.items × AreNetworks w.networks (map config_of w.slots.items) };
+    ghost invariant = { λ w. AreSlotPlaces w.places w.slots.items
+        × AreNetworks w.networks (map config_of w.slots.items) };
 }
 
 impl Parts {
     /// Routers so configured, of which none runs.
     ///
-    /// `WorldFault::SameRouter` where two share a Router ID; `WorldFault::Memory` where memory runs out.
+    /// `WorldFault::SameRouter` where two share a Router ID;
+    /// `WorldFault::Memory` where memory runs out.
     pub(crate) fn new(configs: Vec<Config>, alloc: Global) -> Result<Parts, WorldFault>
         ensures { Opens configs.items result }
     {
@@ -101,7 +108,8 @@ impl Parts {
         }
     }
 
-    /// The offers of a datagram, which stands at this place of the log: to the interfaces on the network that it went out to.
+    /// The offers of a datagram, which stands at this place of the log: to the interfaces on
+    /// the network that it went out to.
     ///
     /// `AllocError` where memory runs out.
     pub(crate) fn offers_of(

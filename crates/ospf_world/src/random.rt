@@ -19,8 +19,8 @@ use rand_pcg::Lcg64Xsh32;
 use std::alloc::Global;
 
 impl World {
-    /// So many events by chance, one after another: four words of the generator draw each, in the world as it then is. One
-    /// that is refused is passed over.
+    /// So many events by chance, one after another: four words of the generator draw each, in the
+    /// world as it then is. One that is refused is passed over.
     ///
     /// `Memory` where memory runs out, which ends it.
     pub fn draw_events(

@@ -17,9 +17,10 @@ use std::alloc::{AllocError, Global};
 pub const MOST_OFFERS: u64 = 10_000;
 
 impl World {
-    /// A round: a tick of each router that runs, in the order of the configurations, and then, in the order in which they were
-    /// sent, the datagrams that no round has offered, with those that arise on the way, 10,000 at most. One is offered to each
-    /// interface of the other routers that run whose prefix is the sending interface's and that listens to the destination: it is
+    /// A round: a tick of each router that runs, in the order of the configurations, and then, in
+    /// the order in which they were sent, the datagrams that no round has offered, with those that
+    /// arise on the way, 10,000 at most. One is offered to each interface of the other routers that
+    /// run whose prefix is the sending interface's and that listens to the destination: it is
     /// 224.0.0.5, 224.0.0.6 or its own address. What is refused is passed over.
     ///
     /// `Memory` where memory runs out, which ends it.
@@ -36,8 +37,9 @@ impl World {
         self.round_of(MOST_OFFERS, alloc)
     }
 
-    /// A round, as `round` has it, that offers so many datagrams at most. Where a round offers fewer than routers send in it,
-    /// those that wait grow more and more, and what is repeated meanwhile adds to them: then an area may never agree.
+    /// A round, as `round` has it, that offers so many datagrams at most. Where a round offers
+    /// fewer than routers send in it, those that wait grow more and more, and what is repeated
+    /// meanwhile adds to them: then an area may never agree.
     ///
     /// `Memory` where memory runs out, which ends it.
     pub fn round_of(&mut self, most: u64, alloc: Global) -> Result<(), WorldFault>

@@ -38,10 +38,11 @@ pub(crate) enum Leg {
 }
 
 impl World {
-    /// The walk to an address from a router: at each router the hop at the choice modulo the number of hops of the best route is
-    /// taken, the first where choices are missing, and its link's cost is paid; where the network is the router's own the route's
-    /// cost is paid, and the walk has arrived. It may have as many hops as the world has routers. Nothing is changed, and memory is
-    /// taken for the list of routers alone.
+    /// The walk to an address from a router: at each router the hop at the choice modulo the number
+    /// of hops of the best route is taken, the first where choices are missing, and its link's cost
+    /// is paid; where the network is the router's own the route's cost is paid, and the walk has
+    /// arrived. It may have as many hops as the world has routers. Nothing is changed, and memory
+    /// is taken for the list of routers alone.
     ///
     /// `NoRouter` where the world has no such router, `Memory` where memory runs out.
     pub fn walk(

@@ -3,7 +3,8 @@
 use crate::world::World;
 use ospf_headline::{WorldEvent, WorldFault};
 
-/// Is told of each event of a run, a round or a draw. What it makes of it is its own affair: the world learns nothing of it.
+/// Is told of each event of a run, a round or a draw. What it makes of it is its own affair:
+/// the world learns nothing of it.
 pub trait EventWatch {
     /// This event comes next. The world is so before it.
     fn comes(&mut self, world: &World, event: &WorldEvent);

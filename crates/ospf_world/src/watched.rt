@@ -17,7 +17,8 @@ use ospf_headline::{WorldEvent, WorldFault, headline, runs_lead_on, soundness};
 use std::alloc::Global;
 
 impl World {
-    /// What an event names happens to the router that it names, as by `step`. A watch is told of it.
+    /// What an event names happens to the router that it names, as by
+    /// `step`. A watch is told of it.
     ///
     /// The faults are those of `step`.
     pub fn step_watched<W: EventWatch>(

@@ -22,9 +22,11 @@ use ospf_router::Router;
 use std::alloc::{AllocError, Global};
 use std::marker::Model;
 
-/// Many routers, started, stopped and stepped by events, and the logs of all that they sent, issued and held.
+/// Many routers, started, stopped and stepped by events, and the logs of all
+/// that they sent, issued and held.
 ///
-/// Every world has come from one in which nothing ran and nothing had happened, by some list of events.
+/// Every world has come from one in which nothing ran and nothing had
+/// happened, by some list of events.
 #[derive(Drop)]
 pub struct World {
     parts: Parts,
@@ -45,7 +47,8 @@ impl Model for World {
 impl World {
     /// A world of routers so configured. Nothing runs.
     ///
-    /// `WorldFault::SameRouter` where two share a Router ID; `WorldFault::Memory` where memory runs out.
+    /// `WorldFault::SameRouter` where two share a Router ID;
+    /// `WorldFault::Memory` where memory runs out.
     pub fn new(configs: Vec<Config>, alloc: Global) -> Result<World, WorldFault>
         ensures { Opens configs.items result }
     {
@@ -55,10 +58,11 @@ impl World {
 
     /// What an event names happens to the router that it names.
     ///
-    /// The first fault that holds: `NoRouter`, `NoLink`, `NoDatagram`, `Running` for the start of a running router,
-    /// `NotRunning` for any other event of one that does not run, and `Floor` for a start where no number is above the floor;
-    /// then nothing is changed. `Memory` where memory runs out: nothing is changed, or else, where `stopped`, the router is
-    /// stopped and no log has grown.
+    /// The first fault that holds: `NoRouter`, `NoLink`, `NoDatagram`, `Running` for the start
+    /// of a running router, `NotRunning` for any other event of one that does not run, and
+    /// `Floor` for a start where no number is above the floor; then nothing is changed.
+    /// `Memory` where memory runs out: nothing is changed, or else, where `stopped`, the router
+    /// is stopped and no log has grown.
     pub fn step(&mut self, event: WorldEvent, alloc: Global) -> Result<(), WorldFault>
         // What happens, and what stays.
         ensures does { Does event self.old result self.new }
@@ -77,7 +81,8 @@ impl World {
         self.parts.step(&event, alloc)
     }
 
-    /// The events in their order, each as by `step`: it goes on after a refused one, and answers how many were refused.
+    /// The events in their order, each as by `step`: it goes on after a refused one, and
+    /// answers how many were refused.
     ///
     /// `WorldFault::Memory` where memory runs out for one: that is the last.
     pub fn run(&mut self, events: &[WorldEvent], alloc: Global) -> Result<usize, WorldFault>
@@ -96,7 +101,8 @@ impl World {
 
     /// The router, where it runs. No memory is taken.
     ///
-    /// `WorldFault::NoRouter` where there is none of the Router ID, `WorldFault::NotRunning` where it does not run.
+    /// `WorldFault::NoRouter` where there is none of the Router ID,
+    /// `WorldFault::NotRunning` where it does not run.
     pub fn router(&self, router: RouterId) -> Result<&Router, WorldFault>
         ensures { Lends (world_of self.now) router result }
     {
@@ -160,7 +166,8 @@ impl World {
         self.parts.offered
     }
 
-    /// The offers of a datagram, which stands at this place of the log, in the order of the configurations.
+    /// The offers of a datagram, which stands at this place of the log, in
+    /// the order of the configurations.
     ///
     /// `AllocError` where memory runs out.
     pub fn offers_of(

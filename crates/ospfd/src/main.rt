@@ -78,8 +78,8 @@ fn run_check<R: Runtime + AllocGlobal, O: Write, E: Write>(
     }
 }
 
-// Runs a simulation over the files of these names, and writes what is wanted of the world that it leaves. Whether its lines are
-// typed, where they come from standard input, is given.
+// Runs a simulation over the files of these names, and writes what is wanted of the world that it
+// leaves. Whether its lines are typed, where they come from standard input, is given.
 fn run_sim<R: Runtime + AllocGlobal + Clock + Copy + Drop, O: Write, E: Write, T: Write + Drop>(
     rt: &R,
     job: SimJob,
@@ -141,7 +141,8 @@ fn script_of<R: Runtime + AllocGlobal>(rt: &R, name: String) -> io::Result<Optio
     }
 }
 
-// Answers the lines of standard input, each before it reads the next. Where they are typed, a line feed ends the last prompt.
+// Answers the lines of standard input, each before it reads the next. Where they are typed, a
+// line feed ends the last prompt.
 fn run_console<R: Runtime + AllocGlobal, O: Write, E: Write, V: Watch>(
     rt: &R,
     files: &[NamedFile],
@@ -170,7 +171,8 @@ fn code_of(status: Status, is_unmet: bool) -> ExitCode {
     }
 }
 
-// A journal in the file of this name, emptied, if one is wanted; where it cannot be written that is told, and there is no answer.
+// A journal in the file of this name, emptied, if one is wanted; where it cannot be written that
+// is told, and there is no answer.
 fn open_journal<R: Runtime, E: Write>(
     rt: &R,
     name: Option<&str>,
@@ -222,7 +224,8 @@ struct OutputFiles<F: Write + Drop> {
     journal: Option<Journal<F>>,
 }
 
-// The files of these names, emptied; where one cannot be written that is told, and there is no answer.
+// The files of these names, emptied; where one cannot be written that
+// is told, and there is no answer.
 fn open_written<R: Runtime, E: Write>(
     rt: &R,
     written: Written<'_>,
@@ -316,8 +319,8 @@ fn await_end<I: Read + Drop>(mut input: I, ending: &Ending) {
     ending.tell();
 }
 
-// What ends a run where the input ends, which a thread waits for. No one waits for the thread: where the run ends first, it ends
-// with the program.
+// What ends a run where the input ends, which a thread waits for. No one waits for the thread:
+// where the run ends first, it ends with the program.
 fn end_of_input<R: Threads, I: Read + Send + Drop + 'static>(
     rt: &R,
     alloc: Global,
@@ -357,8 +360,8 @@ fn settings_of<R: AllocGlobal + Threads, I: Read + Send + Drop + 'static>(
     ))
 }
 
-// Runs routers of the configurations in the files of these names. The file for a capture is opened where these can run: else it
-// stays as it was.
+// Runs routers of the configurations in the files of these names. The file for a capture is opened
+// where these can run: else it stays as it was.
 fn run_routers<
     R: Runtime + AllocGlobal + Net + Threads + Wait + Clock + Copy + Send + Drop + 'static,
     O: Write,
@@ -403,8 +406,9 @@ where
     run_noted(rt, &settings, &files, written, noted, out, err)
 }
 
-// Does what the program's words say, and tells by the line how far it has come, if standard error is a terminal. The
-// console is standard output, for what is printed while something runs, and standard input, for what is waited for then. Where it fails, memory ran out.
+// Does what the program's words say, and tells by the line how far it has come, if standard error
+// is a terminal. The console is standard output, for what is printed while something runs, and
+// standard input, for what is waited for then. Where it fails, memory ran out.
 fn run<
     R: Runtime + AllocGlobal + Net + Threads + Wait + Clock + Copy + Send + Sync + Drop + 'static,
     E: Write,

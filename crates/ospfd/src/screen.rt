@@ -7,8 +7,8 @@ use std::io::Write;
 use std::rt::Runtime;
 use std::time::Clock;
 
-/// Tells on a terminal how far the rounds, or the events by chance, of a simulation have come, and writes its journal and its
-/// capture.
+/// Tells on a terminal how far the rounds, or the events by chance, of a simulation have come, and
+/// writes its journal and its capture.
 #[derive(Drop)]
 pub(crate) struct Screen<R: Runtime + Clock + Drop, T: Write + Drop, F: Write + Drop> {
     rt: R,

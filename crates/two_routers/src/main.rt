@@ -1,5 +1,5 @@
-//! Two routers, which hand each other their datagrams until the first knows the network behind the second.
-//! `docs/LIBRARY.md` goes through it.
+//! Two routers, which hand each other their datagrams until the first knows the network behind the
+//! second. `docs/LIBRARY.md` goes through it.
 #![tactic(auto)]
 
 use ospf_base::Addr;
@@ -79,7 +79,8 @@ fn sent_on(
     Ok(step.out.sent)
 }
 
-// Hands a router what the other has sent over the link between them, and has a second pass there. What it sends on that.
+// Hands a router what the other has sent over the link between them, and has a second
+// pass there. What it sends on that.
 fn hand(arriving: &[Sent], router: &mut Router, alloc: Global) -> Result<Vec<Sent>, anyhow::Error> {
     let mut sent = Vec::new(alloc);
     for datagram in arriving.iter().filter(|datagram| datagram.link == BETWEEN) {

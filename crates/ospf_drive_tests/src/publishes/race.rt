@@ -138,8 +138,8 @@ fn untold_seat(mut seat: Seat, signs: &Signs) -> bool {
     right
 }
 
-// Publishes the first table and passes on what that tells, then each other one once the last was checked.
-// It keeps the writer until all is checked.
+// Publishes the first table and passes on what that tells, then each other one once the last was
+// checked. It keeps the writer until all is checked.
 fn publishes<J: Room, R: Wait + Drop, S: Wait>(
     mut writer: Writer<R>,
     rt: &S,
