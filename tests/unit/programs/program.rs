@@ -1,14 +1,13 @@
 //! Whole answers to words and input.
 
 use super::failing::Failing;
-use ospf_base::Addr;
 use ospf_check::{check_area_json, check_area_text, check_text};
 use ospf_failures::{Progress, failures_text};
-use ospf_files::{FailedStreams, Failure, NamedFile, Status, Telling};
+use ospf_files::{FailedStreams, Failure, NamedFile, Status};
 use ospf_inspect::inspect_text;
 use ospf_sim::{EventWatch, Watch, World, WorldEvent, WorldFault, sim_text};
 use ospf_table::table_text;
-use ospf_words::{CheckJob, Job, JobFault, RunJob, job, not_text};
+use ospf_words::{CheckJob, Job, JobFault, job, not_text};
 use std::alloc::{AllocError, AllocGlobal, Global};
 use std::io::{self, BufReader, BufWriter, ErrorKind, Read, Write};
 use std::sync::Wait;
@@ -299,10 +298,10 @@ static REFUSED: [Case; 18] = [
 
 // What was written, and the exit status.
 #[derive(Drop)]
-struct Outcome {
-    out: Vec<u8>,
-    err: Vec<u8>,
-    status: u8,
+pub(crate) struct Outcome {
+    pub(crate) out: Vec<u8>,
+    pub(crate) err: Vec<u8>,
+    pub(crate) status: u8,
 }
 
 // A file that cannot be read.
@@ -384,7 +383,8 @@ fn status_of<R: AllocGlobal + Threads + Wait + Sync, O: Write, E: Write>(
     Ok(status.code())
 }
 
-fn outcome_of<R: AllocGlobal + Threads + Wait + Sync>(
+// What comes of words and of input.
+pub(crate) fn outcome_of<R: AllocGlobal + Threads + Wait + Sync>(
     rt: &R,
     alloc: Global,
     words: &str,
@@ -421,186 +421,6 @@ fn refuses(rt: HostRuntime) -> Result<(), Fail> {
         assert_eq!(rt; outcome.err.as_slice(), case.err.as_bytes(), "{name}");
         assert!(rt; outcome.out.is_empty(), "{name}");
     }
-    Ok(())
-}
-
-// Words by name, the exit status, and how standard output and standard error begin.
-static WORDS: [(&str, &str, u8, &str, &str); 40] = [
-    ("help", "--help", 0, "OSPF version 2 for one area\n", ""),
-    ("help word", "help", 0, "OSPF version 2 for one area\n", ""),
-    ("help of table", "table --help", 0, "Computes a routing", ""),
-    (
-        "help of check",
-        "check --help",
-        0,
-        "Checks configurations",
-        "",
-    ),
-    (
-        "help of failures",
-        "failures --help",
-        0,
-        "Tells what each single failure",
-        "",
-    ),
-    ("failures of nobody", "failures", 2, "", "error: "),
-    (
-        "failures of no address",
-        "failures --each 1.1.1",
-        2,
-        "",
-        "1.1.1: not an address\n",
-    ),
-    (
-        "unknown option of failures",
-        "failures --all 1.1.1.1",
-        2,
-        "",
-        "error: unexpected argument",
-    ),
-    (
-        "failures of nothing",
-        "failures --each --strict 1.1.1.1",
-        0,
-        "",
-        "",
-    ),
-    ("no file of an area", "check --area", 2, "", "error: "),
-    (
-        "unread file of an area",
-        "check --area --explain a.toml",
-        5,
-        "",
-        "a.toml: not read\n",
-    ),
-    ("drawing of nothing", "lsas --dot", 0, "graph area {\n", ""),
-    ("drawing of a word", "lsas --dot area.svg", 2, "", "error: "),
-    ("LSAs as JSON", "lsas --json", 0, "[]\n", ""),
-    ("a drawing as JSON", "lsas --dot --json", 2, "", "error: --json goes with no"),
-    ("all tables as JSON", "table all --json", 0, "[]\n", ""),
-    ("a lookup as JSON", "table --json 1.1.1.1 10.0.0.1", 2, "", "error: --json goes with no"),
-    ("what is left out as JSON", "table --json 1.1.1.1 --without 2.2.2.2", 2, "", "error: --json goes with no"),
-    ("unread file as JSON", "check --json a.toml", 5, "", "a.toml: not read\n"),
-    ("unread file with all faults", "check --all a.toml", 5, "", "a.toml: not read\n"),
-    ("all faults of no file", "check --all", 2, "", "error: "),
-    ("all faults as JSON", "check --all --json a.toml", 2, "", "error: --json goes with no"),
-    ("help of sim", "sim --help", 0, "Simulates an area", ""),
-    ("help of run", "run --help", 0, "Runs a router", ""),
-    ("no configuration of a run", "run 60", 2, "", "error: "),
-    ("no tick", "run 0 a.toml", 2, "", "error: invalid value '0'"),
-    (
-        "too many ticks",
-        "run 1000001 a.toml",
-        2,
-        "",
-        "error: invalid value '1000001'",
-    ),
-    (
-        "too long a tick",
-        "run --tick 1001 60 a.toml",
-        2,
-        "",
-        "error: invalid value '1001'",
-    ),
-    (
-        "no address to look up",
-        "run --lookup 10.0.0.01 60 a.toml",
-        2,
-        "",
-        "10.0.0.01: not an address\n",
-    ),
-    ("version", "--version", 0, "ospfd 0.2.0 (proved)\n", ""),
-    ("no command", "", 2, "", "error: "),
-    ("no words", "table", 2, "", "error: "),
-    ("no file", "check", 2, "", "error: "),
-    ("no configuration", "sim a", 2, "", "error: "),
-    ("unread script", "sim a b.toml", 5, "", "a: not read\n"),
-    ("unread", "check a.toml", 5, "", "a.toml: not read\n"),
-    (
-        "unknown command",
-        "tables 1.1.1.1",
-        2,
-        "",
-        "error: unrecognized subcommand",
-    ),
-    (
-        "unknown option",
-        "table 1.1.1.1 --all",
-        2,
-        "",
-        "error: unexpected argument",
-    ),
-    (
-        "unknown option of check",
-        "check --each",
-        2,
-        "",
-        "error: unexpected argument",
-    ),
-    (
-        "leading zero",
-        "table 1.1.1.1 10.0.0.01 x",
-        2,
-        "",
-        "10.0.0.01: not an address\n",
-    ),
-];
-
-#[test]
-fn tells_of_words(rt: HostRuntime) -> Result<(), Fail> {
-    for (name, words, status, out, err) in &WORDS {
-        let outcome = outcome_of(&rt, rt.alloc(), words, b"")?;
-        assert_eq!(rt; outcome.status, *status, "{name}");
-        assert!(rt; outcome.out.starts_with(out.as_bytes()), "{name}");
-        assert!(rt; outcome.err.starts_with(err.as_bytes()), "{name}");
-        assert_eq!(rt; outcome.out.is_empty(), out.is_empty(), "{name}");
-        assert_eq!(rt; outcome.err.is_empty(), err.is_empty(), "{name}");
-    }
-    Ok(())
-}
-
-// Whether a help text says something.
-fn says(help: &[u8], text: &str) -> bool {
-    for start in 0..help.len() {
-        if help[start..].starts_with(text.as_bytes()) {
-            return true;
-        }
-    }
-    false
-}
-
-#[test]
-fn help_tells_commands(rt: HostRuntime) -> Result<(), Fail> {
-    let help = outcome_of(&rt, rt.alloc(), "--help", b"")?;
-    for text in ["  table ", "  check ", "  sim ", "  run "] {
-        assert!(rt; says(&help.out, text), "{text}");
-    }
-    Ok(())
-}
-
-#[test]
-fn help_tells_statuses_and_an_example(rt: HostRuntime) -> Result<(), Fail> {
-    for words in [
-        "--help",
-        "table --help",
-        "check --help",
-        "sim --help",
-        "run --help",
-    ] {
-        let help = outcome_of(&rt, rt.alloc(), words, b"")?;
-        for text in ["  0  ", "  2  ", "  3  ", "  4  ", "  5  ", "\n  ospfd "] {
-            assert!(rt; says(&help.out, text), "{words} {text}");
-        }
-    }
-    Ok(())
-}
-
-#[test]
-fn help_tells_output(rt: HostRuntime) -> Result<(), Fail> {
-    let table = outcome_of(&rt, rt.alloc(), "help table", b"")?;
-    assert!(rt; says(&table.out, "  LOCAL>ROUTER@ADDRESS "));
-    let check = outcome_of(&rt, rt.alloc(), "help check", b"")?;
-    assert!(rt; says(&check.out, "  FILE: ok "));
     Ok(())
 }
 
@@ -762,101 +582,5 @@ fn tells_of_failed_writes(rt: HostRuntime) -> Result<(), Fail> {
         }
         assert!(rt; 1 < needed && needed < 100, "{words} {needed}");
     }
-    Ok(())
-}
-
-#[test]
-fn names_files(rt: HostRuntime) -> Result<(), Fail> {
-    let Ok(Job::Check(check)) = job(rt.alloc(), &["check", "a.toml", "b c.toml"]) else {
-        return Err(Fail::from("words"));
-    };
-    assert_eq!(rt; check.files.len(), 2);
-    assert_eq!(rt; check.files[0].as_str(), "a.toml");
-    assert_eq!(rt; check.files[1].as_str(), "b c.toml");
-    assert_eq!(rt; check.how, Telling::Verdict);
-    let Ok(Job::Check(explained)) = job(rt.alloc(), &["check", "--explain", "a.toml"]) else {
-        return Err(Fail::from("words"));
-    };
-    assert_eq!(rt; explained.files.len(), 1);
-    assert_eq!(rt; explained.how, Telling::Explained);
-    let Ok(Job::Check(all)) = job(rt.alloc(), &["check", "--all", "--area", "a.toml"]) else {
-        return Err(Fail::from("words"));
-    };
-    assert_eq!(rt; all.how, Telling::AllExplained);
-    assert!(rt; all.area && !all.json);
-    let Ok(Job::Check(both)) = job(rt.alloc(), &["check", "--all", "--explain", "a.toml"]) else {
-        return Err(Fail::from("words"));
-    };
-    assert_eq!(rt; both.how, Telling::AllExplained);
-    Ok(())
-}
-
-#[test]
-fn reads_the_words_of_a_run(rt: HostRuntime) -> Result<(), Fail> {
-    let Ok(Job::Run(run)) = job(rt.alloc(), &["run", "60", "a.toml", "b.toml"]) else {
-        return Err(Fail::from("words"));
-    };
-    assert_eq!(rt; run.ticks, Some(60));
-    assert_eq!(rt; run.milliseconds, 1000);
-    assert!(rt; run.lookup.is_none());
-    assert!(rt; run.floor.is_none() && run.pcap.is_none() && run.every.is_none());
-    assert!(rt; run.log.is_none() && !run.json);
-    assert!(rt; !run.neighbours && !run.listing && !run.drops && !run.until_eof);
-    assert_eq!(rt; run.files.len(), 2);
-    let words = [
-        "run",
-        "--tick",
-        "20",
-        "--lookup",
-        "192.168.2.9",
-        "--floor",
-        "80000007",
-        "--pcap",
-        "sent.pcap",
-        "120",
-        "a.toml",
-    ];
-    let run = run_of(rt.alloc(), &words)?;
-    assert_eq!(rt; run.ticks, Some(120));
-    assert_eq!(rt; run.milliseconds, 20);
-    assert_eq!(rt; run.lookup, Some("192.168.2.9".parse::<Addr>()?));
-    assert_eq!(rt; run.floor.as_deref(), Some("80000007"));
-    assert_eq!(rt; run.pcap.as_deref(), Some("sent.pcap"));
-    assert_eq!(rt; run.files.len(), 1);
-    Ok(())
-}
-
-// The run that words ask for.
-fn run_of(alloc: Global, words: &[&str]) -> Result<RunJob, Fail> {
-    match job(alloc, words) {
-        Ok(Job::Run(run)) => Ok(run),
-        _ => Err(Fail::from("words")),
-    }
-}
-
-#[test]
-fn reads_a_run_without_a_last_tick(rt: HostRuntime) -> Result<(), Fail> {
-    let words = [
-        "run",
-        "--neighbours",
-        "--listing",
-        "--drops",
-        "--every",
-        "10",
-        "--until-eof",
-        "--log",
-        "area.log",
-        "--json",
-        "forever",
-        "a.toml",
-    ];
-    let run = run_of(rt.alloc(), &words)?;
-    assert!(rt; run.ticks.is_none() && run.until_eof);
-    assert!(rt; run.neighbours && run.listing && run.drops);
-    assert_eq!(rt; run.every, Some(10));
-    assert_eq!(rt; run.log.as_deref(), Some("area.log"));
-    assert!(rt; run.json);
-    assert_eq!(rt; run.files.len(), 1);
-    assert!(rt; job(rt.alloc(), &["run", "never", "a.toml"]).is_err());
     Ok(())
 }
