@@ -13,7 +13,7 @@ use Rattle.ospf_links.proofs.Words.{ElectsThere}
 -- the election of a link that is there
 pub elects_some : (now before after : AreaValue) (out out' : OutputsValue) (l : ℕ) (link link' : LinkValue) (next' : ℕ) (own : Own) (sent : List Parcel)
     → before ≡ now → slice_get now.links l ≡ Some link → own ≡ own_of now → ElectsIf link.elects own before.next_dd link link' next' sent
-    → after ≡ record before { links = set before.links l link'; next_dd = next' } → out' ≡ and_sends out (posted_all own l link.iface sent) → ElectsAt l now out after out'
+    → after ≡ record before { links = set before.links l link'; next_dd = next' } → out' ≡ and_sends out (posted_all own l link.iface sent) → ElectsAt l now out out' after
 elects_some now before after out out' l link link' next' own sent same there is elects after_is out_is =
     let own_elects : ElectsIf link.elects (own_of now) now.next_dd link link' next' sent = subst (λ (w : Own). ElectsIf link.elects w now.next_dd link link' next' sent) is (subst (λ (s : AreaValue). ElectsIf link.elects own s.next_dd link link' next' sent) same elects) in
     let after_now : after ≡ record now { links = set now.links l link'; next_dd = next' } = after_is ∙ ap (λ (s : AreaValue). record s { links = set s.links l link'; next_dd = next' }) same in
@@ -21,7 +21,7 @@ elects_some now before after out out' l link link' next' own sent same there is 
     subst (λ (o : Option LinkValue). ElectsThere o l now out after out') (sym there) (link', next', sent, own_elects, after_now, out_now)
 
 -- of one that is not
-pub elects_none : (now after : AreaValue) (out : OutputsValue) (l : ℕ) → after ≡ now → slice_get now.links l ≡ None → ElectsAt l now out after out
+pub elects_none : (now after : AreaValue) (out : OutputsValue) (l : ℕ) → after ≡ now → slice_get now.links l ≡ None → ElectsAt l now out out after
 elects_none now after out l same none = subst (λ (o : Option LinkValue). ElectsThere o l now out after out) (sym none) (same, refl)
 
 -- ---- what elections leave as it was
@@ -36,7 +36,7 @@ there_keeps None l before after out out' e = record { database = ap (λ (s : Are
 there_keeps (Some link) l before after out out' (link', next', sent, elects, is, sends) =
     record { database = ap (λ (s : AreaValue). s.database) is; numbering = ap (λ (s : AreaValue). s.numbering) is; router = ap (λ (s : AreaValue). s.router) is }
 
-from_keeps : (l : ℕ) (before after : AreaValue) (out out' : OutputsValue) → ElectsFrom l before out after out' → Keeps before after
+from_keeps : (l : ℕ) (before after : AreaValue) (out out' : OutputsValue) → ElectsFrom l before out out' after → Keeps before after
 from_keeps zero before after out out' e = record { database = ap (λ (s : AreaValue). s.database) e.0; numbering = ap (λ (s : AreaValue). s.numbering) e.0; router = ap (λ (s : AreaValue). s.router) e.0 }
 from_keeps (suc l) before after out out' (mid, mid_out, first, next) =
     let a = from_keeps l before mid out mid_out first in
@@ -67,5 +67,5 @@ there_ready (Some link) l before after out out' at (link', next', sent, elects, 
       | inr old ↦ ready k x old
     ]
 
-pub at_ready : (l : ℕ) (before after : AreaValue) (out out' : OutputsValue) → ElectsAt l before out after out' → AreReady before.links → AreReady after.links
+pub at_ready : (l : ℕ) (before after : AreaValue) (out out' : OutputsValue) → ElectsAt l before out out' after → AreReady before.links → AreReady after.links
 at_ready l before after out out' e ready = there_ready (slice_get before.links l) l before after out out' refl e ready

@@ -31,9 +31,10 @@ ElectsIf false own next link link' next' sent = (link' ≡ link) × (next' ≡ n
 ElectsIf true own next link link' next' sent =
     ElectsOnLink link.settings.mtu own.tick next link link' next' sent
 
--- that of link l, which may not be there
-abbrev pub ElectsAt : ℕ → AreaValue → OutputsValue → AreaValue → OutputsValue → Type 0
-ElectsAt l before out after out' = elim (slice_get before.links l) [
+-- the election of link l, if it is due, and nothing where there is no such link: the router
+-- afterwards, and the outputs with what it sends
+abbrev pub ElectsAt : ℕ → AreaValue → OutputsValue → OutputsValue → AreaValue → Type 0
+ElectsAt l before out out' after = elim (slice_get before.links l) [
   | None ↦ (after ≡ before) × (out' ≡ out)
   | Some link ↦
       (link' : LinkValue) × (next' : ℕ) × (sent : List Parcel)
@@ -43,12 +44,12 @@ ElectsAt l before out after out' = elim (slice_get before.links l) [
 ]
 
 -- those of the first links, in their order
-abbrev pub ElectsFrom : ℕ → AreaValue → OutputsValue → AreaValue → OutputsValue → Type 0
-ElectsFrom zero before out after out' = (after ≡ before) × (out' ≡ out)
-ElectsFrom (suc l) before out after out' =
-    (mid : AreaValue) × (mid_out : OutputsValue) × ElectsFrom l before out mid mid_out
-    × ElectsAt l mid mid_out after out'
+abbrev pub ElectsFrom : ℕ → AreaValue → OutputsValue → OutputsValue → AreaValue → Type 0
+ElectsFrom zero before out out' after = (after ≡ before) × (out' ≡ out)
+ElectsFrom (suc l) before out out' after =
+    (mid : AreaValue) × (mid_out : OutputsValue) × ElectsFrom l before out mid_out mid
+    × ElectsAt l mid mid_out out' after
 
 -- the elections of all links
-abbrev pub ElectsAll : AreaValue → OutputsValue → AreaValue → OutputsValue → Type 0
-ElectsAll before out after out' = ElectsFrom (length before.links) before out after out'
+abbrev pub ElectsAll : AreaValue → OutputsValue → OutputsValue → AreaValue → Type 0
+ElectsAll before out out' after = ElectsFrom (length before.links) before out out' after

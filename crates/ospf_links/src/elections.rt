@@ -19,7 +19,7 @@ use std::alloc::{AllocError, Global};
 /// `AllocError` where memory runs out.
 pub fn elect(area: &mut Area, out: &mut Outputs, alloc: Global) -> Result<(), AllocError>
     requires { AreReady area.old.links }
-    ensures { OnOk result (ElectsAll area.old out.old area.new out.new) }
+    ensures { OnOk result (ElectsAll area.old out.old out.new area.new) }
 {
     let count = area.links.len();
     for number in 0..count {
@@ -36,7 +36,7 @@ fn elect_at(
     alloc: Global,
 ) -> Result<(), AllocError>
     requires { AreReady area.old.links }
-    ensures { OnOk result (ElectsAt number area.old out.old area.new out.new) }
+    ensures { OnOk result (ElectsAt number area.old out.old out.new area.new) }
 {
     let own = own_of(area);
     match area.links.get_mut(number) {

@@ -129,7 +129,7 @@ one_more s mid t l out mid_out out' d (Some link) at (link', next', sent, elects
       ahead = λ k le. ap (λ ls. slice_get ls k) links ∙ (set_other mid.links l k link' (λ e. omega (arith, e, le)) ∙ d.ahead k (omega (arith, le)));
     }
 
-done : (s t : AreaValue) (l : ℕ) (out out' : OutputsValue) → ElectsFrom l s out t out' → IsDone s l out t out'
+done : (s t : AreaValue) (l : ℕ) (out out' : OutputsValue) → ElectsFrom l s out out' t → IsDone s l out t out'
 done s t zero out out' (same, none) =
     subst (λ t. IsDone s zero out t out') (sym same) (subst (λ o. IsDone s zero out s o) (sym none) (record {
       sent = [];
@@ -142,11 +142,11 @@ done s t zero out out' (same, none) =
 done s t (suc l) out out' (mid, mid_out, first, there) = one_more s mid t l out mid_out out' (done s mid l out mid_out first) (slice_get mid.links l) refl there
 
 -- all of them
-pub elects_put : (s t : AreaValue) (out out' : OutputsValue) → AreReadAsSent out'.sent → ElectsAll s out t out' → PutsOut (λ o. Quiet s o t) out out'
+pub elects_put : (s t : AreaValue) (out out' : OutputsValue) → AreReadAsSent out'.sent → ElectsAll s out out' t → PutsOut (λ o. Quiet s o t) out out'
 elects_put s t out out' read e =
     let d = done s t (length s.links) out out' e in
     puts_sent (λ o. Quiet s o t) out out' d.sent (part_quiet s t (sends d.sent) d.sent d.rest refl (read_sent out out' d.sent d.outputs read) d.each d.known) d.outputs
 
 -- they leave the database as it was
-pub elects_database : (s t : AreaValue) (out out' : OutputsValue) → ElectsAll s out t out' → t.database ≡ s.database
+pub elects_database : (s t : AreaValue) (out out' : OutputsValue) → ElectsAll s out out' t → t.database ≡ s.database
 elects_database s t out out' e = ap (λ (a : AreaValue). a.database) (done s t (length s.links) out out' e).rest

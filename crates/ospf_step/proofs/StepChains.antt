@@ -147,7 +147,7 @@ module _ (l : ℕ) (rest : List Part) (s t u : AreaValue) (out mid_out out' : Ou
   down_chain state same = puts_more (LinkChanges l false) rest s t u out out out' (down_puts l s t out state) (subst (λ o. PutsOut (λ x. Chain rest t x u) o out') same next)
 
 -- The end of a step is the chain of its last parts.
-pub ends_put : (s t u v : AreaValue) (out out1 out2 out' : OutputsValue) → IsDatabase s.database → IsDatabase u.database → AreReadAsSent out'.sent → ElectsAll s out t out1 → OwnLsas t out1 out2 u → Removes u out2 out' v → PutsOut (λ o. Chain last_parts s o v) out out'
+pub ends_put : (s t u v : AreaValue) (out out1 out2 out' : OutputsValue) → IsDatabase s.database → IsDatabase u.database → AreReadAsSent out'.sent → ElectsAll s out out1 t → OwnLsas t out1 out2 u → Removes u out2 out' v → PutsOut (λ o. Chain last_parts s o v) out out'
 ends_put s t u v out out1 out2 out' is_s is_u read elects own r =
     let removals = removals_put u v out2 out' is_u r in
     let read2 = read_before (λ o. IsPart Part.Removals u o v) out2 out' removals read in

@@ -132,7 +132,7 @@ down_fit l s fit = changed_fit link_down l s (down_stays s.router) fit
 -- ---- the end of a step
 
 module _ (stay : NeighboursStayOfLink) where
-  elects_at_fit : (l : ℕ) (s : AreaValue) (out : OutputsValue) (s' : AreaValue) (out' : OutputsValue) → ElectsAt l s out s' out' → IsFitRouter s → IsFitRouter s'
+  elects_at_fit : (l : ℕ) (s : AreaValue) (out : OutputsValue) (s' : AreaValue) (out' : OutputsValue) → ElectsAt l s out out' s' → IsFitRouter s → IsFitRouter s'
   elects_at_fit l s out s' out' is fit = by_link (slice_get s.links l) refl is
     where
       by_link : (o : Option LinkValue) → slice_get s.links l ≡ o → ElectsThere o l s out s' out' → IsFitRouter s'
@@ -140,11 +140,11 @@ module _ (stay : NeighboursStayOfLink) where
       by_link (Some a) at (b, next, sent, elects, state, outputs) =
           moved _ s' state (set_fit s l a b next s.sent at (elects_stays stay s.router a.elects (own_of s) s.next_dd a b next sent elects (link_fit s l a at fit) (link_set_up s l a at fit)) fit)
 
-  elects_from_fit : (l : ℕ) (s : AreaValue) (out : OutputsValue) (s' : AreaValue) (out' : OutputsValue) → ElectsFrom l s out s' out' → IsFitRouter s → IsFitRouter s'
+  elects_from_fit : (l : ℕ) (s : AreaValue) (out : OutputsValue) (s' : AreaValue) (out' : OutputsValue) → ElectsFrom l s out out' s' → IsFitRouter s → IsFitRouter s'
   elects_from_fit zero s out s' out' is fit = moved s s' is.0 fit
   elects_from_fit (suc l) s out s' out' (mid, mid_out, first, last) fit = elects_at_fit l mid mid_out s' out' last (elects_from_fit l s out mid mid_out first fit)
 
-  pub elects_fit : (s : AreaValue) (out : OutputsValue) (s' : AreaValue) (out' : OutputsValue) → ElectsAll s out s' out' → IsFitRouter s → IsFitRouter s'
+  pub elects_fit : (s : AreaValue) (out : OutputsValue) (s' : AreaValue) (out' : OutputsValue) → ElectsAll s out out' s' → IsFitRouter s → IsFitRouter s'
   elects_fit s out s' out' is fit = elects_from_fit (length s.links) s out s' out' is fit
 
 pub own_fit : (own : OwnStaySound) (s : AreaValue) (out out' : OutputsValue) (s' : AreaValue) → OwnLsas s out out' s' → IsFitRouter s → IsFitRouter s'

@@ -83,14 +83,14 @@ event_as Tick s out out' s' is = tick_as s out out' s' is
 event_as (LinkUp link) s out out' s' is = moved s _ s' is.state (changed_as link_up link s)
 event_as (LinkDown link) s out out' s' is = moved s _ s' is.state (changed_as link_down link s)
 
-elects_at_as : (l : ℕ) (s : AreaValue) (out : OutputsValue) (s' : AreaValue) (out' : OutputsValue) → ElectsAt l s out s' out' → IsStill s s'
+elects_at_as : (l : ℕ) (s : AreaValue) (out : OutputsValue) (s' : AreaValue) (out' : OutputsValue) → ElectsAt l s out out' s' → IsStill s s'
 elects_at_as l s out s' out' is = by_link (slice_get s.links l) is
   where
     by_link : (o : Option LinkValue) → ElectsThere o l s out s' out' → IsStill s s'
     by_link None is = moved s s s' is.0 (itself s)
     by_link (Some a) (b, next, sent, elects, state, outputs) = moved s _ s' state (record { own = refl; many = length-set s.links l b })
 
-elects_as : (l : ℕ) (s : AreaValue) (out : OutputsValue) (s' : AreaValue) (out' : OutputsValue) → ElectsFrom l s out s' out' → IsStill s s'
+elects_as : (l : ℕ) (s : AreaValue) (out : OutputsValue) (s' : AreaValue) (out' : OutputsValue) → ElectsFrom l s out out' s' → IsStill s s'
 elects_as zero s out s' out' is = moved s s s' is.0 (itself s)
 elects_as (suc l) s out s' out' (mid, mid_out, first, last) = then s mid s' (elects_as l s out mid mid_out first) (elects_at_as l mid mid_out s' out' last)
 

@@ -10,11 +10,12 @@ use Rattle.ospf_update.specs.Removal.{RemovesOne, leaving}
 
 -- a step ends: elections, own LSAs, and removals, one after the other
 pub record EndsStep (s : AreaValue) (out out' : OutputsValue) (after : AreaValue) : Type 0 where
+  -- the keys of the database rise, and no age is above MaxAge (12.2)
   pub database : IsDatabase s.database
   -- the elections that are due, and AdjOK? (9.4)
   pub elected : AreaValue
   pub elected_out : OutputsValue
-  pub elects : ElectsAll s out elected elected_out
+  pub elects : ElectsAll s out elected_out elected
   -- the router's own LSAs (12.4)
   pub issued : AreaValue
   pub issued_out : OutputsValue
@@ -22,4 +23,5 @@ pub record EndsStep (s : AreaValue) (out out' : OutputsValue) (after : AreaValue
   pub issued_database : IsDatabase issued.database
   -- the LSAs that leave the database (14)
   pub removes : InTurn RemovesOne (leaving issued) issued issued_out out' after
+  -- the bytes of each datagram that went out are read as the packet that was meant
   pub read : AreReadAsSent out'.sent

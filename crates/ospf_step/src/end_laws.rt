@@ -13,7 +13,7 @@ ghost use Rattle.ospf_step.specs.Step.{Chain, IsPart, Part, last_parts};
 /// The elections, one after the other.
 pub fn elections_put_out()
     ensures { (s t : AreaValue) (out out' : OutputsValue) →
-        AreReadAsSent out'.sent → ElectsAll s out t out' →
+        AreReadAsSent out'.sent → ElectsAll s out out' t →
         PutsOut (λ o. IsPart Part.Elections s o t) out out' }
 {}
 
@@ -28,7 +28,7 @@ pub fn own_lsas_put_out()
 pub fn ends_are_chains()
     ensures { (s elected owned t : AreaValue) (out elected_out owned_out out' : OutputsValue) →
         IsDatabase s.database → IsDatabase owned.database → AreReadAsSent out'.sent →
-        ElectsAll s out elected elected_out → OwnLsas elected elected_out owned_out owned →
+        ElectsAll s out elected_out elected → OwnLsas elected elected_out owned_out owned →
         InTurn RemovesOne (leaving owned) owned owned_out out' t →
         PutsOut (λ o. Chain last_parts s o t) out out' }
 {}

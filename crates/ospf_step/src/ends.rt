@@ -37,7 +37,7 @@ pub(crate) fn end(area: &mut Area, out: &mut Outputs, alloc: Global) -> Result<(
 // As `ospf_links::elect`, and the router stays fit.
 fn elect(area: &mut Area, out: &mut Outputs, alloc: Global) -> Result<(), AllocError>
     requires { IsFitRouter area.old }
-    ensures elects { OnOk result (ElectsAll area.old out.old area.new out.new) }
+    ensures elects { OnOk result (ElectsAll area.old out.old out.new area.new) }
     ensures fit { OnOk result (IsFitRouter area.new) }
 {
     // For the proof.

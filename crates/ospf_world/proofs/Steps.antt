@@ -59,7 +59,7 @@ takes_tick = record {
   repeats = record { state = refl; outputs = refl };
 }
 
-none_elects : ElectsAll ticked no_outputs ticked no_outputs
+none_elects : ElectsAll ticked no_outputs no_outputs ticked
 none_elects = (ticked, no_outputs, (refl, refl), (down_link, 1, [], (refl, refl, refl), refl, refl))
 
 is_numbered : AreNumbered ticked
