@@ -14,7 +14,7 @@ use Rattle.ospf_lsa.specs.Lsa.{key_of}
 use Rattle.ospf_lsdb.specs.Database.{IsDatabase, entry_of, listed}
 use Rattle.ospf_originate.specs.Laws.{StartsSound}
 use Rattle.ospf_originate.specs.Sound.{AreApart, AreSetUp, IsSetUp, IsSound}
-use Rattle.ospf_router.specs.Routers.{HasRoutes}
+use Rattle.ospf_router.specs.Routes.{AreRoutes}
 use Rattle.ospf_router.specs.Listings.{ListsAs}
 use Rattle.ospf_router.specs.Routes.{RoutesValue}
 use Rattle.ospf_base.specs.Sums.{contents}
@@ -131,11 +131,11 @@ empty_routes r = record {
 no_database : IsDatabase []
 no_database = record { rising = tt; ages = tt }
 
-pub start_routes : (config : Config) (dd_start : ℕ) (floor : ℤ) (s : AreaValue) → IsAreaOf config dd_start floor s → HasRoutes s []
+pub start_routes : (config : Config) (dd_start : ℕ) (floor : ℤ) (s : AreaValue) → IsAreaOf config dd_start floor s → AreRoutes s.router s.database []
 start_routes config dd_start floor s is =
     let now : AreaValue = area_of config dd_start floor s.links in
-    let routes : HasRoutes now [] = record { database = no_database; listing = record { rising = tt; listed = tt }; routes = empty_routes config.router_id } in
-    subst (λ (x : AreaValue). HasRoutes x []) (sym is.rest) routes
+    let routes : AreRoutes now.router now.database [] = record { database = no_database; listing = record { rising = tt; listed = tt }; routes = empty_routes config.router_id } in
+    subst (λ (x : AreaValue). AreRoutes x.router x.database []) (sym is.rest) routes
 
 -- and it lists nothing
 pub start_lists : (config : Config) (dd_start : ℕ) (floor : ℤ) (s : AreaValue) → IsAreaOf config dd_start floor s → (routes : RoutesValue) → routes.listing ≡ [] → ListsAs s.database routes.listing

@@ -13,16 +13,12 @@ use Rattle.ospf_router.specs.Routes.{AreRoutes, RoutesValue}
 use Rattle.ospf_step.specs.Fit.{IsFitRouter}
 
 -- a router: how many links it has, the floor of its start, its routing table, and its part of the
--- area; one that has stopped has none
+-- area, which is `None` of one that has stopped
 pub record RouterValue : Type 0 where
   pub links : ℕ
   pub floor : ℤ
   pub table : List Route
   pub area : Option AreaValue
-
--- the database is listed in order, and the routes are those of what it lists (14, 16.1)
-abbrev pub HasRoutes : AreaValue → List Route → Type 0
-HasRoutes s table = AreRoutes s.router s.database table
 
 -- what each step needs, and keeps: it can be taken, and the router can
 -- answer to others for what it does
@@ -33,7 +29,7 @@ pub record IsKept (s : AreaValue) : Type 0 where
 -- a router that runs; its routes were made of LSAs that its database lists, at whatever ages
 pub record Runs (links : ℕ) (routes : RoutesValue) (s : AreaValue) : Type 0 where
   pub kept : IsKept s
-  pub has_routes : HasRoutes s routes.table
+  pub has_routes : AreRoutes s.router s.database routes.table
   pub listing : ListsAs s.database routes.listing
   pub as_many : length s.links ≡ links
 

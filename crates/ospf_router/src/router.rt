@@ -9,7 +9,8 @@ ghost use Rattle.ospf_step.specs.Same.{IsSameRouter};
 ghost use Rattle.ospf_step.specs.Drops.{dropped_by};
 ghost use Rattle.ospf_step.specs.Events.{happening};
 ghost use Rattle.ospf_area.specs.State.{AreaValue};
-ghost use Rattle.ospf_router.specs.Routers.{HasRoutes, IsKept, awaits_in, greatest_in, listing_of, neighbours_on, stopped};
+ghost use Rattle.ospf_router.specs.Routers.{IsKept, awaits_in, greatest_in, listing_of, neighbours_on, stopped};
+ghost use Rattle.ospf_router.specs.Routes.{AreRoutes};
 ghost use Rattle.ospf_router.specs.Starts.{IsStarted};
 ghost use Rattle.ospf_router.specs.Steps.{IsLawful, Steps};
 
@@ -242,7 +243,7 @@ fn advance(
 ) -> Result<Advanced, AllocError>
     // The area can be stepped, and the routes are those of what it lists.
     requires kept { IsKept area.old }
-    requires routes { HasRoutes area.old routes.old.table }
+    requires routes { AreRoutes area.old.router area.old.database routes.old.table }
     requires listing { ListsAs area.old.database routes.old.listing }
     requires router { routes.old.router ≡ area.old.router }
     // The area takes its step by the rules, stays the same router, and can be stepped again.
@@ -251,7 +252,8 @@ fn advance(
     ensures same { OnOk result (IsSameRouter area.old area.new) }
     ensures kept { OnOk result (IsKept area.new) }
     // The routes are those of what it lists then, and an event that is dropped needs no memory.
-    ensures routes { OnOk result (HasRoutes area.new routes.new.table) }
+    ensures routes { OnOk result
+        (AreRoutes area.new.router area.new.database routes.new.table) }
     ensures listing { OnOk result (ListsAs area.new.database routes.new.listing) }
     ensures changed { IfOk result (λ a. IsTrue a.table_changed
         ↔ (routes.new.table ≢ routes.old.table)) }
@@ -275,13 +277,15 @@ fn refresh(
 ) -> Result<bool, AllocError>
     // The routes are of this router and, where the datagram is dropped, those of what it lists.
     requires router { routes.old.router ≡ area.now.router }
-    requires as_before { IsTrue (is_some taken.now.dropped) → HasRoutes area.now routes.old.table }
+    requires as_before { IsTrue (is_some taken.now.dropped) →
+        AreRoutes area.now.router area.now.database routes.old.table }
     requires as_listed { IsTrue (is_some taken.now.dropped) →
         ListsAs area.now.database routes.old.listing }
     // What it lists otherwise was listed before, but at the keys that were taken or issued.
     requires listed { ListsBut taken.now.out area.now.database routes.old.listing }
     // Then they are those of what it lists in any case, and a change of the table is told.
-    ensures routes { OnOk result (HasRoutes area.now routes.new.table) }
+    ensures routes { OnOk result
+        (AreRoutes area.now.router area.now.database routes.new.table) }
     ensures listing { OnOk result (ListsAs area.now.database routes.new.listing) }
     ensures changed { IfOk result (λ b. IsTrue b ↔ (routes.new.table ≢ routes.old.table)) }
     // They stay of this router, and a datagram that is dropped needs no memory.

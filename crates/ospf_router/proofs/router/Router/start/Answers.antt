@@ -2,7 +2,7 @@ use Rattle.std.proofs.Common.{◌≤◌, ◌∙◌, List, ap, length, subst, sym
 use Rattle.ospf_area.specs.State.{AreaValue}
 use Rattle.ospf_graph.specs.declared.route.Route.{Route}
 use Rattle.ospf_router.specs.Routes.{RoutesValue}
-use Rattle.ospf_router.specs.Routers.{HasRoutes}
+use Rattle.ospf_router.specs.Routes.{AreRoutes}
 use Rattle.ospf_router.proofs.StartLemmas.{area_fit, area_sound, as_many, start_lists, start_routes}
 use Rattle.ospf_router.proofs.router.Router.start.Goals as goal
 
@@ -20,7 +20,7 @@ invariant_of-result c =
           fit = area_fit c.starts_sound.ensures config c.args.dd_start _ c.in-Ok.area is count;
           sound = area_sound config c.args.dd_start _ c.in-Ok.area is;
         };
-        has_routes = subst (λ (t : List Route). HasRoutes c.in-Ok.area t) (sym (ap (λ (r : RoutesValue). r.table) c.new.ensures)) (start_routes config c.args.dd_start _ c.in-Ok.area is);
+        has_routes = subst (λ (t : List Route). AreRoutes c.in-Ok.area.router c.in-Ok.area.database t) (sym (ap (λ (r : RoutesValue). r.table) c.new.ensures)) (start_routes config c.args.dd_start _ c.in-Ok.area is);
         listing = start_lists config c.args.dd_start _ c.in-Ok.area is c.new.result (ap (λ (r : RoutesValue). r.listing) c.new.ensures);
         as_many = omega (arith, many, same, len);
       },
