@@ -64,8 +64,8 @@ pub record IsWarned (listing : List (List ℕ)) (root : RouterId) (old new : Opt
   pub warned : IsWarning listing root warning
   pub written : Appends old new warning
 
--- the table of a listing is cut: its warning, or it is want of memory before
--- the output begins, or the output
+-- the table of a listing is cut: in its warning; for want of memory, before the
+-- output begins; or in the output
 pub data IsTableCut (listing : List (List ℕ)) (root : RouterId) (addresses : List Addr)
     (failed : FailedStreams) (old new : Written) : Failure → Type 0 where
   in_warning : {f : Failure} → IsErrorCut failed f

@@ -3,6 +3,7 @@ use Rattle.std.specs.Prelude.{◌≡◌, ◌≢◌, ◌⊎◌, ℕ, suc, List, [
 use Rattle.std.specs.Io.BufRead.{take_through, drop_through, ends_with_byte, strip_last}
 use Rattle.hex.specs.Hex.{decode_of}
 use Rattle.hex.specs.declared.error.FromHexError.{FromHexError}
+use Rattle.ospf_base.specs.Constants.{max_age}
 use Rattle.ospf_base.specs.Text.{IsBlank}
 use Rattle.ospf_lsa.specs.Header.{header_of}
 use Rattle.ospf_lsa.specs.Lsa.{IsLsa, IsFirstFault, key_of}
@@ -21,14 +22,14 @@ HasFirstFault decoded f = (bytes : List ℕ) × (decoded ≡ Ok bytes) × IsFirs
 abbrev pub text_of : List ℕ → List ℕ
 text_of line = if ends_with_byte 10 line then strip_last 13 (strip_last 10 line) else line
 
--- the text spells an LSA, and the new listing is the old one with that LSA, unless its age is
--- MaxAge
+-- the text spells an LSA. One at MaxAge leaves the listing as it is (RFC 2328, section 14); any
+-- other is put in, and none of its key was listed
 pub record IsLineListed (text : List ℕ) (old new : List (List ℕ)) : Type 0 where
   pub lsa : List ℕ
   pub decoded : decode_of text ≡ Ok lsa
   pub is_lsa : IsLsa lsa
-  pub new_is : (((header_of lsa).age ≡ 3600) × (new ≡ old))
-      ⊎ (((header_of lsa).age ≢ 3600) × IsInserted lsa old new)
+  pub new_is : (((header_of lsa).age ≡ max_age) × (new ≡ old))
+      ⊎ (((header_of lsa).age ≢ max_age) × (HasKey old (key_of lsa) → ⊥) × IsInserted lsa old new)
 
 -- what a text makes of a listing
 abbrev pub IsTaken : List ℕ → List (List ℕ) → List (List ℕ) → Type 0
@@ -40,7 +41,7 @@ pub record IsSecond (text : List ℕ) (listing : List (List ℕ)) : Type 0 where
   pub lsa : List ℕ
   pub decoded : decode_of text ≡ Ok lsa
   pub is_lsa : IsLsa lsa
-  pub young : (header_of lsa).age ≢ 3600
+  pub young : (header_of lsa).age ≢ max_age
   pub listed : HasKey listing (key_of lsa)
 
 -- why a text that is not blank is refused

@@ -18,7 +18,7 @@ abbrev pub entry_fault_text : EntryFault → List ℕ
 entry_fault_text (entry.Line fault) = line_fault_text fault
 entry_fault_text (entry.Listing fault) = listing_fault_text fault
 
--- the line of this number is refused for this fault
+-- what is told where the line of this number is refused for this fault
 abbrev pub refusal_line : ℕ → EntryFault → List ℕ
 refusal_line number fault =
     codes "line " ++ (decimal number ++ (codes ": " ++ (entry_fault_text fault ++ codes "\n")))
