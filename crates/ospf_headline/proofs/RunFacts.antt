@@ -196,7 +196,7 @@ issued_again w a b facts i j e f ate atf lt same ea fb = go (facts.after i j e f
       first_is = ea;
       second_is = fb;
       other_run = λ run. (let begun : f.run.name ≤ i = subst (λ run. run.name ≤ i) run (facts.run_begun i e ate) in omega arith);
-      low = record { place = i; earlier = e; was_issued = ate; before_run = before; same_key = ap (λ i. i.key) same; at_most = subst (λ n. f.run.base <ℤ n) (sym (ap (λ i. i.number) same)) (facts.above_base j f atf) };
+      low = record { place = i; earlier = e; was_issued = ate; before_run = before; same_key = ap (λ i. i.key) same; above_base = subst (λ n. f.run.base <ℤ n) (sym (ap (λ i. i.number) same)) (facts.above_base j f atf) };
     }
 
 pub agree : (w : World) (a b : List ℕ) → Facts w → WasIssued w.issued (contents a) → WasIssued w.issued (contents b) → AgreeUnlessIssuedAgain w.issued a b
@@ -228,7 +228,7 @@ no_collision w facts high i j e f ate atf same = go (agree w e.lsa f.lsa facts (
     never a b again =
         let low = again.low in
         let upto : number_in low.earlier ≤ℤ again.second.run.base = high low.place again.j low.earlier again.second low.was_issued again.second_at low.before_run (ap (λ key. key.router) low.same_key) in
-        let above : again.second.run.base <ℤ number_in low.earlier = low.at_most in
+        let above : again.second.run.base <ℤ number_in low.earlier = low.above_base in
         omega (arith, ints)
 
     go : (contents e.lsa ≡ contents f.lsa) ⊎ (IssuedAgain w.issued e.lsa f.lsa ⊎ IssuedAgain w.issued f.lsa e.lsa) → contents e.lsa ≡ contents f.lsa

@@ -16,7 +16,7 @@ pub record IsReachedBy (is_dropped : Event → AreaValue → Bool) (events : Lis
   pub new : IsNewWorld start
   pub runs : RunsEvents is_dropped events start w
 
--- some events did
+-- some events led to this world from one in which none runs and nothing has happened
 abbrev pub IsReached : (Event → AreaValue → Bool) → World → Type 0
 IsReached is_dropped w = (events : List WorldEvent) × IsReachedBy is_dropped events w
 
@@ -39,5 +39,5 @@ pub record Headline (before after : World) : Type 0 where
       → AllListedAgree after x → RunningWalksArrive after r x
   pub chosen : (r : RouterId) (x : Running) → NoCollision after.issued → router_at after r ≡ Some x
       → AllListedAgree after x → ChosenWalksArrive after r x
-  -- high floors exclude collisions
+  -- where each run began above all that its router had issued, nothing issued collides
   pub no_collision : BasesAreHigh after.issued → NoCollision after.issued

@@ -40,14 +40,14 @@ pub data HeldAnywhere (w : World) (lsa : List ℕ) : Type 0 where
   InUpdate : (g : Datagram) (p : Meaning) → Contains w.datagrams g → packet_of g.sent.bytes ≡ Some p
       → Contains (lsas_of p.body) lsa → HeldAnywhere w lsa
 
--- a run is low where its first number is at or below one that was issued for its key when it began
+-- the run of this entry is low: a number above its base had been issued for the key when it began
 pub record IsLow (issued : List Issued) (e : Issued) : Type 0 where
   pub place : ℕ
   pub earlier : Issued
   pub was_issued : IssuedAt issued place earlier
   pub before_run : place < e.run.name
   pub same_key : key_of earlier.lsa ≡ key_of e.lsa
-  pub at_most : e.run.base <ℤ (instance_of earlier.lsa).number
+  pub above_base : e.run.base <ℤ (instance_of earlier.lsa).number
 
 -- a's contents were issued, and b's later in another run, which is low
 pub record IssuedAgain (issued : List Issued) (a b : List ℕ) : Type 0 where

@@ -49,9 +49,9 @@ WalksOn w address a (c ∷ rest) b paid =
     (cost left : ℕ) × StepsOn w address a c cost × WalksOn w address c rest b left
     × (paid ≡ cost + left)
 
--- where a walk stands that began with this route: its router runs, and has a route to the same
--- prefix, at the cost that is left. By each of its hops the walk ends there, with the first route's
--- cost paid, or goes on to a router that runs
+-- where a walk stands that began with this route: its router runs, and its best route is to the
+-- same prefix. What the walk has paid and the cost of this route make the cost of the first one.
+-- Each of the route's hops is `Attached`, where the walk ends, or leads on to a router that runs
 pub record StandsOnWay (w : World) (address : ℕ) (first : Route) (b : RouterId) (paid : ℕ)
     : Type 0 where
   pub running : Running
@@ -66,7 +66,8 @@ pub record StandsOnWay (w : World) (address : ℕ) (first : Route) (b : RouterId
       ⊎ ((c : RouterId) × (cost : ℕ) × IsNext hop c × IsLinkCost (adverts running) b hop cost
       × (y : Running) × (router_at w c ≡ Some y))
 
--- the walk, as far as it has come, goes on to where one arrives, or has arrived
+-- there are further routers, maybe none, by which the walk, as far as
+-- it has come, goes on and arrives
 pub record GoesOnToEnd (w : World) (address : ℕ) (a : RouterId) (first : Route)
     (routers : List RouterId) : Type 0 where
   pub more : List RouterId
@@ -76,7 +77,7 @@ pub record GoesOnToEnd (w : World) (address : ℕ) (a : RouterId) (first : Route
   pub arrives : graph.Arrives (table_at w) address first last total
 
 -- what is true of a walk from a, which runs as x: it stands on the way of the first route, meets no
--- router twice, so it has fewer steps than x lists routers, and goes on to where it arrives
+-- router twice, has fewer steps than x lists router-LSAs, and can go on until it arrives
 pub record StaysOnWay (w : World) (x : Running) (address : ℕ) (a : RouterId) (first : Route)
     (routers : List RouterId) (b : RouterId) (paid : ℕ) : Type 0 where
   pub stands : StandsOnWay w address first b paid
@@ -84,8 +85,9 @@ pub record StaysOnWay (w : World) (x : Running) (address : ℕ) (a : RouterId) (
   pub short : length routers < length (listed_routers (adverts x))
   pub ends : GoesOnToEnd w address a first routers
 
--- of one router that runs as x: all walks from it stay on the prefix of its best route, pay that
--- route's cost, meet no router twice, and arrive
+-- of one router that runs as x: each walk from it, as far as it has come, stays on
+-- the prefix of its best route, meets no router twice, and can go on until it
+-- arrives, with that route's cost paid
 abbrev pub RunningWalksArrive : World → RouterId → Running → Type 0
 RunningWalksArrive w a x = (address : ℕ) (first : Route) → IsBest x.table address first →
     (routers : List RouterId) (b : RouterId) (paid : ℕ) → WalksOn w address a routers b paid →
@@ -125,8 +127,8 @@ pub data WalksBy (w : World) (address choice : ℕ)
       → IsLinkCost (adverts x) at hop link → GoesOn next rest left end → routers ≡ at ∷ rest
       → paid ≡ link + left → WalksBy w address choice GoesOn at routers paid end
 
--- a walk with so many hops at most: at each router the hop at `choice mod hops` of its best
--- route, and a missing choice is 0
+-- a walk with at most this many hops: at each router the hop of its best route at the place that is
+-- chosen, modulo the number of hops; a missing choice is 0
 abbrev pub IsWalkOf : World → ℕ → ℕ → List ℕ → RouterId → List RouterId → ℕ → WalkEnd → Type 0
 IsWalkOf w address zero choices at routers paid end =
     (routers ≡ at ∷ []) × (paid ≡ 0) × (end ≡ Turns)

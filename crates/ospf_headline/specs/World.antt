@@ -44,8 +44,7 @@ listing x = listed x.state.database
 unfoldable pub run_of : Running → LsaKey → Run
 run_of x key = elim (find (λ e. same_key e.0 key) x.later) [ None ↦ x.first | Some e ↦ e.1 ]
 
--- a router of a world: its Router ID, how many links its configuration
--- has, and how it runs, if it does
+-- a router of a world: its Router ID, how many links it has, and how it runs, if it does
 pub record Member : Type 0 where
   pub router : RouterId
   pub links : ℕ
@@ -109,8 +108,8 @@ of_member test (Some m) = test m
 abbrev pub member : World → RouterId → Option Member
 member w r = find (λ m. m.router.0 == r.0) w.routers
 
--- why a world refuses an event, if it does: the first of no such router, no such link, no such
--- datagram, and how the router runs
+-- why a world refuses an event, if it does, the first that holds: there is no such router, no such
+-- link, no such datagram; the router runs, or does not; a start has a floor with no number above it
 abbrev pub refusal : World → WorldEvent → Option WorldFault
 refusal w (Start r dd floor) = of_member (unless_running floor) (member w r)
 refusal w (Stop r) = of_member unless_stopped (member w r)
@@ -167,7 +166,7 @@ pub record LogsGrow (before after : World) (r : RouterId) (x : Running) (out : O
       ++ (map (λ i. record { router = r; instance = i }) out.taken
       ++ map (λ lsa. record { router = r; instance = instance_of lsa }) out.issued)
 
--- the keys whose run ended begin again, from what is issued by now
+-- a run begins for each key whose run ended: its name is how many LSAs are issued by now
 pub record RunsGoOn (issued : List Issued) (ended : List LsaKey) (x x' : Running) : Type 0 where
   pub first : x'.first ≡ x.first
   pub runs : (key : LsaKey)
@@ -175,8 +174,8 @@ pub record RunsGoOn (issued : List Issued) (ended : List LsaKey) (x x' : Running
       ≡ (if among ended key then record { name = length issued; base = lowest_number }
       else run_of x key)
 
--- router r, running as x, is stepped with the event, puts out out and runs on as x'. Which events
--- are dropped is the router's to say
+-- router r, running as x, is stepped with the event, puts out `out` and runs on as x'. Which events
+-- routers drop may be anything that hangs on the event and the state
 pub record StepsRouter (is_dropped : Event → AreaValue → Bool) (before after : World) (r : RouterId)
     (event : Event) (x x' : Running) (out : OutputsValue) : Type 0 where
   pub was : router_at before r ≡ Some x
@@ -187,8 +186,8 @@ pub record StepsRouter (is_dropped : Event → AreaValue → Bool) (before after
   pub runs : RunsGoOn after.issued out.ended x x'
 
 -- what a world event comes to, and what is answered: it is refused, with the first fault that
--- holds, exactly where one does; or memory is wanting, before anything is done or so that the
--- router stops; or the router starts, stops, or takes a step
+-- holds, exactly where one does; or memory is wanting, before anything is done (`Memory false`) or
+-- so that the router stops (`Memory true`); or the router starts, stops, or takes a step
 pub data Comes (is_dropped : Event → AreaValue → Bool) (event : WorldEvent) (before : World)
     (result : Result (Unit {0}) WorldFault) (after : World) : Type 0 where
   Refused : (f : WorldFault) → refusal before event ≡ Some f → result ≡ Err f → after ≡ before
@@ -212,12 +211,12 @@ pub data Comes (is_dropped : Event → AreaValue → Bool) (event : WorldEvent) 
       → stepped_by before event ≡ Some (r, e) → StepsRouter is_dropped before after r e x x' out
       → Comes is_dropped event before result after
 
--- whatever is answered
+-- the event happens, whatever the call answers that brings it
 abbrev pub Happens : (Event → AreaValue → Bool) → WorldEvent → World → World → Type 0
 Happens is_dropped event before after =
     (result : Result (Unit {0}) WorldFault) × Comes is_dropped event before result after
 
--- a whole list of events
+-- the events lead from one world to the other, one after the other
 abbrev pub RunsEvents : (Event → AreaValue → Bool) → List WorldEvent → World → World → Type 0
 RunsEvents is_dropped [] before after = after ≡ before
 RunsEvents is_dropped (event ∷ events) before after =
