@@ -20,37 +20,45 @@ use Rattle.ospf_area.specs.declared.state.Numbering.{Numbering}
 
 -- ---- the state
 
--- a link: its interface, what never changes of it, its neighbours in rising Router ID,
--- the acknowledgements that go out at the next tick (13.5), and whether an election is
--- due at the end of the step (9.4)
+-- a link of a router (9)
 pub record LinkValue : Type 0 where
   pub iface : Iface
+  -- what never changes of it
   pub settings : LinkSettings
+  -- in rising Router ID
   pub neighbours : List NeighbourValue
+  -- the acknowledgements that go out at the next tick (13.5)
   pub delayed : List LsaHeader
+  -- an election is due at the end of the step (9.4)
   pub elects : Bool
 
--- a router's part of an area: whether it is a stub router (RFC 6987), whether it passes over LSAs
--- of LS types 3 to 5, its links in configuration order, its database, the direct acknowledgements
--- of the Update that is being taken (13.5), for each key of its own that it has numbered how far it
--- came, and for the others the floor, the present tick, the next DD sequence number, the keys whose
--- copy went out in an Update in this tick (13, step 8), the keys of self-originated LSAs that this
--- step has installed from Updates, which are still to be answered (13.4), and the greatest of the
--- floor and all numbers of keys of its own
+-- a router's part of its area: all that it keeps but its routing table (5 and 6)
 pub record AreaValue : Type 0 where
   pub router : RouterId
   pub area : AreaId
+  -- it is a stub router (RFC 6987)
   pub stub_router : Bool
+  -- LSAs of LS types 3 to 5 are acknowledged and not kept, where else they are refused
   pub passes_over : Bool
+  -- in configuration order
   pub links : List LinkValue
+  -- the entries, in order of key (12.2)
   pub database : List Held
+  -- the direct acknowledgements of the Update that is being taken (13.5)
   pub direct : List LsaHeader
+  -- how far the numbers of each key of its own have come, of those that it has numbered (12.1.6)
   pub numbering : List Numbering
+  -- above which the numbers of the others begin
   pub floor : ℤ
+  -- the present tick
   pub tick : ℕ
+  -- the next DD sequence number (10.8)
   pub next_dd : ℕ
+  -- the keys whose copy went out in an Update in this tick (13, step 8)
   pub sent : List LsaKey
+  -- the keys of the self-originated LSAs that this step took in and has still to answer (13.4)
   pub heard : List LsaKey
+  -- the greatest of the floor and of all numbers of keys of its own
   pub greatest : ℤ
 
 -- ---- what is read of it

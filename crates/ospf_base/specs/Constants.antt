@@ -9,19 +9,19 @@ max_age = 3600
 abbrev pub router_options : ℕ
 router_options = 2
 
--- the headers of an IP packet, of an OSPF packet and of an LSA
+-- the header of an IP packet without options
 abbrev pub ip_header : ℕ
 ip_header = 20
 
--- the OSPF header of a packet (A.3.1)
+-- how many bytes the OSPF header of a packet has (A.3.1)
 abbrev pub packet_header : ℕ
 packet_header = 24
 
--- the header of an LSA (A.4.1)
+-- how many bytes the header of an LSA has (A.4.1)
 abbrev pub lsa_header : ℕ
 lsa_header = 20
 
--- the longest packet that is read or written
+-- the longest packet that is read or written, in bytes (own choice)
 abbrev pub largest_packet : ℕ
 largest_packet = 16384
 

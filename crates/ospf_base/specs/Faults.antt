@@ -1,7 +1,8 @@
 -- Of several faults the one of the least number is told.
 use Rattle.std.specs.Prelude.{ℕ, ◌<◌}
 
--- this fault is there, and none of a lower number: what it is to be there, and to be kept out
+-- this fault is there, and none of a lower number: `There` says what it is that a fault is
+-- there, and `Absent` that it is not
 pub record IsFirst {F : Type 0} (number : F → ℕ) (There Absent : F → Type 0) (f : F) : Type 0 where
   pub broken : There f
   pub first : (g : F) → number g < number f → Absent g

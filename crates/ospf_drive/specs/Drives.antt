@@ -17,8 +17,8 @@ last_told [] known = None
 last_told (table ∷ tables) known = Some known
 
 -- From one moment to the other the driver took arrivals that are no end. Each that is not passed
--- over was a step of the router. All that the steps sent went out, in order, and each table that a
--- step changed was published, in order.
+-- over was a step of the router. What the steps sent went out, in order, where the wire tells its
+-- traffic, and each table that a step changed was published, in order.
 pub record DriverGoesOn (a b : Moment) (told : Option Known) : Type 0 where
   pub taken : List Heard
   pub steps : List Done
@@ -101,7 +101,7 @@ abbrev pub EndsDrive : Moment → Option Known → Moment → Result (Option Kno
 EndsDrive a told b (Ok last) = Ended a b × (last ≡ told)
 EndsDrive a told b (Err fault) = Fails a b fault
 
--- The driver goes on, and then it ends.
+-- The driver takes arrivals for as long as none is the end, and then it ends, well or by a fault.
 pub record Drives (a b : Moment) (result : Result (Option Known) DriveFault) : Type 0 where
   pub last : Moment
   pub told : Option Known

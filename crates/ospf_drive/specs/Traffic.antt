@@ -72,7 +72,7 @@ MayEndAfter (Some ticks) true handed = handed ≤ ticks
 MayEndAfter None false handed = ⊥
 MayEndAfter None true handed = ⊤
 
--- so many ticks have been handed over where the end comes
+-- the span lets the end come after so many ticks
 abbrev pub EndsAfter : Span → ℕ → Type 0
 EndsAfter span handed = MayEndAfter span.ticks span.may_be_told handed
 

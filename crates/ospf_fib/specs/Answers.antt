@@ -13,8 +13,8 @@ abbrev pub IsUnreached : Table → Addr → Type 0
 IsUnreached table address =
     (route : Route) → Contains table route → Holds route.prefix address.0 → ⊥
 
--- the answer of a table under its version: the route of longest prefix,
--- with the hop that the choice picks
+-- the answer of a table under its version: a route of longest prefix, with the hop that the choice
+-- picks
 pub record IsFound (table : Table) (version : ℕ) (address : Addr) (choice : ℕ) (answer : Answer)
     : Type 0 where
   pub route : Route
@@ -30,7 +30,7 @@ abbrev pub IsAnswer : Table → ℕ → Addr → ℕ → Option Answer → Type 
 IsAnswer table version address choice answer =
     MatchOption answer (IsUnreached table address) (IsFound table version address choice)
 
--- the answer of the table that was published last
+-- the answer of the last of the tables
 pub record IsAnswerOfLast (tables : List Table) (address : Addr) (choice : ℕ)
     (answer : Option Answer) : Type 0 where
   pub version : ℕ

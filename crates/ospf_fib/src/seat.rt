@@ -94,9 +94,9 @@ impl Drop for Seat {
 }
 
 impl Seat {
-    /// The answer of the table that was published last: its route of longest prefix that holds the
-    /// address (RFC 2328, section 11.1), with the hop at `choice` modulo the number of hops; `None`
-    /// where no route's prefix holds it. It waits for nobody and takes no memory.
+    /// The answer of the last published table that the seat then knows: its route of longest prefix
+    /// that holds the address (RFC 2328, section 11.1), with the hop at `choice` modulo the number
+    /// of hops; `None` where no route's prefix holds it. It waits for nobody and takes no memory.
     ///
     /// `Closed` where the writer is gone.
     pub fn lookup(&mut self, address: Addr, choice: u32) -> Result<Option<Answer>, Closed>

@@ -43,11 +43,11 @@ abbrev pub IsTold : FailedStreams → FailedStreams → Option (List ℕ) → Op
 IsTold before after old new text =
     ((after ≡ before) × Appends old new text) ⊎ ((after ≡ with_error before) × IsBegun old new text)
 
--- what a failed write to standard output, or a flush of it, is
+-- which failures a failed write to standard output, or a failed flush of it, is told as
 abbrev pub IsOfOutput : Failure → Type 0
 IsOfOutput f = (f ≡ failure.Memory) ⊎ (f ≡ failure.Output)
 
--- what a failed write to standard error, or a flush of it, is
+-- which failures a failed write to standard error, or a failed flush of it, is told as
 abbrev pub IsOfError : Failure → Type 0
 IsOfError f = (f ≡ failure.Memory) ⊎ (f ≡ failure.Error)
 

@@ -3,7 +3,7 @@ use Rattle.std.specs.Prelude.{List, [], ◌∷◌}
 use Rattle.logbook.specs.Pages.{Book}
 use Rattle.ospf_graph.specs.declared.route.Route.{Route}
 
--- a routing table, as its routes
+-- what is published as a table: routes
 abbrev pub Table : Type 0
 Table = List Route
 

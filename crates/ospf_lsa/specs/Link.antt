@@ -6,7 +6,7 @@ use Rattle.ospf_lsa.specs.declared.link.Link.{Link}
 use Rattle.ospf_lsa.specs.declared.link.LinkKind.{LinkKind}
 use Rattle.ospf_lsa.specs.declared.link.LinkKind.TheVariants.{PointToPoint, Transit, Stub, Virtual}
 
--- the types of links by number
+-- the number of each type of link (A.4.2)
 abbrev pub kind_byte : LinkKind → ℕ
 kind_byte PointToPoint = 1
 kind_byte Transit = 2
@@ -40,7 +40,7 @@ pub record LinkFits (l : Link) : Type 0 where
   pub link_data : l.link_data < 2 ^ 32
   pub metric : l.metric < 2 ^ 16
 
--- what has a spelling
+-- the numbers of an entry of a router-LSA fit their fields
 pub record EntryFits (e : LinkEntry) : Type 0 where
   pub link : LinkFits e.link
   pub count : e.tos_count < 256
@@ -56,8 +56,8 @@ pub record AreLinks (count : ℕ) (bytes : List ℕ) : Type 0 where
 
 -- ---- reading
 
--- the type of a number (appendix A.4.2): 4 is Virtual, and as it are read 0 and
--- those above 4, that no link has
+-- the type of a number (appendix A.4.2): 4 is Virtual, and so are 0 and the numbers above 4, which
+-- no link of an LSA has
 abbrev pub link_kind : ℕ → LinkKind
 link_kind zero = Virtual
 link_kind (suc zero) = PointToPoint
@@ -78,7 +78,7 @@ link_at bytes = record {
 abbrev pub link_length : List ℕ → ℕ
 link_length bytes = 12 + 4 * slice_index bytes 9
 
--- the same with its TOS metrics
+-- the link at the front, with its TOS metrics
 abbrev pub entry_at : List ℕ → LinkEntry
 entry_at bytes =
     record {

@@ -3,6 +3,7 @@
 use Rattle.std.specs.Prelude.{◌≡◌, ◌≢◌, ◌↔◌, ◌⊎◌, ℕ, ◌<◌, ◌≤◌, List, [], ◌∷◌, ◌++◌, length, map, take, drop, slice_index_or}
 use Rattle.std.specs.List.{Any, AllByRecursion, Contains}
 use Rattle.ospf_base.specs.Bytes.{number_at}
+use Rattle.ospf_base.specs.Constants.{max_age}
 use Rattle.ospf_base.specs.declared.ids.LsaKey.{LsaKey}
 use Rattle.ospf_base.specs.Keys.{Precedes}
 use Rattle.ospf_lsa.specs.Header.{header_of, HeaderFits}
@@ -16,7 +17,7 @@ IsRising (lsa ∷ lsas) =
 
 -- an LSA that may be listed, the numbers of its header being those of its fields
 abbrev pub IsListable : List ℕ → Type 0
-IsListable lsa = IsLsa lsa × HeaderFits (header_of lsa) × ((header_of lsa).age < 3600)
+IsListable lsa = IsLsa lsa × HeaderFits (header_of lsa) × ((header_of lsa).age < max_age)
 
 -- LSAs below age MaxAge, at most one a key, in the order of their keys
 pub record IsListing (lsas : List (List ℕ)) : Type 0 where

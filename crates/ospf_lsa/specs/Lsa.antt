@@ -31,8 +31,8 @@ IsRouterLsa lsa = type_of lsa ≡ 1
 abbrev pub IsNetworkLsa : List ℕ → Type 0
 IsNetworkLsa lsa = type_of lsa ≡ 2
 
--- the kind by the LS type (appendix A.4.1): network for 2, router for any
--- other, of which an LSA has only 1
+-- the kind by the LS type (appendix A.4.1): network for 2, router for any other. What is an LSA
+-- (`IsLsa`) has LS type 1 or 2
 abbrev pub kind_of : List ℕ → Kind
 kind_of lsa = if type_of lsa == 2 then Network else Router
 
@@ -82,7 +82,7 @@ HasLinks lsa = (24 ≤ length lsa) × AreLinks (number_at 22 2 lsa) (drop 24 lsa
 abbrev pub HasRouters : List ℕ → Type 0
 HasRouters lsa = (24 ≤ length lsa) × ((length lsa - 20) % 4 ≡ 0)
 
--- bytes without one fault
+-- the bytes are free of this fault
 abbrev pub IsFreeOf : LsaFault → List ℕ → Type 0
 IsFreeOf fault.Short lsa = (20 ≤ length lsa) × (number_at 18 2 lsa ≤ length lsa)
 IsFreeOf fault.Length lsa = length lsa ≤ number_at 18 2 lsa

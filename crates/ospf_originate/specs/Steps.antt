@@ -104,8 +104,8 @@ pub record IsDue (s : AreaValue) (due : List DueAction) : Type 0 where
   pub whole : (key : LsaKey) → among keys key ≡ false → action_of s key ≡ Leave
   pub is : due ≡ due_of (action_of s) keys
 
--- the own LSAs that end a step: exactly those that are due in the state in which
--- they begin, in order of key (12.4)
+-- the own LSAs that end a step, and the self-originated ones that are flushed: exactly those that
+-- are due in the state in which they begin, in order of key (12.4, 13.4)
 pub record OwnLsas (before : AreaValue) (out out' : OutputsValue) (after : AreaValue) : Type 0 where
   pub due : List DueAction
   pub is_due : IsDue before due

@@ -4,7 +4,7 @@ use Rattle.ospf_base.specs.Bytes.{number_at, number_bytes}
 use Rattle.ospf_packet.specs.declared.body.Hello.{Hello}
 use Rattle.ospf_packet.specs.declared.body.Description.{Description}
 
--- the size of the fields of a Hello, and of a Database Description
+-- how many bytes a Hello has before its neighbours (A.3.2)
 abbrev pub hello_fields : ℕ
 hello_fields = 20
 

@@ -31,7 +31,7 @@ pub record IsBody (kind : ℕ) (body : List ℕ) : Type 0 where
   pub update_is : kind ≡ 4 → (4 ≤ length body) × AreSlices (number_at 0 4 body) (drop 4 body)
   pub acknowledgment_is : kind ≡ 5 → length body % lsa_header ≡ 0
 
--- bytes without one fault
+-- the bytes are free of this fault
 abbrev pub IsPacketFreeOf : PacketFault → List ℕ → Type 0
 IsPacketFreeOf fault.TooLong packet = length packet ≤ largest_packet
 IsPacketFreeOf fault.Short packet = packet_header ≤ length packet
@@ -63,8 +63,8 @@ IsFirstPacketFault packet f = faults.IsFirstBroken fault_order (λ g. IsPacketFr
 
 -- ---- what a packet says
 
--- what a body of this type says (appendix A.3.2 to A.3.6); of a type that is none
--- of 1 to 4, as an Acknowledgment
+-- what a body of this type says (appendix A.3.2 to A.3.6). Type 5 is that of an Acknowledgment, and
+-- a packet has no other
 abbrev pub body_at : ℕ → List ℕ → BodyMeaning
 body_at kind body =
     if kind == 1 then hello (hello_at body) (routers_in (drop hello_fields body))

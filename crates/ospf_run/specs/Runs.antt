@@ -49,8 +49,8 @@ IsLookedUp (Some address) tables (Some looked) =
     (looked.address ≡ address) × IsAnswerOfLast tables address 0 looked.answer
 IsLookedUp _ tables _ = ⊥
 
--- a driver that began there came to the end, with this router, when as many ticks were taken as the
--- span of its wire says, and the lookup is in the table that it published last
+-- a driver that began there came to an end, with this router, where the span of its wire lets it
+-- end after as many ticks as were taken, and the lookup is in the table that it published last
 pub record ComesToEnd (lookup : Option Addr) (a : Moment) (shown : RouterShown) : Type 0 where
   pub known : Known
   pub told : Option Known
@@ -59,7 +59,7 @@ pub record ComesToEnd (lookup : Option Addr) (a : Moment) (shown : RouterShown) 
       → EndsAfter span (handed + ticks_in drives.drives.goes_on.taken)
   pub looked : IsLookedUp lookup known.tables shown.looked
 
--- what came of a router whose driver began there
+-- what came of a router: its driver began there and came to an end, or it failed
 abbrev pub Came : Option Addr → Moment → Result RouterShown DriveFault → Type 0
 Came lookup a (Ok shown) = ComesToEnd lookup a shown
 Came lookup a (Err f) = IsDriven a (Err f)
@@ -112,8 +112,8 @@ asked_of settings = record {
   drops = settings.drops;
 }
 
--- what is printed beside tables and lookups is what is asked for: no drops where none are,
--- and a floor where there is one
+-- what is printed beside tables and lookups: neighbours and what is listed, where they are asked
+-- for; no drops, where they are not; and a floor, where the run began with one
 pub record AreExtras (asked : Asked) (extras : Extras) : Type 0 where
   pub neighbours : extras.neighbours ≡ asked.neighbours
   pub listing : extras.listing ≡ asked.listing

@@ -68,10 +68,10 @@ pub fn run_text<
         result ≡ Status.Refused →
         IsHindered (asked_of settings.now) files.now Status.Refused old new }
     // However it ends, the run has come to its end, or a failure has cut it short.
-    ensures not_words { result ≢ Status.Words }
     ensures ended { let old = written_on (O.contents out.old) (E.contents err.old) in
         let new = written_on (O.contents out.new) (E.contents err.new) in
         EndsRun (asked_of settings.now) files.now result old new }
+    ensures not_words { result ≢ Status.Words }
 {
     let ran = run(rt, alloc, settings, files, tap);
     let mut streams = FailedStreams::none();

@@ -38,11 +38,12 @@ pub record Hears (headers : BodyMeaning → List LsaHeader) (heard : Option Rece
   pub from : received.packet.router ≡ q
   pub named : Lists (headers received.packet.body) i
 
--- by a Database Description (10.6)
+-- q described the instance in the packet heard, a Database Description (10.6)
 abbrev pub IsDescribed : Option Received → ℕ → RouterId → Instance → Type 0
 IsDescribed heard l q i = Hears dd_headers_of heard l q i
 
--- by an Acknowledgment, or by an Update that has an LSA of the very instance (13.7; 13, step 7a)
+-- q acknowledged the instance in the packet heard: by an Acknowledgment, or by an Update that has
+-- an LSA of the very instance (13.7; 13, step 7a)
 abbrev pub IsAcknowledged : Option Received → ℕ → RouterId → Instance → Type 0
 IsAcknowledged heard l q i = Hears acknowledging_headers_of heard l q i
 
@@ -57,15 +58,15 @@ pub data HasContents (heard : Option Received) (before : AreaValue) (out : Outpu
   Issued : (lsa : List ℕ) → Contains out.issued lsa → contents lsa ≡ content
       → HasContents heard before out content
 
--- q on link l has told of i in the packet heard, or in a DD packet of one that covers i: in the
--- packet heard, or in one that put it on the request list
+-- q on link l acknowledged i in the packet heard; or it has told of an instance that covers i: in
+-- the packet heard, a DD packet, or so that it stood on q's request list before
 pub data HasWord (heard : Option Received) (before : AreaValue) (l : ℕ) (q : RouterId)
     (i : Instance) : Type 0 where
   Acknowledged : IsAcknowledged heard l q i → HasWord heard before l q i
   Described : (j : Instance) → IsDescribed heard l q j → Covers j i → HasWord heard before l q i
   Requested : (j : Instance) → Asks before l q j → Covers j i → HasWord heard before l q i
 
--- the new LSA took the old one's place: it was heard in an Update and installed, or is issued, with
+-- the new LSA took the old one's place: it was heard in an Update and taken; or it is issued, with
 -- a greater number. What is taken while there is a copy of its key is installed
 pub data TakesItsPlace (heard : Option Received) (out : OutputsValue) (old new : List ℕ)
     : Type 0 where
@@ -97,8 +98,8 @@ pub data MayLeave (heard : Option Received) (before : AreaValue) (out : OutputsV
   Fell : is_exchanging (state_in (neighbour after l q)) ≡ false
       → MayLeave heard before out after l q i
 
--- a copy that was held before, at this age, or at another where no packet was
--- heard or it has come to MaxAge
+-- a copy was held before, with the same contents. It has the same age now, unless no packet was
+-- heard, as in a tick, or it has come to MaxAge
 pub record WasKept (heard : Option Received) (before : AreaValue) (lsa : List ℕ) : Type 0 where
   pub old : List ℕ
   pub copy : HasCopy before old
@@ -112,7 +113,7 @@ pub record WaitsOn (heard : Option Received) (before after : AreaValue) (l : ℕ
   pub awaits : Awaits after l q i
   pub kept : (lsa : List ℕ) → HasCopy after lsa → instance_of lsa ≡ i → WasKept heard before lsa
 
--- an LSA with MaxSequenceNumber was held, heard or issued
+-- an LSA with MaxSequenceNumber, of whatever key, was held, heard or issued
 pub record HasLargest (heard : Option Received) (before : AreaValue) (out : OutputsValue)
     : Type 0 where
   pub lsa : List ℕ
@@ -134,8 +135,8 @@ pub record Numbers (heard : Option Received) (before : AreaValue) (out : Outputs
   pub again : (key : LsaKey) → among out.ended key ≡ true → kept_number after key ≡ lowest_number
   pub ends : (key : LsaKey) → among out.ended key ≡ true → HasLargest heard before out
 
--- what a part of a step, and a whole step, answers for to other routers. Nothing
--- here speaks of one kind of part
+-- what holds of each step, and of each part of one, whatever its kind: what the
+-- router answers for to other routers
 pub record Accounts (heard : Option Received) (before : AreaValue) (out : OutputsValue)
     (after : AreaValue) : Type 0 where
   pub same_router : after.router ≡ before.router
@@ -149,7 +150,7 @@ pub record Accounts (heard : Option Received) (before : AreaValue) (out : Output
   pub named : (p : Meaning) (i : Instance) → Sends out p → Lists (headers_in_body p.body) i
       → CanName before i ⊎ Brings out i
   pub holds : (i : Instance) → HoldsInstance after i → HoldsInstance before i ⊎ Brings out i
-  -- what it asks of q, q told in a DD packet
+  -- what it asks of q, it asked before, or q described in the packet heard
   pub asks : (l : ℕ) (q : RouterId) (i : Instance) → Asks after l q i
       → Asks before l q i ⊎ IsDescribed heard l q i
   pub leaves : (l : ℕ) (q : RouterId) (i : Instance) → Awaits before l q i

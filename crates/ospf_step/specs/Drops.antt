@@ -12,8 +12,8 @@ use Rattle.ospf_step.specs.Receipt.{drop_of}
 use Rattle.ospf_step.specs.declared.dropped.Dropped.{Dropped}
 use Rattle.ospf_step.specs.declared.dropped.Dropped.TheVariants as dropped
 
--- why a datagram that comes on a link is dropped, if it is; on one that is
--- not there it is read by nobody
+-- why a datagram that comes on a link is dropped, if it is; on one that
+-- is not there it is, as `Packet`
 abbrev pub drop_on : Option LinkValue → AreaValue → Addr → Addr → Option Meaning → Option Dropped
 drop_on None s source destination m = Some dropped.Packet
 drop_on (Some link) s source destination m =

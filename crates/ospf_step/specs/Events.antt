@@ -4,7 +4,8 @@ use Rattle.ospf_step.specs.Step as laws
 use Rattle.ospf_step.specs.declared.event.Event.{Event}
 use Rattle.ospf_step.specs.declared.event.Event.TheVariants as given
 
--- the event as the laws read it: a datagram with its bytes, and all else as it is
+-- the event in the words of `Event` of `ospf_step/Step`: of one that the code has (`given`), a
+-- datagram with the bytes that it points to, and all else as it is
 abbrev pub happening : Event → laws.Event
 happening (given.Datagram link source destination bytes) =
     laws.Event.Datagram link source destination bytes.now

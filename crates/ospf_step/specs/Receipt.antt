@@ -85,7 +85,7 @@ agrees i h =
     && (bit_and h.options router_options == router_options)
     && ((h.mask == i.settings.mask) || not (is_broadcast i))
 
--- by what the packet says
+-- why a packet is dropped by what its body says, of which the sender may be no neighbour
 abbrev pub drop_by_body : Local → BodyMeaning → Iface → List NeighbourValue → RouterId
     → Option NeighbourValue → Option Dropped
 drop_by_body local (hello fields heard) i ns q sender =
@@ -96,7 +96,8 @@ drop_by_body local (request entries) i ns q sender = drop_below_exchange q sende
 drop_by_body local (update lsas) i ns q sender = drop_below_exchange q sender
 drop_by_body local (acknowledgment headers) i ns q sender = drop_below_exchange q sender
 
--- why a packet is dropped, if it is: the first cause that applies
+-- why a packet is dropped, if it is, the first of these: the link is down; another area; the Router
+-- ID of this router; for another destination; from another network; and what its body brings
 abbrev pub drop_of_packet : Local → Iface → List NeighbourValue → AreaId → Addr → Addr → Meaning
     → Option Dropped
 drop_of_packet local i ns area source destination m =
@@ -107,7 +108,7 @@ drop_of_packet local i ns area source destination m =
     else if is_foreign i source then Some dropped.Subnet
     else drop_by_body local m.body i ns m.router (sender_in i ns m.router source)
 
--- why a datagram is dropped, if it is; one that is no packet says nothing
+-- why a datagram is dropped, if it is; bytes that are no packet are, as `Packet`
 abbrev pub drop_of : Local → Iface → List NeighbourValue → AreaId → Addr → Addr → Option Meaning
     → Option Dropped
 drop_of local i ns area source destination None = Some dropped.Packet

@@ -145,7 +145,7 @@ abbrev pub last_parts : List Part
 last_parts = Elections ∷ OwnLsas ∷ Removals ∷ []
 
 -- a step of a router that drops these events: they change nothing, and any other is taken in
--- parts. What is sent is read again
+-- parts. The bytes of what is sent are read as what was meant
 pub data StepLaws (is_dropped : Event → AreaValue → Bool) (event : Event) (before : AreaValue)
     (out : OutputsValue) (after : AreaValue) : Type 0 where
   Drops : is_dropped event before ≡ true → Becomes before no_outputs out after

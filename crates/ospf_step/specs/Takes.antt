@@ -25,17 +25,16 @@ use Rattle.ospf_update.specs.Updates.{TakesUpdate}
 abbrev pub TakesBody : BodyMeaning → Origin → AreaValue → OutputsValue → OutputsValue → AreaValue
     → Type 0
 TakesBody (hello fields heard) f s out out' after =
-    WorksOn (hello_part (own_of s) f fields (names heard s.router) s.next_dd) f.link s out out'
-    after
+    let part = hello_part (own_of s) f fields (names heard s.router) s.next_dd in
+    WorksOn part f.link s out out' after
 TakesBody (description fields headers) f s out out' after =
-    WorksOn (description_part (own_of s) f fields headers s.database s.next_dd) f.link s out out'
-    after
+    let part = description_part (own_of s) f fields headers s.database s.next_dd in
+    WorksOn part f.link s out out' after
 -- the keys whose copies answer a Request are marked as sent in this tick (13, step 8)
 TakesBody (request entries) f s out out' after =
-    let marks = marked_all (answered_on (slice_get s.links f.link) f.router s.database entries)
-    s.sent in
-    WorksOn (request_part (own_of s) f s.database entries s.next_dd) f.link
-    (record s { sent = marks }) out out' after
+    let answered = answered_on (slice_get s.links f.link) f.router s.database entries in
+    let part = request_part (own_of s) f s.database entries s.next_dd in
+    WorksOn part f.link (record s { sent = marked_all answered s.sent }) out out' after
 TakesBody (update lsas) f s out out' after = TakesUpdate f lsas s out out' after
 TakesBody (acknowledgment headers) f s out out' after =
     Becomes (headers_met f headers s) (and_sends out []) out' after

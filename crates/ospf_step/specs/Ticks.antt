@@ -14,13 +14,14 @@ use Rattle.ospf_update.specs.Aging.{TickAges}
 -- go out are marked (13, step 8)
 abbrev pub RepeatsAll : AreaValue → OutputsValue → OutputsValue → AreaValue → Type 0
 RepeatsAll s out out' after =
-    let marks = marked_all (flat_map (keys_out (own_of s) s.database) s.links) s.sent in
+    let keys = flat_map (keys_out (own_of s) s.database) s.links in
+    let marked = record s { sent = marked_all keys s.sent } in
     OnEachLink (link_repeated (own_of s) s.database) (link_repeats_out (own_of s) s.database)
-    (record s { sent = marks }) out out' after
+    marked out out' after
 
 -- a tick: ages, timers, Hellos, acknowledgements and repeats, in this order
 pub record TakesTick (s : AreaValue) (out out' : OutputsValue) (after : AreaValue) : Type 0 where
-  -- all ages rise, and the copies that come to MaxAge go to all (14)
+  -- all ages below MaxAge rise, and the copies that come to it go to all (14)
   pub aged : AreaValue
   pub aged_out : OutputsValue
   pub ages : TickAges s out aged_out aged

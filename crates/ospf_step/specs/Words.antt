@@ -18,7 +18,7 @@ HasCopy s lsa = copy_of s (key_of lsa) ≡ Some lsa
 abbrev pub HoldsInstance : AreaValue → Instance → Type 0
 HoldsInstance s i = (lsa : List ℕ) × HasCopy s lsa × (instance_of lsa ≡ i)
 
--- the router asks q on link l for the instance (10.9)
+-- the instance is on the list of what the router requests of q on link l (10.9)
 abbrev pub Asks : AreaValue → ℕ → RouterId → Instance → Type 0
 Asks s l q i = Lists (elim (neighbour s l q) [ None ↦ [] | Some n ↦ n.requests ]) i
 
@@ -27,7 +27,7 @@ abbrev pub delayed : AreaValue → ℕ → List LsaHeader
 delayed s l = elim (slice_get s.links l) [ None ↦ [] | Some link ↦ link.delayed ]
 
 -- the instances that a router can name to others: in a packet sent from now on there is no other,
--- but for those that it installs or issues first. The summary list has what is still to be
+-- but for those that it takes or issues first. The summary list has what is still to be
 -- described to q (10); the last DD packet sent to q may be sent again (10.8)
 pub data CanName (s : AreaValue) (i : Instance) : Type 0 where
   InDatabase : HoldsInstance s i → CanName s i

@@ -6,7 +6,7 @@ use thiserror::Error;
 /// Why a datagram was dropped. It changes nothing.
 #[derive(Clone, Copy, Debug, PartialEq, Eq, Error)]
 pub enum Dropped {
-    /// It is no packet, or the link is Down.
+    /// It is no packet, or the link is Down or not there.
     Packet,
     /// It bears another Area ID.
     Area,
@@ -22,7 +22,8 @@ pub enum Dropped {
     NoNeighbour,
     /// Its Router ID and its source are not those of one neighbour.
     WrongRouter,
-    /// It is not taken in the state of the neighbour.
+    /// It is not taken in the state of the neighbour; a Database Description with too large an MTU,
+    /// or a Hello of one neighbour more than a link may have.
     State,
 }
 

@@ -70,7 +70,7 @@ abbrev pub no_socket_line : NamedFile → NoSocket → List ℕ
 no_socket_line file no_socket =
     string_bytes file.name ++ codes ": socket\n  " ++ no_socket_text no_socket ++ codes "\n"
 
--- the line that tells of it
+-- what is written where this keeps the routers from running: a line, or two of a socket
 abbrev pub obstacle_line : Obstacle → List ℕ
 obstacle_line obstacle.NoNumber = codes "floor: not a number\n"
 obstacle_line obstacle.GreatestFloor = codes "floor: S2 Floor\n"
@@ -86,8 +86,8 @@ obstacle_status (obstacle.Unread file) = status.Stream
 obstacle_status (obstacle.NoSocket file no_socket) = status.Stream
 obstacle_status _ = status.Refused
 
--- what fails before anything is written: memory ran out, or a table that the routers
--- of a plan published was closed
+-- what fails before anything is written: memory ran out; or, where there is a plan, a table that a
+-- router publishes was closed
 pub data IsEarly (floor : Option (List ℕ)) (files : List NamedFile) : Failure → Type 0 where
   no_memory : IsEarly floor files failure.Memory
   closed : HasPlan floor files → IsEarly floor files failure.Closed

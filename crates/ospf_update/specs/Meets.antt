@@ -74,10 +74,11 @@ pub record Stores (lsa : List ℕ) (from : Option Origin) (before after : AreaVa
 -- which rule an LSA meets, if its sender is in Exchange or above
 abbrev pub rule_met : AreaValue → Origin → List ℕ → Option LsaRule
 rule_met s f lsa =
-    if is_taken_in (origin_neighbour s.links f)
-    then Some
-    (lsa_rule (header_of lsa) (database_entry s (key_of lsa)) (some_link_loading s.links)
-    (is_requested_of (key_of lsa) (origin_neighbour s.links f)) s.tick)
+    let sender = origin_neighbour s.links f in
+    let copy = database_entry s (key_of lsa) in
+    let requested = is_requested_of (key_of lsa) sender in
+    if is_taken_in sender
+    then Some (lsa_rule (header_of lsa) copy (some_link_loading s.links) requested s.tick)
     else None
 
 -- a self-originated LSA is to be answered at the end of the step (13.4)
@@ -85,17 +86,17 @@ abbrev pub heard_by : LsaKey → AreaValue → AreaValue
 heard_by key s =
     if is_self_originated s.router s.links key then record s { heard = s.heard ++ key ∷ [] } else s
 
--- it is newer: it is stored and flooded, and acknowledged by the table (13, step 5)
+-- it is newer than the copy, or there is none: it is stored and flooded, and acknowledged by the
+-- table of section 13.5 (13, step 5)
 pub record Admits (f : Origin) (lsa : List ℕ) (before : AreaValue) (out out' : OutputsValue)
     (after : AreaValue) : Type 0 where
   pub mid : AreaValue
   pub stores : Stores lsa (Some f) before mid
-  pub state : after ≡ heard_by (key_of lsa)
-      (acknowledging
-      (answer_at
-      (case_of_newer
-      (flooded_back (key_of lsa) (header_of lsa) (Some f) (released (key_of lsa) before.links))) f
-      mid.links) f (header_of lsa) mid)
+  pub state :
+      let links = released (key_of lsa) before.links in
+      let back = flooded_back (key_of lsa) (header_of lsa) (Some f) links in
+      let answer = answer_at (case_of_newer back) f mid.links in
+      after ≡ heard_by (key_of lsa) (acknowledging answer f (header_of lsa) mid)
   pub outputs :
       out' ≡ and_takes (and_sends out (store_updates lsa (Some f) before)) (instance_of lsa)
 
@@ -128,9 +129,9 @@ restarted f s =
 -- where it was waited for, that ends; it is acknowledged by the table (13, step 7)
 abbrev pub duplicated : Origin → List ℕ → AreaValue → AreaValue
 duplicated f lsa s =
-    acknowledging
-    (answer_at (case_of_same (is_awaited_of (instance_of lsa) (origin_neighbour s.links f))) f
-    s.links) f (header_of lsa)
+    let awaited = is_awaited_of (instance_of lsa) (origin_neighbour s.links f) in
+    let answer = answer_at (case_of_same awaited) f s.links in
+    acknowledging answer f (header_of lsa)
     (record s { links = changed_at f (Acknowledges (instance_of lsa)) s.tick s.links })
 
 -- ---- older than the copy
@@ -169,22 +170,25 @@ replied (Some lsa) f key s =
 -- what an LSA does by the rule that it meets (13, steps 4 to 8)
 abbrev pub MeetsRule : Option LsaRule → Origin → List ℕ → AreaValue → OutputsValue → OutputsValue
     → AreaValue → Type 0
--- its sender is below Exchange: nothing happens
+-- its sender is below Exchange, as after BadLSReq by an earlier LSA: nothing happens
 MeetsRule None f lsa before out out' after = Becomes before out out' after
--- it is at MaxAge and not known: it is acknowledged, and nothing else (step 4)
+-- it is at MaxAge and not known: it is acknowledged, and not stored (step 4)
 MeetsRule (Some AcknowledgesExpired) f lsa before out out' after =
     Becomes (acknowledging (answer_at Expired f before.links) f (header_of lsa) before)
     (and_takes out (instance_of lsa)) out' after
 -- its copy came less than MinLSArrival ago: nothing happens (step 5a)
 MeetsRule (Some TooSoon) f lsa before out out' after = Becomes before out out' after
+-- it is newer than the copy, or there is none (step 5)
 MeetsRule (Some Installs) f lsa before out out' after = Admits f lsa before out out' after
 -- it was asked for, and is no newer than the copy: BadLSReq (step 6)
 MeetsRule (Some BadRequest) f lsa before out out' after =
     Becomes (restarted f before)
     (and_sends out (first_dd_on (own_of before) f before.next_dd (slice_get before.links f.link)))
     out' after
+-- it is the same instance as the copy (step 7)
 MeetsRule (Some Duplicate) f lsa before out out' after =
     Becomes (duplicated f lsa before) out out' after
+-- it is older than the copy, which may go back (step 8)
 MeetsRule (Some Stale) f lsa before out out' after =
     Becomes (replied (reply_to before (key_of lsa)) f (key_of lsa) before)
     (and_sends out (reply_out (reply_to before (key_of lsa)) f before)) out' after

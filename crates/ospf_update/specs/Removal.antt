@@ -64,7 +64,7 @@ and_ends out key = record out { ended = out.ended ++ key ∷ [] }
 
 -- ---- they leave
 
--- one of them is taken out
+-- the copy of a key leaves the database (14), and where its run ends, the numbers begin again
 pub record RemovesOne (key : LsaKey) (before : AreaValue) (out out' : OutputsValue)
     (after : AreaValue) : Type 0 where
   pub database : Puts key (removed (held_of before.database key)) before.database after.database
