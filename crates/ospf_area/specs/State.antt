@@ -23,7 +23,7 @@ use Rattle.ospf_area.specs.declared.state.Numbering.{Numbering}
 -- a link of a router (9)
 pub record LinkValue : Type 0 where
   pub iface : Iface
-  -- what never changes of it
+  -- what never changes of it, beside the settings of its interface
   pub settings : LinkSettings
   -- in rising Router ID
   pub neighbours : List NeighbourValue
@@ -32,13 +32,13 @@ pub record LinkValue : Type 0 where
   -- an election is due at the end of the step (9.4)
   pub elects : Bool
 
--- a router's part of its area: all that it keeps but its routing table (5 and 6)
+-- what a router keeps of its area, all but the routing table and what that is made from (5 and 6)
 pub record AreaValue : Type 0 where
   pub router : RouterId
   pub area : AreaId
   -- it is a stub router (RFC 6987)
   pub stub_router : Bool
-  -- LSAs of LS types 3 to 5 are acknowledged and not kept, where else they are refused
+  -- LSAs of LS types 3 to 5 are acknowledged and not kept; otherwise they are refused
   pub passes_over : Bool
   -- in configuration order
   pub links : List LinkValue
@@ -48,7 +48,7 @@ pub record AreaValue : Type 0 where
   pub direct : List LsaHeader
   -- how far the numbers of each key of its own have come, of those that it has numbered (12.1.6)
   pub numbering : List Numbering
-  -- above which the numbers of the others begin
+  -- what the numbers of its other keys begin above
   pub floor : ℤ
   -- the present tick
   pub tick : ℕ
@@ -56,7 +56,7 @@ pub record AreaValue : Type 0 where
   pub next_dd : ℕ
   -- the keys whose copy went out in an Update in this tick (13, step 8)
   pub sent : List LsaKey
-  -- the keys of the self-originated LSAs that this step took in and has still to answer (13.4)
+  -- the keys of the self-originated LSAs that this step installed and has still to answer (13.4)
   pub heard : List LsaKey
   -- the greatest of the floor and of all numbers of keys of its own
   pub greatest : ℤ

@@ -101,7 +101,8 @@ abbrev pub EndsDrive : Moment → Option Known → Moment → Result (Option Kno
 EndsDrive a told b (Ok last) = Ended a b × (last ≡ told)
 EndsDrive a told b (Err fault) = Fails a b fault
 
--- The driver takes arrivals for as long as none is the end, and then it ends, well or by a fault.
+-- The driver takes arrivals, and then it ends: well, by the end that comes, or by a fault before
+-- it.
 pub record Drives (a b : Moment) (result : Result (Option Known) DriveFault) : Type 0 where
   pub last : Moment
   pub told : Option Known

@@ -16,7 +16,7 @@ pub record IsReachedBy (is_dropped : Event → AreaValue → Bool) (events : Lis
   pub new : IsNewWorld start
   pub runs : RunsEvents is_dropped events start w
 
--- some events led to this world from one in which none runs and nothing has happened
+-- some events led to this world from one in which no router runs and nothing has happened
 abbrev pub IsReached : (Event → AreaValue → Bool) → World → Type 0
 IsReached is_dropped w = (events : List WorldEvent) × IsReachedBy is_dropped events w
 

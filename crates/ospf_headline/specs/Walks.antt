@@ -49,9 +49,10 @@ WalksOn w address a (c ∷ rest) b paid =
     (cost left : ℕ) × StepsOn w address a c cost × WalksOn w address c rest b left
     × (paid ≡ cost + left)
 
--- where a walk stands that began with this route: its router runs, and its best route is to the
--- same prefix. What the walk has paid and the cost of this route make the cost of the first one.
--- Each of the route's hops is `Attached`, where the walk ends, or leads on to a router that runs
+-- where a walk stands that began with the first route: router b runs, and its best route is to the
+-- same prefix. What the walk has paid and the cost of b's route make the cost of the first one.
+-- Each of the hops of b's route is `Attached`, where the walk ends, or leads on to a router that
+-- runs
 pub record StandsOnWay (w : World) (address : ℕ) (first : Route) (b : RouterId) (paid : ℕ)
     : Type 0 where
   pub running : Running
@@ -127,8 +128,8 @@ pub data WalksBy (w : World) (address choice : ℕ)
       → IsLinkCost (adverts x) at hop link → GoesOn next rest left end → routers ≡ at ∷ rest
       → paid ≡ link + left → WalksBy w address choice GoesOn at routers paid end
 
--- a walk with at most this many hops: at each router the hop of its best route at the place that is
--- chosen, modulo the number of hops; a missing choice is 0
+-- a walk that goes on at most so many times: at each router by the hop of its best route at the
+-- chosen place, modulo how many hops that route has; a missing choice is 0
 abbrev pub IsWalkOf : World → ℕ → ℕ → List ℕ → RouterId → List RouterId → ℕ → WalkEnd → Type 0
 IsWalkOf w address zero choices at routers paid end =
     (routers ≡ at ∷ []) × (paid ≡ 0) × (end ≡ Turns)

@@ -175,7 +175,7 @@ pub record RunsGoOn (issued : List Issued) (ended : List LsaKey) (x x' : Running
       else run_of x key)
 
 -- router r, running as x, is stepped with the event, puts out `out` and runs on as x'. Which events
--- routers drop may be anything that hangs on the event and the state
+-- routers drop may be anything that depends on the event and the state
 pub record StepsRouter (is_dropped : Event → AreaValue → Bool) (before after : World) (r : RouterId)
     (event : Event) (x x' : Running) (out : OutputsValue) : Type 0 where
   pub was : router_at before r ≡ Some x
@@ -211,7 +211,7 @@ pub data Comes (is_dropped : Event → AreaValue → Bool) (event : WorldEvent) 
       → stepped_by before event ≡ Some (r, e) → StepsRouter is_dropped before after r e x x' out
       → Comes is_dropped event before result after
 
--- the event happens, whatever the call answers that brings it
+-- the event comes, whatever is answered: it happens, or it is refused
 abbrev pub Happens : (Event → AreaValue → Bool) → WorldEvent → World → World → Type 0
 Happens is_dropped event before after =
     (result : Result (Unit {0}) WorldFault) × Comes is_dropped event before result after

@@ -40,7 +40,7 @@ pub record LinkFits (l : Link) : Type 0 where
   pub link_data : l.link_data < 2 ^ 32
   pub metric : l.metric < 2 ^ 16
 
--- the numbers of an entry of a router-LSA fit their fields
+-- the numbers of an entry of a router-LSA fit their fields, and it has four bytes a TOS metric
 pub record EntryFits (e : LinkEntry) : Type 0 where
   pub link : LinkFits e.link
   pub count : e.tos_count < 256

@@ -4,11 +4,11 @@ use Rattle.ospf_base.specs.Bytes.{number_at, number_bytes}
 use Rattle.ospf_packet.specs.declared.body.Hello.{Hello}
 use Rattle.ospf_packet.specs.declared.body.Description.{Description}
 
--- how many bytes a Hello has before its neighbours (A.3.2)
+-- how many bytes the body of a Hello has before its neighbours (A.3.2)
 abbrev pub hello_fields : ℕ
 hello_fields = 20
 
--- how many bytes a Database Description has before its headers (A.3.3)
+-- how many bytes the body of a Database Description has before its headers (A.3.3)
 abbrev pub description_fields : ℕ
 description_fields = 8
 

@@ -63,8 +63,8 @@ IsFirstPacketFault packet f = faults.IsFirstBroken fault_order (λ g. IsPacketFr
 
 -- ---- what a packet says
 
--- what a body of this type says (appendix A.3.2 to A.3.6). Type 5 is that of an Acknowledgment, and
--- a packet has no other
+-- what a body of this type says (appendix A.3.2 to A.3.6): any but types 1 to 4 is read as an
+-- Acknowledgment, which is type 5, and a packet has no greater one
 abbrev pub body_at : ℕ → List ℕ → BodyMeaning
 body_at kind body =
     if kind == 1 then hello (hello_at body) (routers_in (drop hello_fields body))

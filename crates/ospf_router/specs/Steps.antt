@@ -21,8 +21,8 @@ pub record IsLawful (e : Event) (s : AreaValue) (dropped : Option Dropped) (out 
   pub laws : StepLaws is_dropped e s out after
   pub accounts : Accounts (heard_in e) s out after
 
--- a router takes an event: its area takes it, and then its routing table is that of what the new
--- database lists. `table_changed` tells whether this is another one than before
+-- an event comes to a router: its area drops or takes it, and then its routing table is that of
+-- what the database lists. `table_changed` tells whether this is another one than before
 pub record Steps (e : Event) (before : RouterValue) (t : Step) (after : RouterValue) : Type 0 where
   pub area : AreaValue
   pub next : AreaValue

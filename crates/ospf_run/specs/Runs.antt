@@ -113,7 +113,7 @@ asked_of settings = record {
 }
 
 -- what is printed beside tables and lookups: neighbours and what is listed, where they are asked
--- for; no drops, where they are not; and a floor, where the run began with one
+-- for; no drops, where they are not; and a floor, where one is asked for
 pub record AreExtras (asked : Asked) (extras : Extras) : Type 0 where
   pub neighbours : extras.neighbours ≡ asked.neighbours
   pub listing : extras.listing ≡ asked.listing

@@ -58,8 +58,8 @@ pub data HasContents (heard : Option Received) (before : AreaValue) (out : Outpu
   Issued : (lsa : List ℕ) → Contains out.issued lsa → contents lsa ≡ content
       → HasContents heard before out content
 
--- q on link l acknowledged i in the packet heard; or it has told of an instance that covers i: in
--- the packet heard, a DD packet, or so that it stood on q's request list before
+-- q on link l acknowledged i in the packet heard; or q has told of an instance that covers i: in
+-- the packet heard, a DD packet, or earlier, so that the instance stood on q's request list
 pub data HasWord (heard : Option Received) (before : AreaValue) (l : ℕ) (q : RouterId)
     (i : Instance) : Type 0 where
   Acknowledged : IsAcknowledged heard l q i → HasWord heard before l q i
@@ -135,8 +135,7 @@ pub record Numbers (heard : Option Received) (before : AreaValue) (out : Outputs
   pub again : (key : LsaKey) → among out.ended key ≡ true → kept_number after key ≡ lowest_number
   pub ends : (key : LsaKey) → among out.ended key ≡ true → HasLargest heard before out
 
--- what holds of each step, and of each part of one, whatever its kind: what the
--- router answers for to other routers
+-- what a router answers for to other routers: it holds of each step, and of each part of one
 pub record Accounts (heard : Option Received) (before : AreaValue) (out : OutputsValue)
     (after : AreaValue) : Type 0 where
   pub same_router : after.router ≡ before.router

@@ -85,7 +85,7 @@ agrees i h =
     && (bit_and h.options router_options == router_options)
     && ((h.mask == i.settings.mask) || not (is_broadcast i))
 
--- why a packet is dropped by what its body says, of which the sender may be no neighbour
+-- why a packet is dropped by what its body says, and by its sender, which may be no neighbour
 abbrev pub drop_by_body : Local → BodyMeaning → Iface → List NeighbourValue → RouterId
     → Option NeighbourValue → Option Dropped
 drop_by_body local (hello fields heard) i ns q sender =

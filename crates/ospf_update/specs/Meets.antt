@@ -172,7 +172,8 @@ abbrev pub MeetsRule : Option LsaRule → Origin → List ℕ → AreaValue → 
     → AreaValue → Type 0
 -- its sender is below Exchange, as after BadLSReq by an earlier LSA: nothing happens
 MeetsRule None f lsa before out out' after = Becomes before out out' after
--- it is at MaxAge and not known: it is acknowledged, and not stored (step 4)
+-- it is at MaxAge and not known, and no neighbour is in Exchange or Loading: it is acknowledged,
+-- and not stored (step 4)
 MeetsRule (Some AcknowledgesExpired) f lsa before out out' after =
     Becomes (acknowledging (answer_at Expired f before.links) f (header_of lsa) before)
     (and_takes out (instance_of lsa)) out' after
