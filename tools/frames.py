@@ -76,11 +76,13 @@ class Part:
         self.began, self.pieces, self.bytes, self.end = began, {}, 0, None
 
     def fits(self, ip):
-        """Whether a fragment overlaps none that came, and lies before the end, where that is known."""
+        """Whether a fragment overlaps none that came, lies before the end, where that is known, and is no second last one."""
         end = ip.offset + len(ip.body)
         apart = all(end <= at or at + len(body) <= ip.offset for at, body in self.pieces.items())
         last = max((at + len(body) for at, body in self.pieces.items()), default=0)
-        return apart and (end <= self.end if self.end is not None else ip.more or last <= end)
+        if ip.more:
+            return apart and (self.end is None or end <= self.end)
+        return apart and self.end is None and last <= end
 
     def put(self, ip):
         self.pieces[ip.offset] = ip.body
