@@ -5,3 +5,4 @@ mod Statuses
 mod Finished
 mod Wired
 mod Reported
+mod Stops

@@ -1,5 +1,6 @@
 -- Wires that are made.
-use Rattle.std.proofs.Common.{◌≡◌, ap, subst, ◌<◌, ◌+◌, ◌^◌, ℕ, All, arith, List, Result, Ok, Err, IfErr, IfOk, length, get_or}
+use Rattle.std.proofs.Common.{◌≡◌, ap, subst, ◌<◌, ◌+◌, ◌^◌, ℕ, All, arith, List, Result, Ok, Err, None, IfErr, IfOk, IsSome, length, get_or}
+use Rattle.std.proofs.lemmas.List.Elements.{All-contains}
 use Rattle.ospf_config.specs.declared.config.Config.{Config}
 use Rattle.ospf_config.specs.declared.interface.Interface.{Interface}
 use Rattle.ospf_drive.specs.Traffic.Carried.{Ticks}
@@ -8,7 +9,9 @@ use Rattle.ospf_files.specs.declared.files.NamedFile.{NamedFile}
 use Rattle.ospf_udp.proofs.Planned.{at_item}
 use Rattle.ospf_udp.specs.Obstacles.{IsSocketless}
 use Rattle.ospf_run.specs.Wires.{IsFresh}
-use Rattle.ospf_udp.specs.Faults.{IsPortIn}
+use Rattle.ospf_udp.proofs.Opened.{failing_in}
+use Rattle.ospf_udp.specs.Faults.{FailsAt, IsPortIn}
+use Rattle.ospf_udp.specs.Plans.{HasPorts}
 use Rattle.ospf_udp.specs.Wires.{UdpValue}
 use Rattle.ospf_udp.specs.declared.fault.NoSocket.{NoSocket}
 
@@ -39,3 +42,9 @@ socketless files configs i file config none in_files file_is in_configs config_i
 pub not_opened : (found : Result UdpValue NoSocket) (none : NoSocket) (interfaces : List Interface) → found ≡ Err none → IfErr found (λ n. IsPortIn interfaces n.port)
     → IsPortIn interfaces none.port
 not_opened found none interfaces is port = subst (λ (w : Result UdpValue NoSocket). IfErr w (λ n. IsPortIn interfaces n.port)) is port
+
+-- no port is missing where each interface has one
+pub none_missing : (config : Config) → HasPorts config → FailsAt config.interfaces.items None → ⊥
+none_missing config ports fails =
+    let has = All-contains (λ (i : Interface). IsSome i.port) config.interfaces.items fails.interface ports (failing_in config.interfaces.items None fails) in
+    absurd (cc (subst (λ port. IsSome port) fails.port_is has))

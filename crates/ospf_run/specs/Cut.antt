@@ -1,25 +1,37 @@
 -- What stands written where memory runs out, a stream fails or a published table is closed
 -- before a run has come to its end.
-use Rattle.std.specs.Prelude.{◌≡◌, ℕ, List, Option, Result, Ok, Err}
+use Rattle.std.specs.Prelude.{⊤, ◌≡◌, ℕ, ℤ, List, Option, Result, Ok, Err, IsSome}
+use Rattle.ospf_base.specs.declared.ids.Addr.{Addr}
+use Rattle.ospf_config.specs.declared.config.Config.{Config}
 use Rattle.ospf_files.specs.Status.{failure_line, failure_status}
 use Rattle.ospf_files.specs.Streams.{IsBegun, IsErrorCut, IsTold, Written}
 use Rattle.ospf_files.specs.declared.files.NamedFile.{NamedFile}
 use Rattle.ospf_files.specs.declared.status.Failure.{Failure}
+use Rattle.ospf_files.specs.declared.status.Failure.TheVariants as failure
 use Rattle.ospf_files.specs.declared.status.Status.{Status}
 use Rattle.ospf_files.specs.declared.streams.FailedStreams.{FailedStreams}
-use Rattle.ospf_udp.specs.Obstacles.{Hinders, IsEarly, obstacle_line}
+use Rattle.ospf_udp.specs.Obstacles.{Hinders, obstacle_line}
+use Rattle.ospf_udp.specs.Plans.{HasPlan, IsPlan}
 use Rattle.ospf_run.specs.Printed.{IsReportCut}
 use Rattle.ospf_run.specs.Runs.{AreExtras, Asked, ComesOfRun, HaveRun, asked_of}
 use Rattle.ospf_run.specs.declared.outcome.Extras.{Extras}
 use Rattle.ospf_run.specs.declared.outcome.Outcome.{Outcome}
 use Rattle.ospf_run.specs.declared.settings.Settings.{Settings}
 use Rattle.ospf_udp.specs.declared.stop.Obstacle.{Obstacle}
+use Rattle.ospf_udp.specs.declared.stop.Stop.{Stop}
+use Rattle.ospf_udp.specs.declared.stop.Stop.TheVariants as stop
+
+-- what fails before anything is written: memory ran out; or, where there is a plan and an address
+-- is to be looked up, a table that a router publishes was closed
+pub data IsEarly (asked : Asked) (files : List NamedFile) : Failure → Type 0 where
+  no_memory : IsEarly asked files failure.Memory
+  closed : IsSome asked.lookup → HasPlan asked.floor files → IsEarly asked files failure.Closed
 
 -- a run is cut: before anything is written; or what is told of what keeps the
 -- routers from running; or their report
 pub data IsRunCut (asked : Asked) (files : List NamedFile) (failed : FailedStreams)
     (old new : Written) (f : Failure) : Type 0 where
-  before_all : IsEarly asked.floor files f → new.out ≡ old.out → new.err ≡ old.err
+  before_all : IsEarly asked files f → new.out ≡ old.out → new.err ≡ old.err
       → IsRunCut asked files failed old new f
   in_obstacle : (obstacle : Obstacle) → Hinders asked.floor files obstacle → IsErrorCut failed f
       → new.out ≡ old.out → IsBegun old.err new.err (obstacle_line obstacle)
@@ -58,3 +70,23 @@ EndsBy settings files failed old new (Err failure) =
 abbrev pub last_status : Result Status Failure → Status
 last_status (Ok status) = status
 last_status (Err failure) = failure_status failure
+
+-- ---- on the way
+
+-- why the routers did not run to their end
+abbrev pub IsStop : Asked → List NamedFile → Stop → Type 0
+IsStop asked files (stop.Obstacle obstacle) = Hinders asked.floor files obstacle
+IsStop asked files (stop.Failure f) = IsEarly asked files f
+
+-- why the routers of these configurations, where they are the plan of the
+-- files, did not run to their end
+abbrev pub IsStopOfPlan : List NamedFile → List Config → Stop → Type 0
+IsStopOfPlan files configs s =
+    (asked : Asked) (least : ℤ) → IsPlan asked.floor files configs least → IsStop asked files s
+
+-- what failed of a plan before anything was written: memory ran out; or, where an address is to be
+-- looked up, a table that a router publishes was closed
+abbrev pub FailsPlan : Option Addr → Failure → Type 0
+FailsPlan lookup failure.Memory = ⊤
+FailsPlan lookup failure.Closed = IsSome lookup
+FailsPlan lookup _ = ⊥

@@ -1,11 +1,11 @@
 //! Routers whose drivers have ended.
 
-ghost use Rattle.std.specs.Prelude.{◌≡◌, IfErr, IfOk, IfSome, length};
+ghost use Rattle.std.specs.Prelude.{◌≡◌, IfErr, IfOk, IfSome, IsSome, OnErr, length};
 ghost use mathlib.Core.List.{IsPrefix};
 ghost use Rattle.ospf_drive.specs.Moments.{Moment};
 ghost use Rattle.ospf_fib.specs.Answers.{IsAnswerOfLast};
 ghost use Rattle.ospf_index.specs.Known.{opening};
-ghost use Rattle.ospf_udp.specs.Obstacles.{FailsPlan};
+ghost use Rattle.ospf_run.specs.Cut.{FailsPlan};
 ghost use Rattle.ospf_run.specs.Runs.{AreOutcomes, Came, IsLookedUp, IsPublishTold, Ran, RoutersRan, Terms};
 
 use crate::look::RouterSeat;
@@ -34,7 +34,7 @@ pub(crate) fn finish_all<'a, R: Wait + Drop, S: Threads>(
     requires ended { (terms : Terms) × RoutersRan terms configs.now driven.items seats.items }
     ensures outcomes { (terms : Terms) → RoutersRan terms configs.now driven.items seats.items
         → IfOk result (λ all. AreOutcomes lookup terms files.now configs.now all.items) }
-    ensures early { IfErr result (FailsPlan files.now) }
+    ensures early { IfErr result (FailsPlan lookup) }
 {
     let mut outcomes = Vec::with_capacity(alloc, configs.len())?;
     for (place, config) in configs.iter().enumerate() {
@@ -57,7 +57,8 @@ fn finish<R: Wait + Drop, S: Threads>(
     lookup: Option<Addr>,
 ) -> Result<Result<RouterShown, DriveFault>, Closed>
     requires { (a : Moment) × Ran a driven router_seat }
-    ensures { (a : Moment) → Ran a driven router_seat → IfOk result (Came lookup a) }
+    ensures came { (a : Moment) → Ran a driven router_seat → IfOk result (Came lookup a) }
+    ensures asked { OnErr result (IsSome lookup) }
 {
     // For the proof.
     all_ticks_are_taken();
@@ -84,7 +85,9 @@ fn look_if_asked<R: Wait + Drop>(
     requires fib { seat.fib ≡ writer.fib }
     requires began { IsPrefix opening seat.tables }
     requires told { IsPublishTold writer told }
-    ensures { IfOk result (IsLookedUp lookup writer.tables) }
+    // The answer, if an address is asked for; nothing is closed where none is.
+    ensures looked { IfOk result (IsLookedUp lookup writer.tables) }
+    ensures asked { OnErr result (IsSome lookup) }
 {
     let Some(address) = lookup else {
         return Ok(None);

@@ -7,7 +7,7 @@ ghost use Rattle.ospf_drive.specs.Driven.{IsDriven};
 ghost use Rattle.ospf_drive.specs.Moments.{at};
 ghost use Rattle.ospf_flood.specs.Rules.{max_sequence_number};
 ghost use Rattle.ospf_run.specs.Lookups.{IsFrom};
-ghost use Rattle.ospf_udp.specs.Obstacles.{FailsPlan};
+ghost use Rattle.ospf_run.specs.Cut.{FailsPlan};
 ghost use Rattle.ospf_run.specs.Runs.{BeginsRun, ComeOf, RoutersRan, Terms, span_of};
 ghost use Rattle.ospf_drive.specs.Traffic.Carried.{Ticks};
 
@@ -47,7 +47,7 @@ pub(crate) fn run_over<
     requires counted { All (λ wire. W.traffic wire ≡ Ticks 0 (span_of settings.now)) wires.items }
     // What comes of each router, or what failed before anything was written.
     ensures outcomes { IfOk result (λ all. ComeOf settings.now plan.now files.now all.items) }
-    ensures early { IfErr result (FailsPlan files.now) }
+    ensures early { IfErr result (FailsPlan settings.now.lookup) }
 {
     let (jobs, seats) = begin_all(*rt, alloc, &plan.configs, plan.floor, wires)?;
     let (driven, router_seats) = drive_and_look(rt, alloc, jobs, seats, settings.lookup)?;

@@ -3,8 +3,7 @@
 ghost use Rattle.std.specs.Prelude.{◌≡◌, ◌≢◌, [], ℕ, List, Option, IfErr, IfOk, OnOk, false};
 ghost use Rattle.ospf_files.specs.Status.{failure_line};
 ghost use Rattle.ospf_files.specs.Streams.{IsTold, written_on};
-ghost use Rattle.ospf_run.specs.Cut.{EndsBy, EndsRun, last_status};
-ghost use Rattle.ospf_udp.specs.Obstacles.{IsStop};
+ghost use Rattle.ospf_run.specs.Cut.{EndsBy, EndsRun, IsStop, last_status};
 ghost use Rattle.ospf_udp.specs.Plans.{IsPlanAt};
 ghost use Rattle.ospf_run.specs.Runs.{ComeOf, IsHindered, IsPlanRun, RunsTo, asked_of, floor_of};
 
@@ -42,10 +41,10 @@ use std::time::Clock;
 /// that a write failed; `Memory` that memory ran out, for all or for one router.
 ///
 /// What failed for all is told last on `err`, as far as that can be written. Before it nothing
-/// new stands on either, where memory ran out or a table was closed before anything was written;
-/// or on `err` alone a beginning of the line that tells what ended the run before it began; or on
-/// `out` a beginning of what is written of the routers and, where that is whole, on `err` a
-/// beginning of what is told of them.
+/// new stands on either, where memory ran out, or a table was closed in which an address is looked
+/// up, before anything was written; or on `err` alone a beginning of the line that tells what ended
+/// the run before it began; or on `out` a beginning of what is written of the routers and, where
+/// that is whole, on `err` a beginning of what is told of them.
 pub fn run_text<
     R: Net + Threads + Wait + Clock + Copy + Send + Drop + 'static,
     T: Tap + Send + Drop + 'static,
@@ -93,7 +92,7 @@ fn run<
     tap: &T,
 ) -> Result<(Vec<Outcome<'a>>, Extras), Stop<'a>>
     ensures ran { IfOk result (λ ran. RunsTo settings.now files.now ran.0.items ran.1) }
-    ensures stop { IfErr result (IsStop (floor_of settings.now) files.now) }
+    ensures stop { IfErr result (IsStop (asked_of settings.now) files.now) }
 {
     let plan = prepare(alloc, &settings.floor, files)?;
     let outcomes = run_plan(rt, alloc, settings, files, &plan, tap)?;
@@ -117,7 +116,7 @@ fn run_plan<
 ) -> Result<Vec<Outcome<'a>>, Stop<'a>>
     requires { IsPlanAt (floor_of settings.now) files.now plan.now }
     ensures outcomes { IfOk result (λ all. ComeOf settings.now plan.now files.now all.items) }
-    ensures stop { IfErr result (IsStop (floor_of settings.now) files.now) }
+    ensures stop { IfErr result (IsStop (asked_of settings.now) files.now) }
 {
     let sockets = open_wires(rt, *rt, alloc, settings, files, &plan.configs)?;
     let wires = tap_all(alloc, files, &plan.configs, sockets, tap)?;
@@ -152,7 +151,7 @@ fn say<O: Write, E: Write>(
     streams: &mut FailedStreams,
 ) -> Result<Status, Failure>
     requires ran { IfOk ran (λ all. RunsTo settings.now files.now all.0.items all.1) }
-    requires stop { IfErr ran (IsStop (floor_of settings.now) files.now) }
+    requires stop { IfErr ran (IsStop (asked_of settings.now) files.now) }
     ensures { let old = written_on (O.contents out.old) (E.contents err.old) in
         let new = written_on (O.contents out.new) (E.contents err.new) in
         EndsBy settings.now files.now streams.new old new result }
@@ -173,7 +172,7 @@ fn tell_stop<E: Write>(
     err: &mut E,
     streams: &mut FailedStreams,
 ) -> Result<Status, Failure>
-    requires { IsStop (floor_of settings.now) files.now stop }
+    requires { IsStop (asked_of settings.now) files.now stop }
     ensures { (out : Option (List ℕ)) → let old = written_on out (E.contents err.old) in
         let new = written_on out (E.contents err.new) in
         EndsBy settings.now files.now streams.new old new result }

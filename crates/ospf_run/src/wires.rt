@@ -1,7 +1,7 @@
 //! The sockets of routers.
 
 ghost use Rattle.std.specs.Prelude.{◌≡◌, All, IfErr, IfOk, length};
-ghost use Rattle.ospf_udp.specs.Obstacles.{IsStopOfPlan};
+ghost use Rattle.ospf_run.specs.Cut.{IsStopOfPlan};
 ghost use Rattle.ospf_udp.specs.Plans.{HasPorts};
 ghost use Rattle.ospf_run.specs.Runs.{span_of};
 ghost use Rattle.ospf_run.specs.Wires.{AreWires, IsFresh};

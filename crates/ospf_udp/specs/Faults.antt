@@ -1,5 +1,5 @@
 -- Why a wire is not opened.
-use Rattle.std.specs.Prelude.{⊤, ◌≡◌, ◌++◌, List, ℕ, Contains, Option, None, Some, codes, decimal}
+use Rattle.std.specs.Prelude.{⊤, ◌≡◌, ◌++◌, ◌∷◌, List, ℕ, All, Contains, Option, None, Some, IfSome, IsSome, codes, decimal}
 use Rattle.ospf_config.specs.declared.interface.Interface.{Interface}
 use Rattle.ospf_config.specs.declared.interface.Port.{Port}
 use Rattle.ospf_udp.specs.declared.fault.NoSocket.{NoSocket}
@@ -31,12 +31,22 @@ IsPortIn interfaces (Some port) =
     (interface : Interface) × Contains interfaces interface × (interface.port ≡ Some port)
 IsPortIn interfaces None = ⊤
 
--- why no wire is opened for these interfaces: one has no port; a socket was refused, of which the
--- port is one of theirs; or memory ran out
+-- opening the interfaces in their order fails at one with this port, or with none: each before it
+-- has a port
+pub record FailsAt (interfaces : List Interface) (port : Option Port) : Type 0 where
+  pub before : List Interface
+  pub interface : Interface
+  pub after : List Interface
+  pub interfaces_are : interfaces ≡ before ++ interface ∷ after
+  pub ports : All (λ i. IsSome i.port) before
+  pub port_is : interface.port ≡ port
+
+-- why no wire is opened for these interfaces: the first that has no port; the socket of a port
+-- before any is missing, or all sockets, were refused; or memory ran out
 abbrev pub IsUnopened : List Interface → OpenFault → Type 0
-IsUnopened interfaces fault.NoPort =
-    (interface : Interface) × Contains interfaces interface × (interface.port ≡ None)
-IsUnopened interfaces (fault.Socket no_socket) = IsPortIn interfaces no_socket.port
+IsUnopened interfaces fault.NoPort = FailsAt interfaces None
+IsUnopened interfaces (fault.Socket no_socket) =
+    IfSome no_socket.port (λ port. FailsAt interfaces (Some port))
 IsUnopened interfaces fault.Memory = ⊤
 
 -- the socket of a port, or no socket at all, was refused, or memory ran out

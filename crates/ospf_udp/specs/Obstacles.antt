@@ -5,7 +5,6 @@ use Rattle.ospf_config.specs.declared.fault.ConfigFault.{ConfigFault}
 use Rattle.ospf_files.specs.Files.{IsConfigIn, IsRefusedFor, refused_line, text_in, unread_line}
 use Rattle.ospf_files.specs.Listed.{AreConfigs, AreFilesRead, IsFirstRefused, IsFirstUnread, same_router_line}
 use Rattle.ospf_files.specs.declared.files.NamedFile.{NamedFile}
-use Rattle.ospf_files.specs.declared.status.Failure.{Failure}
 use Rattle.ospf_files.specs.declared.status.Failure.TheVariants as failure
 use Rattle.ospf_files.specs.declared.status.Status.{Status}
 use Rattle.ospf_files.specs.declared.status.Status.TheVariants as status
@@ -13,7 +12,7 @@ use Rattle.ospf_flood.specs.Rules.{max_sequence_number}
 use Rattle.ospf_udp.specs.Faults.{IsPortIn, no_socket_text}
 use Rattle.ospf_udp.specs.declared.fault.NoSocket.{NoSocket}
 use Rattle.ospf_config.specs.Configs.{ShareRouter}
-use Rattle.ospf_udp.specs.Plans.{HasFloor, HasPlan, IsFirstPortless, IsFloorOf, IsPlan}
+use Rattle.ospf_udp.specs.Plans.{HasFloor, IsFirstPortless, IsFloorOf, IsPlan}
 use Rattle.ospf_udp.specs.declared.stop.Obstacle.{Obstacle}
 use Rattle.ospf_udp.specs.declared.stop.Obstacle.TheVariants as obstacle
 use Rattle.ospf_udp.specs.declared.stop.Stop.{Stop}
@@ -86,31 +85,17 @@ obstacle_status (obstacle.Unread file) = status.Stream
 obstacle_status (obstacle.NoSocket file no_socket) = status.Stream
 obstacle_status _ = status.Refused
 
--- what fails before anything is written: memory ran out; or, where there is a plan, a table that a
--- router publishes was closed
-pub data IsEarly (floor : Option (List ℕ)) (files : List NamedFile) : Failure → Type 0 where
-  no_memory : IsEarly floor files failure.Memory
-  closed : HasPlan floor files → IsEarly floor files failure.Closed
-
--- why the routers did not run to their end
-abbrev pub IsStop : Option (List ℕ) → List NamedFile → Stop → Type 0
-IsStop floor files (stop.Obstacle obstacle) = Hinders floor files obstacle
-IsStop floor files (stop.Failure failure) = IsEarly floor files failure
+-- why there is no plan: what keeps the routers from running, before any socket is made; or memory
+-- ran out
+abbrev pub IsUnplanned : Option (List ℕ) → List NamedFile → Stop → Type 0
+IsUnplanned floor files (stop.Obstacle (obstacle.NoSocket file no_socket)) = ⊥
+IsUnplanned floor files (stop.Obstacle obstacle) = Hinders floor files obstacle
+IsUnplanned floor files (stop.Failure f) = f ≡ failure.Memory
 
 -- ---- on the way
 
--- why no configurations come of files that were read, where there is a floor
-abbrev pub IsStopOfConfigs : List NamedFile → Stop → Type 0
-IsStopOfConfigs files s =
+-- why there is no plan of files that were read, where there is a floor
+abbrev pub IsUnplannedOfRead : List NamedFile → Stop → Type 0
+IsUnplannedOfRead files s =
     (floor : Option (List ℕ)) (least : ℤ) → HasFloor floor least → AreFilesRead files
-    → IsStop floor files s
-
--- why the routers of these configurations, where they are the plan of the
--- files, did not run to their end
-abbrev pub IsStopOfPlan : List NamedFile → List Config → Stop → Type 0
-IsStopOfPlan files configs s =
-    (floor : Option (List ℕ)) (least : ℤ) → IsPlan floor files configs least → IsStop floor files s
-
--- what failed before anything was written, where there is a plan
-abbrev pub FailsPlan : List NamedFile → Failure → Type 0
-FailsPlan files f = (floor : Option (List ℕ)) → HasPlan floor files → IsEarly floor files f
+    → IsUnplanned floor files s

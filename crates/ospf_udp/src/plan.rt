@@ -3,7 +3,7 @@
 
 ghost use Rattle.std.specs.Prelude.{◌≡◌, ◌↔◌, All, ℤ, IfOk, IfErr, IfSome, IfNone, IsTrue, length, option_map, string_bytes};
 ghost use Rattle.ospf_files.specs.Listed.{AreConfigs, AreFilesRead};
-ghost use Rattle.ospf_udp.specs.Obstacles.{IsReadAs, IsStop, IsStopOfConfigs};
+ghost use Rattle.ospf_udp.specs.Obstacles.{IsReadAs, IsUnplanned, IsUnplannedOfRead};
 ghost use Rattle.ospf_config.specs.Configs.{ShareRouter};
 ghost use Rattle.ospf_udp.specs.Plans.{HasPorts, HasFloor, IsConfigured, IsFirstPortless, IsFloorOf, IsPlanAt};
 
@@ -36,7 +36,7 @@ pub fn prepare<'a>(
     files: &'a [NamedFile],
 ) -> Result<Plan, Stop<'a>>
     ensures plan { IfOk result (IsPlanAt (option_map string_bytes floor.now) files.now) }
-    ensures stop { IfErr result (IsStop (option_map string_bytes floor.now) files.now) }
+    ensures stop { IfErr result (IsUnplanned (option_map string_bytes floor.now) files.now) }
 {
     match floor_in(floor) {
         Some(least) if least == MAX_SEQUENCE_NUMBER => {
@@ -68,7 +68,7 @@ fn plan_above<'a>(
 ) -> Result<Plan, Stop<'a>>
     requires { HasFloor (option_map string_bytes floor.now) least }
     ensures plan { IfOk result (IsPlanAt (option_map string_bytes floor.now) files.now) }
-    ensures stop { IfErr result (IsStop (option_map string_bytes floor.now) files.now) }
+    ensures stop { IfErr result (IsUnplanned (option_map string_bytes floor.now) files.now) }
 {
     match first_unread(files) {
         Some(file) => Err(Stop::Obstacle(Obstacle::Unread(file))),
@@ -86,7 +86,7 @@ fn plan_in<'a>(
     requires floor { HasFloor (option_map string_bytes floor.now) least }
     requires read { AreFilesRead files.now }
     ensures plan { IfOk result (IsPlanAt (option_map string_bytes floor.now) files.now) }
-    ensures stop { IfErr result (IsStop (option_map string_bytes floor.now) files.now) }
+    ensures stop { IfErr result (IsUnplanned (option_map string_bytes floor.now) files.now) }
 {
     let configs = read_configs(alloc, files)?;
     plan_of(floor, least, files, configs)
@@ -95,7 +95,7 @@ fn plan_in<'a>(
 // The configurations in files that were read.
 fn read_configs<'a>(alloc: Global, files: &'a [NamedFile]) -> Result<Vec<Config>, Stop<'a>>
     ensures configs { IfOk result (λ configs. AreConfigs files.now configs.items) }
-    ensures stop { IfErr result (IsStopOfConfigs files.now) }
+    ensures stop { IfErr result (IsUnplannedOfRead files.now) }
 {
     let mut configs = Vec::with_capacity(alloc, files.len())?;
     for file in files {
@@ -130,7 +130,7 @@ fn plan_of<'a>(
     requires are { AreConfigs files.now configs.items }
     // A plan where nothing keeps the routers from running, else what does.
     ensures plan { IfOk result (IsPlanAt (option_map string_bytes floor.now) files.now) }
-    ensures stop { IfErr result (IsStop (option_map string_bytes floor.now) files.now) }
+    ensures stop { IfErr result (IsUnplanned (option_map string_bytes floor.now) files.now) }
 {
     if share_router(&configs) {
         return Err(Stop::Obstacle(Obstacle::SameRouter));

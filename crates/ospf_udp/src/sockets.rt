@@ -1,6 +1,6 @@
 //! The sockets of the links.
 
-ghost use Rattle.std.specs.Prelude.{◌≡◌, ◌+◌, IfErr, IfOk, IfSome, OnErr, Some, is_some};
+ghost use Rattle.std.specs.Prelude.{◌≡◌, ◌+◌, IfErr, IfOk, IfSome, IsSome, OnErr, OnOk, Some, is_some};
 ghost use Rattle.ospf_drive.specs.Traffic.{MayEndAfter};
 ghost use Rattle.ospf_drive.specs.declared.wire.Arrival.TheVariants as arrivals;
 ghost use Rattle.ospf_udp.specs.Faults.{IsRefusedAt, IsUnopened, IsUnopenedAt};
@@ -237,7 +237,8 @@ fn open_outlet<N: Net>(
     interface: &Interface,
     token: usize,
 ) -> Result<Outlet, OpenFault>
-    ensures { IfErr result (IsUnopenedAt interface.now.port) }
+    ensures port { OnOk result (IsSome interface.now.port) }
+    ensures fault { IfErr result (IsUnopenedAt interface.now.port) }
 {
     let Some(port) = interface.port else {
         return Err(OpenFault::NoPort);

@@ -11,8 +11,8 @@ loop-config-preserved g c =
     let some : 0 < length c.loop-config.wires.items = omega (arith, c.remove-wire.ensures.len) in
     let fresh : g.W.Wire.failed c.remove-wire.result + 1 < 2 ^ 64 =
     of_first (λ wire. g.W.Wire.failed wire + 1 < 2 ^ 64) c.loop-config.wires.items c.remove-wire.result c.remove-wire.ensures.value some c.loop-config.invariant.fresh in
-    let jobs = c.in_ok-put.ensures in
-    let seats = c.in_ok-put-2.ensures in
+    let jobs = c.in_ok-put.ensures.ok in
+    let seats = c.in_ok-put-2.ensures.ok in
     record {
       left = omega (arith, c.remove-wire.ensures.len, c.loop-config.invariant.left);
       fresh = of_later (λ wire. g.W.Wire.failed wire + 1 < 2 ^ 64) c.loop-config.wires.items c.remove-wire.new.self.items c.remove-wire.ensures.by_index.2 c.loop-config.invariant.fresh;

@@ -1,4 +1,4 @@
-use Rattle.std.proofs.Common.{◌≡◌, ◌++◌, List, flat_map, subst}
+use Rattle.std.proofs.Common.{◌++◌, List, flat_map, subst}
 use Rattle.std.specs.Io.KnownBytes.{Appends}
 use Rattle.ospf_files.proofs.Cut.{err_then}
 use Rattle.ospf_files.proofs.Written.{front_begun, rest_begun, whatever}

@@ -3,9 +3,10 @@ use Rattle.ospf_drive.specs.Traffic.Carried.{Ticks}
 use Rattle.ospf_run.proofs.Lists.{all_paired, as_many}
 use Rattle.ospf_udp.proofs.Planned.{as_many_configs, passed_on, stopped_early}
 use Rattle.ospf_run.proofs.Wired.{all_counted, all_fresh}
-use Rattle.ospf_udp.specs.Obstacles.{IsStop, IsStopOfPlan, no_memory}
+use Rattle.ospf_run.proofs.Stops.{early_of_plan}
+use Rattle.ospf_run.specs.Cut.{IsStop, IsStopOfPlan, no_memory}
 use Rattle.ospf_udp.specs.Plans.{HasPlan, HasPorts}
-use Rattle.ospf_run.specs.Runs.{floor_of, span_of}
+use Rattle.ospf_run.specs.Runs.{asked_of, floor_of, span_of}
 use Rattle.ospf_udp.specs.declared.stop.Stop.TheVariants as stop
 use Rattle.ospf_udp.specs.Wires.{UdpValue}
 use Rattle.ospf_run.proofs.run.run_plan.Goals as goal
@@ -18,8 +19,8 @@ open_wires-requires-clause-ports g c = subst (λ configs. All HasPorts configs) 
 
 pub returns-in_err-sockets-clause-stop : goal.returns-in_err-sockets-clause-stop
 returns-in_err-sockets-clause-stop g c =
-    passed_on c.from_residual.result c.in_err-sockets.field-0.0 (IsStop (floor_of c.args.settings.now) c.args.files.now) c.from_residual.ensures.1
-    (subst (λ configs. IsStopOfPlan c.args.files.now configs c.in_err-sockets.field-0.0) c.deref.ensures.value c.in_err-sockets.ensures.stop (floor_of c.args.settings.now) c.args.plan.now.floor c.requires)
+    passed_on c.from_residual.result c.in_err-sockets.field-0.0 (IsStop (asked_of c.args.settings.now) c.args.files.now) c.from_residual.ensures.1
+    (subst (λ configs. IsStopOfPlan c.args.files.now configs c.in_err-sockets.field-0.0) c.deref.ensures.value c.in_err-sockets.ensures.stop (asked_of c.args.settings.now) c.args.plan.now.floor c.requires)
 
 pub tap_all-requires-clause-files : goal.tap_all-requires-clause-files
 tap_all-requires-clause-files g c =
@@ -31,7 +32,7 @@ tap_all-requires-clause-wires g c =
 
 pub returns-in_err-wires-clause-stop : goal.returns-in_err-wires-clause-stop
 returns-in_err-wires-clause-stop g c =
-    stopped_early c.from_residual-in_err-wires.result (IsStop (floor_of c.args.settings.now) c.args.files.now) c.from_residual-in_err-wires.ensures.1 no_memory
+    stopped_early c.from_residual-in_err-wires.result (IsStop (asked_of c.args.settings.now) c.args.files.now) c.from_residual-in_err-wires.ensures.1 no_memory
 
 pub run_over-requires-clause-files : goal.run_over-requires-clause-files
 run_over-requires-clause-files g c κs within = as_many_configs c.args.files.now c.args.plan.now.configs.items c.requires.are_configs
@@ -57,5 +58,5 @@ run_over-requires-clause-counted g c κs within =
 pub returns-in_err-outcomes-clause-stop : goal.returns-in_err-outcomes-clause-stop
 returns-in_err-outcomes-clause-stop g c =
     let has : HasPlan (floor_of c.args.settings.now) c.args.files.now = record { configs = c.args.plan.now.configs.items; least = c.args.plan.now.floor; plan = c.requires } in
-    passed_on c.from_residual-in_err-outcomes.result (stop.Failure c.in_err-outcomes.field-0.0) (IsStop (floor_of c.args.settings.now) c.args.files.now)
-    c.from_residual-in_err-outcomes.ensures.1 (c.in_err-outcomes.ensures.early (floor_of c.args.settings.now) has)
+    passed_on c.from_residual-in_err-outcomes.result (stop.Failure c.in_err-outcomes.field-0.0) (IsStop (asked_of c.args.settings.now) c.args.files.now)
+    c.from_residual-in_err-outcomes.ensures.1 (early_of_plan (asked_of c.args.settings.now) c.args.files.now c.in_err-outcomes.field-0.0 has c.in_err-outcomes.ensures.early)

@@ -9,7 +9,7 @@ loop-place-preserved g c =
     let gone = c.loop-place.invariant.tapped in
     record {
       left = omega (arith, c.remove-wire.ensures.len, c.loop-place.invariant.left);
-      tapped = (gone.0 ++ c.remove-wire.result ∷ [], first_taken _ gone.0 c.loop-place.wires.items c.remove-wire.new.self.items c.remove-wire.result gone.1 c.remove-wire.ensures.value some c.remove-wire.ensures.by_index.2, subst (λ ts. AllZip (λ wire it. it.wire ≡ wire) (gone.0 ++ c.remove-wire.result ∷ []) ts) (sym c.in_ok-put.ensures) (pairs_then (λ wire it. it.wire ≡ wire) gone.0 c.loop-place.all.items c.remove-wire.result c.in_ok-tapped.field-0 gone.2 c.in_ok-tapped.ensures));
+      tapped = (gone.0 ++ c.remove-wire.result ∷ [], first_taken _ gone.0 c.loop-place.wires.items c.remove-wire.new.self.items c.remove-wire.result gone.1 c.remove-wire.ensures.value some c.remove-wire.ensures.by_index.2, subst (λ ts. AllZip (λ wire it. it.wire ≡ wire) (gone.0 ++ c.remove-wire.result ∷ []) ts) (sym c.in_ok-put.ensures.ok) (pairs_then (λ wire it. it.wire ≡ wire) gone.0 c.loop-place.all.items c.remove-wire.result c.in_ok-tapped.field-0 gone.2 c.in_ok-tapped.ensures));
     }
 
 pub returns : goal.returns

@@ -1,17 +1,18 @@
+use Rattle.std.proofs.Common.{refl}
 use Rattle.ospf_udp.proofs.Planned.{config_more, first_refused, stopped_early}
-use Rattle.ospf_udp.specs.Obstacles.{IsStopOfConfigs, no_memory}
+use Rattle.ospf_udp.specs.Obstacles.{IsUnplannedOfRead}
 use Rattle.ospf_udp.proofs.plan.read_configs.Goals as goal
 
 pub returns-in_err-configs-clause-stop : goal.returns-in_err-configs-clause-stop
-returns-in_err-configs-clause-stop c = stopped_early c.from_residual.result (IsStopOfConfigs c.args.files.now) c.from_residual.ensures.1 (λ floor least has read. no_memory)
+returns-in_err-configs-clause-stop c = stopped_early c.from_residual.result (IsUnplannedOfRead c.args.files.now) c.from_residual.ensures.1 (λ floor least has read. refl)
 
 pub returns-in_err-config-clause-stop : goal.returns-in_err-config-clause-stop
 returns-in_err-config-clause-stop c =
-    stopped_early c.from_residual-in_err-config.result (IsStopOfConfigs c.args.files.now) c.from_residual-in_err-config.ensures.1 (λ floor least has read. no_memory)
+    stopped_early c.from_residual-in_err-config.result (IsUnplannedOfRead c.args.files.now) c.from_residual-in_err-config.ensures.1 (λ floor least has read. refl)
 
 pub returns-in_err-put-in-Ok-clause-stop : goal.returns-in_err-put-in-Ok-clause-stop
 returns-in_err-put-in-Ok-clause-stop c =
-    stopped_early c.from_residual-in_err-put-in-Ok.result (IsStopOfConfigs c.args.files.now) c.from_residual-in_err-put-in-Ok.ensures.1 (λ floor least has read. no_memory)
+    stopped_early c.from_residual-in_err-put-in-Ok.result (IsUnplannedOfRead c.args.files.now) c.from_residual-in_err-put-in-Ok.ensures.1 (λ floor least has read. refl)
 
 pub returns-in-Err-clause-stop : goal.returns-in-Err-clause-stop
 returns-in-Err-clause-stop c = λ floor least has read. (
@@ -24,4 +25,4 @@ returns-in-Err-clause-stop c = λ floor least has read. (
 pub loop-file-preserved : goal.loop-file-preserved
 loop-file-preserved c =
     config_more _ _ c.file-item.result c.loop-file.configs.items _ c.in_ok-config.field-0 c.in-Ok.config c.loop-file-test.true c.file-item.is c.loop-file.invariant c.in-Ok.is
-    c.in_ok-config.ensures c.in_ok-put-in-Ok.ensures
+    c.in_ok-config.ensures c.in_ok-put-in-Ok.ensures.ok

@@ -11,8 +11,8 @@ refused port fault.NoPort at = absurd at
 refused port (fault.Socket none) at = at
 refused port fault.Memory at = tt
 
-pub returns-in_default : goal.returns-in_default
-returns-in_default g c = c.in_default.is
+pub returns-in_default-clause-fault : goal.returns-in_default-clause-fault
+returns-in_default-clause-fault g c = c.in_default.is
 
-pub returns-in-Err : goal.returns-in-Err
-returns-in-Err g c = subst (λ p. IsUnopenedAt p c.socket_fault.result) (sym c.in-Some.is) (refused c.in-Some.port c.socket_fault.result c.socket_fault.ensures)
+pub returns-in-Err-clause-fault : goal.returns-in-Err-clause-fault
+returns-in-Err-clause-fault g c = subst (λ p. IsUnopenedAt p c.socket_fault.result) (sym c.in-Some.is) (refused c.in-Some.port c.socket_fault.result c.socket_fault.ensures)
