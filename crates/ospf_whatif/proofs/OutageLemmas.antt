@@ -83,7 +83,8 @@ outage_is f A B left before after was is o of edges ends =
         | inl gone ↦ inl gone
         | inr stays ↦ inr (subst (λ (l : List Advertisement). IsEdge l e) same ((is.edges_are e).0 stays))
       ];
-      ends_gone = λ e m there. (ends.within e m).1 ((is.ends_are e).1 (subst (λ (l : List Advertisement). StandsIn l e) (sym same) there));
+      ends_gone = λ e m. let w = ends.within e m in
+          ((was.ends_are e).0 w.0, (λ there. w.1 ((is.ends_are e).1 (subst (λ (l : List Advertisement). StandsIn l e) (sym same) there))));
       ends_or = λ e there. elim (ends.all e ((was.ends_are e).1 there)) [
         | inl gone ↦ inl gone
         | inr stays ↦ inr (subst (λ (l : List Advertisement). StandsIn l e) same ((is.ends_are e).0 stays))
@@ -118,7 +119,7 @@ module _ (A : List Advertisement) (o : Outage) (is : IsOutage A o) where
             (λ m.
                 let w = missing.within e m in
                 elim (is.ends_or e ((graph.ends_are e).0 (part_in e w.0))) [ inl gone ↦ absurd (w.1 gone) | inr left ↦ left ]),
-            (λ left. elim (missing.all e (part_all e ((graph.ends_are e).1 (end_from p v k left)) refl)) [ inl there ↦ there | inr gone ↦ absurd (is.ends_gone e gone left) ]),
+            (λ left. elim (missing.all e (part_all e ((graph.ends_are e).1 (end_from p v k left)) refl)) [ inl there ↦ there | inr gone ↦ absurd ((is.ends_gone e gone).1 left) ]),
           )
 
       pub told_here : (r : Bool) → IsTrue r ↔ IsToldBy B ends p → IsTrue r ↔ IsAdvertised B p

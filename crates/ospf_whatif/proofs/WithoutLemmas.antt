@@ -1,13 +1,14 @@
 -- An area without what a failure takes.
-use Rattle.std.proofs.Common.{◌≡◌, ◌+◌, ◌*◌, ◌<◌, ◌≤◌, ℕ, ℤ, suc, Bool, true, false, cond, inl, inr, arith, filter, List, [], ◌∷◌, ◌++◌, map, take, drop, length, get_or, slice_index, refl, sym, ap, ◌∙◌, subst, not, Result, Ok, Err, IfOk, IfErr}
-use Rattle.std.specs.List.{Contains}
+use Rattle.std.proofs.Common.{◌≡◌, ◌+◌, ◌*◌, ◌<◌, ◌≤◌, ℕ, ℤ, suc, Bool, true, false, cond, ◌⊎◌, inl, inr, arith, filter, List, [], ◌∷◌, ◌++◌, map, take, drop, length, get_or, slice_index, refl, sym, ap, ◌∙◌, subst, not, Result, Ok, Err, IfOk, IfErr}
+use Rattle.std.specs.List.{AllZip, Contains}
 use Rattle.std.proofs.lemmas.List.Elements.{filter-append}
-use Rattle.std.proofs.lemmas.List.{drop_more, take_more, take-append-drop, map-append}
+use Rattle.std.proofs.lemmas.List.{drop_more, length-append, take_more, take-append-drop, map-append}
 use Rattle.std.proofs.lemmas.List.Sums.{count_by-le-length, fold_more, length-filter}
 use Rattle.ospf_base.specs.declared.ids.LsaKey.{LsaKey}
 use Rattle.ospf_base.specs.declared.ids.RouterId.{RouterId}
 use Rattle.ospf_base.specs.Keys.{Precedes}
 use Rattle.ospf_base.specs.Bytes.{number_at}
+use Rattle.ospf_lsa.specs.Header.{header_of}
 use Rattle.ospf_lsa.specs.Lsa.{IsLsa, IsRouterLsa, IsNetworkLsa, key_of, kind_of, links_of}
 use Rattle.ospf_lsa.specs.Link.{LinkEntry, entries_in, plain}
 use Rattle.ospf_lsa.specs.Listing as listings
@@ -19,7 +20,7 @@ use Rattle.ospf_graph.specs.Advertisements.{Advertisement, network_lsa, router_l
 use Rattle.ospf_edges.specs.Listed.{advertisement_of}
 use Rattle.ospf_graph.proofs.ListLemmas.{member_of_map, member_to_map}
 use Rattle.ospf_edges.proofs.ListedLemmas.{router_of, network_of}
-use Rattle.ospf_whatif.specs.Failure.{HasLarge, IsLarge, left_of_lsa, kept_links, takes, without, without_all}
+use Rattle.ospf_whatif.specs.Failure.{HasLarge, IsLarge, IsLeftLsa, left_of_lsa, kept_after, kept_links, takes, without, without_all}
 use Rattle.ospf_whatif.specs.declared.failure.AreaFailure.{AreaFailure}
 
 pub kept_links-append : (f : AreaFailure) (r : RouterId) (xs ys : List Link) → kept_links f r (xs ++ ys) ≡ kept_links f r xs ++ kept_links f r ys
@@ -31,8 +32,6 @@ kept_one f r l stays = rw stays refl
 
 pub taken_one : (f : AreaFailure) (r : RouterId) (l : Link) → takes f r l ≡ true → kept_links f r (l ∷ []) ≡ []
 taken_one f r l goes = rw goes refl
-
--- ---- an LSA behind all others
 
 -- ---- a router-LSA that is made
 
@@ -61,6 +60,9 @@ module _ (r : RouterId) (number : ℤ) (links : List Link) (left : List ℕ) (ma
 
   pub made_says : advertisement_of left ≡ router_lsa r links
   made_says = router_of left is_router ∙ (λ i. router_lsa (names i) (links_are i))
+
+  number_is : (header_of left).number ≡ number
+  number_is = ap (λ (v : LsaValue). v.header.number) made.read
 
   -- the key of a router-LSA that bears its Router ID
   pub made_key : (lsa : List ℕ) → IsRouterLsa lsa → IsLsa lsa → r ≡ record { 0 = number_at 8 4 lsa } → key_of left ≡ key_of lsa
@@ -138,6 +140,36 @@ kept_length p (x ∷ xs) = go (p x) (kept_length p xs)
     go true h = omega arith
     go false h = omega arith
 
+-- a filter that keeps as many as there are keeps all
+kept_whole : {X : Type 0} (p : X → Bool) (xs : List X) → length xs ≤ length (filter p xs) → filter p xs ≡ xs
+kept_whole p [] many = refl
+kept_whole p (x ∷ xs) many = go (kept_whole p xs) (p x) many
+  where
+    go : (length xs ≤ length (filter p xs) → filter p xs ≡ xs) → (b : Bool) → suc (length xs) ≤ length (cond b (x ∷ filter p xs) (filter p xs))
+        → cond b (x ∷ filter p xs) (filter p xs) ≡ x ∷ xs
+    go rest true h = ap (λ l. x ∷ l) (rest (omega (arith, h)))
+    go rest false h = let few = kept_length p xs in absurd (omega arith)
+
+-- the links are fewer where one is taken
+pub kept_fewer : (f : AreaFailure) (r : RouterId) (xs : List Link) (l : Link) (ys : List Link) → takes f r l ≡ true → kept_links f r (xs ++ l ∷ ys) ≡ xs ++ l ∷ ys → ⊥
+kept_fewer f r xs l ys goes same =
+    let test : Link → Bool = (λ (x : Link). not (takes f r x)) in
+    let rest : kept_links f r (l ∷ ys) ≡ kept_links f r ys = rw goes refl in
+    let lengths : length (kept_links f r xs ++ kept_links f r ys) ≡ length (xs ++ l ∷ ys) =
+    ap (λ t. length (kept_links f r xs ++ t)) (sym rest) ∙ ap length (sym (kept_links-append f r xs (l ∷ ys)) ∙ same) in
+    let one = length-append (kept_links f r xs) (kept_links f r ys) in
+    let two = length-append xs (l ∷ ys) in
+    let front : length (kept_links f r xs) ≤ length xs = kept_length test xs in
+    let back : length (kept_links f r ys) ≤ length ys = kept_length test ys in
+    omega arith
+
+kept_after_few : (fs : List AreaFailure) (r : RouterId) (links : List Link) → length (kept_after fs r links) ≤ length links
+kept_after_few [] r links = omega arith
+kept_after_few (f ∷ fs) r links =
+    let later : length (kept_after fs r (kept_links f r links)) ≤ length (kept_links f r links) = kept_after_few fs r (kept_links f r links) in
+    let first : length (kept_links f r links) ≤ length links = kept_length (λ (l : Link). not (takes f r l)) links in
+    omega arith
+
 -- a router-LSA that keeps too many has too many
 pub large_before : (f : AreaFailure) (r : RouterId) (number : ℤ) (links : List Link) (lsa : List ℕ) → IsRouterLsa lsa → links ≡ kept_links f r (links_of lsa)
     → IsUnmade (RouterNeeds number links) fault.Length → IsLarge (advertisement_of lsa)
@@ -178,3 +210,79 @@ pub left_more : (failures : List AreaFailure) (i : ℕ) (x : AreaFailure) (adver
 left_more failures i x adverts old new within is before now =
     now ∙ ap (without x) before ∙ ap (λ (f : AreaFailure). without f (without_all (take i failures) adverts)) is
     ∙ sym (fold_more (λ (left : List Advertisement) (f : AreaFailure). without f left) adverts failures i x within)
+
+-- ---- its bytes
+
+pub zip_same : {X : Type 0} (R : X → X → Type 0) → ((x : X) → R x x) → (xs : List X) → AllZip R xs xs
+zip_same R same [] = tt
+zip_same R same (x ∷ xs) = (same x, zip_same R same xs)
+
+zip_over : {X : Type 0} (R S T : X → X → Type 0) → ((x y z : X) → R x y → S y z → T x z) → (xs ys zs : List X) → AllZip R xs ys → AllZip S ys zs → AllZip T xs zs
+zip_over R S T over [] [] [] first second = tt
+zip_over R S T over [] [] (z ∷ zs) first second = absurd second
+zip_over R S T over [] (y ∷ ys) zs first second = absurd first
+zip_over R S T over (x ∷ xs) [] zs first second = absurd first
+zip_over R S T over (x ∷ xs) (y ∷ ys) [] first second = absurd second
+zip_over R S T over (x ∷ xs) (y ∷ ys) (z ∷ zs) first second = (over x y z first.0 second.0, zip_over R S T over xs ys zs first.1 second.1)
+
+-- no failure
+pub left_by_none : (lsa : List ℕ) → IsLeftLsa [] lsa lsa
+left_by_none lsa = inl (inr refl, refl)
+
+not_both : (lsa : List ℕ) → IsRouterLsa lsa → IsNetworkLsa lsa → ⊥
+not_both lsa router network = (let both : (let one : ℕ = 1 in one) ≡ 2 = sym router ∙ network in cc)
+
+module _ (fs gs : List AreaFailure) (f : AreaFailure) (more : (r : RouterId) (links : List Link) → kept_after gs r links ≡ kept_links f r (kept_after fs r links)) where
+  left_same : (a c : List ℕ) → IsNetworkLsa a ⊎ (kept_after fs (key_of a).router (links_of a) ≡ links_of a) → IsLeftLsa (f ∷ []) a c → IsLeftLsa gs a c
+  left_same a c (inl network) (inl stays) = inl (inl network, stays.1)
+  left_same a c (inl network) (inr made) = absurd (not_both a made.0 network)
+  left_same a c (inr kept) second =
+      let r = (key_of a).router in
+      let now : kept_after gs r (links_of a) ≡ kept_links f r (links_of a) = more r (links_of a) ∙ ap (kept_links f r) kept in
+      elim second [
+        | inl stays ↦ inl (elim stays.0 [ inl network ↦ inl network | inr all ↦ inr (now ∙ all) ], stays.1)
+        | inr made ↦ inr (made.0, (λ e. made.1 (sym now ∙ e)), subst (λ (ls : List Link). IsMade (router_value r (header_of a).number ls) c) (sym now) made.2)
+      ]
+
+  left_made : (a b c : List ℕ) → IsRouterLsa a → (kept_after fs (key_of a).router (links_of a) ≡ links_of a → ⊥)
+      → IsMade (router_value (key_of a).router (header_of a).number (kept_after fs (key_of a).router (links_of a))) b → IsLeftLsa (f ∷ []) b c → IsLeftLsa gs a c
+  left_made a b c is less made second =
+      let r = (key_of a).router in
+      let number = (header_of a).number in
+      let kept = kept_after fs r (links_of a) in
+      let now : kept_after gs r (links_of a) ≡ kept_links f r kept = more r (links_of a) in
+      let links : links_of b ≡ kept = links_are r number kept b made in
+      let named : (key_of b).router ≡ r = names r number kept b made in
+      let numbers : (header_of b).number ≡ number = number_is r number kept b made in
+      let again : kept_links f (key_of b).router (links_of b) ≡ kept_links f r kept = (λ i. kept_links f (named i) (links i)) in
+      elim second [
+        | inl stays ↦
+            elim stays.0 [
+              | inl network ↦ absurd (not_both b (is_router r number kept b made) network)
+              | inr all ↦
+                  let whole : kept_after gs r (links_of a) ≡ kept = now ∙ sym again ∙ all ∙ links in
+                  inr (is, (λ e. less (sym whole ∙ e)), subst (λ (ls : List Link). IsMade (router_value r number ls) c) (sym whole) (subst (λ (x : List ℕ). IsMade (router_value r number kept) x) (sym stays.1) made))
+            ]
+        | inr anew ↦ inr (
+          is,
+          (λ e.
+              let few = kept_after_few fs r (links_of a) in
+              let lengths : length (kept_links f r kept) ≡ length (links_of a) = ap length (sym now ∙ e) in
+              let many : length kept ≤ length (kept_links f r kept) = omega arith in
+              anew.1 (again ∙ kept_whole (λ (l : Link). not (takes f r l)) kept many ∙ sym links)),
+          subst (λ (v : LsaValue). IsMade v c) (λ i. router_value (named i) (numbers i) ((again ∙ sym now) i)) anew.2,
+        )
+      ]
+
+  left_then : (a b c : List ℕ) → IsLeftLsa fs a b → IsLeftLsa (f ∷ []) b c → IsLeftLsa gs a c
+  left_then a b c (inl stays) second = left_same a c stays.0 (subst (λ (x : List ℕ). IsLeftLsa (f ∷ []) x c) stays.1 second)
+  left_then a b c (inr made) second = left_made a b c made.0 made.1 made.2 second
+
+-- one failure more
+pub bytes_more : (failures : List AreaFailure) (i : ℕ) (x : AreaFailure) (before left new : List (List ℕ)) → i < length failures → x ≡ get_or failures i x
+    → AllZip (IsLeftLsa (take i failures)) before left → AllZip (IsLeftLsa (x ∷ [])) left new → AllZip (IsLeftLsa (take (i + 1) failures)) before new
+bytes_more failures i x before left new within is first second =
+    zip_over (IsLeftLsa (take i failures)) (IsLeftLsa (x ∷ [])) (IsLeftLsa (take (i + 1) failures))
+    (left_then (take i failures) (take (i + 1) failures) x
+    (λ r links. fold_more (λ (kept : List Link) (f : AreaFailure). kept_links f r kept) links failures i x within ∙ ap (λ (f : AreaFailure). kept_links f r (kept_after (take i failures) r links)) (sym is)))
+    before left new first second

@@ -1,9 +1,12 @@
 -- What an area comes to after a failure (RFC 2328, sections 12.4.1 and 16.1).
-use Rattle.std.specs.Prelude.{◌==◌, ◌&&◌, ◌||◌, ◌<◌, ℕ, Bool, false, not, Contains, List, length, map, filter, bit_and}
+use Rattle.std.specs.Prelude.{◌≡◌, ◌≢◌, ◌⊎◌, ◌==◌, ◌&&◌, ◌||◌, ◌<◌, ℕ, Bool, false, not, Contains, List, length, map, filter, bit_and}
 use Rattle.std.specs.List.{fold}
 use Rattle.ospf_base.specs.Masks.{mask_of}
 use Rattle.ospf_base.specs.declared.ids.RouterId.{RouterId}
 use Rattle.ospf_base.specs.declared.prefix.Prefix.{Prefix}
+use Rattle.ospf_lsa.specs.Header.{header_of}
+use Rattle.ospf_lsa.specs.Lsa.{IsNetworkLsa, IsRouterLsa, key_of, links_of}
+use Rattle.ospf_lsa.specs.Value.{IsMade, router_value}
 use Rattle.ospf_lsa.specs.declared.link.Link.{Link}
 use Rattle.ospf_lsa.specs.declared.link.LinkKind.{LinkKind}
 use Rattle.ospf_lsa.specs.declared.link.LinkKind.TheVariants as kind
@@ -82,6 +85,23 @@ without f adverts = map (left_of_lsa f) adverts
 -- after several failures, one after the other
 abbrev pub without_all : List failure.AreaFailure → List Advertisement → List Advertisement
 without_all failures adverts = fold (λ left f. without f left) adverts failures
+
+-- ---- its bytes
+
+-- the links that a router keeps after several failures, one after the other
+abbrev pub kept_after : List failure.AreaFailure → RouterId → List Link → List Link
+kept_after failures router links = fold (λ kept f. kept_links f router kept) links failures
+
+-- an LSA before and after failures: a network-LSA, and a router-LSA that keeps all links, stay byte
+-- for byte; another router-LSA is made anew of the links that it keeps, with its number and age 0
+-- (section 12.4.1)
+abbrev pub IsLeftLsa : List failure.AreaFailure → List ℕ → List ℕ → Type 0
+IsLeftLsa failures before after =
+    let router = (key_of before).router in
+    let kept = kept_after failures router (links_of before) in
+    ((IsNetworkLsa before ⊎ (kept ≡ links_of before)) × (after ≡ before))
+    ⊎ (IsRouterLsa before × (kept ≢ links_of before)
+    × IsMade (router_value router (header_of before).number kept) after)
 
 -- ---- what cannot be made anew
 

@@ -58,7 +58,7 @@ pub record IsOutage (adverts : List Advertisement) (outage : Outage) : Type 0 wh
   pub edges_or : (e : Edge) → IsEdge adverts e
       → Contains outage.edges.items e ⊎ IsEdge (left_of_area adverts outage) e
   pub ends_gone : (e : End) → Contains outage.ends.items e
-      → StandsIn (left_of_area adverts outage) e → ⊥
+      → StandsIn adverts e × (StandsIn (left_of_area adverts outage) e → ⊥)
   pub ends_or : (e : End) → StandsIn adverts e
       → Contains outage.ends.items e ⊎ StandsIn (left_of_area adverts outage) e
 

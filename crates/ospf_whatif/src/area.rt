@@ -1,11 +1,13 @@
 //! The listing of an area after a failure.
 
-ghost use Rattle.std.specs.Prelude.{◌≡◌, ◌++◌, ◌<◌, ◌∷◌, [], Err, IfOk, OnOk, IsTrue};
+ghost use Rattle.std.specs.Prelude.{◌≡◌, ◌↔◌, ◌++◌, ◌<◌, ◌∷◌, [], Err, IfOk, OnOk, IsTrue};
+ghost use Rattle.std.specs.List.{AllZip};
+ghost use Rattle.ospf_base.specs.Constants.{max_age};
 ghost use Rattle.ospf_lsa.specs.Header.{header_of};
 ghost use Rattle.ospf_lsa.specs.Lsa.{key_of, IsRouterLsa};
 ghost use Rattle.ospf_lsa.specs.Listing.{IsListable};
 ghost use Rattle.ospf_edges.specs.Listed.{advertisement_of, advertisements_of};
-ghost use Rattle.ospf_whatif.specs.Failure.{HasLarge, IsLarge, left_of_lsa, kept_links, takes, without, without_all};
+ghost use Rattle.ospf_whatif.specs.Failure.{HasLarge, IsLarge, IsLeftLsa, left_of_lsa, kept_links, takes, without, without_all};
 
 use crate::failure::AreaFailure;
 use ospf_base::{Kind, RouterId};
@@ -49,7 +51,7 @@ impl From<LsaFault> for WithoutFault {
 
 /// The LSAs of an area after a failure, once its routers have told of it: those of the same keys,
 /// without the links that the failure takes. What it does not touch stays byte for byte; a changed
-/// router-LSA has its number and age 0.
+/// router-LSA is made anew, with its number and age 0.
 ///
 /// `Links` where a changed router-LSA keeps more links than can be told in one of `LARGEST_LSA`
 /// bytes, which are 1,361; else `Memory`.
@@ -60,6 +62,7 @@ pub fn without(
 ) -> Result<Listing, WithoutFault>
     ensures left { IfOk result (λ left. advertisements_of left
         ≡ without failure.now (advertisements_of listing.now)) }
+    ensures bytes { IfOk result (AllZip (IsLeftLsa (failure.now ∷ [])) listing.now) }
     ensures large { result ≡ Err WithoutFault.Links → HasLarge (advertisements_of listing.now) }
 {
     let mut left = Listing::new(alloc);
@@ -79,8 +82,9 @@ pub fn without_all(
     failures: &[AreaFailure],
 ) -> Result<Listing, AllocError>
     requires { HasLarge (advertisements_of listing) → ⊥ }
-    ensures { IfOk result (λ left. advertisements_of left
+    ensures left { IfOk result (λ left. advertisements_of left
         ≡ without_all failures.now (advertisements_of listing)) }
+    ensures bytes { IfOk result (AllZip (IsLeftLsa failures.now) listing) }
 {
     let mut left = listing;
     for failure in failures {
@@ -96,8 +100,9 @@ fn without_small(
     failure: &AreaFailure,
 ) -> Result<Listing, AllocError>
     requires { HasLarge (advertisements_of listing.now) → ⊥ }
-    ensures { IfOk result (λ left. advertisements_of left
+    ensures left { IfOk result (λ left. advertisements_of left
         ≡ without failure.now (advertisements_of listing.now)) }
+    ensures bytes { IfOk result (AllZip (IsLeftLsa (failure.now ∷ [])) listing.now) }
 {
     match without(alloc, listing, failure) {
         Ok(left) => Ok(left),
@@ -112,8 +117,9 @@ fn lsa_without(alloc: Global, failure: &AreaFailure, lsa: &LsaView) -> Result<Ls
     // The LSA has what the failure leaves of it, under the same key, and is below the greatest age.
     ensures advertisement { IfOk result (λ left. advertisement_of left
         ≡ left_of_lsa failure.now (advertisement_of lsa.now)) }
+    ensures bytes { IfOk result (IsLeftLsa (failure.now ∷ []) lsa.now) }
     ensures key { IfOk result (λ left. key_of left ≡ key_of lsa.now) }
-    ensures young { IfOk result (λ left. (header_of left).age < 3600) }
+    ensures young { IfOk result (λ left. (header_of left).age < max_age) }
     // It can be too long only where it has more links than one of the largest size.
     ensures large { result ≡ Err LsaFault.Length → IsLarge (advertisement_of lsa.now) }
 {
@@ -130,8 +136,9 @@ fn router_without(alloc: Global, failure: &AreaFailure, lsa: &LsaView) -> Result
     // The LSA has what the failure leaves of it, under the same key, and is below the greatest age.
     ensures advertisement { IfOk result (λ left. advertisement_of left
         ≡ left_of_lsa failure.now (advertisement_of lsa.now)) }
+    ensures bytes { IfOk result (IsLeftLsa (failure.now ∷ []) lsa.now) }
     ensures key { IfOk result (λ left. key_of left ≡ key_of lsa.now) }
-    ensures young { IfOk result (λ left. (header_of left).age < 3600) }
+    ensures young { IfOk result (λ left. (header_of left).age < max_age) }
     // It can be too long only where it has more links than one of the largest size.
     ensures large { result ≡ Err LsaFault.Length → IsLarge (advertisement_of lsa.now) }
 {
@@ -147,7 +154,7 @@ fn router_without(alloc: Global, failure: &AreaFailure, lsa: &LsaView) -> Result
 
 // Whether a router keeps all links.
 fn keeps_all(failure: &AreaFailure, router: RouterId, links: Links) -> bool
-    ensures { IsTrue result → kept_links failure.now router links.entry ≡ links.entry }
+    ensures { IsTrue result ↔ (kept_links failure.now router links.entry ≡ links.entry) }
 {
     for link in links {
         if failure.takes(router, link) {

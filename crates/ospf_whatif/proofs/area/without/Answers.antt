@@ -1,10 +1,11 @@
-use Rattle.std.proofs.Common.{rules, ◌≡◌, ◌≤◌, ℕ, List, length, map, take, sym, ap, subst, ◌∙◌, arith}
+use Rattle.std.proofs.Common.{rules, ◌≡◌, ◌+◌, ◌≤◌, ℕ, List, ◌∷◌, [], length, map, take, sym, ap, subst, ◌∙◌, arith}
+use Rattle.std.specs.List.{AllZip, Contains}
 use Rattle.std.proofs.lemmas.List.{take_all}
+use Rattle.std.proofs.lemmas.List.Elements.{all_zip_more}
 use Rattle.ospf_lsa.specs.Lsa.{key_of}
 use Rattle.ospf_lsa.specs.Listing.{IsRising}
 use Rattle.ospf_edges.specs.Listed.{advertisement_of, advertisements_of}
-use Rattle.ospf_whatif.specs.Failure.{IsLarge, left_of_lsa, without}
-use Rattle.std.specs.List.{Contains}
+use Rattle.ospf_whatif.specs.Failure.{IsLarge, IsLeftLsa, left_of_lsa, without}
 use Rattle.ospf_whatif.proofs.WithoutLemmas.{keys_before, keys_next, large_in, told_next}
 use Rattle.ospf_whatif.proofs.area.without.Goals as goal
 
@@ -28,8 +29,13 @@ loop-lsa-preserved c =
     (c.in_ok-kept.ensures.advertisement ∙ ap (λ l. left_of_lsa c.args.failure.now (advertisement_of l)) c.view.ensures.same) in
     let keys = keys_next items i x c.loop-lsa-test.true c.lsa-item.is c.loop-lsa.left c.in_ok-kept.kept c.loop-lsa.invariant.keys
     (c.in_ok-kept.ensures.key ∙ ap key_of c.view.ensures.same) in
+    let R = IsLeftLsa (c.args.failure.now ∷ []) in
+    let one : R x c.in_ok-kept.kept = subst (λ (l : List ℕ). R l c.in_ok-kept.kept) c.view.ensures.same c.in_ok-kept.ensures.bytes in
     record {
       told = ap (map advertisement_of) c.in_ok-append.ensures.ok ∙ told;
+      bytes =
+          subst (AllZip R (take (i + 1) items)) (sym c.in_ok-append.ensures.ok)
+          (all_zip_more R items c.loop-lsa.left i x c.in_ok-kept.kept c.loop-lsa-test.true c.lsa-item.is c.loop-lsa.invariant.bytes one);
       keys = ap (map key_of) c.in_ok-append.ensures.ok ∙ keys;
     }
 
@@ -40,6 +46,13 @@ returns-clause-left c =
     let end : length items ≤ c.loop-lsa.lsa-index = omega (arith, c.loop-lsa-test.false) in
     let all : take c.loop-lsa.lsa-index items ≡ c.args.listing.now = take_all c.loop-lsa.lsa-index items end ∙ c.lsas-lsa-items.ensures.lsas in
     c.loop-lsa.invariant.told ∙ ap (λ l. map (left_of_lsa c.args.failure.now) (map advertisement_of l)) all
+
+pub returns-clause-bytes : goal.returns-clause-bytes
+returns-clause-bytes c =
+    let items = c.lsas-lsa-items.result.now in
+    let end : length items ≤ c.loop-lsa.lsa-index = omega (arith, c.loop-lsa-test.false) in
+    let all : take c.loop-lsa.lsa-index items ≡ c.args.listing.now = take_all c.loop-lsa.lsa-index items end ∙ c.lsas-lsa-items.ensures.lsas in
+    subst (λ (l : List (List ℕ)). AllZip (IsLeftLsa (c.args.failure.now ∷ [])) l c.loop-lsa.left) all c.loop-lsa.invariant.bytes
 
 pub returns-in_err-kept-clause-large : goal.returns-in_err-kept-clause-large
 unfolding advertisements_of

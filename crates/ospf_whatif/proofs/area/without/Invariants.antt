@@ -1,11 +1,13 @@
-use Rattle.std.proofs.Common.{◌≡◌, map, take}
+use Rattle.std.proofs.Common.{◌≡◌, ◌∷◌, [], map, take}
+use Rattle.std.specs.List.{AllZip}
 use Rattle.ospf_lsa.specs.Lsa.{key_of}
 use Rattle.ospf_edges.specs.Listed.{advertisement_of}
-use Rattle.ospf_whatif.specs.Failure.{left_of_lsa}
+use Rattle.ospf_whatif.specs.Failure.{IsLeftLsa, left_of_lsa}
 use Rattle.ospf_whatif.proofs.area.without.Given as goal
 
 abbrev pub invariant-loop-lsa : goal.invariant-loop-lsa
 invariant-loop-lsa l = record {
   told : map advertisement_of l.left ≡ map (left_of_lsa l.failure) (map advertisement_of (take l.lsa-index l.lsa-items));
+  bytes : AllZip (IsLeftLsa (l.failure ∷ [])) (take l.lsa-index l.lsa-items) l.left;
   keys : map key_of l.left ≡ map key_of (take l.lsa-index l.lsa-items);
 }
