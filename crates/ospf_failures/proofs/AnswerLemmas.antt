@@ -127,7 +127,7 @@ names_refused input job listing (fault.Unnamed text) reads small is = (
   map_some input (λ bytes. Reads bytes [] listing) (λ bytes. IsFailuresRefusal job bytes (string_bytes text) status.Words)
       (λ bytes read. of_name listing is.0 read small is.1 is.2) reads,
 )
-names_refused input job listing (fault.Failure f) reads small is = tt
+names_refused input job listing (fault.Failure f) reads small is = inl is
 
 -- ---- the end
 

@@ -11,9 +11,8 @@ use Rattle.ospf_graph.specs.Advertisements.{Advertisement}
 use Rattle.ospf_graph.specs.Routes.{IsTable}
 use Rattle.ospf_graph.specs.declared.route.Route.{Route}
 use Rattle.ospf_files.specs.Status.{code_of, failure_line, failure_status}
-use Rattle.ospf_files.specs.Streams.{IsBegun, IsErrorFailed, IsOutputFailed, IsTold, Written}
+use Rattle.ospf_files.specs.Streams.{IsBegun, IsErrorFailed, IsOfError, IsOfInput, IsOfOutput, IsOutputFailed, IsTold, Written}
 use Rattle.ospf_files.specs.declared.status.Failure.{Failure}
-use Rattle.ospf_files.specs.declared.status.Failure.TheVariants as failure
 use Rattle.ospf_files.specs.declared.status.Status.{Status}
 use Rattle.ospf_files.specs.declared.status.Status.TheVariants as status
 use Rattle.ospf_files.specs.declared.streams.FailedStreams.{FailedStreams}
@@ -221,15 +220,15 @@ pub record IsFailuresAnswerBegun (job : FailuresJob) (old new : Written) (input 
 -- at the warning; or at the answer
 pub data FailuresEndsBy (input : Option (List ℕ)) (job : FailuresJob) (failed : FailedStreams)
     (old new : Written) : Failure → Type 0 where
-  unwritten : {f : Failure} → new.out ≡ old.out → new.err ≡ old.err
+  unwritten : {f : Failure} → IsOfInput f → new.out ≡ old.out → new.err ≡ old.err
       → FailuresEndsBy input job failed old new f
-  in_refusal : {f : Failure} → (f ≡ failure.Memory) ⊎ (f ≡ failure.Error) → IsErrorFailed failed
+  in_refusal : {f : Failure} → IsOfError f → IsErrorFailed failed
       → new.out ≡ old.out → IfSome input (IsFailuresRefusalBegun job old.err new.err)
       → FailuresEndsBy input job failed old new f
-  in_warning : {f : Failure} → (f ≡ failure.Memory) ⊎ (f ≡ failure.Error) → IsErrorFailed failed
+  in_warning : {f : Failure} → IsOfError f → IsErrorFailed failed
       → new.out ≡ old.out → IfSome input (IsFailuresWarningBegun job old.err new.err)
       → FailuresEndsBy input job failed old new f
-  in_answer : {f : Failure} → (f ≡ failure.Memory) ⊎ (f ≡ failure.Output) → IsOutputFailed failed
+  in_answer : {f : Failure} → IsOfOutput f → IsOutputFailed failed
       → IfSome input (IsFailuresAnswerBegun job old new)
       → FailuresEndsBy input job failed old new f
 
@@ -258,7 +257,7 @@ abbrev pub IsUnreported : Option (List ℕ) → FailuresJob → Unreported → T
 IsUnreported input job (fault.Refused text) =
     IsRefusalOf input job (string_bytes text) status.Refused
 IsUnreported input job (fault.Unnamed text) = IsRefusalOf input job (string_bytes text) status.Words
-IsUnreported input job (fault.Failure f) = Unit {0}
+IsUnreported input job (fault.Failure f) = IsOfInput f
 
 -- the answer for the input
 abbrev pub IsFailuresAnswerOf : FailuresJob → FailuresAnswer → List ℕ → Type 0

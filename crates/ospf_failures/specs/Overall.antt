@@ -1,5 +1,5 @@
 -- What each failure of an area changes in the tables of all its routers.
-use Rattle.std.specs.Prelude.{◌≡◌, ◌↔◌, ◌<◌, ◌+◌, ◌^◌, ℕ, true, false, List, [], ◌∷◌, ◌++◌, ◌⊎◌, All, AllPairs, Any, Contains, Err, IfOk, IsPermutation, Vec, codes, count_by, filter, flat_map, length, map, not, string_bytes, sum_by}
+use Rattle.std.specs.Prelude.{◌≡◌, ◌↔◌, ◌<◌, ◌^◌, ℕ, true, false, List, [], ◌∷◌, ◌++◌, ◌⊎◌, All, AllPairs, Any, Contains, Err, IfOk, IsPermutation, Vec, codes, count_by, filter, flat_map, length, map, not, string_bytes, sum_by}
 use Rattle.std.specs.Cmp.Lexicographic.{slice_cmp}
 use Rattle.std.specs.List.Sorted.{IsSorted}
 use Rattle.std.specs.Ordering.{nat_cmp, ordering_then}

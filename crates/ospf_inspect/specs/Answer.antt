@@ -3,9 +3,8 @@ use Rattle.std.specs.Prelude.{◌≡◌, ◌⊎◌, ℕ, List, [], IfSome, Optio
 use Rattle.std.specs.Io.KnownBytes.{Appends}
 use Rattle.ospf_edges.specs.Listed.{advertisements_of}
 use Rattle.ospf_files.specs.Status.{failure_line, failure_status}
-use Rattle.ospf_files.specs.Streams.{IsBegun, IsErrorFailed, IsOutputFailed, IsTold, Written}
+use Rattle.ospf_files.specs.Streams.{IsBegun, IsErrorFailed, IsOfError, IsOfInput, IsOfOutput, IsOutputFailed, IsTold, Written}
 use Rattle.ospf_files.specs.declared.status.Failure.{Failure}
-use Rattle.ospf_files.specs.declared.status.Failure.TheVariants as failure
 use Rattle.ospf_files.specs.declared.status.Status.{Status}
 use Rattle.ospf_files.specs.declared.status.Status.TheVariants as status
 use Rattle.ospf_files.specs.declared.streams.FailedStreams.{FailedStreams}
@@ -113,15 +112,15 @@ pub record IsInspectAnswerBegun (job : InspectJob) (old new : Written) (input : 
 -- at the warning; or at the answer
 pub data InspectEndsBy (input : Option (List ℕ)) (job : InspectJob) (failed : FailedStreams)
     (old new : Written) : Failure → Type 0 where
-  unwritten : {f : Failure} → new.out ≡ old.out → new.err ≡ old.err
+  unwritten : {f : Failure} → IsOfInput f → new.out ≡ old.out → new.err ≡ old.err
       → InspectEndsBy input job failed old new f
-  in_refusal : {f : Failure} → (f ≡ failure.Memory) ⊎ (f ≡ failure.Error) → IsErrorFailed failed
+  in_refusal : {f : Failure} → IsOfError f → IsErrorFailed failed
       → new.out ≡ old.out → IfSome input (IsInspectRefusalBegun old.err new.err)
       → InspectEndsBy input job failed old new f
-  in_warning : {f : Failure} → (f ≡ failure.Memory) ⊎ (f ≡ failure.Error) → IsErrorFailed failed
+  in_warning : {f : Failure} → IsOfError f → IsErrorFailed failed
       → new.out ≡ old.out → IfSome input (IsInspectWarningBegun job old.err new.err)
       → InspectEndsBy input job failed old new f
-  in_answer : {f : Failure} → (f ≡ failure.Memory) ⊎ (f ≡ failure.Output) → IsOutputFailed failed
+  in_answer : {f : Failure} → IsOfOutput f → IsOutputFailed failed
       → IfSome input (IsInspectAnswerBegun job old new)
       → InspectEndsBy input job failed old new f
 
@@ -140,7 +139,7 @@ pub record IsInspectCutShort (input : Option (List ℕ)) (job : InspectJob) (fai
 -- why there is no answer
 abbrev pub IsUnanswered : Option (List ℕ) → Unanswered → Type 0
 IsUnanswered input (fault.Refused text) = IfSome input (IsInspectRefusal (string_bytes text))
-IsUnanswered input (fault.Failure f) = Unit {0}
+IsUnanswered input (fault.Failure f) = IsOfInput f
 
 -- the answer for the input
 abbrev pub IsInspectAnswerOf : InspectJob → InspectAnswer → List ℕ → Type 0

@@ -1,5 +1,5 @@
 -- Texts that are written one after the other.
-use Rattle.std.proofs.Common.{◌≡◌, sym, subst, ◌+◌, ◌<◌, ℕ, List, [], ◌∷◌, ◌++◌, length, take, drop, get_or, Option, append_assoc, append-nil, refl}
+use Rattle.std.proofs.Common.{arith, ◌≡◌, inl, inr, ap, sym, subst, ◌+◌, ◌<◌, ℕ, zero, suc, List, [], ◌∷◌, ◌++◌, length, take, drop, get_or, Option, append_assoc, append-nil, refl}
 use Rattle.std.proofs.lemmas.List.{take_more, take-append-drop}
 use Rattle.std.specs.Io.KnownBytes.{Appends, Keeps}
 use Rattle.ospf_base.specs.declared.ids.Addr.{Addr}
@@ -11,7 +11,9 @@ use Rattle.ospf_table.specs.Line.{Reads}
 use Rattle.ospf_files.specs.Shown.{routes_text}
 use Rattle.ospf_files.proofs.Written.{both_written, front_begun, kept_written, nothing_written, rest_begun, whole_begun}
 use Rattle.ospf_files.specs.Streams.{IsBegun, Written}
-use Rattle.ospf_table.specs.Cut.{AreLookupsBegun, IsOutputBegun, IsWarned}
+use Rattle.ospf_files.specs.declared.status.Failure.{Failure}
+use Rattle.ospf_files.specs.declared.streams.FailedStreams.{FailedStreams}
+use Rattle.ospf_table.specs.Cut.{AreLookupsBefore, AreLookupsBegun, IsLookupCut, IsOutputBefore, IsOutputBegun, IsTableCut, IsWarned, at_lookup, in_output}
 use Rattle.ospf_table.specs.Output.{IsLookupLine, AreLookups, IsTableAnswered, IsOutput, IsWarning, no_more, one_more}
 
 -- the line of one address more
@@ -65,6 +67,30 @@ lookups_end a b table addresses i so_far = record {
   are = so_far.are;
   begun = whole_begun a b so_far.lines so_far.written;
 }
+
+-- an address, and those before it and behind it
+one_of : (addresses : List Addr) (i : ℕ) → i < length addresses → (one : Addr) × (after : List Addr) × (addresses ≡ take i addresses ++ one ∷ after)
+one_of [] i within = absurd (omega (arith, within))
+one_of (one ∷ after) zero within = (one, after, refl)
+one_of (first ∷ rest) (suc i) within = let (one, after, are) = one_of rest i (omega (arith, within)) in (one, after, ap (λ l. first ∷ l) are)
+
+-- the lookups so far, before one that is not there
+pub lookups_before : (a b : Option (List ℕ)) (table : List Route) (addresses : List Addr) (i : ℕ) → i < length addresses → HasLookups a b table (take i addresses)
+    → AreLookupsBefore table addresses a b
+lookups_before a b table addresses i within so_far = record {
+  before = take i addresses;
+  one = (one_of addresses i within).0;
+  after = (one_of addresses i within).1;
+  addresses_are = (one_of addresses i within).2;
+  lines = so_far.lines;
+  are = so_far.are;
+  written = so_far.written;
+}
+
+-- the routes, and then the lookups before one
+pub output_before : (a b c : Option (List ℕ)) (table routes : List Route) (addresses : List Addr) → routes ≡ table → Appends a b (routes_text routes)
+    → AreLookupsBefore table addresses b c → IsOutputBefore table addresses a c
+output_before a b c table routes addresses same h looked = (b, subst (λ rs. Appends a b (routes_text rs)) same h, looked)
 
 -- a beginning of the routes
 pub routes_begun : (a b : Option (List ℕ)) (table routes : List Route) (addresses : List Addr) → routes ≡ table → IsBegun a b (routes_text routes)
@@ -134,3 +160,11 @@ answered old new input listing root table addresses reads warned is_table writte
 pub is_warned : (x y : Option (List ℕ)) (listing : List (List ℕ)) (root : RouterId) → ((warning : List ℕ) × IsWarning listing root warning × Appends x y warning)
     → IsWarned listing root x y
 is_warned x y listing root h = record { warning = h.0; warned = h.1; written = h.2 }
+
+-- the table is cut in its output, or at an address
+pub table_cut : (listing : List (List ℕ)) (root : RouterId) (addresses : List Addr) (failed : FailedStreams) (old new : Written) (table : List Route) (f : Failure)
+    → IsWarned listing root old.err new.err → IsTable (advertisements_of listing) root table → IsOutputBegun table addresses old.out new.out
+    → IsLookupCut failed (IsOutputBefore table addresses old.out new.out) f → IsTableCut listing root addresses failed old new f
+table_cut listing root addresses failed old new table f warned is begun (inl cut) = in_output table cut warned is begun
+table_cut listing root addresses failed old new table f warned is begun (inr (closed, before)) =
+    subst (IsTableCut listing root addresses failed old new) (sym closed) (at_lookup table before.0 warned is before.1 before.2)

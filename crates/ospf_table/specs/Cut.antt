@@ -1,9 +1,10 @@
 -- What stands written where memory runs out, a stream fails or the published table
 -- is closed before all is written.
-use Rattle.std.specs.Prelude.{◌≡◌, ◌⊎◌, ℕ, List, [], ◌++◌, IfSome, Option}
+use Rattle.std.specs.Prelude.{◌≡◌, ◌⊎◌, ℕ, List, [], ◌∷◌, ◌++◌, IfSome, Option}
 use Rattle.std.specs.Io.KnownBytes.{Appends}
 use Rattle.ospf_base.specs.declared.ids.Addr.{Addr}
 use Rattle.ospf_base.specs.declared.ids.RouterId.{RouterId}
+use Rattle.ospf_files.specs.Shown.{routes_text}
 use Rattle.ospf_files.specs.Status.{failure_line, failure_status}
 use Rattle.ospf_files.specs.Streams.{IsBegun, IsErrorCut, IsOfInput, IsOutputCut, IsTold, Written}
 use Rattle.ospf_files.specs.declared.status.Failure.{Failure}
@@ -38,10 +39,27 @@ pub record IsOutputBegun (table : List Route) (addresses : List Addr) (old new :
   pub output : IsOutput table before text
   pub begun : IsBegun old new text
 
--- why the output is not whole: memory ran out, standard output is noted as failed, or
--- the published table was closed
-abbrev pub IsLookupCut : FailedStreams → Failure → Type 0
-IsLookupCut failed f = IsOutputCut failed f ⊎ (f ≡ failure.Closed)
+-- the lookups of the addresses before one were written whole
+pub record AreLookupsBefore (table : List Route) (addresses : List Addr)
+    (old new : Option (List ℕ)) : Type 0 where
+  pub before : List Addr
+  pub one : Addr
+  pub after : List Addr
+  pub addresses_are : addresses ≡ before ++ one ∷ after
+  pub lines : List ℕ
+  pub are : AreLookups table before lines
+  pub written : Appends old new lines
+
+-- the routes, and the lookups of the addresses before one, were written whole
+abbrev pub IsOutputBefore : List Route → List Addr → Option (List ℕ) → Option (List ℕ) → Type 0
+IsOutputBefore table addresses old new =
+    (between : Option (List ℕ)) × Appends old between (routes_text table)
+    × AreLookupsBefore table addresses between new
+
+-- why the output is not whole: memory ran out, standard output is noted as failed, or the
+-- published table was closed where an address was to be looked up, behind this
+abbrev pub IsLookupCut : FailedStreams → Type 0 → Failure → Type 0
+IsLookupCut failed Before f = IsOutputCut failed f ⊎ ((f ≡ failure.Closed) × Before)
 
 -- a line of the input is refused, and a beginning of what is told of it was written
 pub record IsLineRefusalBegun (input old new : Option (List ℕ)) : Type 0 where
@@ -65,7 +83,8 @@ pub record IsWarned (listing : List (List ℕ)) (root : RouterId) (old new : Opt
   pub written : Appends old new warning
 
 -- the table of a listing is cut: in its warning; for want of memory, before the
--- output begins; or in the output
+-- output begins; in the output; or, the published table being closed, where an
+-- address was to be looked up, behind the routes and the lookups before it
 pub data IsTableCut (listing : List (List ℕ)) (root : RouterId) (addresses : List Addr)
     (failed : FailedStreams) (old new : Written) : Failure → Type 0 where
   in_warning : {f : Failure} → IsErrorCut failed f
@@ -73,11 +92,17 @@ pub data IsTableCut (listing : List (List ℕ)) (root : RouterId) (addresses : L
       → IsTableCut listing root addresses failed old new f
   no_table : IsWarned listing root old.err new.err → new.out ≡ old.out
       → IsTableCut listing root addresses failed old new failure.Memory
-  in_output : {f : Failure} (table : List Route) → IsLookupCut failed f
+  in_output : {f : Failure} (table : List Route) → IsOutputCut failed f
       → IsWarned listing root old.err new.err
       → IsTable (advertisements_of listing) root table
       → IsOutputBegun table addresses old.out new.out
       → IsTableCut listing root addresses failed old new f
+  at_lookup : (table : List Route) (between : Option (List ℕ))
+      → IsWarned listing root old.err new.err
+      → IsTable (advertisements_of listing) root table
+      → Appends old.out between (routes_text table)
+      → AreLookupsBefore table addresses between new.out
+      → IsTableCut listing root addresses failed old new failure.Closed
 
 -- the answer is cut: the input was not read, or what is told of a line that is refused, or the
 -- table

@@ -95,8 +95,7 @@ fn gone_line(alloc: Global, failure: &AreaFailure, before: &Route) -> Result<Str
     ensures { IfOk result (λ line. string_bytes line ≡ area_failure_text failure.now
         ++ loss_line before.now Loss.Gone) }
 {
-    let line = format!(in alloc; "{failure} gone {}\n", before.prefix)?;
-    Ok(line)
+    format!(in alloc; "{failure} gone {}\n", before.prefix)
 }
 
 // The line of a prefix that is cut off.
@@ -104,8 +103,7 @@ fn cut_line(alloc: Global, failure: &AreaFailure, before: &Route) -> Result<Stri
     ensures { IfOk result (λ line. string_bytes line ≡ area_failure_text failure.now
         ++ loss_line before.now Loss.Cut) }
 {
-    let line = format!(in alloc; "{failure} cut {}\n", before.prefix)?;
-    Ok(line)
+    format!(in alloc; "{failure} cut {}\n", before.prefix)
 }
 
 // The line of a prefix that costs more.

@@ -2,6 +2,7 @@
 
 ghost use Rattle.std.specs.Prelude.{◌≡◌, ◌↔◌, List, ℕ, [], Err, IsTrue, IfOk, OnOk, OnErr};
 ghost use Rattle.std.specs.BTreeMap.{IsOrdered, insert_entry};
+ghost use Rattle.ospf_base.specs.Constants.{max_age};
 ghost use Rattle.ospf_base.specs.Keys.{key_cmp};
 ghost use Rattle.ospf_lsa.specs.Header.{header_of};
 ghost use Rattle.ospf_lsa.specs.Lsa.{key_of};
@@ -49,7 +50,7 @@ impl LineEntries {
         ensures err { OnErr result (self.new ≡ self.old) }
         ensures twice { (result ≡ Err fault.Twice) ↔ HasKey self.old (key_of lsa) }
         ensures max_age { (result ≡ Err fault.MaxAge)
-            ↔ (((header_of lsa).age ≡ 3600) × (HasKey self.old (key_of lsa) → ⊥)) }
+            ↔ (((header_of lsa).age ≡ max_age) × (HasKey self.old (key_of lsa) → ⊥)) }
     {
         let key = lsa.view().key();
         if self.has(&key) {

@@ -5,7 +5,7 @@ ghost use Rattle.std.specs.Io.KnownBytes.{Appends};
 ghost use Rattle.ospf_graph.specs.declared.route.Route.{Route};
 ghost use Rattle.ospf_index.specs.Known.{opening};
 ghost use Rattle.ospf_fib.specs.Answers.{IsAnswerOfLast};
-ghost use Rattle.ospf_table.specs.Cut.{AreLookupsBegun, IsLookupCut};
+ghost use Rattle.ospf_table.specs.Cut.{AreLookupsBefore, AreLookupsBegun, IsLookupCut};
 ghost use Rattle.ospf_table.specs.Output.{AreLookups};
 
 use ospf_base::Addr;
@@ -47,7 +47,9 @@ pub(crate) fn print_lookups<W: Wait + Drop, O: Write>(
     ensures begun { (table : List Route) → writer.old.tables ≡ opening ++ table ∷ [] →
         OnErr result (AreLookupsBegun table addresses.now (O.contents out.old) (O.contents
         out.new)) }
-    ensures cut { IfErr result (IsLookupCut streams.new) }
+    ensures cut { (table : List Route) → writer.old.tables ≡ opening ++ table ∷ [] →
+        IfErr result (IsLookupCut streams.new
+        (AreLookupsBefore table addresses.now (O.contents out.old) (O.contents out.new))) }
 {
     for address in addresses {
         let Ok(answer) = look_up(writer, seat, *address) else {

@@ -1,6 +1,6 @@
 //! What a failure changes as values of JSON.
 
-ghost use Rattle.std.specs.Prelude.{◌≡◌, ◌++◌, IfOk, OnOk, false, map, string_bytes};
+ghost use Rattle.std.specs.Prelude.{◌≡◌, ◌++◌, ℕ, IfOk, OnErr, OnOk, false, map, string_bytes, take};
 ghost use Rattle.serde_json.specs.Data.{no_members};
 ghost use Rattle.serde_json.specs.View.{items_of, members_view, view};
 ghost use Rattle.serde_json.specs.Written.{items_have_float};
@@ -79,15 +79,17 @@ fn count_value(alloc: Global, count: u128) -> Result<Value, AllocError>
 /// by one of the words `cut`, `gone`, `cost` and `hops`, and the cost and hops of the route
 /// `before`, and of that in its place, if there is one, `after`.
 ///
-/// `AllocError` where memory runs out.
+/// `AllocError` where memory runs out: then those of the first changes were added.
 pub fn add_changes(
     alloc: Global,
     router: RouterId,
     changes: &[RouteChange],
     items: &mut Vec<Value>,
 ) -> Result<(), AllocError>
-    ensures { OnOk result (map view items.new.items
+    ensures ok { OnOk result (map view items.new.items
         ≡ map view items.old.items ++ map (change_data router) changes.now) }
+    ensures err { OnErr result ((n : ℕ) × (map view items.new.items
+        ≡ map view items.old.items ++ map (change_data router) (take n changes.now))) }
 {
     for change in changes {
         items.push(change_value(alloc, router, change)?)?;

@@ -97,13 +97,11 @@ impl Display for LookupLine {
     ghost output = { λ t. Some (found_text t.address.0 t.prefix t.cost t.hop) };
 
     fn fmt<W: Write>(&self, f: &mut Formatter<W>) -> fmt::Result {
-        let LookupLine {
-            address,
-            prefix,
-            cost,
-            hop,
-        } = self;
-        write!(f, "lookup {address} {prefix} {cost} {hop}")
+        write!(
+            f,
+            "lookup {} {} {} {}",
+            self.address, self.prefix, self.cost, self.hop
+        )
     }
 }
 
@@ -119,6 +117,5 @@ fn first_hop(route: &Route) -> NextHop
 fn none_line(alloc: Global, address: Addr) -> Result<String, AllocError>
     ensures { IfOk result (λ line. string_bytes line ≡ lookup_none_line address.0) }
 {
-    let line = format!(in alloc; "lookup {address} none\n")?;
-    Ok(line)
+    format!(in alloc; "lookup {address} none\n")
 }

@@ -6,7 +6,7 @@ ghost use Rattle.ospf_files.specs.Streams.{IsBegun, IsErrorCut, IsOfInput, writt
 ghost use Rattle.ospf_files.specs.declared.status.Failure.{Failure};
 ghost use Rattle.ospf_files.specs.declared.streams.FailedStreams.{FailedStreams};
 ghost use Rattle.ospf_index.specs.Known.{opening};
-ghost use Rattle.ospf_table.specs.Cut.{IsTableAnswerCut, IsTableCutShort, IsLookupCut, IsOutputBegun, IsTableCut, IsTableWarningBegun};
+ghost use Rattle.ospf_table.specs.Cut.{IsTableAnswerCut, IsTableCutShort, IsLookupCut, IsOutputBefore, IsOutputBegun, IsTableCut, IsTableWarningBegun};
 ghost use Rattle.ospf_table.specs.Fault.{IsMemoryFault, IsLineRefusal};
 ghost use Rattle.ospf_table.specs.declared.table.EntryFault.{EntryFault};
 ghost use Rattle.ospf_table.specs.Output.{IsTableAnswered, IsOutput, IsUnlisted, IsWarning};
@@ -129,10 +129,7 @@ pub fn read_listing<R: BufRead + Drop>(alloc: Global, input: R) -> Result<Listin
     ensures unread { (f : Failure) → result ≡ Err (TableFault.Failure f) → IsOfInput f }
 {
     let entries = read_entries(alloc, input)?;
-    match entries.listing(alloc) {
-        Ok(listing) => Ok(listing),
-        Err(error) => Err(TableFault::from(error)),
-    }
+    Ok(entries.listing(alloc)?)
 }
 
 /// Whether LSAs are listed, and the router-LSA of the root is none of them.
@@ -388,7 +385,8 @@ fn print_answer<W: Wait + Drop, O: Write>(
         × Appends (O.contents out.old) (O.contents out.new) text) }
     ensures begun { OnErr result (IsOutputBegun table.now addresses.now (O.contents out.old)
         (O.contents out.new)) }
-    ensures cut { IfErr result (IsLookupCut streams.new) }
+    ensures cut { IfErr result (IsLookupCut streams.new
+        (IsOutputBefore table.now addresses.now (O.contents out.old) (O.contents out.new))) }
 {
     let Ok((mut writer, mut seat)) = publish_once(alloc, rt, table) else {
         return Err(Failure::Memory);
@@ -422,7 +420,8 @@ fn print_table<W: Wait + Drop, O: Write>(
         × Appends (O.contents out.old) (O.contents out.new) text) }
     ensures begun { OnErr result (IsOutputBegun table.now addresses.now (O.contents out.old)
         (O.contents out.new)) }
-    ensures cut { IfErr result (IsLookupCut streams.new) }
+    ensures cut { IfErr result (IsLookupCut streams.new
+        (IsOutputBefore table.now addresses.now (O.contents out.old) (O.contents out.new))) }
 {
     print_routes(alloc, table.routes(), out, streams)?;
     print_lookups(alloc, writer, seat, addresses, out, streams)?;

@@ -3,9 +3,9 @@ use Rattle.std.specs.Io.KnownBytes.{Appends}
 use Rattle.ospf_base.specs.declared.ids.Addr.{Addr}
 use Rattle.ospf_files.proofs.Cut.{cut_then, for_failure, for_memory, ok_then}
 use Rattle.ospf_files.specs.Streams.{written_on}
-use Rattle.ospf_table.specs.Cut.{IsLookupCut, IsOutputBegun, IsTableCut, in_output, in_warning, no_table}
+use Rattle.ospf_table.specs.Cut.{IsLookupCut, IsOutputBefore, IsOutputBegun, IsTableCut, in_warning, no_table}
 use Rattle.ospf_table.specs.Output.{IsOutput}
-use Rattle.ospf_table.proofs.Written.{answered, is_warned}
+use Rattle.ospf_table.proofs.Written.{answered, is_warned, table_cut}
 use Rattle.ospf_table.proofs.table.answer_of.Goals as goal
 
 pub returns-in_err-warn-clause-cut : goal.returns-in_err-warn-clause-cut
@@ -31,8 +31,10 @@ returns-clause-answer g c = λ bytes reads.
 
 pub returns-clause-cut : goal.returns-clause-cut
 returns-clause-cut g c =
-    cut_then c.print_answer.result (IsLookupCut c.print_answer.new.streams)
+    cut_then c.print_answer.result (IsLookupCut c.print_answer.new.streams (IsOutputBefore c.in_ok-table.table c.deref.result.now (g.O.Write.contents c.args.out.now) (g.O.Write.contents c.print_answer.new.out)))
     (IsTableCut c.args.listing.now c.args.job.now.root c.args.job.now.addresses.items c.print_answer.new.streams (written_on (g.O.Write.contents c.args.out.now) (g.E.Write.contents c.args.err.now)) (written_on (g.O.Write.contents c.print_answer.new.out) (g.E.Write.contents c.warn.new.err)))
-    (λ f begun cut. in_output c.in_ok-table.table cut (is_warned _ _ c.args.listing.now c.args.job.now.root c.in_ok-warn.ensures.told) (search (rules, c.in_ok-table.ensures))
-    (subst (λ (addresses : List Addr). IsOutputBegun c.in_ok-table.table addresses (g.O.Write.contents c.args.out.now) (g.O.Write.contents c.print_answer.new.out)) c.deref.ensures.value begun))
+    (λ f begun cut.
+    table_cut c.args.listing.now c.args.job.now.root c.args.job.now.addresses.items c.print_answer.new.streams (written_on (g.O.Write.contents c.args.out.now) (g.E.Write.contents c.args.err.now)) (written_on (g.O.Write.contents c.print_answer.new.out) (g.E.Write.contents c.warn.new.err)) c.in_ok-table.table f (is_warned _ _ c.args.listing.now c.args.job.now.root c.in_ok-warn.ensures.told) (search (rules, c.in_ok-table.ensures))
+    (subst (λ (addresses : List Addr). IsOutputBegun c.in_ok-table.table addresses (g.O.Write.contents c.args.out.now) (g.O.Write.contents c.print_answer.new.out)) c.deref.ensures.value begun)
+    (subst (λ (addresses : List Addr). IsLookupCut c.print_answer.new.streams (IsOutputBefore c.in_ok-table.table addresses (g.O.Write.contents c.args.out.now) (g.O.Write.contents c.print_answer.new.out)) f) c.deref.ensures.value cut))
     c.print_answer.ensures.begun c.print_answer.ensures.cut
