@@ -1,5 +1,5 @@
 -- The lines of a text that is read piece by piece, each up to a line feed or to the end.
-use Rattle.std.proofs.Common.{◌≡◌, ◌≢◌, ◌⊎◌, inl, inr, ◌==◌, nat_lt, ◌∙◌, ap, sym, subst, refl, arith, ◌+◌, ◌-◌, ◌<◌, ℕ, suc, Bool, true, false, if◌then◌else◌, Option, None, Some, IfSome, List, [], ◌∷◌, ◌++◌, length, take, get_or, map, append-nil, append_assoc, length-append}
+use Rattle.std.proofs.Common.{◌≡◌, ◌≢◌, inl, inr, ◌==◌, nat_lt, ◌∙◌, ap, sym, subst, refl, arith, ◌+◌, ◌-◌, ◌<◌, ℕ, suc, Bool, true, false, if◌then◌else◌, Option, None, Some, IfSome, List, [], ◌∷◌, ◌++◌, length, take, get_or, map, append-nil, append_assoc, length-append}
 use Rattle.std.specs.Io.{StopsAt}
 use Rattle.std.specs.Io.BufRead.{take_through, ends_with_byte}
 use Rattle.std.specs.List.{All, slice_split, enumerate_from, onto_first}
@@ -13,11 +13,8 @@ use Rattle.std.proofs.lemmas.List.Splits.{length-slice_split, slice_split_at, sl
 use Rattle.ospf_files.proofs.TextLines.{is_end}
 use Rattle.ospf_files.specs.Lines.{numbered_line, numbered_from, uncommented}
 use Rattle.ospf_script.specs.Words.{Text}
+use Rattle.ospf_sim.specs.Consoles.{AreWholeLines}
 use Rattle.ospf_files.specs.declared.line.Line.{Line}
-
--- a line feed ends the text, or it is empty
-abbrev pub IsClosed : List ℕ → Type 0
-IsClosed text = (text ≡ []) ⊎ ((front : List ℕ) × (text ≡ front ++ 10 ∷ []))
 
 -- ---- lines of two texts
 
@@ -65,7 +62,7 @@ enumerate_append n (x ∷ xs) ys =
     ap (λ l. (n, x) ∷ l) (enumerate_append (n + 1) xs ys ∙ ap (λ m. enumerate_from (n + 1) xs ++ enumerate_from m ys) there)
 
 -- the lines of a closed text, and those of what stands behind it
-pub closed_append : (text rest : List ℕ) → IsClosed text → lines (text ++ rest) ≡ lines text ++ lines rest
+pub closed_append : (text rest : List ℕ) → AreWholeLines text → lines (text ++ rest) ≡ lines text ++ lines rest
 closed_append text rest (inl nothing) = rw nothing refl
 closed_append text rest (inr ends) = rw (ends.1, append_assoc ends.0 (10 ∷ []) rest) (lines_append ends.0 rest)
 
@@ -140,7 +137,7 @@ all_taken None piece taken unended = tt
 all_taken (Some bytes) piece taken unended = sym (taken ∙ taken_through bytes (subst (λ (t : Text). ends_with_byte 10 t ≡ false) taken unended))
 
 -- what a line feed ends is closed
-pub ends_closed : (text : List ℕ) → ends_with_byte 10 text ≡ true → IsClosed text
+pub ends_closed : (text : List ℕ) → ends_with_byte 10 text ≡ true → AreWholeLines text
 ends_closed text ends =
     let parts = ended_parts text ends in
     inr (take (length text - 1) text, front_last text parts.0 ∙ ap (λ byte. take (length text - 1) text ++ byte ∷ []) parts.1)
@@ -148,7 +145,7 @@ ends_closed text ends =
 -- ---- numbered lines
 
 -- one line more behind a closed text
-pub numbered_more : (text piece : Text) (number : ℕ) (line : Text) → IsClosed text → number ≡ 1 + length (lines text) → numbered_from number piece ≡ (number, line) ∷ []
+pub numbered_more : (text piece : Text) (number : ℕ) (line : Text) → AreWholeLines text → number ≡ 1 + length (lines text) → numbered_from number piece ≡ (number, line) ∷ []
     → numbered_from 1 (text ++ piece) ≡ numbered_from 1 text ++ (number, line) ∷ []
 numbered_more text piece number line closed count one =
     let there : 1 + length (map uncommented (lines text)) ≡ number = omega (arith, length-map (lines text) uncommented, count) in

@@ -1,5 +1,5 @@
 -- Lines that are answered one after another, as they are read.
-use Rattle.std.proofs.Common.{◌≡◌, inl, inr, ◌∙◌, ap, sym, subst, refl, arith, ◌+◌, ℕ, Bool, true, false, List, [], ◌∷◌, ◌++◌, length, Option, None, Some, IfSome, Result, Ok, Err, IfErr, OnOk, append-nil, append_assoc, length-append}
+use Rattle.std.proofs.Common.{◌⊎◌, ◌≡◌, inl, inr, ◌∙◌, ap, sym, subst, refl, arith, ◌+◌, ℕ, Bool, true, false, List, [], ◌∷◌, ◌++◌, length, Option, None, Some, IfSome, Result, Ok, Err, IfErr, OnOk, append-nil, append_assoc, length-append}
 use Rattle.std.specs.Io.BufRead.{ends_with_byte}
 use Rattle.std.specs.Io.KnownBytes.{Appends, Consumes, IsAtEnd}
 use Rattle.std.specs.Str.Lines.{lines}
@@ -11,8 +11,8 @@ use Rattle.ospf_files.specs.declared.streams.FailedStreams.{FailedStreams}
 use Rattle.ospf_files.specs.Lines.{numbered_from}
 use Rattle.ospf_script.specs.Words.{Text}
 use Rattle.ospf_files.specs.declared.line.Line.{Line}
-use Rattle.ospf_sim.proofs.Pieces.{IsClosed, closed_append, ends_closed, numbered_more, one_line}
-use Rattle.ospf_sim.specs.Consoles.{AnswersLine, AnswersLines, AreAnswered, IsAllAnswered, IsLineAnswered, IsPiece, IsPieceRead, IsReadOf, IsSessionCut, IsTurnCut, at_end, in_line, in_prompt, in_reading, is_run, is_unreadable, one_line as one_answer}
+use Rattle.ospf_sim.proofs.Pieces.{closed_append, ends_closed, numbered_more, one_line}
+use Rattle.ospf_sim.specs.Consoles.{AnswersLine, AnswersLines, AreAnswered, IsAllAnswered, AreWholeLines, IsLineAnswered, IsPiece, IsPieceRead, IsReadOf, IsSessionCut, IsTurnCut, at_end, in_line, in_prompt, in_reading, is_run, is_unreadable, one_line as one_answer}
 use Rattle.ospf_sim.specs.Begun.{IsLineCut, IsTellingCut, in_unreadable}
 use Rattle.ospf_sim.specs.Scripts.{LineComes, unreadable_line}
 
@@ -118,7 +118,7 @@ end_there false piece old new is read = read
 -- the lines so far are answered, and this is the number of the next
 pub record IsSoFar (prompt : Text) (start now : Option (List ℕ)) (number : ℕ) (w mid : Simulation) (old new : Written) : Type 0 where
   pub text : Text
-  pub closed : IsClosed text
+  pub closed : AreWholeLines text
   pub taken : Consumes start now text
   pub count : number ≡ 1 + length (lines text)
   pub answered : AreAnswered prompt (numbered_from 1 text) w mid old new
@@ -139,7 +139,7 @@ lines_more : (prompt : Text) (start now later : Option (List ℕ)) (number : ℕ
 lines_more prompt start now later number piece line w mid old new so_far read one =
     numbered_more so_far.text piece number line so_far.closed so_far.count one
 
-closed_more : (text piece : Text) → IsClosed text → IsClosed piece → IsClosed (text ++ piece)
+closed_more : (text piece : Text) → AreWholeLines text → AreWholeLines piece → AreWholeLines (text ++ piece)
 closed_more text piece closed (inl nothing) = rw (nothing, append-nil text) closed
 closed_more text piece closed (inr ends) = inr (text ++ ends.0, ap (λ l. text ++ l) ends.1 ∙ sym (append_assoc text ends.0 (10 ∷ [])))
 
@@ -190,7 +190,13 @@ ends_before prompt start now number w mid old new so_far ends = record {
 -- the next line is not read
 pub reading_cut : (prompt : Text) (start now : Option (List ℕ)) (number : ℕ) (w mid : Simulation) (failed : FailedStreams) (old new : Written) (f : Failure)
     → IsSoFar prompt start now number w mid old new → IsOfInput f → IsSessionCut start prompt w failed old new f
-reading_cut prompt start now number w mid failed old new f so_far cause = in_reading so_far.text mid cause (taken_read start now so_far.text so_far.taken) so_far.answered
+reading_cut prompt start now number w mid failed old new f so_far cause = in_reading so_far.text mid cause (taken_read start now so_far.text so_far.taken) so_far.closed so_far.answered
+
+-- a piece ends what was read: with a line feed, or with the end of the input
+ended_by : (start now : Option (List ℕ)) (text piece : Text) → AreWholeLines text → Consumes start now text → (b : Bool) → ends_with_byte 10 piece ≡ b
+    → (b ≡ false → IfSome now (λ bytes. bytes ≡ piece)) → AreWholeLines (text ++ piece) ⊎ IfSome start (λ bytes. bytes ≡ text ++ piece)
+ended_by start now text piece closed taken true is last = inl (closed_more text piece closed (ends_closed piece is))
+ended_by start now text piece closed taken false is last = inr (taken_last start now text piece taken (last refl))
 
 -- a line is cut, or the prompt behind it
 pub turn_cut : (prompt : Text) (start now later : Option (List ℕ)) (number : ℕ) (piece : Text) (line : Text) (w mid : Simulation) (failed : FailedStreams) (old between new : Written) (f : Failure)
@@ -198,6 +204,7 @@ pub turn_cut : (prompt : Text) (start now later : Option (List ℕ)) (number : �
     → IsTurnCut prompt number line mid failed between new f → IsSessionCut start prompt w failed old new f
 turn_cut prompt start now later number piece line w mid failed old between new f so_far read one cut =
     in_line (so_far.text ++ piece) (taken_read start later (so_far.text ++ piece) (taken_both start now later so_far.text piece so_far.taken read.taken))
+    (ended_by start now so_far.text piece so_far.closed so_far.taken (ends_with_byte 10 piece) refl read.ends)
     (record {
       before = numbered_from 1 so_far.text;
       number = number;

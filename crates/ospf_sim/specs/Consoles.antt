@@ -1,5 +1,5 @@
 -- What the lines come to that are given at a console, each answered before the next is read.
-use Rattle.std.specs.Prelude.{◌≡◌, ◌<◌, ℕ, Bool, true, false, List, [], ◌∷◌, ◌++◌, Option, None, Some, IfSome, length, ⊤}
+use Rattle.std.specs.Prelude.{◌≡◌, ◌<◌, ℕ, Bool, true, false, List, [], ◌∷◌, ◌++◌, ◌⊎◌, Option, None, Some, IfSome, length, ⊤}
 use Rattle.std.specs.Io.{StopsAt}
 use Rattle.std.specs.Io.BufRead.{ends_with_byte}
 use Rattle.std.specs.Io.KnownBytes.{Appends, Consumes, IsAtEnd}
@@ -116,17 +116,22 @@ pub record IsLastCut (prompt : Text) (lines : List (ℕ × Text)) (w : Simulatio
 abbrev pub IsReadOf : Option (List ℕ) → Text → Type 0
 IsReadOf input text = IfSome input (λ bytes. (rest : Text) × (bytes ≡ text ++ rest))
 
--- the lines of an input are cut: before the first, in the prompt; where the next is not
--- read; or at the last that was read
+-- no more than whole lines: nothing, or a line feed ends it
+abbrev pub AreWholeLines : Text → Type 0
+AreWholeLines text = (text ≡ []) ⊎ ((front : Text) × (text ≡ front ++ 10 ∷ []))
+
+-- the lines of an input are cut: before the first, in the prompt; where the next, behind whole
+-- lines, is not read; or at the last that was read, which a line feed or the input's end ends
 pub data IsSessionCut (input : Option (List ℕ)) (prompt : Text) (w : Simulation)
     (failed : FailedStreams) (old new : Written) : Failure → Type 0 where
   in_first_prompt : {f : Failure} → IsOutputCut failed f → IsBegun old.out new.out prompt
       → new.err ≡ old.err
       → IsSessionCut input prompt w failed old new f
   in_reading : {f : Failure} (text : Text) (end : Simulation) → IsOfInput f → IsReadOf input text
-      → AreAnswered prompt (numbered_from 1 text) w end old new
+      → AreWholeLines text → AreAnswered prompt (numbered_from 1 text) w end old new
       → IsSessionCut input prompt w failed old new f
   in_line : {f : Failure} (text : Text) → IsReadOf input text
+      → AreWholeLines text ⊎ IfSome input (λ bytes. bytes ≡ text)
       → IsLastCut prompt (numbered_from 1 text) w failed old new f
       → IsSessionCut input prompt w failed old new f
 
