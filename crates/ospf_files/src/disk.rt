@@ -1,11 +1,13 @@
 //! Files of a disk, read and written whole.
 
-ghost use Rattle.std.specs.Prelude.{◌≡◌, IfOk, IfErr, Ok, OnOk, map, true};
+ghost use Rattle.std.specs.Prelude.{◌≡◌, IfOk, IfErr, Ok, OnErr, OnOk, false, map, true};
 ghost use Rattle.std.specs.Io.KnownBytes.{Appends};
 ghost use Rattle.std.specs.IoError.{error_kind};
 ghost use Rattle.ospf_files.specs.Files.{unwritten};
+ghost use Rattle.ospf_files.specs.Streams.{IsBegun};
 
 use crate::files::NamedFile;
+use crate::streams::write_joined;
 use std::fs;
 use std::io::{self, ErrorKind, Write};
 use std::rt::Runtime;
@@ -33,6 +35,7 @@ pub fn read_files<R: Runtime + AllocGlobal>(
     names: Vec<String>,
 ) -> io::Result<Vec<NamedFile>>
     ensures names { IfOk result (λ files. map (λ file. file.name) files.items ≡ names.items) }
+    ensures memory { IfErr result (λ error. error_kind error ≡ ErrorKind.OutOfMemory) }
 {
     let mut files = Vec::with_capacity(rt.alloc(), names.len())?;
     for name in names {
@@ -41,13 +44,14 @@ pub fn read_files<R: Runtime + AllocGlobal>(
     Ok(files)
 }
 
-/// Tells that a file could not be written.
+/// Tells that a file could not be written. Where that fails, a beginning of the line was written.
 pub fn tell_unwritten<E: Write>(name: &str, err: &mut E) -> io::Result<()>
-    ensures { OnOk result (Appends (E.contents err.old) (E.contents err.new) (unwritten name.now)) }
+    ensures ok { OnOk result
+        (Appends (E.contents err.old) (E.contents err.new) (unwritten name.now)) }
+    ensures err { OnErr result
+        (IsBegun (E.contents err.old) (E.contents err.new) (unwritten name.now)) }
 {
-    writeln!(err, "{name}: not written")?;
-    err.flush()?;
-    Ok(())
+    write_joined(err, name, ": not written\n")
 }
 
 /// Writes a file. The answer is whether it was written; where it was not that is told, as far as
@@ -60,7 +64,12 @@ pub fn write_file<R: Runtime + AllocGlobal, E: Write>(
     bytes: &[u8],
     err: &mut E,
 ) -> io::Result<bool>
+    // A file that was written tells nothing, of another its line was begun.
     ensures silent { result ≡ Ok true → E.contents err.new ≡ E.contents err.old }
+    ensures told { result ≡ Ok false →
+        IsBegun (E.contents err.old) (E.contents err.new) (unwritten name.now) }
+    // Want of memory, which tells nothing, is the only error.
+    ensures unchanged { OnErr result (E.contents err.new ≡ E.contents err.old) }
     ensures memory { IfErr result (λ error. error_kind error ≡ ErrorKind.OutOfMemory) }
 {
     match fs::write(rt, name, bytes) {

@@ -117,8 +117,18 @@ pub fn write_line<W: Write>(writer: &mut W, text: &str) -> io::Result<()>
     ensures err { OnErr result (IsBegun (W.contents writer.old) (W.contents writer.new)
         (text.now ++ codes "\n")) }
 {
-    put(writer, text.as_bytes())?;
-    put(writer, b"\n")?;
+    write_joined(writer, text, "\n")
+}
+
+// Writes two texts, one behind the other, and flushes.
+pub(crate) fn write_joined<W: Write>(writer: &mut W, front: &str, back: &str) -> io::Result<()>
+    ensures ok { OnOk result (Appends (W.contents writer.old) (W.contents writer.new)
+        (front.now ++ back.now)) }
+    ensures err { OnErr result (IsBegun (W.contents writer.old) (W.contents writer.new)
+        (front.now ++ back.now)) }
+{
+    put(writer, front.as_bytes())?;
+    put(writer, back.as_bytes())?;
     writer.flush()
 }
 

@@ -309,8 +309,8 @@ fn hops_by(
     Ok(Hops::of(hops))
 }
 
-// The network that counts at a prefix and cost: the one of the largest Link State ID (own choice
-// among networks of one prefix).
+// (16.1, step 4) The network that counts at a prefix and cost: the one of the largest Link State
+// ID.
 fn chosen_network(prefix: Prefix, cost: u64, reaches: &[Reach]) -> Option<u32>
     ensures { IsLargestOf reaches.now prefix cost result }
 {

@@ -1,6 +1,6 @@
 //! What is shown of a router.
 
-ghost use Rattle.std.specs.Prelude.{◌≡◌, ◌++◌, IfErr, IfOk, OnErr, OnOk, flat_map, string_bytes};
+ghost use Rattle.std.specs.Prelude.{◌≡◌, ◌++◌, IfErr, IfOk, OnErr, OnOk, Some, flat_map, string_bytes};
 ghost use Rattle.std.specs.Io.KnownBytes.{Appends};
 ghost use Rattle.ospf_files.specs.Streams.{IsBegun, IsOutputCut};
 ghost use Rattle.ospf_views.specs.Shown.{floor_alone_line, heading, link_neighbour_lines, listed_line, listing_lines, neighbour_line, neighbours_lines, view_lines};
@@ -51,7 +51,9 @@ pub fn add_view(
     router: &Router,
     alloc: Global,
 ) -> Result<(), AllocError>
-    ensures { OnOk result (text.new.items ≡ text.old.items ++ view_lines view router.now) }
+    ensures ok { OnOk result (text.new.items ≡ text.old.items ++ view_lines view router.now) }
+    ensures err { OnErr result
+        (IsBegun (Some text.old.items) (Some text.new.items) (view_lines view router.now)) }
 {
     let mut streams = FailedStreams::none();
     match write_view(alloc, view, router, text, &mut streams) {

@@ -288,18 +288,14 @@ fn write_first_requests<W: Write>(f: &mut Formatter<W>, requests: &[LsaHeader]) 
     ensures { WritesOnOk W.Write.write_str_gives f.old result
         (flat_map request_line (take 3 requests.now)) f.new }
 {
-    write_named(f, first_requests(requests))
+    write_named(f, first_named(requests))
 }
 
-// Those of them that are named.
-fn first_requests(requests: &[LsaHeader]) -> &[LsaHeader]
-    ensures { result.now ≡ take 3 requests.now }
+// Those of some that are named.
+fn first_named<T>(all: &[T]) -> &[T]
+    ensures { result.now ≡ take 3 all.now }
 {
-    if requests.len() <= MOST_NAMED {
-        requests
-    } else {
-        &requests[..MOST_NAMED]
-    }
+    &all[..all.len().min(MOST_NAMED)]
 }
 
 // LSAs by their names.
@@ -363,18 +359,7 @@ fn write_first_instances<W: Write>(f: &mut Formatter<W>, listed: &[Listed]) -> f
     ensures { WritesOnOk W.Write.write_str_gives f.old result
         (flat_map retransmission_line (take 3 listed.now)) f.new }
 {
-    write_instances(f, first_listed(listed))
-}
-
-// Those of them that are named.
-fn first_listed(listed: &[Listed]) -> &[Listed]
-    ensures { result.now ≡ take 3 listed.now }
-{
-    if listed.len() <= MOST_NAMED {
-        listed
-    } else {
-        &listed[..MOST_NAMED]
-    }
+    write_instances(f, first_named(listed))
 }
 
 // Instances by their names.

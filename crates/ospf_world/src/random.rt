@@ -1,6 +1,6 @@
 //! What chance does to a world.
 
-ghost use Rattle.std.specs.Prelude.{◌≡◌, ℕ, OnOk, Some};
+ghost use Rattle.std.specs.Prelude.{◌≡◌, ◌≤◌, ℕ, OnErr, OnOk, Some};
 ghost use Rattle.ospf_world.specs.Draws.{drawn, drawn_past};
 ghost use Rattle.ospf_headline.specs.Headline.{Headline, IsReached};
 ghost use Rattle.ospf_router.specs.Steps.{is_dropped};
@@ -22,7 +22,8 @@ impl World {
     /// So many events by chance, one after another: four words of the generator draw each, in the
     /// world as it then is. One that is refused is passed over.
     ///
-    /// `Memory` where memory runs out, which ends it.
+    /// `Memory` where memory runs out, which ends it: the generator has then come past the words of
+    /// the events so far.
     pub fn draw_events(
         &mut self,
         generator: &mut Lcg64Xsh32,
@@ -32,6 +33,8 @@ impl World {
         // What happens by chance, how far the generator has come, and what stays.
         ensures random { IsRandom count generator.old self.old result self.new }
         ensures drawn { OnOk result (generator.new ≡ drawn_past count generator.old) }
+        ensures stopped { OnErr result ((n : ℕ) × (n ≤ count)
+            × (generator.new ≡ drawn_past n generator.old)) }
         ensures same { SameSettings self.old self.new }
         // What holds of every network holds of this one again, and its log of ticks goes on.
         ensures reached { IsReached is_dropped (world_of self.new) }
@@ -56,6 +59,8 @@ impl World {
         // What happens by chance, how far the generator has come, and what stays.
         ensures random { IsRandom count generator.old self.old result self.new }
         ensures drawn { OnOk result (generator.new ≡ drawn_past count generator.old) }
+        ensures stopped { OnErr result ((n : ℕ) × (n ≤ count)
+            × (generator.new ≡ drawn_past n generator.old)) }
         ensures same { SameSettings self.old self.new }
         // What holds of every network holds of this one again, and its log of ticks goes on.
         ensures reached { IsReached is_dropped (world_of self.new) }

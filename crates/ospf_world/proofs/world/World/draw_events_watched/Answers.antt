@@ -1,4 +1,4 @@
-use Rattle.std.proofs.Common.{Err, Ok, refl, rules, arith}
+use Rattle.std.proofs.Common.{Err, Ok, ◌+◌, refl, rules, arith}
 use Rattle.ospf_router.specs.Steps.{is_dropped}
 use Rattle.ospf_world.specs.Worlds.{world_of}
 use Rattle.ospf_world.proofs.RandomFacts.{drawn_all, drawn_more, random_done, random_ends, random_leads, random_more, reached_on, same_on}
@@ -64,3 +64,7 @@ loop-i-init g c = record {
 
 pub returns-clause-drawn : goal.returns-clause-drawn
 returns-clause-drawn g c = drawn_all c.args.count c.loop-i.i c.args.generator.now c.loop-i.generator (omega arith) (omega arith) c.loop-i.invariant.drawn
+
+pub returns-in-Err-clause-stopped : goal.returns-in-Err-clause-stopped
+returns-in-Err-clause-stopped g c =
+    (c.loop-i.i + 1, omega (arith, c.loop-i-test.true), drawn_more c.loop-i.i c.args.generator.now c.loop-i.generator c.draw-words.new.generator c.draw-words.result c.draw-words.ensures c.loop-i.invariant.drawn)
