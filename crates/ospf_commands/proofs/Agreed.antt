@@ -2,15 +2,13 @@
 use Rattle.std.proofs.Common.{Bool, ◌≡◌, ◌∙◌, ℕ, List, [], ◌∷◌, ◌++◌, Option, None, Some, ap, cond, false, find, is_some, map, option_and_then, refl, subst, sym, true, ◌==◌}
 use Rattle.std.proofs.lemmas.Option.{same_Some}
 use Rattle.ospf_base.specs.declared.ids.RouterId.{RouterId}
-use Rattle.ospf_headline.specs.Headline.{IsReached}
 use Rattle.ospf_headline.specs.Listings.{ListTheSame}
-use Rattle.ospf_headline.specs.World.{Member, Running, World, listing, router_at}
+use Rattle.ospf_headline.specs.World.{Member, Running, listing, router_at}
 use Rattle.ospf_headline.specs.Slots.{member_of}
-use Rattle.ospf_headline.proofs.Facts.{Facts}
 use Rattle.ospf_headline.proofs.RunFacts.{Facts-new, Facts-run}
 use Rattle.ospf_router.specs.Steps.{is_dropped}
 use Rattle.ospf_world.specs.Worlds.{WorldValue, is_slot_of, world_of}
-use Rattle.ospf_commands.specs.Agreement.{AgreedListTheSame, AgreedWalksMayArrive, RunningListTheSame}
+use Rattle.ospf_commands.specs.Agreement.{AgreedListTheSame, AgreedWalksMayArrive}
 use Rattle.ospf_commands.specs.Judged.{AllList, AreFirstToDiffer, IsFirstOther, ListsIfRuns, NoneRuns, all_list, both, none_runs, one_lists_otherwise, one_runs}
 use Rattle.ospf_commands.specs.Settling.{area_listed}
 use Rattle.ospf_commands.specs.Worlds.{SlotValue}

@@ -10,3 +10,4 @@ pub mod Apart
 pub mod Same
 pub mod Headers
 pub mod Agreed
+pub mod Kept

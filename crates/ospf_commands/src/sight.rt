@@ -3,6 +3,7 @@
 ghost use Rattle.std.specs.Prelude.{◌≡◌, ◌++◌, IfOk, OnOk, flat_map};
 ghost use Rattle.ospf_commands.specs.Settling.{ageless, area_listed, area_sight, slot_sight};
 
+use ospf_base::LSA_HEADER;
 use ospf_lsa::Lsa;
 use ospf_router::Router;
 use ospf_script::View;
@@ -10,10 +11,8 @@ use ospf_views::add_view;
 use ospf_world::Slot;
 use std::alloc::{AllocError, Global};
 
-// Where the age of an LSA ends, and where its header does (RFC 2328, section A.4.1).
+// Where the age of an LSA ends (RFC 2328, appendix A.4.1).
 const AGE_END: usize = 2;
-
-const HEADER_END: usize = 20;
 
 // What is seen of all routers.
 pub(crate) fn sight_of(slots: &[Slot], alloc: Global) -> Result<Vec<u8>, AllocError>
@@ -31,7 +30,7 @@ pub(crate) fn listed_by(router: &Router, alloc: Global) -> Result<Vec<u8>, Alloc
     ensures { IfOk result (λ lsas. lsas.items ≡ area_listed router.now.area) }
 {
     let mut lsas = Vec::new(alloc);
-    push_listed(&mut lsas, router, alloc)?;
+    push_listed(&mut lsas, router)?;
     Ok(lsas)
 }
 
@@ -39,8 +38,7 @@ pub(crate) fn listed_by(router: &Router, alloc: Global) -> Result<Vec<u8>, Alloc
 fn push_slot(seen: &mut Vec<u8>, slot: &Slot, alloc: Global) -> Result<(), AllocError>
     ensures { OnOk result (seen.new.items ≡ seen.old.items ++ slot_sight slot.now) }
 {
-    let line = format!(in alloc; "{}\n", slot.config().router_id)?;
-    seen.extend_from_slice(line.as_bytes())?;
+    seen.extend_from_slice(format!(in alloc; "{}\n", slot.config().router_id)?.as_bytes())?;
     match slot.router() {
         Some(router) => push_router(seen, router, alloc),
         None => Ok(()),
@@ -52,15 +50,17 @@ fn push_router(seen: &mut Vec<u8>, router: &Router, alloc: Global) -> Result<(),
     ensures { OnOk result (seen.new.items ≡ seen.old.items ++ area_sight router.now.area) }
 {
     add_view(seen, View::Neighbours, router, alloc)?;
-    push_listed(seen, router, alloc)
+    push_listed(seen, router)
 }
 
-// Adds what it lists, but for ages.
-fn push_listed(seen: &mut Vec<u8>, router: &Router, alloc: Global) -> Result<(), AllocError>
+// Adds what it lists, but for ages: its table was made of just that, so no LSA is copied.
+fn push_listed(seen: &mut Vec<u8>, router: &Router) -> Result<(), AllocError>
     ensures { OnOk result (seen.new.items ≡ seen.old.items ++ area_listed router.now.area) }
 {
-    let listing = router.listing(alloc)?;
-    push_headers(seen, listing.lsas())
+    match router.kept_listing() {
+        Some(listing) => push_headers(seen, listing.lsas()),
+        None => Ok(()),
+    }
 }
 
 // Adds the headers of LSAs, but for their ages.
@@ -77,5 +77,5 @@ fn push_headers(seen: &mut Vec<u8>, lsas: &[Lsa]) -> Result<(), AllocError>
 fn ageless(lsa: &Lsa) -> &[u8]
     ensures { result.now ≡ ageless lsa.now }
 {
-    &lsa.view().as_bytes()[AGE_END..HEADER_END]
+    &lsa.view().as_bytes()[AGE_END..LSA_HEADER]
 }
