@@ -3,6 +3,7 @@
 // What `--help` says below the commands.
 pub(crate) const HELP: &str = "Exit status:
   0  done
+  1  `failures --strict` or an `expect` of a script found what was not wanted
   2  the words ask for nothing that ospfd does
   3  the input was refused
   4  memory ran out
@@ -64,6 +65,7 @@ a network-LSA is `unused` where another of its Link State ID stands for the netw
 
 Exit status:
   0  done
+  2  the words fit no command
   3  a line was refused: its number and fault are on standard error
   4  memory ran out
   5  standard input was not read, or standard output not written
@@ -132,13 +134,16 @@ pub(crate) const CHECK_HELP: &str = "Output:
                               --explain, further lines say what to do about it,
                               with --all about each fault that the file has
   FILE: not read              on standard error, where the check ends
+  FILE: A5 Hello: interface 0: hello 5, OTHER: interface 0: hello 10
+                              with --area, on standard error: what is wrong
+                              between files that are right each alone
 With --json the files are judged together, as with --area, and what is wrong between
 them is one array on standard output: an object a fault or note.
 
 Exit status:
   0  each file is accepted
   2  the words fit no command
-  3  a file was refused
+  3  a file was refused, or with --area two of them together
   4  memory ran out
   5  a file was not read, or standard output not written
 
@@ -173,7 +178,7 @@ pub(crate) const SIM_HELP: &str = "Lines of a script:
   walk R ADDRESS CHOICE..     the walk from R to ADDRESS is printed
   label on, label off         whether a line above it says what is printed
   expect full R S, expect no neighbour R LINK,
-  expect route R PREFIX COST, expect no route R PREFIX,
+  expect route R PREFIX COST [HOP..], expect no route R PREFIX,
   expect walk R ADDRESS arrived [COST], expect agree, expect settled
                               where it is otherwise, that is printed
   say WORD..                  the words are printed; from # on is a comment
@@ -184,7 +189,7 @@ Exit status:
   0  the script has run; lines that were refused are on standard error
   1  the script has run, and something was not as a line expected it
   2  the words fit no command
-  3  a configuration was refused, or a line is no command
+  3  a configuration was refused, two have one Router ID, or a line is no command
   4  memory ran out
   5  a file was not read or not written, or standard output not written
 
@@ -212,7 +217,8 @@ With --every N, each N ticks of a router, its table below a line
 Exit status:
   0  all routers came to the end
   2  the words fit no command, or one is no address
-  3  the floor or a configuration was refused
+  3  the floor or a configuration was refused, two configurations have one Router ID,
+     or an interface has no port
   4  memory ran out
   5  a file was not read, a socket was not made, or a wire or a stream failed
 

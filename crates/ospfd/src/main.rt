@@ -36,6 +36,64 @@ const STANDARD_INPUT: &str = "-";
 // What stands before a line that is typed.
 const PROMPT: &str = "> ";
 
+fn main(rt: HostRuntime) -> ExitCode {
+    let err = rt.stderr();
+    let is_terminal = err.is_terminal();
+    match run(
+        &rt,
+        &mut rt.stderr(),
+        StatusLine::new(err, is_terminal),
+        (rt.stdout(), rt.stdin()),
+    ) {
+        Ok(code) => code,
+        Err(_) => ExitCode::from(Failure::Memory.tell(
+            &mut rt.stderr(),
+            &mut FailedStreams::none(),
+        )),
+    }
+}
+
+// Does what the program's words say, and tells by the line how far it has come, if standard error
+// is a terminal. The console is standard output, for what is printed while something runs, and
+// standard input, for what is waited for then. Where it fails, memory ran out.
+fn run<
+    R: Runtime + AllocGlobal + Net + Threads + Wait + Clock + Copy + Send + Sync + Drop + 'static,
+    E: Write,
+    T: Write + Send + Drop + 'static,
+    P: Write + Send + Drop + 'static,
+    I: Read + IsTerminal + Send + Drop + 'static,
+>(rt: &R, err: &mut E, line: StatusLine<T>, console: (P, I)) -> io::Result<ExitCode>
+where
+    R::File: Send + 'static,
+{
+    let alloc = rt.alloc();
+    let mut out = BufWriter::new(alloc, io::writer(rt))?;
+    let status = match job_of(rt)? {
+        Ok(Job::Table(table)) => {
+            let input = BufReader::new(alloc, rt.reader())?;
+            table_text(alloc, rt, &table, input, &mut out, err)
+        }
+        Ok(Job::Failures(failures)) => {
+            let input = BufReader::new(alloc, rt.reader())?;
+            let mut progress = FailuresLine::new(*rt, line);
+            let status = failures_text(rt, &failures, input, &mut out, err, &mut progress);
+            return Ok(ExitCode::from(status));
+        }
+        Ok(Job::Inspect(inspect)) => {
+            let input = BufReader::new(alloc, rt.reader())?;
+            inspect_text(alloc, &inspect, input, &mut out, err)
+        }
+        Ok(Job::Check(check)) => run_check(rt, check, &mut out, err)?,
+        Ok(Job::Sim(sim)) => {
+            let is_typed = console.1.is_terminal();
+            return run_sim(rt, sim, &mut out, err, line, is_typed);
+        }
+        Ok(Job::Run(routers)) => run_routers(rt, routers, &mut out, err, line, console)?,
+        Err(fault) => fault.tell(&mut out, err),
+    };
+    Ok(ExitCode::from(status))
+}
+
 // The program's words without its own name; `None` where one is not UTF-8.
 fn words_of<R: Runtime + AllocGlobal>(rt: &R) -> io::Result<Option<Vec<String>>> {
     match env::args(rt) {
@@ -181,15 +239,15 @@ fn open_journal<R: Runtime, E: Write>(
 ) -> io::Result<Option<Option<Journal<R::File>>>> {
     match name {
         None => Ok(Some(None)),
-        Some(name) => match open_capture(rt, name, err)? {
+        Some(name) => match create_file(rt, name, err)? {
             Some(file) => Ok(Some(Some(Journal::new(file, json)))),
             None => Ok(None),
         },
     }
 }
 
-// The file for a capture, emptied; where it cannot be written it is told.
-fn open_capture<R: Runtime, E: Write>(
+// A file of this name, emptied. Where it cannot be written that is told, and there is none.
+fn create_file<R: Runtime, E: Write>(
     rt: &R,
     name: &str,
     err: &mut E,
@@ -233,7 +291,7 @@ fn open_written<R: Runtime, E: Write>(
     err: &mut E,
 ) -> io::Result<Option<OutputFiles<R::File>>> {
     let capture = match written.pcap {
-        Some(name) => match open_capture(rt, name, err)? {
+        Some(name) => match create_file(rt, name, err)? {
             Some(file) => Some(file),
             None => return Ok(None),
         },
@@ -279,8 +337,12 @@ fn run_noted<
     let status = run_text(rt, alloc, settings, files, &notes, out, err);
     let unwritten = unless(notes.is_written(), written.pcap);
     let unlogged = unless(notes.is_logged(), written.log);
-    if let Some(name) = unwritten.or(unlogged) {
-        let _ = tell_unwritten(name, err);
+    for name in [unwritten, unlogged] {
+        if let Some(name) = name {
+            let _ = tell_unwritten(name, err);
+        }
+    }
+    if unwritten.is_some() || unlogged.is_some() {
         return Ok(Status::Stream);
     }
     Ok(status_after(status, notes.failure(), err))
@@ -295,7 +357,7 @@ fn unless(is_written: bool, name: Option<&str>) -> Option<&str> {
 fn status_after<E: Write>(status: Status, failure: Option<Failure>, err: &mut E) -> Status {
     match failure {
         Some(failure) => {
-            if status.code() == Status::Done.code() {
+            if status == Status::Done {
                 failure.tell(err, &mut FailedStreams::none())
             } else {
                 status
@@ -404,62 +466,4 @@ where
         journal,
     };
     run_noted(rt, &settings, &files, written, noted, out, err)
-}
-
-// Does what the program's words say, and tells by the line how far it has come, if standard error
-// is a terminal. The console is standard output, for what is printed while something runs, and
-// standard input, for what is waited for then. Where it fails, memory ran out.
-fn run<
-    R: Runtime + AllocGlobal + Net + Threads + Wait + Clock + Copy + Send + Sync + Drop + 'static,
-    E: Write,
-    T: Write + Send + Drop + 'static,
-    P: Write + Send + Drop + 'static,
-    I: Read + IsTerminal + Send + Drop + 'static,
->(rt: &R, err: &mut E, line: StatusLine<T>, console: (P, I)) -> io::Result<ExitCode>
-where
-    R::File: Send + 'static,
-{
-    let alloc = rt.alloc();
-    let mut out = BufWriter::new(alloc, io::writer(rt))?;
-    let status = match job_of(rt)? {
-        Ok(Job::Table(table)) => {
-            let input = BufReader::new(alloc, rt.reader())?;
-            table_text(alloc, rt, &table, input, &mut out, err)
-        }
-        Ok(Job::Failures(failures)) => {
-            let input = BufReader::new(alloc, rt.reader())?;
-            let mut progress = FailuresLine::new(*rt, line);
-            let status = failures_text(rt, &failures, input, &mut out, err, &mut progress);
-            return Ok(ExitCode::from(status));
-        }
-        Ok(Job::Inspect(inspect)) => {
-            let input = BufReader::new(alloc, rt.reader())?;
-            inspect_text(alloc, &inspect, input, &mut out, err)
-        }
-        Ok(Job::Check(check)) => run_check(rt, check, &mut out, err)?,
-        Ok(Job::Sim(sim)) => {
-            let is_typed = console.1.is_terminal();
-            return run_sim(rt, sim, &mut out, err, line, is_typed);
-        }
-        Ok(Job::Run(routers)) => run_routers(rt, routers, &mut out, err, line, console)?,
-        Err(fault) => fault.tell(&mut out, err),
-    };
-    Ok(ExitCode::from(status))
-}
-
-fn main(rt: HostRuntime) -> ExitCode {
-    let err = rt.stderr();
-    let is_terminal = err.is_terminal();
-    match run(
-        &rt,
-        &mut rt.stderr(),
-        StatusLine::new(err, is_terminal),
-        (rt.stdout(), rt.stdin()),
-    ) {
-        Ok(code) => code,
-        Err(_) => ExitCode::from(Failure::Memory.tell(
-            &mut rt.stderr(),
-            &mut FailedStreams::none(),
-        )),
-    }
 }
