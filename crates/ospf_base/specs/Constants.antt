@@ -5,6 +5,10 @@ use Rattle.std.specs.Prelude.{ℕ}
 abbrev pub max_age : ℕ
 max_age = 3600
 
+-- MaxAgeDiff: instances whose ages are further apart are not the same (13.1)
+abbrev pub max_age_diff : ℕ
+max_age_diff = 900
+
 -- the Options that this router sends: ExternalRoutingCapability alone
 abbrev pub router_options : ℕ
 router_options = 2

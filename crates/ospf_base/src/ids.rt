@@ -1,6 +1,6 @@
 //! Router IDs, areas, addresses, and the keys and instances of LSAs.
 
-/// The ID of a router, unique in its area (RFC 2328, section 1.2).
+/// The ID of a router, unique in its Autonomous System (RFC 2328, section 1.2).
 #[derive(Clone, Copy, Debug, PartialEq, Eq, PartialOrd, Ord, Hash)]
 pub struct RouterId(pub u32);
 
@@ -45,8 +45,11 @@ impl Kind {
 /// Advertising Router.
 #[derive(Clone, Copy, Debug, PartialEq, Eq, PartialOrd, Ord, Hash)]
 pub struct LsaKey {
+    /// The LS type.
     pub kind: Kind,
+    /// The Link State ID, in host order.
     pub id: u32,
+    /// The Advertising Router.
     pub router: RouterId,
 }
 

@@ -13,7 +13,7 @@ mod show;
 mod sums;
 mod ticks;
 
-pub use crate::age::{Age, MAX_AGE};
+pub use crate::age::{Age, MAX_AGE, MAX_AGE_DIFF};
 pub use crate::bytes::{i32_at, u16_at, u32_at};
 pub use crate::constants::{
     ALL_D_ROUTERS, ALL_SPF_ROUTERS, IP_HEADER, LARGEST_LSA, LARGEST_PACKET, LSA_HEADER, OPTIONS,

@@ -41,7 +41,7 @@ impl Prefix {
     }
 }
 
-/// The mask of a prefix of this length (RFC 2328, section 2.1.2).
+/// The mask of a prefix of this length, in host order (RFC 2328, section 1.2).
 pub fn mask_of(length: u8) -> u32
     requires { length ≤ 32 }
     ensures { result ≡ spec.mask_of length }

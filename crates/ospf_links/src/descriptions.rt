@@ -74,7 +74,7 @@ fn description_comes(
     Ok(())
 }
 
-// A Database Description comes to one of the neighbours that were taken out.
+// Takes a Database Description from one of the neighbours that were taken out.
 fn describe_in(
     all: &mut Vec<Neighbour>,
     from: Origin,
@@ -100,7 +100,7 @@ fn describe_in(
     Ok(elects)
 }
 
-// A Database Description comes to a neighbour. Answers whether an election is due by it.
+// Takes a Database Description from a neighbour. Answers whether an election is due by it.
 fn describe(
     neighbour: &mut Neighbour,
     from: Origin,

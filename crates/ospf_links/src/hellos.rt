@@ -1,7 +1,7 @@
 //! Hellos that come.
 
 ghost use Rattle.std.specs.Prelude.{◌≡◌, ◌<◌, None, Some, OnOk, length, slice_get};
-ghost use Rattle.ospf_neighbour.specs.Neighbours.{neighbour_of};
+ghost use Rattle.ospf_neighbour.specs.Neighbours.{max_neighbours, neighbour_of};
 ghost use Rattle.ospf_area.specs.Sending.{own_of};
 ghost use Rattle.ospf_area.specs.State.{LinkValue};
 ghost use Rattle.ospf_adjacency.specs.Heard.{names};
@@ -28,7 +28,8 @@ pub fn take_hello(
     alloc: Global,
 ) -> Result<(), AllocError>
     requires room { (link : LinkValue) → slice_get area.old.links from.link ≡ Some link
-        → neighbour_of link.neighbours from.router ≡ None → length link.neighbours < 255 }
+        → neighbour_of link.neighbours from.router ≡ None
+        → length link.neighbours < max_neighbours }
     ensures { OnOk result (WorksOn
         (hello_part (own_of area.old) from hello.now (names neighbours.entry area.old.router)
         area.old.next_dd)
@@ -58,7 +59,7 @@ fn hello_comes(
     post: &mut Post,
 ) -> Result<(), AllocError>
     requires room { neighbour_of link.old.neighbours from.router ≡ None →
-        length link.old.neighbours < 255 }
+        length link.old.neighbours < max_neighbours }
     ensures after { OnOk result
         (link.new
         ≡ with_neighbourhood (hello_comes own from hello.now named post.old link.old) link.old) }

@@ -99,7 +99,7 @@ fn request_comes(
     Ok(keys)
 }
 
-// A Request comes to one of the neighbours that were taken out.
+// Takes a Request from one of the neighbours that were taken out.
 fn answer_in(
     all: &mut Vec<Neighbour>,
     from: Origin,

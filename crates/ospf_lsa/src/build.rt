@@ -17,13 +17,18 @@ use crate::view::ENTRIES_AT;
 use ospf_base::{Age, LARGEST_LSA, OPTIONS, RouterId, is_mask, lsa_sum};
 use std::alloc::{AllocError, Global};
 
-/// The size of a link without TOS metrics, and of a Router ID.
+// The size in bytes of a link without TOS metrics.
 const LINK_SIZE: usize = 12;
 
+// The size in bytes of a Router ID.
 const ROUTER_SIZE: usize = 4;
 
 impl Lsa {
-    /// A router-LSA of a router, at age 0.
+    /// A router-LSA of a router, at age 0 (RFC 2328, section 12.4.1).
+    ///
+    /// `Length` where it would be longer than `LARGEST_LSA`, else `Mask` where the Link Data of a
+    /// stub link is no mask, else `ZeroMetric` where a link of type 1 or 2 has metric 0, else
+    /// `Number` where the number is 0x80000000, else `Memory` where memory runs out.
     pub fn router(alloc: Global, id: RouterId, number: i32, links: &[Link]) -> Result<Lsa, LsaFault>
         ensures ok { IfOk result (λ lsa. IsMade (router_value id number links.now) lsa) }
         ensures needs { OnOk result (HasAll (RouterNeeds number links.now)) }
@@ -47,7 +52,11 @@ impl Lsa {
         }
     }
 
-    /// A network-LSA of a router, at age 0.
+    /// A network-LSA of a router, at age 0 (RFC 2328, section 12.4.2). `id` and `mask` are in host
+    /// order.
+    ///
+    /// `Length` where it would be longer than `LARGEST_LSA`, else `Mask` where the mask is none,
+    /// else `Number` where the number is 0x80000000, else `Memory` where memory runs out.
     pub fn network(
         alloc: Global,
         id: u32,

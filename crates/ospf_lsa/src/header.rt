@@ -6,16 +6,22 @@ ghost use Rattle.ospf_lsa.specs.Header.{header_of, header_bytes, key_of_header, 
 
 use ospf_base::{Age, LsaKey, RouterId, i32_at, u16_at, u32_at};
 
-/// The header of an LSA.
+/// The header of an LSA, its numbers in host order (RFC 2328, appendix A.4.1).
 #[derive(Clone, Copy, Debug, PartialEq, Eq)]
 pub struct LsaHeader {
     pub age: Age,
     pub options: u8,
+    /// The LS type.
     pub kind: u8,
+    /// The Link State ID.
     pub id: u32,
+    /// The Advertising Router.
     pub router: RouterId,
+    /// The LS sequence number.
     pub number: i32,
+    /// The LS checksum.
     pub sum: u16,
+    /// In bytes, with the header.
     pub length: u16,
 }
 

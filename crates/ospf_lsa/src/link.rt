@@ -31,12 +31,14 @@ impl LinkKind {
     }
 }
 
-/// A link of a router-LSA.
+/// A link of a router-LSA, its numbers in host order (RFC 2328, appendix A.4.2).
 #[derive(Clone, Copy, Debug, PartialEq, Eq)]
 pub struct Link {
+    /// The Link ID.
     pub id: u32,
     pub link_data: u32,
     pub kind: LinkKind,
+    /// The TOS 0 metric.
     pub metric: u16,
 }
 

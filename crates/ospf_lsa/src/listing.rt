@@ -2,6 +2,7 @@
 
 ghost use Rattle.std.specs.Prelude.{◌≡◌, ◌<◌, ◌↔◌, ◌⊎◌, ◌∷◌, ◌++◌, ◌≤◌, ℕ, List, [], IsTrue, OnOk, OnErr, Err, IfOk, IfErr, IfSome, IfNone, Contains, length, slice_index_or};
 ghost use Rattle.std.specs.List.{AllByRecursion, insert};
+ghost use Rattle.ospf_base.specs.Constants.{max_age};
 ghost use Rattle.ospf_base.specs.Keys.{Precedes};
 ghost use Rattle.ospf_lsa.specs.Header.{header_of};
 ghost use Rattle.ospf_lsa.specs.Lsa.{key_of};
@@ -126,7 +127,7 @@ impl Listing {
         ensures err { OnErr result (self.new ≡ self.old) }
         ensures twice { (result ≡ Err fault.Twice) ↔ HasKey self.old (key_of lsa) }
         ensures max_age { (result ≡ Err fault.MaxAge)
-            ↔ (((header_of lsa).age ≡ 3600) × (HasKey self.old (key_of lsa) → ⊥)) }
+            ↔ (((header_of lsa).age ≡ max_age) × (HasKey self.old (key_of lsa) → ⊥)) }
     {
         let key = lsa.view().key();
         let Some(at) = place_of(&self.keys, &self.lsas, &key) else {
@@ -147,7 +148,7 @@ impl Listing {
     pub fn append(&mut self, lsa: Lsa) -> Result<(), AllocError>
         // Its key stands behind the others, and its age is below `MAX_AGE`.
         requires last { AllByRecursion (λ other. Precedes (key_of other) (key_of lsa)) self.old }
-        requires young { (header_of lsa).age < 3600 }
+        requires young { (header_of lsa).age < max_age }
         // It stands at the end; where it is refused the listing is unchanged.
         ensures ok { OnOk result (self.new ≡ self.old ++ lsa ∷ []) }
         ensures err { OnErr result (self.new ≡ self.old) }
@@ -170,7 +171,7 @@ impl Listing {
         ensures err { OnErr result (self.new ≡ self.old) }
         // `MaxAge` just where it is that old, and want of memory only where its key was not listed.
         ensures faults { IfErr result (λ f. (f ≡ fault.MaxAge) ⊎ (f ≡ fault.Memory)) }
-        ensures max_age { (result ≡ Err fault.MaxAge) ↔ ((header_of lsa).age ≡ 3600) }
+        ensures max_age { (result ≡ Err fault.MaxAge) ↔ ((header_of lsa).age ≡ max_age) }
         ensures memory { result ≡ Err fault.Memory → HasKey self.old (key_of lsa) → ⊥ }
     {
         let age = lsa.view().header().age;

@@ -2,7 +2,7 @@
 use Rattle.std.specs.Prelude.{◌≡◌, ◌==◌, ◌&&◌, not, ℕ, zero, suc, Bool, false, List, map, filter, Option, None, Some, nat_lt, bit_and}
 use Rattle.std.specs.Option.{option_or}
 use Rattle.ospf_base.specs.Masks.{mask_of}
-use Rattle.ospf_lsa.specs.Recency.{max_age_diff}
+use Rattle.ospf_base.specs.Constants.{max_age_diff}
 use Rattle.std.specs.List.{enumerate_from, find, flat_map}
 use Rattle.std.specs.BTreeMap as tree
 use Rattle.std.specs.Ordering.{nat_cmp, ordering_then}

@@ -3,12 +3,9 @@
 ghost use Rattle.std.specs.Prelude.{◌≡◌, ◌++◌, IfOk, OnOk, filter};
 ghost use Rattle.ospf_plan.specs.Ends.{can_be_elected, link_end_of, ends_at, ends_of, is_slow, is_slow_end, port_of};
 
-use ospf_base::{AreaId, InterfaceKind, RouterId};
+use ospf_base::{AreaId, InterfaceKind, MAX_AGE_DIFF, RouterId};
 use ospf_config::{Config, Interface, InterfaceAddress, Port};
 use std::alloc::{AllocError, Global};
-
-// MaxAgeDiff in ticks: ages further apart are not those of one instance (RFC 2328, appendix B).
-const MAX_AGE_DIFF: u16 = 900;
 
 /// An interface of one of the configurations, as the others of its network see it.
 #[derive(Clone, Copy, Debug, PartialEq, Eq)]

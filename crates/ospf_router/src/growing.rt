@@ -1,6 +1,7 @@
 //! The tree of shortest paths that grows with its listing.
 
 ghost use Rattle.std.specs.Prelude.{◌≡◌, ◌≢◌, ◌↔◌, ◌⊎◌, ℕ, List, [], Contains, Err, IfErr, IfNone, IfOk, IfSome, IsTrue, OnOk};
+ghost use Rattle.ospf_base.specs.Constants.{max_age};
 ghost use Rattle.ospf_base.specs.declared.prefix.Prefix.{Prefix};
 ghost use Rattle.ospf_edges.specs.Listed.{advertisement_of, advertisements_of};
 ghost use Rattle.ospf_graph.specs.Elsewhere.{vertex_of};
@@ -133,7 +134,7 @@ impl GrowingTree {
         ensures touched { OnOk result (HoldsPrefixes touched.old.items touched.new.items) }
         // It fails for want of memory, or for an LSA at the greatest age.
         ensures faults { IfErr result (λ f. (f ≡ fault.MaxAge) ⊎ (f ≡ fault.Memory)) }
-        ensures max_age { result ≡ Err fault.MaxAge → (header_of lsa).age ≡ 3600 }
+        ensures max_age { result ≡ Err fault.MaxAge → (header_of lsa).age ≡ max_age }
     {
         let root = self.root;
         let vertex = vertex_of(&lsa);

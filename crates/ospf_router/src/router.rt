@@ -67,7 +67,8 @@ impl Model for Router {
 impl Router {
     /// A router that starts with this configuration: all its links are down, and its database is
     /// empty. The numbers of its own LSAs begin above the floor (RFC 2328, section 12.1.6);
-    /// `0x80000000` as an `i32` means none.
+    /// `0x80000000` as an `i32` means none. `dd_start` is the DD sequence number that the first
+    /// adjacency begins with (section 10.8).
     ///
     /// `StartFault::Floor` where the floor is the greatest number, else
     /// `StartFault::Memory` where memory runs out.
