@@ -9,7 +9,6 @@ use Rattle.ospf_iface.specs.Machine.{is_down, started, iface_stopped}
 use Rattle.ospf_neighbour.specs.Machine.{is_two_way}
 use Rattle.ospf_neighbour.specs.Neighbour.{NeighbourValue}
 use Rattle.ospf_packet.specs.Meaning.{hello}
-use Rattle.ospf_packet.specs.declared.body.Hello.{Hello}
 use Rattle.ospf_adjacency.specs.Adjacency.{is_broadcast}
 use Rattle.ospf_area.specs.Packets.{Parcel}
 use Rattle.ospf_adjacency.specs.Heard.{is_waiting, is_settled}

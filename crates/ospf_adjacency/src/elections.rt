@@ -85,6 +85,7 @@ fn elect(iface: &mut Iface, candidates: &[Candidate]) -> bool
         × (result ≡ change.adj_ok) }
 {
     let change = match iface.state {
+        // (9.3) In Waiting, BackupSeen and WaitTimer do the same.
         IfaceState::Waiting => iface.event(IfaceEvent::WaitTimer(candidates)),
         _ => iface.event(IfaceEvent::NeighborChange(candidates)),
     };

@@ -12,7 +12,7 @@ pub struct IfaceSettings {
     pub kind: InterfaceKind,
     pub address: Addr,
     pub mask: u32,
-    /// The Router Priority; 0 is never Designated Router.
+    /// The Router Priority; with 0 it is never Designated Router or Backup.
     pub priority: u8,
     /// HelloInterval, in ticks.
     pub hello: u16,

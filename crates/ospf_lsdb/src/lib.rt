@@ -16,5 +16,6 @@ pub use crate::laws::{installs_one, one_database_of_a_map, tick_ages_all};
 pub use crate::lsdb::Lsdb;
 pub use crate::moments::AgesReached;
 
-/// The age at which a router issues its own LSA again (RFC 2328, appendix B).
+/// LSRefreshTime in ticks: the age at which a router issues its own LSA again (RFC 2328,
+/// appendix B).
 pub const LS_REFRESH_TIME: u16 = 1800;

@@ -36,6 +36,7 @@ pub struct Declared {
 /// How a database exchange stands.
 #[derive(Clone, Copy, Debug, PartialEq, Eq)]
 pub struct Exchanging {
+    /// Whether this router is the master.
     pub is_master: bool,
     /// The number of the last DD packet sent.
     pub number: u32,

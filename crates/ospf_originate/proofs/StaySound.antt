@@ -32,7 +32,7 @@ use Rattle.ospf_area.specs.Changes.{changed_at, changed_if, changed_link, change
 use Rattle.ospf_area.specs.Flooding.{flooded_link, flooded_links, flooded_neighbour, on_link, goes_anywhere, released, released_link}
 use Rattle.ospf_update.specs.Acks.{undelayed_link}
 use Rattle.ospf_area.specs.Numbers.{counts, greatest_after, is_self_originated, marked}
-use Rattle.ospf_area.specs.Outputs.{OutputsValue, SentValue}
+use Rattle.ospf_area.specs.Outputs.{OutputsValue}
 use Rattle.ospf_area.specs.Places.{map_from}
 use Rattle.ospf_area.specs.Sending.{own_of}
 use Rattle.ospf_area.specs.Standing.{acknowledging}

@@ -1,7 +1,6 @@
 -- Parts of definitions of specs/ by names of their own, for the proofs.
 use Rattle.std.specs.Prelude.{◌++◌, ℕ, List, ◌∷◌, []}
 use Rattle.ospf_area.specs.Outputs.{OutputsValue, SentValue}
-use Rattle.ospf_originate.specs.Numbers.{issued}
 use Rattle.ospf_area.specs.State.{AreaValue}
 use Rattle.ospf_area.specs.Acting.{InTurn}
 use Rattle.ospf_wanted.specs.Wanted.{WantedValue}

@@ -27,7 +27,7 @@ pub struct Hello {
     /// In ticks.
     pub hello_interval: u16,
     pub options: u8,
-    /// That of the sender as Designated Router; 0 where it is never to be one.
+    /// The sender's Router Priority; 0 where it is never to be Designated Router or Backup.
     pub priority: u8,
     /// In ticks.
     pub dead_interval: u32,

@@ -15,7 +15,7 @@ use Rattle.ospf_update.proofs.Words.{copy_flooded_by, copy_flood_out_by, copies_
 use Rattle.ospf_area.specs.Flooding.{flooded_links, flooding_updates, goes_anywhere}
 use Rattle.ospf_update.specs.Meets.{flooded_area}
 use Rattle.ospf_area.specs.Sending.{own_of}
-use Rattle.ospf_area.specs.Outputs.{SentValue, no_outputs, sends, AreReadAsSent, OutputsValue}
+use Rattle.ospf_area.specs.Outputs.{no_outputs, sends, AreReadAsSent, OutputsValue}
 use Rattle.ospf_area.specs.State.{AreaValue, database_entry, kept_number}
 use Rattle.ospf_step.specs.Parts.{ExpiryPart, at_max_age}
 use Rattle.ospf_step.specs.Step.{AndRequests, ExpiryStep, Times, Part, IsPart}

@@ -20,7 +20,7 @@ use Rattle.ospf_area.specs.Asking.{turned_to_next, turned_link}
 use Rattle.ospf_area.specs.Changes.{changed_at, changed_if, changed_link, changed_on, delayed_at, delayed_on}
 use Rattle.ospf_area.specs.Flooding.{came_from, flooded_link, flooded_links, flooded_neighbour, on_link, goes_anywhere, released, released_link}
 use Rattle.ospf_area.specs.Numbers.{is_self_originated}
-use Rattle.ospf_area.specs.Outputs.{OutputsValue, SentValue}
+use Rattle.ospf_area.specs.Outputs.{OutputsValue}
 use Rattle.ospf_area.specs.Sending.{own_of}
 use Rattle.ospf_area.specs.Standing.{acknowledging}
 use Rattle.ospf_area.specs.State.{AreaValue, LinkValue, database_entry}

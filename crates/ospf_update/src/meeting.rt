@@ -93,8 +93,8 @@ pub fn rule_met(area: &Area, from: Origin, lsa: &LsaView) -> Option<LsaRule>
     Some(lsa_rule(&header, copy, loading, requested, area.tick))
 }
 
-/// BadLSReq or SeqNumberMismatch of the neighbour of the origin, which is in Exchange or above: its
-/// exchange of databases begins again (section 10.3).
+/// BadLSReq of the neighbour of the origin, which is in Exchange or above: the adjacency with it
+/// begins anew (RFC 2328, section 13, step 6, and section 10.3).
 ///
 /// `AllocError` where memory runs out; then the router is to be stopped.
 pub fn restart(

@@ -88,8 +88,8 @@ fn turn_and_tell(area: &mut Area, out: &mut Outputs, alloc: Global) -> Result<bo
     Ok(out.sent.len() == before)
 }
 
-// A slice that is no LSA of a known LS type. Where LSAs of LS types 3, 4 and 5 are passed over, one
-// of these is acknowledged to its sender.
+// (13, steps 1 to 3) A slice that is refused as a router-LSA or network-LSA. Where LSAs of LS types
+// 3, 4 and 5 are passed over, one of these is acknowledged to its sender.
 fn pass_over(area: &mut Area, from: Origin, bytes: &[u8]) -> Result<(), AllocError>
     ensures { OnOk result (PassesOver area.old.passes_over from bytes.now area.old area.new) }
 {
