@@ -20,10 +20,13 @@ pub struct LinkEnd {
     pub address: InterfaceAddress,
     pub cost: u16,
     pub priority: u8,
+    /// HelloInterval, in ticks.
     pub hello: u16,
+    /// RouterDeadInterval, in ticks.
     pub dead: u16,
+    /// In bytes.
     pub mtu: u16,
-    /// InfTransDelay.
+    /// InfTransDelay, in ticks.
     pub transmit_delay: u16,
     pub port: Option<Port>,
 }

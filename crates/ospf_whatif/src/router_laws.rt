@@ -3,19 +3,19 @@
 ghost use Rattle.ospf_whatif.specs.Wanted.{DesignatedRoutersChange, InterfacesGoDown, LinksGoDown, RoutersStop};
 
 /// Where the interface of a point-to-point link goes down, the router wants exactly the links that
-/// `Failure::Link` leaves (RFC 2328, section 12.4.1).
+/// `AreaFailure::Link` leaves (RFC 2328, section 12.4.1).
 pub fn links_go_down()
     ensures { LinksGoDown }
 {}
 
 /// Where the interface to a transit network goes down, the router wants exactly the links that
-/// `Failure::Attachment` leaves, and `Failure::Network` too.
+/// `AreaFailure::Attachment` leaves, and `AreaFailure::Network` too.
 pub fn interfaces_go_down()
     ensures { InterfacesGoDown }
 {}
 
 /// Where a router on a point-to-point link is heard no more, its neighbour wants exactly the links
-/// that `Failure::Router` leaves.
+/// that `AreaFailure::Router` leaves.
 pub fn routers_stop()
     ensures { RoutersStop }
 {}
