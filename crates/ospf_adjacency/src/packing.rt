@@ -11,16 +11,13 @@ use ospf_area::Post;
 use ospf_base::{Addr, IP_HEADER, LsaKey, PACKET_HEADER};
 use ospf_lsa::Lsa;
 use ospf_lsdb::{EntryView, Lsdb};
-use ospf_packet::BodyValue;
+use ospf_packet::{BodyValue, COUNT_SIZE};
 use std::alloc::{AllocError, Global};
 use std::collections::BTreeSet;
 use std::mem;
 
-/// The bytes of the number of LSAs in an Update (RFC 2328, appendix A.3.5).
-const COUNT: usize = 4;
-
 /// The bytes in front of the LSAs of an Update.
-const HEAD: usize = IP_HEADER + PACKET_HEADER + COUNT;
+const HEAD: usize = IP_HEADER + PACKET_HEADER + COUNT_SIZE;
 
 /// The copies of these keys go out in Updates, as many in one as fit, in the order of the keys; a
 /// key without a copy is left out, and an LSA that does not fit has an Update of its own. `delay`

@@ -1,5 +1,7 @@
 //! Router IDs, areas, addresses, and the keys and instances of LSAs.
 
+use crate::constants::{NETWORK_LSA, ROUTER_LSA};
+
 /// The ID of a router, unique in its Autonomous System (RFC 2328, section 1.2).
 #[derive(Clone, Copy, Debug, PartialEq, Eq, PartialOrd, Ord, Hash)]
 pub struct RouterId(pub u32);
@@ -33,8 +35,8 @@ impl Kind {
         ensures { result ≡ spec.ls_type self }
     {
         match self {
-            Kind::Router => 1,
-            Kind::Network => 2,
+            Kind::Router => ROUTER_LSA,
+            Kind::Network => NETWORK_LSA,
         }
     }
 }
@@ -54,18 +56,32 @@ pub struct LsaKey {
 }
 
 impl LsaKey {
+    ghost use Rattle.ospf_base.specs.declared.ids.Kind.TheVariants.{Router};
     ghost use Rattle.std.specs.Prelude.{◌≡◌, ◌↔◌, IsTrue};
     ghost use Rattle.ospf_base.specs.Keys.{Precedes, key_from, same_key};
+
+    /// The key of a router's router-LSA, whose Link State ID is the router's own.
+    pub fn of_router(router: RouterId) -> LsaKey
+        ensures { result ≡ record { kind = Router; id = router.0; router = router } }
+    {
+        LsaKey {
+            kind: Kind::Router,
+            id: router.0,
+            router,
+        }
+    }
 
     /// The key of an LS type, a Link State ID and an Advertising Router; `None`
     /// of other LS types than 1 and 2.
     pub fn from_type(ls_type: u32, id: u32, router: RouterId) -> Option<LsaKey>
         ensures { result ≡ key_from ls_type id router }
     {
-        let kind = match ls_type {
-            1 => Kind::Router,
-            2 => Kind::Network,
-            _ => return None,
+        let kind = if ls_type == u32::from(ROUTER_LSA) {
+            Kind::Router
+        } else if ls_type == u32::from(NETWORK_LSA) {
+            Kind::Network
+        } else {
+            return None;
         };
         Some(LsaKey { kind, id, router })
     }

@@ -16,8 +16,10 @@ mod ticks;
 pub use crate::age::{Age, MAX_AGE, MAX_AGE_DIFF};
 pub use crate::bytes::{i32_at, u16_at, u32_at};
 pub use crate::constants::{
-    ALL_D_ROUTERS, ALL_SPF_ROUTERS, IP_HEADER, LARGEST_LSA, LARGEST_PACKET, LSA_HEADER, OPTIONS,
-    PACKET_HEADER,
+    ALL_D_ROUTERS, ALL_SPF_ROUTERS, AS_EXTERNAL_LSA, ASBR_SUMMARY_LSA, INITIAL_SEQUENCE_NUMBER,
+    IP_HEADER, LARGEST_LSA, LARGEST_PACKET, LSA_HEADER, MAX_SEQUENCE_NUMBER, MOST_INTERFACES,
+    NETWORK_LSA, NO_FLOOR, OPTIONS, PACKET_HEADER, RESERVED_SEQUENCE_NUMBER, ROUTER_LSA,
+    SUMMARY_LSA,
 };
 pub use crate::ids::{Addr, AreaId, Instance, Kind, LsaKey, RouterId};
 pub use crate::interface::InterfaceKind;

@@ -5,7 +5,7 @@ ghost use Rattle.std.specs.List.{enumerate_from};
 ghost use Rattle.ospf_commands.specs.Many.{ComesAbout, config_events, events_on, is_meant, link_event, many_of};
 
 use crate::losses::is_network_of;
-use ospf_base::RouterId;
+use ospf_base::{NO_FLOOR, RouterId};
 use ospf_config::{Config, Interface, InterfaceAddress};
 use ospf_script::Many;
 use ospf_world::{EventWatch, Slot, World, WorldEvent, WorldFault};
@@ -57,7 +57,7 @@ fn push_events(events: &mut Vec<WorldEvent>, many: Many, config: &Config) -> Res
             events.push(WorldEvent::Start {
                 router: config.router_id,
                 dd_start: DD_START,
-                floor: i32::MIN,
+                floor: NO_FLOOR,
             })?;
             Ok(())
         }

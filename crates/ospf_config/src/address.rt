@@ -6,6 +6,12 @@ ghost use Rattle.ospf_config.specs.Host.{IsHostAddress};
 
 use ospf_base::{Addr, Prefix, mask_of};
 
+// The longest prefix under which there is another address.
+const LONGEST: u8 = 30;
+
+// The first octet of the last addresses that are of one host.
+const LAST_UNICAST: u32 = 223;
+
 /// The address of an interface, and the length of its prefix.
 #[derive(Clone, Copy, Debug, PartialEq, Eq)]
 pub struct InterfaceAddress {
@@ -91,11 +97,11 @@ fn length_of(text: &str) -> Option<u8>
 fn is_host(address: u32, length: u8) -> bool
     ensures { IsTrue result ↔ IsHostAddress address length }
 {
-    if length < 1 || length > 30 {
+    if length < 1 || length > LONGEST {
         return false;
     }
     let size = 1u32 << (32 - length);
     let host = address % size;
     let octet = address >> 24;
-    host > 0 && host + 1 < size && octet >= 1 && octet <= 223
+    host > 0 && host + 1 < size && octet >= 1 && octet <= LAST_UNICAST
 }

@@ -14,6 +14,7 @@ use crate::keys::{
 };
 use crate::peers::peers_fault;
 use crate::top::{area_at, other_lsas_at, router_id_at, stub_router_at};
+use ospf_base::MOST_INTERFACES;
 use toml::{Table, Value};
 
 /// The fault of the key `interface`, if it has one.
@@ -32,7 +33,7 @@ pub fn list_fault(table: &Table) -> Option<ConfigFault>
             if values.len() < 1 {
                 return Some(ConfigFault::Range);
             }
-            if values.len() > 32 {
+            if values.len() > MOST_INTERFACES {
                 return Some(ConfigFault::Range);
             }
             None

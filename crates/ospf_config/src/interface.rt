@@ -6,6 +6,9 @@ ghost use Rattle.ospf_base.specs.Constants.{max_age};
 use crate::address::InterfaceAddress;
 use ospf_base::InterfaceKind;
 
+// The least port that needs no privilege.
+pub(crate) const LEAST_PORT: u16 = 1024;
+
 /// A UDP port that stands for an interface: 1024 to 65535.
 #[derive(Clone, Copy, Debug, PartialEq, Eq)]
 pub struct Port {

@@ -10,7 +10,7 @@ ghost use Rattle.ospf_config.specs.Keys.{ReadsKind, ReadsInterfaceAddress, Reads
 
 use crate::address::InterfaceAddress;
 use crate::fault::ConfigFault;
-use crate::interface::Port;
+use crate::interface::{LEAST_PORT, Port};
 use ospf_base::{InterfaceKind, MAX_AGE};
 use toml::{Table, Value};
 
@@ -187,7 +187,7 @@ fn port_of(number: Option<i64>) -> Result<Option<Port>, ConfigFault>
     match number {
         Some(0) => Ok(None),
         number => {
-            let number = number_in(number, 1024, 65535)?;
+            let number = number_in(number, LEAST_PORT, 65535)?;
             Ok(Some(Port { number }))
         }
     }

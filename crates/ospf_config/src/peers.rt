@@ -10,10 +10,13 @@ ghost use Rattle.ospf_config.specs.Reading.{ReadsValue, integers_of};
 ghost use Rattle.ospf_config.specs.Keys.{IsPort, ArePortNumbers, ReadsPeers};
 
 use crate::fault::ConfigFault;
-use crate::interface::Port;
+use crate::interface::{LEAST_PORT, Port};
 use crate::keys::{number_in, value_at};
 use std::alloc::{AllocError, Global};
 use toml::{Table, Value};
+
+// The most peers of an interface.
+const MOST_PEERS: usize = 32;
 
 /// The fault of the key `peers`, if it has one.
 pub fn peers_fault(table: &Table) -> Option<ConfigFault>
@@ -57,7 +60,7 @@ fn check(values: &[Value]) -> Result<(), ConfigFault>
     if !are_integers(values) {
         return Err(ConfigFault::Type);
     }
-    if values.len() > 32 || !are_ports(values) {
+    if values.len() > MOST_PEERS || !are_ports(values) {
         return Err(ConfigFault::Range);
     }
     Ok(())
@@ -91,7 +94,7 @@ fn is_port(value: &Value) -> bool
 fn port_in(value: &Value) -> Result<Port, ConfigFault>
     ensures { ReadsValue (λ z p. z ≡ pos p.number) (as_integer (view value.now)) result }
 {
-    let number = number_in(value.as_integer(), 1024, 65535)?;
+    let number = number_in(value.as_integer(), LEAST_PORT, 65535)?;
     Ok(Port { number })
 }
 

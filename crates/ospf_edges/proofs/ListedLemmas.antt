@@ -176,24 +176,3 @@ module _ (lsas : List (List ℕ)) (is : IsListing lsas) where
 
   pub stands_none : (n : ℕ) (r : RouterId) → ((lsa : List ℕ) → Contains lsas lsa → IsOfNetwork n lsa → ⊥) → StandsFor (advertisements_of lsas) n r
   stands_none n r none = λ q m others h. let x = network_in n q m others h in absurd (none x.0 x.1.listed (x.1.is, x.1.id))
-
--- ---- over the advertisements alone
-
-module _ (A : List Advertisement) where
-  -- a link back among the links of the one LSA of a router
-  pub links_from : (from to : RouterId) (links : List Link) → Contains A (router_lsa from links)
-      → Any (λ l. (l.kind ≡ LinkKind.PointToPoint) × (l.id ≡ to.0)) links → LinksTo A from to
-  links_from from to links listed h =
-      let l = h.1 in
-      let kinds = h.4.0 in
-      let ids = h.4.1 in
-      let made : Link = record { id = to.0; link_data = l.link_data; kind = LinkKind.PointToPoint; metric = l.metric } in
-      let is : l ≡ made = λ i. record { id = ids i; link_data = l.link_data; kind = kinds i; metric = l.metric } in
-      (l.link_data, l.metric, record { links = links; listed = listed; link_in = subst (λ x. Contains links x) is (h.0, h.2, h.3) })
-
-  pub links_back : (from to : RouterId) (links : List Link) → ((others : List Link) → Contains A (router_lsa from others) → others ≡ links)
-      → LinksTo A from to → Any (λ l. (l.kind ≡ LinkKind.PointToPoint) × (l.id ≡ to.0)) links
-  links_back from to links only h =
-      let link : Link = record { id = to.0; link_data = h.0; kind = LinkKind.PointToPoint; metric = h.1 } in
-      let there = subst (λ ls. Contains ls link) (only h.2.links h.2.listed) h.2.link_in in
-      (there.0, link, there.1, there.2, (refl, refl))

@@ -1,7 +1,6 @@
 -- The edges of a listing's graph that touch a vertex, by the LSAs of the vertex and of its
 -- neighbours (RFC 2328, section 16.1).
 use Rattle.std.specs.Prelude.{◌≡◌, ◌↔◌, ◌⊎◌, ℕ, List, Contains, Vec, vec_items}
-use Rattle.std.specs.List.{Any}
 use Rattle.ospf_base.specs.declared.ids.RouterId.{RouterId}
 use Rattle.ospf_lsa.specs.declared.link.Link.{Link}
 use Rattle.ospf_lsa.specs.declared.link.LinkKind.{LinkKind}
@@ -47,10 +46,6 @@ IsFirstAddress adverts n r address =
 -- the router has no address on the transit network
 abbrev pub HasNoAddress : List Advertisement → ℕ → RouterId → Type 0
 HasNoAddress adverts n r = (address : ℕ) → IsAddressOn adverts n r address → ⊥
-
--- one of the links is of type 1 and leads to the router
-abbrev pub HasLinkToRouter : RouterId → List Link → Type 0
-HasLinkToRouter r links = Any (λ l. (l.kind ≡ LinkKind.PointToPoint) × (l.id ≡ r.0)) links
 
 -- ---- what is added
 

@@ -5,7 +5,7 @@ ghost use Rattle.ospf_graph.specs.Walk.{HasLinkFor, IsLinkCost};
 ghost use Rattle.ospf_edges.specs.Listed.{advertisements_of};
 ghost use Rattle.ospf_edges.specs.Costs.{IsLeastOf, Leads, least_with, lesser_of};
 
-use crate::link_costs::{is_attached, links_in, links_to};
+use crate::lookups::{is_attached, links_by, links_to};
 use ospf_base::RouterId;
 use ospf_graph::NextHop;
 use ospf_lsa::{Link, LinkKind, Links, Listing};
@@ -20,7 +20,7 @@ pub fn link_cost(listing: &Listing, router: RouterId, hop: &NextHop) -> Option<u
     ensures none { IfNone result ((metric : ℕ) →
         HasLinkFor (advertisements_of listing.now) router hop.now metric → ⊥) }
 {
-    let links = links_in(listing, router)?;
+    let links = links_by(listing, router)?;
     least_of(links, listing, router, hop)
 }
 

@@ -14,7 +14,6 @@ mod end;
 mod ends;
 mod index;
 mod items;
-mod link_costs;
 mod listed;
 mod lookups;
 mod near;

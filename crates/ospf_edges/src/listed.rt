@@ -6,7 +6,7 @@ ghost use Rattle.ospf_edges.specs.Listed.{advertisement_of, advertisements_of};
 ghost use Rattle.ospf_edges.specs.Given.{StandsFor};
 ghost use Rattle.ospf_edges.specs.Vertices.{HasNoLsaAt, IsLsaAt};
 
-use ospf_base::{Kind, LsaKey, RouterId};
+use ospf_base::RouterId;
 use ospf_graph::Vertex;
 use ospf_lsa::{Listing, Lsa};
 
@@ -14,12 +14,7 @@ use ospf_lsa::{Listing, Lsa};
 pub fn is_listed(listing: &Listing, router: RouterId) -> bool
     ensures { IsTrue result ↔ IsListed (advertisements_of listing.now) router }
 {
-    let key = LsaKey {
-        kind: Kind::Router,
-        id: router.0,
-        router,
-    };
-    match listing.get(&key) {
+    match listing.router(router) {
         Some(_) => true,
         None => false,
     }
@@ -32,11 +27,7 @@ pub(crate) fn lsa_at(listing: &Listing, vertex: Vertex) -> Option<&Lsa>
     ensures none { IfNone result (HasNoLsaAt (advertisements_of listing.now) vertex) }
 {
     match vertex {
-        Vertex::Router(router) => listing.get(&LsaKey {
-            kind: Kind::Router,
-            id: router.0,
-            router,
-        }),
+        Vertex::Router(router) => listing.router(router),
         Vertex::Network(id) => listing.network(id),
     }
 }

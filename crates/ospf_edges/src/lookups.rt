@@ -4,10 +4,10 @@ ghost use Rattle.std.specs.Prelude.{◌≡◌, ◌↔◌, IsTrue, Contains, IfSo
 ghost use Rattle.ospf_lsa.specs.Listing.{IsListing};
 ghost use Rattle.ospf_graph.specs.Advertisements.{IsListed, IsAttached, is_transit_to, transit_address};
 ghost use Rattle.ospf_edges.specs.Listed.{advertisements_of};
-ghost use Rattle.ospf_edges.specs.Given.{LinksTo};
-ghost use Rattle.ospf_edges.specs.Near.{AreLinksBy, AreAttachedTo, HasNoNetwork, IsFirstAddress, HasNoAddress, HasLinkToRouter};
+ghost use Rattle.ospf_edges.specs.Costs.{HasLinkTo, IsTo, NamesLinkTo};
+ghost use Rattle.ospf_edges.specs.Near.{AreLinksBy, AreAttachedTo, HasNoNetwork, IsFirstAddress, HasNoAddress};
 
-use ospf_base::{Kind, LsaKey, RouterId};
+use ospf_base::RouterId;
 use ospf_lsa::{Attached, Link, LinkKind, Links, Listing};
 
 /// The links of a router's LSA, if it is listed.
@@ -16,12 +16,7 @@ pub(crate) fn links_by<'a>(listing: &'a Listing, router: RouterId) -> Option<Lin
     ensures none { IfNone result (IsListed (advertisements_of listing.now) router → ⊥) }
     ensures listing { IsListing listing.now }
 {
-    let key = LsaKey {
-        kind: Kind::Router,
-        id: router.0,
-        router,
-    };
-    match listing.get(&key) {
+    match listing.router(router) {
         Some(lsa) => {
             let view = lsa.view();
             Some(view.links())
@@ -45,12 +40,12 @@ pub(crate) fn attached_to<'a>(listing: &'a Listing, id: u32) -> Option<Attached<
     }
 }
 
-/// Whether the router-LSA of one router has a type 1 link to the other.
-pub(crate) fn links_to(listing: &Listing, from: RouterId, to: RouterId) -> bool
-    ensures { IsTrue result ↔ LinksTo (advertisements_of listing.now) from to }
+/// Whether the router-LSA of a router has a link of this kind and Link ID.
+pub(crate) fn links_to(listing: &Listing, from: RouterId, kind: LinkKind, id: u32) -> bool
+    ensures { IsTrue result ↔ HasLinkTo (advertisements_of listing.now) from kind id }
 {
     match links_by(listing, from) {
-        Some(links) => has_link_to(links, to),
+        Some(links) => has_link(links, kind, id),
         None => false,
     }
 }
@@ -76,11 +71,23 @@ pub(crate) fn address_on(listing: &Listing, id: u32, router: RouterId) -> Option
     }
 }
 
-// Whether one of the links is a type 1 link to a router.
-fn has_link_to(mut links: Links, router: RouterId) -> bool
-    ensures { IsTrue result ↔ HasLinkToRouter router links.entry }
+// Whether one of the links is of this kind and has this Link ID.
+fn has_link(links: Links, kind: LinkKind, id: u32) -> bool
+    ensures { IsTrue result ↔ NamesLinkTo links.entry kind id }
 {
-    links.any(|link| link.kind == LinkKind::PointToPoint && link.id == router.0)
+    for link in links {
+        if is_to(&link, kind, id) {
+            return true;
+        }
+    }
+    false
+}
+
+// Whether a link is of this kind and has this Link ID.
+fn is_to(link: &Link, kind: LinkKind, id: u32) -> bool
+    ensures { IsTrue result ↔ IsTo kind id link.now }
+{
+    link.kind == kind && link.id == id
 }
 
 // Whether a router stands among the attached ones.

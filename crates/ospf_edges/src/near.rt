@@ -95,7 +95,7 @@ fn names(listing: &Listing, vertex: Vertex, router: RouterId) -> bool
     ensures { IsTrue result ↔ NamesRouter (advertisements_of listing.now) vertex router }
 {
     match vertex {
-        Vertex::Router(other) => links_to(listing, other, router),
+        Vertex::Router(other) => links_to(listing, other, LinkKind::PointToPoint, router.0),
         Vertex::Network(id) => is_attached(listing, id, router),
     }
 }

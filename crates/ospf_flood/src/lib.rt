@@ -21,4 +21,4 @@ pub use crate::laws::{
 };
 pub use crate::link::{case_of_newer, case_of_same, flooding_address, is_flooded_out, sender_at};
 pub use crate::offer::{Offer, flood_to};
-pub use crate::rule::{LsaRule, MAX_SEQUENCE_NUMBER, is_sent_back, lsa_rule};
+pub use crate::rule::{LsaRule, is_sent_back, lsa_rule};

@@ -8,7 +8,7 @@ ghost use Rattle.ospf_lsdb.specs.Moments.{among};
 ghost use Rattle.ospf_headline.specs.Logs.{held_by, holdings_by, issued_in, run_in, sent_as_datagram};
 
 use ospf_area::{Outputs, Sent};
-use ospf_base::{Instance, LsaKey, RouterId};
+use ospf_base::{Instance, LsaKey, NO_FLOOR, RouterId};
 use ospf_lsa::Lsa;
 use std::alloc::{AllocError, Global};
 use std::marker::Model;
@@ -145,7 +145,7 @@ impl Logs {
         let ended = self.grow(router, first, later, outputs)?;
         let run = Run {
             name: self.issued.len(),
-            base: i32::MIN,
+            base: NO_FLOOR,
         };
         begin_again(later, &ended, run)
     }

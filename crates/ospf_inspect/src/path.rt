@@ -93,6 +93,8 @@ fn add_way(
         choices: later,
         most: way.most - 1,
     };
+    // The tables of a long way would stand side by side.
+    drop(table);
     add_way(alloc, listing, address, onward, text)
 }
 

@@ -11,17 +11,14 @@ ghost use Rattle.ospf_lsa.specs.Value.{router_value, network_value, lsa_bytes, I
 
 use crate::fault::LsaFault;
 use crate::header::LsaHeader;
+use crate::layout::{ENTRIES_AT, LINK_SIZE, ROUTER_SIZE, SUM_AT};
 use crate::link::{Link, LinkKind};
 use crate::lsa::Lsa;
-use crate::view::ENTRIES_AT;
-use ospf_base::{Age, LARGEST_LSA, OPTIONS, RouterId, is_mask, lsa_sum};
+use ospf_base::{
+    Age, LARGEST_LSA, NETWORK_LSA, OPTIONS, RESERVED_SEQUENCE_NUMBER, ROUTER_LSA, RouterId,
+    is_mask, lsa_sum,
+};
 use std::alloc::{AllocError, Global};
-
-// The size in bytes of a link without TOS metrics.
-const LINK_SIZE: usize = 12;
-
-// The size in bytes of a Router ID.
-const ROUTER_SIZE: usize = 4;
 
 impl Lsa {
     /// A router-LSA of a router, at age 0 (RFC 2328, section 12.4.1).
@@ -43,7 +40,7 @@ impl Lsa {
         if !have_costs(links) {
             return Err(LsaFault::ZeroMetric);
         }
-        if number == i32::MIN {
+        if number == RESERVED_SEQUENCE_NUMBER {
             return Err(LsaFault::Number);
         }
         match router_bytes(alloc, id, number, links) {
@@ -76,7 +73,7 @@ impl Lsa {
         if !is_mask(mask) {
             return Err(LsaFault::Mask);
         }
-        if number == i32::MIN {
+        if number == RESERVED_SEQUENCE_NUMBER {
             return Err(LsaFault::Number);
         }
         match network_bytes(alloc, id, router, number, mask, routers) {
@@ -119,7 +116,7 @@ fn router_bytes(
     let header = LsaHeader {
         age: Age::new(0),
         options: OPTIONS,
-        kind: 1,
+        kind: ROUTER_LSA,
         id: id.0,
         router: id,
         number,
@@ -152,8 +149,8 @@ fn sealed(mut bytes: Vec<u8>) -> Vec<u8>
         × (result.items ≡ with_checksum bytes.items x y) }
 {
     let sum = lsa_sum(&bytes);
-    bytes[16] = (sum / 256) as u8;
-    bytes[17] = (sum % 256) as u8;
+    bytes[SUM_AT] = (sum / 256) as u8;
+    bytes[SUM_AT + 1] = (sum % 256) as u8;
     bytes
 }
 
@@ -175,7 +172,7 @@ fn network_bytes(
     let header = LsaHeader {
         age: Age::new(0),
         options: OPTIONS,
-        kind: 2,
+        kind: NETWORK_LSA,
         id,
         router,
         number,

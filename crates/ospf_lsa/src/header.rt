@@ -4,6 +4,7 @@ ghost use Rattle.std.specs.Prelude.{◌≡◌, ◌≤◌, ◌++◌, length};
 ghost use Rattle.ospf_base.specs.Bytes.{number_bytes};
 ghost use Rattle.ospf_lsa.specs.Header.{header_of, header_bytes, key_of_header, HeaderFits};
 
+use crate::layout::{ID_AT, LENGTH_AT, NUMBER_AT, OPTIONS_AT, ROUTER_AT, SUM_AT, TYPE_AT};
 use ospf_base::{Age, LsaKey, RouterId, i32_at, u16_at, u32_at};
 
 /// The header of an LSA, its numbers in host order (RFC 2328, appendix A.4.1).
@@ -34,13 +35,13 @@ impl LsaHeader {
     {
         LsaHeader {
             age: Age::new(u16_at(bytes, 0)),
-            options: bytes[2],
-            kind: bytes[3],
-            id: u32_at(bytes, 4),
-            router: RouterId(u32_at(bytes, 8)),
-            number: i32_at(bytes, 12),
-            sum: u16_at(bytes, 16),
-            length: u16_at(bytes, 18),
+            options: bytes[OPTIONS_AT],
+            kind: bytes[TYPE_AT],
+            id: u32_at(bytes, ID_AT),
+            router: RouterId(u32_at(bytes, ROUTER_AT)),
+            number: i32_at(bytes, NUMBER_AT),
+            sum: u16_at(bytes, SUM_AT),
+            length: u16_at(bytes, LENGTH_AT),
         }
     }
 

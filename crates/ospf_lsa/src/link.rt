@@ -2,6 +2,7 @@
 
 ghost use Rattle.std.specs.Prelude.{◌≡◌, ◌≤◌, ◌↔◌, IsTrue, IfSome, IfNone, length};
 
+use crate::layout::{LINK_SIZE, TOS_SIZE};
 use ospf_base::{u16_at, u32_at};
 use std::marker::Model;
 
@@ -81,10 +82,10 @@ impl Link {
         ensures found { IfSome result (λ f. IsFirstLink bytes.now f.0 f.1.now) }
         ensures none { IfNone result (IsLink bytes.now → ⊥) }
     {
-        if bytes.len() < 12 || bytes[8] < 1 || bytes[8] > 4 {
+        if bytes.len() < LINK_SIZE || bytes[8] < 1 || bytes[8] > 4 {
             return None;
         }
-        let size = 12 + 4 * usize::from(bytes[9]);
+        let size = LINK_SIZE + TOS_SIZE * usize::from(bytes[9]);
         if size > bytes.len() {
             return None;
         }

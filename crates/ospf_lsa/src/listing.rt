@@ -4,6 +4,7 @@ ghost use Rattle.std.specs.Prelude.{◌≡◌, ◌<◌, ◌↔◌, ◌⊎◌, �
 ghost use Rattle.std.specs.List.{AllByRecursion, insert};
 ghost use Rattle.ospf_base.specs.Constants.{max_age};
 ghost use Rattle.ospf_base.specs.Keys.{Precedes};
+ghost use Rattle.ospf_base.specs.declared.ids.Kind.TheVariants.{Router};
 ghost use Rattle.ospf_lsa.specs.Header.{header_of};
 ghost use Rattle.ospf_lsa.specs.Lsa.{key_of};
 ghost use Rattle.ospf_lsa.specs.Listing.{AreKeysOf, IsKeyed, IsListing, IsListable, IsRising, HasKey, IsPlace, IsInserted, IsPut, IsCount, IsNetworkOf, IsOfNetwork};
@@ -106,6 +107,17 @@ impl Listing {
             Ok(at) => Some(&self.lsas[at]),
             Err(_) => None,
         }
+    }
+
+    /// The router-LSA of a router, if it is listed.
+    pub fn router(&self, router: RouterId) -> Option<&Lsa>
+        ensures found { IfSome result (λ lsa. Contains self.now lsa.now
+            × (key_of lsa.now ≡ record { kind = Router; id = router.0; router = router })) }
+        ensures none { IfNone result
+            (HasKey self.now (record { kind = Router; id = router.0; router = router }) → ⊥) }
+        ensures listing { IsListing self.now }
+    {
+        self.get(&LsaKey::of_router(router))
     }
 
     /// The network-LSA of a Link State ID; of several the one of the largest Advertising Router.

@@ -7,14 +7,15 @@ ghost use Rattle.ospf_lsa.specs.Lsa.{IsFreeOf, IsFirstFault, IsLsa, IsRouterLsa,
 use crate::attached::Attached;
 use crate::fault::LsaFault;
 use crate::header::LsaHeader;
+use crate::layout::{
+    COUNT_AT, ENTRIES_AT, ID_AT, LENGTH_AT, NUMBER_AT, ROUTER_AT, ROUTER_SIZE, SUM_AT, TYPE_AT,
+};
 use crate::link::{LinkKind, Links};
 use ospf_base::{
-    Instance, Kind, LSA_HEADER, LsaKey, RouterId, i32_at, is_mask, lsa_sum_holds, u16_at, u32_at,
+    Instance, Kind, LSA_HEADER, LsaKey, NETWORK_LSA, RESERVED_SEQUENCE_NUMBER, ROUTER_LSA,
+    RouterId, i32_at, is_mask, lsa_sum_holds, u16_at, u32_at,
 };
 use std::marker::Model;
-
-/// Where the links of a router-LSA, or the Router IDs of a network-LSA, begin.
-pub(crate) const ENTRIES_AT: usize = 24;
 
 /// A slice that is an LSA.
 #[derive(Drop)]
@@ -77,7 +78,7 @@ impl<'a> LsaView<'a> {
         ensures router { result ≡ Kind.Router → IsRouterLsa self.now }
         ensures network { result ≡ Kind.Network → IsNetworkLsa self.now }
     {
-        if self.as_bytes()[3] == 2 {
+        if self.as_bytes()[TYPE_AT] == NETWORK_LSA {
             Kind::Network
         } else {
             Kind::Router
@@ -91,8 +92,8 @@ impl<'a> LsaView<'a> {
     {
         LsaKey {
             kind: self.kind(),
-            id: u32_at(self.as_bytes(), 4),
-            router: RouterId(u32_at(self.as_bytes(), 8)),
+            id: u32_at(self.as_bytes(), ID_AT),
+            router: RouterId(u32_at(self.as_bytes(), ROUTER_AT)),
         }
     }
 
@@ -102,8 +103,8 @@ impl<'a> LsaView<'a> {
     {
         Instance {
             key: self.key(),
-            number: i32_at(self.as_bytes(), 12),
-            sum: u16_at(self.as_bytes(), 16),
+            number: i32_at(self.as_bytes(), NUMBER_AT),
+            sum: u16_at(self.as_bytes(), SUM_AT),
         }
     }
 
@@ -112,7 +113,10 @@ impl<'a> LsaView<'a> {
         requires { IsRouterLsa self.now }
         ensures { result ≡ links_of self.now }
     {
-        Links::new(u16_at(self.as_bytes(), 22), &self.as_bytes()[ENTRIES_AT..])
+        Links::new(
+            u16_at(self.as_bytes(), COUNT_AT),
+            &self.as_bytes()[ENTRIES_AT..],
+        )
     }
 
     /// The address mask of a network-LSA.
@@ -145,16 +149,16 @@ fn first_fault(bytes: &[u8]) -> Option<LsaFault>
     ensures fault { IfSome result (λ f. IsFirstFault bytes.now f) }
     ensures none { IfNone result (IsLsa bytes.now) }
 {
-    if bytes.len() < LSA_HEADER || bytes.len() < usize::from(u16_at(bytes, 18)) {
+    if bytes.len() < LSA_HEADER || bytes.len() < usize::from(u16_at(bytes, LENGTH_AT)) {
         return Some(LsaFault::Short);
     }
-    if bytes.len() > usize::from(u16_at(bytes, 18)) {
+    if bytes.len() > usize::from(u16_at(bytes, LENGTH_AT)) {
         return Some(LsaFault::Length);
     }
     if !lsa_sum_holds(bytes) {
         return Some(LsaFault::Sum);
     }
-    if bytes[3] != 1 && bytes[3] != 2 {
+    if bytes[TYPE_AT] != ROUTER_LSA && bytes[TYPE_AT] != NETWORK_LSA {
         return Some(LsaFault::Kind);
     }
     if !has_body(bytes) {
@@ -166,10 +170,10 @@ fn first_fault(bytes: &[u8]) -> Option<LsaFault>
     if !has_costs(bytes) {
         return Some(LsaFault::ZeroMetric);
     }
-    if bytes[3] == 1 && u32_at(bytes, 4) != u32_at(bytes, 8) {
+    if bytes[TYPE_AT] == ROUTER_LSA && u32_at(bytes, ID_AT) != u32_at(bytes, ROUTER_AT) {
         return Some(LsaFault::IdMismatch);
     }
-    if u32_at(bytes, 12) == 1 << 31 {
+    if u32_at(bytes, NUMBER_AT) == RESERVED_SEQUENCE_NUMBER.cast_unsigned() {
         return Some(LsaFault::Number);
     }
     None
@@ -181,7 +185,7 @@ fn has_body(bytes: &[u8]) -> bool
     requires kind { IsFreeOf fault.Kind bytes.now }
     ensures { IsTrue result ↔ IsFreeOf fault.Links bytes.now }
 {
-    if bytes[3] == 1 {
+    if bytes[TYPE_AT] == ROUTER_LSA {
         has_links(bytes)
     } else {
         has_routers(bytes)
@@ -192,14 +196,14 @@ fn has_body(bytes: &[u8]) -> bool
 fn has_links(bytes: &[u8]) -> bool
     ensures { IsTrue result ↔ HasLinks bytes.now }
 {
-    bytes.len() >= ENTRIES_AT && Links::are_all(u16_at(bytes, 22), &bytes[ENTRIES_AT..])
+    bytes.len() >= ENTRIES_AT && Links::are_all(u16_at(bytes, COUNT_AT), &bytes[ENTRIES_AT..])
 }
 
 // Whether a network-LSA's body is a mask and Router IDs.
 fn has_routers(bytes: &[u8]) -> bool
     ensures { IsTrue result ↔ HasRouters bytes.now }
 {
-    bytes.len() >= ENTRIES_AT && (bytes.len() - LSA_HEADER) % 4 == 0
+    bytes.len() >= ENTRIES_AT && (bytes.len() - LSA_HEADER) % ROUTER_SIZE == 0
 }
 
 // Whether no mask has a hole.
@@ -209,8 +213,8 @@ fn has_masks(bytes: &[u8]) -> bool
     requires body { IsFreeOf fault.Links bytes.now }
     ensures { IsTrue result ↔ IsFreeOf fault.Mask bytes.now }
 {
-    if bytes[3] == 1 {
-        have_masks(Links::new(u16_at(bytes, 22), &bytes[ENTRIES_AT..]))
+    if bytes[TYPE_AT] == ROUTER_LSA {
+        have_masks(Links::new(u16_at(bytes, COUNT_AT), &bytes[ENTRIES_AT..]))
     } else {
         is_mask(u32_at(bytes, LSA_HEADER))
     }
@@ -230,7 +234,8 @@ fn has_costs(bytes: &[u8]) -> bool
     requires body { IsFreeOf fault.Links bytes.now }
     ensures { IsTrue result ↔ IsFreeOf fault.ZeroMetric bytes.now }
 {
-    bytes[3] != 1 || have_costs(Links::new(u16_at(bytes, 22), &bytes[ENTRIES_AT..]))
+    bytes[TYPE_AT] != ROUTER_LSA
+        || have_costs(Links::new(u16_at(bytes, COUNT_AT), &bytes[ENTRIES_AT..]))
 }
 
 // Whether each link to a router or a transit network costs something.

@@ -83,8 +83,11 @@ none_any : {X : Type 0} (p : X → Bool) (k : ℕ) (xs : List X) → position_fr
 none_any p k [] none = refl
 none_any p k (x ∷ xs) none = any_if (p x) (list_any p xs) k (position_from p (k + 1) xs) none (none_any p (k + 1) xs)
 
+pub nowhere : {X : Type 0} (p : X → Bool) (xs : List X) → position p xs ≡ None → list_any p xs ≡ false
+nowhere p xs none = none_any p 0 xs (sym (position_from-zero p xs) ∙ none)
+
 pub no_place_leaves : (i : Instance) (ls : List Listed) → position (is_of_instance i) ls ≡ None → ls ≡ without_instance i ls
-no_place_leaves i ls none = no_instance_leaves i ls (none_any (is_of_instance i) 0 ls (sym (position_from-zero (is_of_instance i) ls) ∙ none))
+no_place_leaves i ls none = no_instance_leaves i ls (nowhere (is_of_instance i) ls none)
 
 sent_if : (b more : Bool) (tick : ℕ) (l : Listed) (ls sent : List Listed) → b || more ≡ false → (more ≡ false → ls ≡ sent)
     → l ∷ ls ≡ (if b then record l { sent_at = tick } else l) ∷ sent

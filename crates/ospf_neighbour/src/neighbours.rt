@@ -94,7 +94,12 @@ impl Neighbours {
     pub fn position(&self, router: RouterId) -> Option<usize>
         ensures { result ≡ neighbour_place self.now router }
     {
-        self.all.iter().position(|n| n.router().0 == router.0)
+        let at = place_of(&self.all, router);
+        if at < self.all.len() && self.all[at].router().0 == router.0 {
+            Some(at)
+        } else {
+            None
+        }
     }
 
     /// The first neighbour, by Router ID, of an address.
@@ -130,7 +135,9 @@ impl Neighbours {
     pub fn remove(&mut self, router: RouterId)
         ensures { self.new ≡ without_router router self.old }
     {
-        self.all.retain(|n| n.router().0 != router.0);
+        if let Some(at) = self.position(router) {
+            self.all.remove(at);
+        }
     }
 
     /// Takes all of them out. No memory is taken.
@@ -141,11 +148,13 @@ impl Neighbours {
     }
 
     /// The neighbour of a Router ID.
+    #[tactic(auto, using(crate::proofs::NeighbourLemmas::none_there, crate::proofs::NeighbourLemmas::one_there))]
     pub fn get(&self, router: RouterId) -> Option<&Neighbour>
         ensures found { option_copied result ≡ neighbour_of self.now router }
         ensures none { IfNone result (HasNeighbour self.now router → ⊥) }
     {
-        self.all.iter().find(|n| n.router().0 == router.0)
+        let at = self.position(router)?;
+        Some(&self.all[at])
     }
 
     /// Puts a neighbour in where its Router ID belongs, which none of them has.
@@ -161,7 +170,7 @@ impl Neighbours {
         if self.all.len() >= MAX_NEIGHBOURS {
             return Err(NeighbourFault::Full);
         }
-        let at = place_for(&self.all, neighbour.router());
+        let at = place_of(&self.all, neighbour.router());
         if self.all.insert(at, neighbour).is_err() {
             return Err(NeighbourFault::Memory);
         }
@@ -178,18 +187,10 @@ fn unlist_key_of(key: &LsaKey, all: &mut [Neighbour])
     }
 }
 
-// Where a neighbour of this Router ID belongs, which is not there.
-fn place_for(all: &[Neighbour], router: RouterId) -> usize
-    requires rising { AreNeighboursRising all.now }
-    requires new { HasNeighbour all.now router → ⊥ }
+// The place of the first neighbour that has no lower Router ID, or the end.
+fn place_of(all: &[Neighbour], router: RouterId) -> usize
+    requires { AreNeighboursRising all.now }
     ensures { IsNeighbourPlace all.now router.0 result }
 {
-    let mut at = all.len();
-    while at > 0 {
-        if all[at - 1].router().0 < router.0 {
-            return at;
-        }
-        at -= 1;
-    }
-    0
+    all.partition_point(|n| n.router().0 < router.0)
 }

@@ -7,8 +7,7 @@ ghost use Rattle.ospf_originate.specs.Actions.{makes_room, next_action, is_due, 
 ghost use Rattle.ospf_wanted.specs.Made.{IsUnmadeIf, Needs, first_number};
 ghost use Rattle.ospf_wanted.specs.Own.{wanted_value};
 
-use ospf_base::{LsaKey, MAX_AGE};
-use ospf_flood::MAX_SEQUENCE_NUMBER;
+use ospf_base::{LsaKey, MAX_AGE, MAX_SEQUENCE_NUMBER};
 use ospf_lsa::LsaFault;
 use ospf_lsdb::{EntryView, LS_REFRESH_TIME};
 use ospf_wanted::OwnLsa;

@@ -61,11 +61,7 @@ fn router_is_left(area: &Area) -> bool
 fn router_key(router: RouterId) -> LsaKey
     ensures { result ≡ wanted_key (RouterLsa router []) }
 {
-    LsaKey {
-        kind: Kind::Router,
-        id: router.0,
-        router,
-    }
+    LsaKey::of_router(router)
 }
 
 // Whether the router-LSA is due.

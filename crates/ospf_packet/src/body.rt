@@ -8,17 +8,6 @@ use crate::requests::Requests;
 use ospf_base::{Addr, u16_at, u32_at};
 use ospf_lsa::Attached;
 
-/// The size of the fields of a Hello.
-pub const HELLO_FIELDS: usize = 20;
-
-/// The size of the fields of a Database Description.
-pub const DESCRIPTION_FIELDS: usize = 8;
-
-// The sizes of a Router ID, and of the count of an Update.
-pub(crate) const ROUTER_SIZE: usize = 4;
-
-pub(crate) const COUNT_SIZE: usize = 4;
-
 /// The fields of a Hello (RFC 2328, appendix A.3.2).
 #[derive(Clone, Copy, Debug, PartialEq, Eq)]
 pub struct Hello {

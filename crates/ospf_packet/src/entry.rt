@@ -4,9 +4,6 @@ ghost use Rattle.std.specs.Prelude.{◌≡◌, ◌≤◌, length};
 
 use ospf_base::{RouterId, u32_at};
 
-/// The size of an entry of a Link State Request.
-pub const REQUEST_SIZE: usize = 12;
-
 /// What a router asks for: an LSA by LS type, Link State ID and Advertising
 /// Router (RFC 2328, appendix A.3.4).
 ///

@@ -4,6 +4,7 @@ ghost use Rattle.std.specs.Prelude.{◌≡◌, ◌↔◌, IsTrue, IfSome, IfNone
 ghost use Rattle.ospf_packet.specs.Slices.{IsFirstSlice, IsSplit};
 
 use ospf_base::{LSA_HEADER, u16_at};
+use ospf_lsa::LENGTH_AT;
 use std::marker::Model;
 
 /// A walk over the LSAs in a Link State Update (RFC 2328, appendix A.3.5), each the slice of the
@@ -85,7 +86,7 @@ fn first(bytes: &[u8]) -> Option<(&[u8], &[u8])>
     if bytes.len() < LSA_HEADER {
         return None;
     }
-    let length = usize::from(u16_at(bytes, 18));
+    let length = usize::from(u16_at(bytes, LENGTH_AT));
     if length < LSA_HEADER || length > bytes.len() {
         return None;
     }

@@ -6,12 +6,14 @@ ghost use Rattle.ospf_packet.specs.Packet.{IsBody, IsPacket, IsFirstPacketFault,
 ghost use Rattle.ospf_packet.specs.PacketOf.{packet_of};
 ghost use Rattle.ospf_packet.specs.Said.{said, body_said};
 
-use crate::body::{
-    Body, COUNT_SIZE, DESCRIPTION_FIELDS, Description, HELLO_FIELDS, Hello, ROUTER_SIZE,
-};
-use crate::entry::REQUEST_SIZE;
+use crate::body::{Body, Description, Hello};
 use crate::fault::PacketFault;
 use crate::headers::Headers;
+use crate::layout::{
+    ACKNOWLEDGMENT, AREA_AT, AUTH_AT, COUNT_SIZE, DESCRIPTION, DESCRIPTION_FIELDS, HELLO,
+    HELLO_FIELDS, LENGTH_AT, REQUEST, REQUEST_SIZE, ROUTER_AT, ROUTER_SIZE, SUM_AT, TYPE_AT,
+    UPDATE, VERSION, VERSION_AT,
+};
 use crate::lsas::Lsas;
 use crate::requests::Requests;
 use ospf_base::{
@@ -55,13 +57,13 @@ fn body(kind: u8, bytes: &[u8]) -> Body<'_>
     ensures { body_said result ≡ body_at kind bytes.now }
 {
     match kind {
-        1 => Body::Hello(Hello::read(bytes), Attached::new(&bytes[HELLO_FIELDS..])),
-        2 => Body::Description(
+        HELLO => Body::Hello(Hello::read(bytes), Attached::new(&bytes[HELLO_FIELDS..])),
+        DESCRIPTION => Body::Description(
             Description::read(bytes),
             Headers::new(&bytes[DESCRIPTION_FIELDS..]),
         ),
-        3 => Body::Request(Requests::new(bytes)),
-        4 => Body::Update(Lsas::new(u32_at(bytes, 0), &bytes[COUNT_SIZE..])),
+        REQUEST => Body::Request(Requests::new(bytes)),
+        UPDATE => Body::Update(Lsas::new(u32_at(bytes, 0), &bytes[COUNT_SIZE..])),
         _ => Body::Acknowledgment(Headers::new(bytes)),
     }
 }
@@ -77,22 +79,22 @@ fn first_fault(bytes: &[u8]) -> Option<PacketFault>
     if bytes.len() < PACKET_HEADER {
         return Some(PacketFault::Short);
     }
-    if bytes[0] != 2 {
+    if bytes[VERSION_AT] != VERSION {
         return Some(PacketFault::Version);
     }
-    if bytes[1] < 1 || bytes[1] > 5 {
+    if bytes[TYPE_AT] < HELLO || bytes[TYPE_AT] > ACKNOWLEDGMENT {
         return Some(PacketFault::Kind);
     }
-    if usize::from(u16_at(bytes, 2)) != bytes.len() {
+    if usize::from(u16_at(bytes, LENGTH_AT)) != bytes.len() {
         return Some(PacketFault::Length);
     }
-    if u16_at(bytes, 12) != packet_sum(bytes) {
+    if u16_at(bytes, SUM_AT) != packet_sum(bytes) {
         return Some(PacketFault::Sum);
     }
-    if u16_at(bytes, 14) != 0 {
+    if u16_at(bytes, AUTH_AT) != 0 {
         return Some(PacketFault::Auth);
     }
-    if !has_body(bytes[1], &bytes[PACKET_HEADER..]) {
+    if !has_body(bytes[TYPE_AT], &bytes[PACKET_HEADER..]) {
         return Some(PacketFault::Body);
     }
     None
@@ -103,12 +105,12 @@ fn has_body(kind: u8, body: &[u8]) -> bool
     ensures { IsTrue result ↔ IsBody kind body.now }
 {
     match kind {
-        1 => body.len() >= HELLO_FIELDS && (body.len() - HELLO_FIELDS) % ROUTER_SIZE == 0,
-        2 => body.len() >= DESCRIPTION_FIELDS
+        HELLO => body.len() >= HELLO_FIELDS && (body.len() - HELLO_FIELDS) % ROUTER_SIZE == 0,
+        DESCRIPTION => body.len() >= DESCRIPTION_FIELDS
             && (body.len() - DESCRIPTION_FIELDS) % LSA_HEADER == 0,
-        3 => body.len() % REQUEST_SIZE == 0,
-        4 => body.len() >= COUNT_SIZE && Lsas::are_all(u32_at(body, 0), &body[COUNT_SIZE..]),
-        5 => body.len() % LSA_HEADER == 0,
+        REQUEST => body.len() % REQUEST_SIZE == 0,
+        UPDATE => body.len() >= COUNT_SIZE && Lsas::are_all(u32_at(body, 0), &body[COUNT_SIZE..]),
+        ACKNOWLEDGMENT => body.len() % LSA_HEADER == 0,
         _ => true,
     }
 }
@@ -120,8 +122,8 @@ fn valid_packet(bytes: &[u8]) -> Packet<'_>
     ensures { said result ≡ meaning_of bytes.now }
 {
     Packet {
-        router: RouterId(u32_at(bytes, 4)),
-        area: AreaId(u32_at(bytes, 8)),
-        body: body(bytes[1], &bytes[PACKET_HEADER..]),
+        router: RouterId(u32_at(bytes, ROUTER_AT)),
+        area: AreaId(u32_at(bytes, AREA_AT)),
+        body: body(bytes[TYPE_AT], &bytes[PACKET_HEADER..]),
     }
 }

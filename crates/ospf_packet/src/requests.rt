@@ -1,6 +1,7 @@
 //! The entries of a Link State Request.
 
-use crate::entry::{REQUEST_SIZE, RequestEntry};
+use crate::entry::RequestEntry;
+use crate::layout::REQUEST_SIZE;
 use std::marker::Model;
 
 /// A walk over the entries of a Link State Request (RFC 2328, appendix A.3.4).

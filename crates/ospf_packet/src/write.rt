@@ -14,9 +14,12 @@ ghost use Rattle.ospf_packet.specs.Said.{body_meant, meant};
 ghost use Rattle.ospf_packet.specs.Slices.{lsas_bytes, IsSlice};
 ghost use Rattle.ospf_packet.specs.declared.fault.WriteFault.TheVariants as fault;
 
-use crate::body::{COUNT_SIZE, DESCRIPTION_FIELDS, HELLO_FIELDS, ROUTER_SIZE};
-use crate::entry::{REQUEST_SIZE, RequestEntry};
+use crate::entry::RequestEntry;
 use crate::fault::WriteFault;
+use crate::layout::{
+    ACKNOWLEDGMENT, COUNT_SIZE, DESCRIPTION, DESCRIPTION_FIELDS, HELLO, HELLO_FIELDS, REQUEST,
+    REQUEST_SIZE, ROUTER_SIZE, SUM_AT, SUM_LOW_AT, UPDATE, VERSION,
+};
 use crate::value::{BodyValue, PacketValue};
 use ospf_base::{AreaId, LARGEST_PACKET, LSA_HEADER, MAX_AGE, PACKET_HEADER, RouterId, packet_sum};
 use ospf_lsa::{Lsa, LsaHeader};
@@ -156,7 +159,7 @@ fn head(kind: u8, size: u16, router: RouterId, area: AreaId) -> [u8; 24]
     let [c, d, e, f] = router.0.to_be_bytes();
     let [g, h, i, j] = area.0.to_be_bytes();
     [
-        2, kind, a, b, c, d, e, f, g, h, i, j, 0, 0, 0, 0, 0, 0, 0, 0, 0, 0, 0, 0,
+        VERSION, kind, a, b, c, d, e, f, g, h, i, j, 0, 0, 0, 0, 0, 0, 0, 0, 0, 0, 0, 0,
     ]
 }
 
@@ -165,11 +168,11 @@ fn kind_of(body: &BodyValue) -> u8
     ensures { result ≡ packet_body_type (body_meant body.now) }
 {
     match body {
-        BodyValue::Hello(..) => 1,
-        BodyValue::Description(..) => 2,
-        BodyValue::Request(_) => 3,
-        BodyValue::Update(_) => 4,
-        BodyValue::Acknowledgment(_) => 5,
+        BodyValue::Hello(..) => HELLO,
+        BodyValue::Description(..) => DESCRIPTION,
+        BodyValue::Request(_) => REQUEST,
+        BodyValue::Update(_) => UPDATE,
+        BodyValue::Acknowledgment(_) => ACKNOWLEDGMENT,
     }
 }
 
@@ -266,6 +269,6 @@ fn seal(out: &mut Vec<u8>, start: usize)
         ++ with_packet_sum packet (packet_checksum packet) }
 {
     let [high, low] = packet_sum(&out[start..]).to_be_bytes();
-    out[start + 12] = high;
-    out[start + 13] = low;
+    out[start + SUM_AT] = high;
+    out[start + SUM_LOW_AT] = low;
 }

@@ -6,7 +6,7 @@ ghost use Rattle.ospf_lsa.specs.Lsa.{IsRouterLsa, links_of};
 ghost use Rattle.ospf_graph.specs.Advertisements.{is_transit_to};
 ghost use Rattle.ospf_records.specs.Graph.{attached_to, is_drawn_link_to, links_listed_by, links_to, links_to_network, names_router};
 
-use ospf_base::{Kind, LsaKey, RouterId};
+use ospf_base::RouterId;
 use ospf_lsa::{Attached, Link, LinkKind, Links, Listing, LsaView};
 
 // The links of a router-LSA, of which there are fewer than bytes.
@@ -70,12 +70,7 @@ fn links_by<'a>(listing: &'a Listing, router: RouterId) -> Option<Links<'a>>
     ensures found { IfSome result (λ links. links ≡ links_listed_by listing.now router.0) }
     ensures none { IfNone result (links_listed_by listing.now router.0 ≡ []) }
 {
-    let key = LsaKey {
-        kind: Kind::Router,
-        id: router.0,
-        router,
-    };
-    match listing.get(&key) {
+    match listing.router(router) {
         Some(lsa) => Some(lsa.view().links()),
         None => None,
     }

@@ -16,7 +16,7 @@ ghost use Rattle.ospf_table.specs.Refusal.{IsLineRefusalTold, refusal_line};
 use crate::entries::LineEntries;
 use crate::line::{LineFault, is_blank, lsa_of_line, without_end};
 use crate::lookup::{print_lookups, publish_once};
-use ospf_base::{Addr, Kind, LsaKey, MAX_AGE, RouterId};
+use ospf_base::{Addr, MAX_AGE, RouterId};
 use ospf_fib::{Seat, Writer};
 use ospf_files::{FailedStreams, Failure, Status, print_routes};
 use ospf_lsa::{Listing, ListingFault, LsaFault};
@@ -136,12 +136,7 @@ pub fn read_listing<R: BufRead + Drop>(alloc: Global, input: R) -> Result<Listin
 pub fn is_unlisted(listing: &Listing, root: RouterId) -> bool
     ensures { IsTrue result ↔ IsUnlisted listing.now root }
 {
-    let key = LsaKey {
-        kind: Kind::Router,
-        id: root.0,
-        router: root,
-    };
-    !listing.lsas().is_empty() && listing.get(&key).is_none()
+    !listing.lsas().is_empty() && listing.router(root).is_none()
 }
 
 /// Reads LSAs, a line of hexadecimal each, and writes a router's table and the lookups in it.

@@ -9,15 +9,11 @@ ghost use Rattle.ospf_udp.specs.Plans.{HasPorts, HasFloor, IsConfigured, IsFirst
 
 use crate::list::put;
 use crate::stop::{Obstacle, Stop};
-use ospf_base::RouterId;
+use ospf_base::{MAX_SEQUENCE_NUMBER, NO_FLOOR, RouterId};
 use ospf_config::{Config, ConfigFault};
 use ospf_files::{NamedFile, config_in, first_unread};
-use ospf_flood::MAX_SEQUENCE_NUMBER;
 use ospf_script::floor_of;
 use std::alloc::{AllocError, Global};
-
-// The floor below all LS sequence numbers, which is none.
-const NO_FLOOR: i32 = i32::MIN;
 
 /// The routers that are to run.
 #[derive(Drop)]

@@ -9,13 +9,9 @@ ghost use Rattle.ospf_neighbour.specs.Neighbour.{NeighbourValue};
 ghost use Rattle.ospf_update.specs.Removal.{some_awaits, is_leaving, leaving, is_last, ends_run, reset_one, reset, and_ends, RemovesOne};
 
 use ospf_area::{Area, AreaLink, Numbering, Outputs, is_numbered, is_own, some_link_loading};
-use ospf_base::{Instance, LsaKey, MAX_AGE};
-use ospf_flood::MAX_SEQUENCE_NUMBER;
+use ospf_base::{Instance, LsaKey, MAX_AGE, MAX_SEQUENCE_NUMBER, NO_FLOOR};
 use ospf_lsdb::{EntryView, Lsdb};
 use std::alloc::{AllocError, Global};
-
-/// 0x80000000, below the first number.
-const LOWEST_NUMBER: i32 = i32::MIN;
 
 /// Whether some neighbour has yet to acknowledge an instance.
 pub fn some_awaits(instance: &Instance, links: &[AreaLink]) -> bool
@@ -136,7 +132,7 @@ fn reset(all: &mut Vec<Numbering>, key: LsaKey) -> Result<(), AllocError>
     }
     all.push(Numbering {
         key,
-        kept: LOWEST_NUMBER,
+        kept: NO_FLOOR,
         issued_at: None,
     })?;
     Ok(())
@@ -154,7 +150,7 @@ fn reset_one(numbering: &mut Numbering, key: &LsaKey)
     ensures { numbering.new ≡ reset_one key.now numbering.old }
 {
     if numbering.key.is_same(key) {
-        numbering.kept = LOWEST_NUMBER;
+        numbering.kept = NO_FLOOR;
     }
 }
 

@@ -13,7 +13,7 @@ use ospf_area::{Area, Origin, Outputs, is_taken};
 use ospf_base::{LSA_HEADER, lsa_sum_holds, u16_at};
 use ospf_exchange::is_other;
 use ospf_flood::LsaRule;
-use ospf_lsa::{LsaHeader, LsaView};
+use ospf_lsa::{LENGTH_AT, LsaHeader, LsaView, TYPE_AT};
 use ospf_packet::Lsas;
 use std::alloc::{AllocError, Global};
 
@@ -105,7 +105,7 @@ fn is_other_lsa(bytes: &[u8]) -> bool
     ensures { IsTrue result ↔ IsOtherLsa bytes.now }
 {
     bytes.len() >= LSA_HEADER
-        && usize::from(u16_at(bytes, 18)) == bytes.len()
-        && is_other(bytes[3])
+        && usize::from(u16_at(bytes, LENGTH_AT)) == bytes.len()
+        && is_other(bytes[TYPE_AT])
         && lsa_sum_holds(bytes)
 }

@@ -6,7 +6,7 @@ ghost use Rattle.ospf_files.specs.Streams.{IsBegun, IsOutputCut};
 ghost use Rattle.ospf_views.specs.Shown.{floor_alone_line, heading, link_neighbour_lines, listed_line, listing_lines, neighbour_line, neighbours_lines, view_lines};
 
 use crate::shown::{ListedShown, NeighbourShown};
-use ospf_base::RouterId;
+use ospf_base::{MOST_INTERFACES, RouterId};
 use ospf_files::{FailedStreams, Failure, print_routes};
 use ospf_lsa::Lsa;
 use ospf_neighbour::Neighbour;
@@ -14,9 +14,6 @@ use ospf_router::Router;
 use ospf_script::{FloorShown, View};
 use std::alloc::{AllocError, Global};
 use std::io::Write;
-
-// The most interfaces that a configuration has.
-const MAX_INTERFACES: usize = 32;
 
 /// Writes what is shown of a router.
 ///
@@ -91,7 +88,7 @@ fn write_neighbours<O: Write>(
         (IsBegun (O.contents out.old) (O.contents out.new) (neighbours_lines router.now)) }
     ensures cut { IfErr result (IsOutputCut streams.new) }
 {
-    for link in 0..MAX_INTERFACES {
+    for link in 0..MOST_INTERFACES {
         write_link(alloc, link, router.neighbours(link), out, streams)?;
     }
     Ok(())

@@ -6,7 +6,7 @@ ghost use Rattle.ospf_views.specs.Waits.{asked_text, acknowledgement_waits, ackn
 
 use crate::shown::ListedShown;
 use ospf_area::AreaLink;
-use ospf_base::RouterId;
+use ospf_base::{NETWORK_LSA, ROUTER_LSA, RouterId};
 use ospf_iface::{Iface, IfaceState};
 use ospf_journal::iface_text;
 use ospf_lsa::LsaHeader;
@@ -17,11 +17,6 @@ use std::fmt::{self, Display, Formatter, Write};
 
 // How many LSAs of a list are named.
 const MOST_NAMED: usize = 3;
-
-// The LS types (RFC 2328, appendix A.4.1).
-const ROUTER_TYPE: u8 = 1;
-
-const NETWORK_TYPE: u8 = 2;
 
 /// What a link waits for, or a Router ID on it, a line each; `None` for no such link, or no more.
 ///
@@ -323,9 +318,9 @@ fn write_request<W: Write>(f: &mut Formatter<W>, header: &LsaHeader) -> fmt::Res
 fn write_type<W: Write>(f: &mut Formatter<W>, kind: u8) -> fmt::Result
     ensures { WritesOnOk W.Write.write_str_gives f.old result (type_text kind) f.new }
 {
-    if kind == ROUTER_TYPE {
+    if kind == ROUTER_LSA {
         f.write_str("router")
-    } else if kind == NETWORK_TYPE {
+    } else if kind == NETWORK_LSA {
         f.write_str("network")
     } else {
         write!(f, "type {kind}")

@@ -8,11 +8,9 @@ ghost use Rattle.ospf_wanted.specs.Made.{lsa_value, Needs, aside, first_number, 
 ghost use Rattle.ospf_wanted.specs.Own.{wanted_value};
 
 use crate::wants::OwnLsa;
-use ospf_lsa::{Lsa, LsaFault, LsaView};
+use ospf_base::INITIAL_SEQUENCE_NUMBER;
+use ospf_lsa::{LENGTH_AT, Lsa, LsaFault, LsaView, NUMBER_AT, OPTIONS_AT};
 use std::alloc::Global;
-
-/// The first number of an LSA (RFC 2328, section 12.1.6).
-const INITIAL_SEQUENCE_NUMBER: i32 = -0x7fff_ffff;
 
 impl OwnLsa {
     /// The LSA with a number, at age 0.
@@ -63,7 +61,7 @@ fn same_front(a: &[u8], b: &[u8]) -> bool
     requires second { 20 ≤ length b.now }
     ensures { result ≡ bytes_eq (take 10 (drop 2 a.now)) (take 10 (drop 2 b.now)) }
 {
-    a[2..12] == b[2..12]
+    a[OPTIONS_AT..NUMBER_AT] == b[OPTIONS_AT..NUMBER_AT]
 }
 
 // Whether they have the same length and body.
@@ -72,5 +70,5 @@ fn same_rest(a: &[u8], b: &[u8]) -> bool
     requires second { 20 ≤ length b.now }
     ensures { result ≡ bytes_eq (drop 18 a.now) (drop 18 b.now) }
 {
-    a[18..] == b[18..]
+    a[LENGTH_AT..] == b[LENGTH_AT..]
 }

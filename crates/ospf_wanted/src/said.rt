@@ -18,8 +18,10 @@ ghost use Rattle.ospf_wanted.specs.Wanted.WantedValue.{RouterLsa, NetworkLsa};
 
 use crate::wants::{broadcast_link, is_full, router_link, subnet_link};
 use ospf_area::AreaLink;
-use ospf_base::{Age, InterfaceKind, OPTIONS, RouterId, u16_at};
-use ospf_lsa::{Link, LsaHeader, LsaView};
+use ospf_base::{
+    Age, InterfaceKind, LSA_HEADER, NETWORK_LSA, OPTIONS, ROUTER_LSA, RouterId, u16_at,
+};
+use ospf_lsa::{ENTRIES_AT, LENGTH_AT, LINK_SIZE, Link, LsaHeader, LsaView, NUMBER_AT, OPTIONS_AT};
 use ospf_neighbour::Neighbour;
 
 /// Whether an LSA is the router-LSA that is wanted, number and checksum
@@ -34,7 +36,7 @@ pub fn says_router(
         (RouterLsa router (flat_map (links_of_link stub_router) links.now)) }
 {
     let lsa = copy.as_bytes();
-    let rest = behind_own_links(Some(&lsa[24..]), stub_router, links);
+    let rest = behind_own_links(Some(&lsa[ENTRIES_AT..]), stub_router, links);
     is_router_lsa(copy, router, rest)
 }
 
@@ -46,7 +48,7 @@ pub fn says_network(copy: &LsaView<'_>, router: RouterId, link: &AreaLink) -> bo
         (attached_routers router link.now.neighbours)) }
 {
     let lsa = copy.as_bytes();
-    let rest = behind_attached(Some(&lsa[24..]), router, link.neighbours.all());
+    let rest = behind_attached(Some(&lsa[ENTRIES_AT..]), router, link.neighbours.all());
     let settings = &link.iface.settings;
     is_network_lsa(copy, settings.address.0, router, settings.mask, rest)
 }
@@ -170,7 +172,7 @@ fn is_router_lsa(lsa: &LsaView<'_>, router: RouterId, rest: Option<&[u8]>) -> bo
         result ≡ says (contents lsa.now) (RouterLsa router links) }
 {
     let lsa = lsa.as_bytes();
-    let size = u16_at(lsa, 18);
+    let size = u16_at(lsa, LENGTH_AT);
     let header = router_header(router, size);
     let [high, low] = link_count(size).to_be_bytes();
     let same = has_front(lsa, &header, &[0, 0, high, low]);
@@ -185,7 +187,7 @@ fn router_header(router: RouterId, length: u16) -> LsaHeader
     LsaHeader {
         age: Age::new(0),
         options: OPTIONS,
-        kind: 1,
+        kind: ROUTER_LSA,
         id: router.0,
         router,
         number: 0,
@@ -199,7 +201,7 @@ fn link_count(size: u16) -> u16
     requires { 24 ≤ size }
     ensures { result ≡ (size - 24) / 12 }
 {
-    (size - 24) / 12
+    (size - ENTRIES_AT as u16) / LINK_SIZE as u16
 }
 
 // Whether an LSA has a header's Options, type, Link State ID, Advertising Router and length, and
@@ -211,8 +213,9 @@ fn has_front(lsa: &[u8], header: &LsaHeader, body: &[u8]) -> bool
         && bytes_eq (take 4 (drop 20 lsa.now)) body.now)) }
 {
     let wanted = header.to_bytes();
-    let (front, size, start) = (&lsa[2..12], &lsa[18..20], &lsa[20..24]);
-    let (wanted_front, wanted_size) = (&wanted[2..12], &wanted[18..20]);
+    let (front, wanted_front) = (&lsa[OPTIONS_AT..NUMBER_AT], &wanted[OPTIONS_AT..NUMBER_AT]);
+    let (size, wanted_size) = (&lsa[LENGTH_AT..LSA_HEADER], &wanted[LENGTH_AT..LSA_HEADER]);
+    let start = &lsa[LSA_HEADER..ENTRIES_AT];
     front == wanted_front && size == wanted_size && start == body
 }
 
@@ -325,7 +328,7 @@ fn is_network_lsa(
         result ≡ says (contents lsa.now) (NetworkLsa id router mask routers) }
 {
     let lsa = lsa.as_bytes();
-    let size = u16_at(lsa, 18);
+    let size = u16_at(lsa, LENGTH_AT);
     let header = network_header(id, router, size);
     let same = has_front(lsa, &header, &mask.to_be_bytes());
     let end = is_end(rest);
@@ -339,7 +342,7 @@ fn network_header(id: u32, router: RouterId, length: u16) -> LsaHeader
     LsaHeader {
         age: Age::new(0),
         options: OPTIONS,
-        kind: 2,
+        kind: NETWORK_LSA,
         id,
         router,
         number: 0,

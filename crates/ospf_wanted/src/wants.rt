@@ -43,11 +43,7 @@ impl OwnLsa {
         ensures { result ≡ wanted_key (wanted_value self.now) }
     {
         match self {
-            OwnLsa::Router { router, .. } => LsaKey {
-                kind: Kind::Router,
-                id: router.0,
-                router: *router,
-            },
+            OwnLsa::Router { router, .. } => LsaKey::of_router(*router),
             OwnLsa::Network { id, router, .. } => LsaKey {
                 kind: Kind::Network,
                 id: *id,

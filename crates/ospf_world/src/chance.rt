@@ -4,7 +4,7 @@ ghost use Rattle.std.specs.Prelude.{◌≡◌, ◌<◌, ◌==◌, IsTrue, IfSome
 ghost use Rattle.rand_pcg.specs.Lcg.{Lcg};
 ghost use Rattle.ospf_world.specs.Draws.{chosen_of, drawn_delivery, drawn_for, drawn_link_down, drawn_link_up, drawn_turn, words_from};
 
-use ospf_base::RouterId;
+use ospf_base::{NO_FLOOR, RouterId};
 use ospf_headline::WorldEvent;
 use rand_core::utils::NextWord;
 use rand_pcg::Lcg64Xsh32;
@@ -116,7 +116,7 @@ fn turn(words: &Words, router: RouterId, is_running: bool) -> WorldEvent
         WorldEvent::Start {
             router,
             dd_start: words.number,
-            floor: i32::MIN,
+            floor: NO_FLOOR,
         }
     }
 }

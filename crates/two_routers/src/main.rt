@@ -2,7 +2,7 @@
 //! second. `docs/LIBRARY.md` goes through it.
 #![tactic(auto)]
 
-use ospf_base::Addr;
+use ospf_base::{Addr, NO_FLOOR};
 use ospf_config::Config;
 use ospf_fib::{Fib, Found};
 use ospf_router::{Event, Router, Sent};
@@ -24,8 +24,6 @@ const HOST: Addr = Addr(0xc0a8_0209);
 
 // Nothing is remembered of a run before this one.
 const DD_START: u32 = 1;
-
-const NO_FLOOR: i32 = i32::MIN;
 
 // By then they are Full, and each has issued its LSA anew.
 const SECONDS: u32 = 60;

@@ -18,15 +18,15 @@ returns-then-len-lt1 c =
     let long : length (tables_among (items_view c.in-Some-as_array.values.now.items)) ≡ length c.in-Some-as_array.values.now.items = length_tables _ here in
     list_out _ _ _ c.in-Some.ensures c.in-Some-as_array.ensures here (λ low high. omega (arith, long))
 
-pub returns-then-len-gt32 : goal.returns-then-len-gt32
-returns-then-len-gt32 c =
+pub returns-then-len-gt-MOST_INTERFACES : goal.returns-then-len-gt-MOST_INTERFACES
+returns-then-len-gt-MOST_INTERFACES c =
     let are : are_tables (items_view c.deref.result.now) ≡ true = sym (all_tables c.deref.result.now) ∙ sym c.are_all_tables.ensures ∙ c.if-not-are_all_tables.false in
     let here : are_tables (items_view c.in-Some-as_array.values.now.items) ≡ true = rw c.deref.ensures.value at are in
     let long : length (tables_among (items_view c.in-Some-as_array.values.now.items)) ≡ length c.in-Some-as_array.values.now.items = length_tables _ here in
     list_out _ _ _ c.in-Some.ensures c.in-Some-as_array.ensures here (λ low high. omega (arith, long))
 
-pub returns-else-len-gt32 : goal.returns-else-len-gt32
-returns-else-len-gt32 c =
+pub returns-else-len-gt-MOST_INTERFACES : goal.returns-else-len-gt-MOST_INTERFACES
+returns-else-len-gt-MOST_INTERFACES c =
     let are : are_tables (items_view c.deref.result.now) ≡ true = sym (all_tables c.deref.result.now) ∙ sym c.are_all_tables.ensures ∙ c.if-not-are_all_tables.false in
     let here : are_tables (items_view c.in-Some-as_array.values.now.items) ≡ true = rw c.deref.ensures.value at are in
     let long : length (tables_among (items_view c.in-Some-as_array.values.now.items)) ≡ length c.in-Some-as_array.values.now.items = length_tables _ here in

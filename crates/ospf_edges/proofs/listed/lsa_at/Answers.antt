@@ -16,16 +16,16 @@ none_as P Q None f h = f h
 pub returns-in-Router-clause-found : goal.returns-in-Router-clause-found
 returns-in-Router-clause-found c =
     let A = advertisements_of c.args.listing.now in
-    some_as _ _ c.get.result
-    (λ lsa h. subst (λ v. IsLsaAt A v (advertisement_of lsa.now)) (sym c.in-Router.is) (router_there c.args.listing.now c.get.ensures.listing c.in-Router.router lsa.now h.0 h.1))
-    c.get.ensures.found
+    some_as _ _ c.router.result
+    (λ lsa h. subst (λ v. IsLsaAt A v (advertisement_of lsa.now)) (sym c.in-Router.is) (router_there c.args.listing.now c.router.ensures.listing c.in-Router.router lsa.now h.0 h.1))
+    c.router.ensures.found
 
 pub returns-in-Router-clause-none : goal.returns-in-Router-clause-none
 returns-in-Router-clause-none c =
     let A = advertisements_of c.args.listing.now in
-    none_as _ _ c.get.result
-    (λ none. subst (λ v. HasNoLsaAt A v) (sym c.in-Router.is) (no_router c.args.listing.now c.get.ensures.listing c.in-Router.router none))
-    c.get.ensures.none
+    none_as _ _ c.router.result
+    (λ none. subst (λ v. HasNoLsaAt A v) (sym c.in-Router.is) (no_router c.args.listing.now c.router.ensures.listing c.in-Router.router none))
+    c.router.ensures.none
 
 pub returns-in-Network-clause-found : goal.returns-in-Network-clause-found
 returns-in-Network-clause-found c =

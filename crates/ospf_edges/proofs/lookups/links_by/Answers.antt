@@ -10,7 +10,7 @@ pub links-requires : goal.links-requires
 links-requires c =
     let found = c.in-Some.ensures.found in
     subst (λ (l : List ℕ). IsRouterLsa l) (sym c.view-view.ensures.same)
-    (keyed_router c.args.listing.now c.get.ensures.listing c.args.router c.in-Some.lsa.now found.0 found.1)
+    (keyed_router c.args.listing.now c.router.ensures.listing c.args.router c.in-Some.lsa.now found.0 found.1)
 
 pub returns-in-Some-clause-found : goal.returns-in-Some-clause-found
 returns-in-Some-clause-found c =
@@ -19,10 +19,10 @@ returns-in-Some-clause-found c =
     let links : links_of c.in-Some.lsa.now ≡ c.links.result = sym (c.links.ensures ∙ ap links_of c.view-view.ensures.same) in
     let here : AreLinksBy (advertisements_of lsas) c.args.router (links_of c.in-Some.lsa.now) =
     record {
-      listed = router_found lsas c.get.ensures.listing c.args.router c.in-Some.lsa.now found.0 found.1;
-      only = router_only lsas c.get.ensures.listing c.args.router c.in-Some.lsa.now found.0 found.1;
+      listed = router_found lsas c.router.ensures.listing c.args.router c.in-Some.lsa.now found.0 found.1;
+      only = router_only lsas c.router.ensures.listing c.args.router c.in-Some.lsa.now found.0 found.1;
     } in
     subst (λ (l : List Link). AreLinksBy (advertisements_of lsas) c.args.router l) links here
 
 pub returns-in-None-clause-none : goal.returns-in-None-clause-none
-returns-in-None-clause-none c = router_none c.args.listing.now c.get.ensures.listing c.args.router c.in-None.ensures.none
+returns-in-None-clause-none c = router_none c.args.listing.now c.router.ensures.listing c.args.router c.in-None.ensures.none

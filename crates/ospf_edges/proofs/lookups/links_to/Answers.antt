@@ -1,11 +1,11 @@
 use Rattle.ospf_edges.specs.Listed.{advertisements_of}
-use Rattle.ospf_edges.proofs.ListedLemmas.{links_from, links_back}
+use Rattle.ospf_edges.proofs.HopLinks.{link_to_names, names_to_link}
 use Rattle.ospf_edges.proofs.lookups.links_to.Goals as goal
 
 pub returns-in-Some : goal.returns-in-Some
 returns-in-Some c =
     let A = advertisements_of c.args.listing.now in
-    let are = c.in-Some.ensures.found in (
-      λ yes. links_from A c.args.from c.args.to c.in-Some.links are.listed (c.has_link_to.ensures.0 yes),
-      λ is. c.has_link_to.ensures.1 (links_back A c.args.from c.args.to c.in-Some.links are.only is),
+    let links = c.in-Some.links in (
+      λ yes. names_to_link A c.args.from links c.args.kind c.args.id c.in-Some.ensures.found.listed (c.has_link.ensures.0 yes),
+      λ there. c.has_link.ensures.1 (link_to_names A c.args.from links c.args.kind c.args.id c.in-Some.ensures.found.only there),
     )

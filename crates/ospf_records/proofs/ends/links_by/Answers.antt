@@ -8,13 +8,13 @@ pub links-requires : goal.links-requires
 links-requires c =
     let found = c.in-Some.ensures.found in
     subst (λ (l : List ℕ). IsRouterLsa l) (sym c.view.ensures.same)
-    (keyed_router c.args.listing.now c.get.ensures.listing c.args.router c.in-Some.lsa.now found.0 found.1)
+    (keyed_router c.args.listing.now c.router.ensures.listing c.args.router c.in-Some.lsa.now found.0 found.1)
 
 pub returns-in-Some-clause-found : goal.returns-in-Some-clause-found
 returns-in-Some-clause-found c =
     let found = c.in-Some.ensures.found in
     c.links.ensures ∙ ap links_of c.view.ensures.same
-    ∙ sym (links_found c.args.listing.now c.get.ensures.listing c.args.router c.in-Some.lsa.now found.0 found.1)
+    ∙ sym (links_found c.args.listing.now c.router.ensures.listing c.args.router c.in-Some.lsa.now found.0 found.1)
 
 pub returns-in-None-clause-none : goal.returns-in-None-clause-none
-returns-in-None-clause-none c = links_none c.args.listing.now c.get.ensures.listing c.args.router c.in-None.ensures.none
+returns-in-None-clause-none c = links_none c.args.listing.now c.router.ensures.listing c.args.router c.in-None.ensures.none

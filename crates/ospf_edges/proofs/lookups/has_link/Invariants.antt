@@ -1,6 +1,6 @@
 use Rattle.std.proofs.Common.{◌≡◌, ◌++◌}
 use Rattle.ospf_edges.specs.Costs.{NamesLinkTo}
-use Rattle.ospf_edges.proofs.link_costs.has_link.Given as goal
+use Rattle.ospf_edges.proofs.lookups.has_link.Given as goal
 
 abbrev pub invariant-loop-link : goal.invariant-loop-link
 invariant-loop-link l = record {

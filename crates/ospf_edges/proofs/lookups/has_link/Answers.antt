@@ -1,6 +1,6 @@
 use Rattle.std.proofs.Common.{◌++◌, ◌∷◌, [], ap, sym, append_assoc, ◌∙◌}
 use Rattle.ospf_edges.proofs.LinkLists.{names_more}
-use Rattle.ospf_edges.proofs.link_costs.has_link.Goals as goal
+use Rattle.ospf_edges.proofs.lookups.has_link.Goals as goal
 
 pub loop-link-preserved : goal.loop-link-preserved
 loop-link-preserved c = record {
