@@ -20,7 +20,8 @@ use Rattle.ospf_whatif.specs.Single.{AreFailures, IsFailure, IsFailureBefore}
 use Rattle.ospf_whatif.specs.declared.effect.RouteChange.{RouteChange}
 use Rattle.ospf_whatif.specs.declared.failure.AreaFailure.{AreaFailure}
 use Rattle.ospf_whatif.specs.declared.failure.AreaFailure.TheVariants.{Attachment, Link, Links, Network, Router}
-use Rattle.ospf_failures.proofs.ReportLemmas.{kept_of, of_kept, other_from, other_to}
+use Rattle.ospf_whatif.proofs.LessLemmas.{kept_of, of_kept}
+use Rattle.ospf_failures.proofs.ReportLemmas.{other_from, other_to}
 use Rattle.ospf_failures.specs.Overall.{AreOveralls, IsTableBefore, IsOverall, IsSight, IsSightFrom, IsSoFar, Sees, SeesMore, failing_router, lines_kept, overall_cmp, roots_in, sight_lines, sights_kept, sums_of}
 use Rattle.ospf_table.specs.Sums.{HasSumRoom, has_changes, one_if, sums_plus}
 use Rattle.ospf_failures.specs.Reports.{SightValue, is_of}

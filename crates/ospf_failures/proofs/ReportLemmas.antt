@@ -1,39 +1,16 @@
 -- Reports of failures, one after the other.
-use Rattle.std.proofs.Common.{◌≡◌, ◌∙◌, ◌↔◌, ◌⊎◌, ◌==◌, ℕ, Bool, true, false, cond, not, List, [], ◌∷◌, map, filter, ap, sym, refl, subst, inl, inr, arith, eq-eqb, eqb-true, All}
+use Rattle.std.proofs.Common.{◌≡◌, ◌↔◌, ◌==◌, ℕ, Bool, true, false, not, List, map, filter, ap, sym, refl, subst, eq-eqb, eqb-true, All}
 use Rattle.std.proofs.lemmas.List.Kept.{AllPairs-filter}
 use Rattle.std.specs.List.{AllPairs, Contains}
 use Rattle.ospf_base.specs.declared.ids.RouterId.{RouterId}
 use Rattle.ospf_graph.specs.Advertisements.{Advertisement}
-use Rattle.ospf_graph.proofs.ListLemmas.{member_cases, member_head, member_later}
 use Rattle.ospf_whatif.specs.Single.{IsFailure, IsFailureBefore}
 use Rattle.ospf_whatif.specs.declared.failure.AreaFailure.{AreaFailure}
 use Rattle.ospf_whatif.specs.declared.failure.AreaFailure.TheVariants.{Attachment, Link, Links, Network, Router}
+use Rattle.ospf_whatif.proofs.LessLemmas.{kept_of, of_kept}
 use Rattle.ospf_failures.specs.Reports.{AreReports, IsOtherFailure, ReportValue, is_of}
 use Rattle.ospf_graph.specs.declared.route.Route.{Route}
 use Rattle.ospf_whatif.specs.Effect.{IsEffect}
-
--- ---- what a test lets through, and nothing else, stays in a filter
-
-pub kept_of : {X : Type 0} (p : X → Bool) (xs : List X) (x : X) → Contains (filter p xs) x → Contains xs x × (p x ≡ true)
-kept_of p [] x c = absurd (omega (arith, c.1))
-kept_of p (y ∷ xs) x c = go (p y) refl c (kept_of p xs x)
-  where
-    go : (b : Bool) → p y ≡ b → Contains (cond b (y ∷ filter p xs) (filter p xs)) x → (Contains (filter p xs) x → Contains xs x × (p x ≡ true)) → Contains (y ∷ xs) x × (p x ≡ true)
-    go false e c rec = let r = rec c in (member_later y xs x r.0, r.1)
-    go true e c rec = elim (member_cases y (filter p xs) x c) [
-      | inl is ↦ (subst (Contains (y ∷ xs)) is (member_head y xs), ap p (sym is) ∙ e)
-      | inr rest ↦ let r = rec rest in (member_later y xs x r.0, r.1)
-    ]
-
-pub of_kept : {X : Type 0} (p : X → Bool) (xs : List X) (x : X) → Contains xs x → p x ≡ true → Contains (filter p xs) x
-of_kept p [] x c t = absurd (omega (arith, c.1))
-of_kept p (y ∷ xs) x c t = go (p y) refl (member_cases y xs x c) (λ rest. of_kept p xs x rest t)
-  where
-    go : (b : Bool) → p y ≡ b → (y ≡ x) ⊎ Contains xs x → (Contains xs x → Contains (filter p xs) x) → Contains (cond b (y ∷ filter p xs) (filter p xs)) x
-    go true e (inl is) rec = subst (Contains (y ∷ filter p xs)) is (member_head y (filter p xs))
-    go true e (inr rest) rec = member_later y (filter p xs) x (rec rest)
-    go false e (inl is) rec = let f : false ≡ true = sym e ∙ ap p is ∙ t in cc
-    go false e (inr rest) rec = rec rest
 
 -- ---- failures but that of the root
 

@@ -1,10 +1,11 @@
 -- What each failure of an area changes in the tables of all its routers.
-use Rattle.std.specs.Prelude.{◌≡◌, ◌↔◌, ◌<◌, ◌^◌, ℕ, true, false, List, [], ◌∷◌, ◌++◌, ◌⊎◌, All, AllPairs, Any, Contains, Err, IfOk, IsPermutation, Vec, codes, count_by, filter, flat_map, length, map, not, string_bytes, sum_by}
+use Rattle.std.specs.Prelude.{◌≡◌, ◌↔◌, ◌<◌, ◌^◌, ℕ, true, false, List, [], ◌∷◌, ◌++◌, ◌⊎◌, All, AllPairs, Any, Contains, IfOk, IsPermutation, Vec, codes, count_by, filter, flat_map, length, map, not, string_bytes, sum_by}
 use Rattle.std.specs.Cmp.Lexicographic.{slice_cmp}
 use Rattle.std.specs.List.Sorted.{IsSorted}
 use Rattle.std.specs.Ordering.{nat_cmp, ordering_then}
 use Rattle.std.specs.declared.cmp.Ordering.{Ordering}
 use Rattle.std.specs.declared.cmp.Reverse.{Reverse}
+use Rattle.std.specs.declared.alloc.AllocError.{AllocError}
 use Rattle.std.specs.declared.alloc.Global.{Global}
 use Rattle.std.specs.declared.result.Result.{Result}
 use Rattle.ospf_base.specs.Text.{number_text}
@@ -13,11 +14,9 @@ use Rattle.ospf_graph.specs.Advertisements.{Advertisement, IsListed}
 use Rattle.ospf_graph.specs.Routes.{IsTable}
 use Rattle.ospf_graph.specs.declared.route.Route.{Route}
 use Rattle.ospf_whatif.specs.Effect.{IsEffect, IsEffectIn}
-use Rattle.ospf_whatif.specs.Failure.{HasLarge, without}
+use Rattle.ospf_whatif.specs.Failure.{without}
 use Rattle.ospf_whatif.specs.Outage.{IsKeptRoot}
 use Rattle.ospf_whatif.specs.Single.{IsFailure, IsFailureBefore}
-use Rattle.ospf_whatif.specs.declared.area.WithoutFault.{WithoutFault}
-use Rattle.ospf_whatif.specs.declared.area.WithoutFault.TheVariants.{Links}
 use Rattle.ospf_whatif.specs.declared.effect.RouteChange.{RouteChange}
 use Rattle.ospf_whatif.specs.declared.failure.AreaFailure.{AreaFailure}
 use Rattle.ospf_whatif.specs.declared.failure.AreaFailure.TheVariants.{Router}
@@ -152,19 +151,18 @@ pub record IsSoFar (left : List Advertisement) (befores : List Before) (wanted :
   pub lines_are : string_bytes o.lines ≡ lines_kept wanted o.failure sights
   pub sights_are : o.sights.items ≡ sights_kept wanted sights
 
--- what is found of one failure: what is told of all routers, or why not
+-- what is found of one failure: what is told of all routers, unless memory runs out
 abbrev pub IsOverallFound : List Advertisement → List Before → RouteDetail → AreaFailure
-    → Result Overall WithoutFault → Type 0
+    → Result Overall AllocError → Type 0
 IsOverallFound adverts befores wanted failure found =
-    IsFailureFound adverts (λ o. o.failure)
+    IsFailureFound (λ o. o.failure)
     (λ f o. IsSoFar (without f adverts) befores wanted (map (λ b. b.root) befores) o) failure found
 
--- what is found of these failures: each of them, in their order, or why not
+-- what is found of these failures: each of them, in their order, unless memory runs out
 pub record AreOverallsFound (adverts : List Advertisement) (befores : List Before)
     (wanted : RouteDetail) (failures : List AreaFailure)
-    (found : Result (Vec Overall Global) WithoutFault) : Type 0 where
+    (found : Result (Vec Overall Global) AllocError) : Type 0 where
   pub failures_are : IfOk found (λ overalls. map (λ o. o.failure) overalls.items ≡ failures)
-  pub large : found ≡ Err Links → HasLarge adverts
   pub seen : IfOk found
       (λ overalls. All
       (λ o. IsSoFar (without o.failure adverts) befores wanted (map (λ b. b.root) befores) o)

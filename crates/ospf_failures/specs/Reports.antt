@@ -1,19 +1,17 @@
 -- What each failure of an area changes in a router's table, and the order in which that is printed.
-use Rattle.std.specs.Prelude.{◌≡◌, ◌↔◌, ◌<◌, ◌==◌, ℕ, Bool, false, List, [], ◌∷◌, All, AllPairs, Any, Contains, Err, IfOk, IsPermutation, flat_map, map}
+use Rattle.std.specs.Prelude.{◌≡◌, ◌↔◌, ◌<◌, ◌==◌, ℕ, Bool, false, List, [], ◌∷◌, All, AllPairs, Any, Contains, IfOk, IsPermutation, flat_map, map}
 use Rattle.std.specs.Cmp.Lexicographic.{slice_cmp}
 use Rattle.std.specs.List.Sorted.{IsSorted}
 use Rattle.std.specs.Ordering.{nat_cmp, ordering_then}
 use Rattle.std.specs.declared.cmp.Ordering.{Ordering}
 use Rattle.std.specs.declared.cmp.Reverse.{Reverse}
+use Rattle.std.specs.declared.alloc.AllocError.{AllocError}
 use Rattle.std.specs.declared.result.Result.{Result}
 use Rattle.ospf_base.specs.declared.ids.RouterId.{RouterId}
 use Rattle.ospf_graph.specs.Advertisements.{Advertisement}
 use Rattle.ospf_graph.specs.declared.route.Route.{Route}
 use Rattle.ospf_whatif.specs.Effect.{IsEffect}
-use Rattle.ospf_whatif.specs.Failure.{HasLarge}
 use Rattle.ospf_whatif.specs.Single.{IsFailure, IsFailureBefore}
-use Rattle.ospf_whatif.specs.declared.area.WithoutFault.{WithoutFault}
-use Rattle.ospf_whatif.specs.declared.area.WithoutFault.TheVariants as cause
 use Rattle.ospf_whatif.specs.declared.failure.AreaFailure.{AreaFailure}
 use Rattle.ospf_whatif.specs.declared.failure.AreaFailure.TheVariants.{Attachment, Link, Links, Network, Router}
 use Rattle.ospf_whatif.specs.declared.effect.RouteChange.{RouteChange}
@@ -94,16 +92,15 @@ HasCut reports = Any (λ r. 0 < (totals_of r.1).cut) reports
 
 -- ---- on the way
 
--- what is found of one failure: what is told of it, which P says, or why not
-pub record IsFailureFound {X : Type 0} (adverts : List Advertisement) (failure_of : X → AreaFailure)
-    (P : AreaFailure → X → Type 0) (failure : AreaFailure) (found : Result X WithoutFault)
+-- what is found of one failure: what is told of it, which P says, unless memory runs out
+pub record IsFailureFound {X : Type 0} (failure_of : X → AreaFailure)
+    (P : AreaFailure → X → Type 0) (failure : AreaFailure) (found : Result X AllocError)
     : Type 0 where
   pub same : IfOk found (λ x. failure_of x ≡ failure)
-  pub large : found ≡ Err cause.Links → HasLarge adverts
   pub seen : IfOk found (P failure)
 
 -- what it changes in the root's table
 abbrev pub IsReportFound : List Advertisement → RouterId → List Route → AreaFailure
-    → Result ReportValue WithoutFault → Type 0
+    → Result ReportValue AllocError → Type 0
 IsReportFound adverts root table failure found =
-    IsFailureFound adverts (λ r. r.0) (λ f r. IsEffect adverts root f table r.1) failure found
+    IsFailureFound (λ r. r.0) (λ f r. IsEffect adverts root f table r.1) failure found

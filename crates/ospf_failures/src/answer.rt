@@ -26,7 +26,6 @@ use ospf_files::{FailedStreams, Failure, Status};
 use ospf_lsa::{Links, Listing, LsaView};
 use ospf_spf::RouteTable;
 use ospf_table::{EntryFault, TableFault, is_unlisted, read_listing};
-use ospf_whatif::WithoutFault;
 use std::alloc::{AllocError, Global};
 use std::io::{BufRead, Write};
 use std::process::ExitCode;
@@ -440,7 +439,6 @@ fn changes_said(
     strict: bool,
     form: FailuresForm,
 ) -> Result<PrintedText, AllocError>
-    requires { HasLarge (advertisements_of listing.now) → ⊥ }
     ensures said { IfOk result (λ said. SaysChanges (advertisements_of listing.now) root each strict
         form (string_bytes said.text) said.end) }
     ensures whole { IfOk result (λ said. IsAllPrinted said.end) }
@@ -451,24 +449,19 @@ fn changes_said(
     Ok(PrintedText { text, end })
 }
 
-// The reports of a listing none of whose routers has too many links.
+// The reports of a listing.
 fn reports_at(
     alloc: Global,
     rt: &(impl Threads + Sync),
     listing: &Listing,
     root: RouterId,
 ) -> Result<Vec<Report>, AllocError>
-    requires { HasLarge (advertisements_of listing.now) → ⊥ }
     ensures { IfOk result (λ printed. (table : List Route)
         × IsTable (advertisements_of listing.now) root table
         × IsReported (advertisements_of listing.now) root table printed.items) }
 {
     let table = RouteTable::of(alloc, listing, root)?;
-    match reports(alloc, rt, listing, root, &table) {
-        Ok(printed) => Ok(printed),
-        Err(WithoutFault::Memory) => Err(AllocError),
-        Err(WithoutFault::Links) => unreachable!(),
-    }
+    reports(alloc, rt, listing, root, &table)
 }
 
 // What each failure changes at all routers.
@@ -481,16 +474,11 @@ fn overalls_said<P: Progress>(
     form: FailuresForm,
     progress: &mut P,
 ) -> Result<PrintedText, AllocError>
-    requires { HasLarge (advertisements_of listing.now) → ⊥ }
     ensures said { IfOk result (λ said. SaysOverall (advertisements_of listing.now) each strict form
         (string_bytes said.text) said.end) }
     ensures whole { IfOk result (λ said. IsAllPrinted said.end) }
 {
-    let printed = match overalls(alloc, rt, listing, detail_of(each, form), progress) {
-        Ok(printed) => printed,
-        Err(WithoutFault::Memory) => return Err(AllocError),
-        Err(WithoutFault::Links) => unreachable!(),
-    };
+    let printed = overalls(alloc, rt, listing, detail_of(each, form), progress)?;
     let text = added_text(alloc, &printed, each, form)?;
     let end = end_of(strict, cuts_somewhere(&printed));
     Ok(PrintedText { text, end })

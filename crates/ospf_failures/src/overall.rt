@@ -1,11 +1,11 @@
 //! What each failure of an area changes in the tables of all its routers.
 
-ghost use Rattle.std.specs.Prelude.{◌≡◌, ◌↔◌, ◌++◌, [], All, Err, IfOk, IsPermutation, IsTrue, OnOk, codes, flat_map, map, string_bytes};
+ghost use Rattle.std.specs.Prelude.{◌≡◌, ◌↔◌, ◌++◌, [], All, IfOk, IsPermutation, IsTrue, OnOk, codes, flat_map, map, string_bytes};
 ghost use Rattle.std.specs.List.Sorted.{IsSorted};
 ghost use Rattle.ospf_base.specs.Text.{number_text};
 ghost use Rattle.ospf_edges.specs.Listed.{advertisements_of};
 ghost use Rattle.ospf_whatif.specs.Effect.{IsEffectIn};
-ghost use Rattle.ospf_whatif.specs.Failure.{HasLarge, without};
+ghost use Rattle.ospf_whatif.specs.Failure.{without};
 ghost use Rattle.ospf_whatif.specs.Outage.{IsAreaGraph, IsOutage};
 ghost use Rattle.ospf_table.specs.Changes.{change_line};
 ghost use Rattle.serde_json.specs.Data.{array};
@@ -20,9 +20,7 @@ use ospf_base::RouterId;
 use ospf_lsa::Listing;
 use ospf_spf::RouteTable;
 use ospf_table::{Sums, add_changes, change_line, counted_members, objects_line, sums_line};
-use ospf_whatif::{
-    AreaFailure, AreaGraph, KeptRoot, Outage, RouteChange, WithoutFault, single_failures,
-};
+use ospf_whatif::{AreaFailure, AreaGraph, KeptRoot, Outage, RouteChange, single_failures};
 use rayon::prelude::*;
 use serde_json::{Value, put};
 use std::alloc::{AllocError, Global};
@@ -72,17 +70,16 @@ pub struct Overall {
 /// in the order in which it is printed: as `reports` has it for one root, by the sums over the
 /// routers, with the routes that the detail asks for. It is told how far the failures have come.
 ///
-/// `Links` or `Memory` as `Outage::of` has it.
+/// `AllocError` where memory runs out.
 pub fn overalls<P: Progress>(
     alloc: Global,
     rt: &(impl Threads + Sync),
     listing: &Listing,
     detail: RouteDetail,
     progress: &mut P,
-) -> Result<Vec<Overall>, WithoutFault>
-    ensures printed { IfOk result (λ printed. AreOveralls (advertisements_of listing.now) detail
+) -> Result<Vec<Overall>, AllocError>
+    ensures { IfOk result (λ printed. AreOveralls (advertisements_of listing.now) detail
         printed.items) }
-    ensures large { result ≡ Err WithoutFault.Links → HasLarge (advertisements_of listing.now) }
 {
     let failures = single_failures(alloc, listing)?;
     let area = AreaGraph::of(alloc, listing)?;
@@ -194,7 +191,7 @@ fn overalls_of<P: Progress>(
     befores: &[Before],
     detail: RouteDetail,
     progress: &mut P,
-) -> Result<Vec<Overall>, WithoutFault>
+) -> Result<Vec<Overall>, AllocError>
     requires graph { IsAreaGraph (advertisements_of at.0.now) at.1.now }
     requires tables { All (IsTableBefore (advertisements_of at.0.now)) befores.now }
     ensures { AreOverallsFound (advertisements_of at.entry.0.now) befores.now detail failures.now
@@ -222,7 +219,7 @@ fn part_of(
     failures: &[AreaFailure],
     befores: &[Before],
     detail: RouteDetail,
-) -> Result<Vec<Overall>, WithoutFault>
+) -> Result<Vec<Overall>, AllocError>
     requires graph { IsAreaGraph (advertisements_of listing.now) area.now }
     requires tables { All (IsTableBefore (advertisements_of listing.now)) befores.now }
     ensures { AreOverallsFound (advertisements_of listing.now) befores.now detail failures.now
@@ -232,7 +229,7 @@ fn part_of(
         .par_iter()
         .with_min_len(1)
         .map(
-            |failure: &AreaFailure| -> Result<Overall, WithoutFault>
+            |failure: &AreaFailure| -> Result<Overall, AllocError>
                 requires graph { IsAreaGraph (advertisements_of listing.now) area.now }
                 requires tables { All (IsTableBefore (advertisements_of listing.now)) befores.now }
                 ensures { IsOverallFound (advertisements_of listing.entry.now) befores.entry.now
@@ -240,7 +237,7 @@ fn part_of(
                     failure.now result }
             { overall_of(alloc, listing, area, failure, befores, detail) },
         )
-        .collect::<Result<Vec<Overall>, WithoutFault>>(rt, alloc)?
+        .collect::<Result<Vec<Overall>, AllocError>>(rt, alloc)?
 }
 
 // What a failure changes in the tables of all routers.
@@ -251,12 +248,12 @@ fn overall_of(
     failure: &AreaFailure,
     befores: &[Before],
     detail: RouteDetail,
-) -> Result<Overall, WithoutFault>
+) -> Result<Overall, AllocError>
     requires graph { IsAreaGraph (advertisements_of listing.now) area.now }
     requires tables { All (IsTableBefore (advertisements_of listing.now)) befores.now }
     ensures { IsOverallFound (advertisements_of listing.now) befores.now detail failure.now result }
 {
-    let outage = Outage::of(alloc, listing, area, failure)?;
+    let outage = Outage::of(alloc, listing, failure)?;
     let overall = overall_in(alloc, listing, area, &outage, *failure, befores, detail)?;
     Ok(overall)
 }

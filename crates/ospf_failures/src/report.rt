@@ -1,11 +1,10 @@
 //! What the failures of an area change in a router's table.
 
-ghost use Rattle.std.specs.Prelude.{◌≡◌, ◌↔◌, All, AllPairs, Contains, Err, IfOk, IsPermutation, IsTrue, map, string_bytes};
+ghost use Rattle.std.specs.Prelude.{◌≡◌, ◌↔◌, All, AllPairs, Contains, IfOk, IsPermutation, IsTrue, map, string_bytes};
 ghost use Rattle.std.specs.List.Sorted.{IsSorted};
 ghost use Rattle.ospf_graph.specs.Routes.{IsTable};
 ghost use Rattle.ospf_edges.specs.Listed.{advertisements_of};
 ghost use Rattle.ospf_whatif.specs.Effect.{IsEffect};
-ghost use Rattle.ospf_whatif.specs.Failure.{HasLarge};
 ghost use Rattle.ospf_whatif.specs.Outage.{IsAreaGraph, IsKeptRoot};
 ghost use Rattle.ospf_whatif.specs.Single.{IsFailureBefore};
 ghost use Rattle.ospf_whatif.specs.declared.failure.AreaFailure.{AreaFailure};
@@ -16,9 +15,7 @@ use ospf_base::RouterId;
 use ospf_lsa::Listing;
 use ospf_spf::RouteTable;
 use ospf_table::{Totals, add_changes, counted_members, failure_lines, objects_line};
-use ospf_whatif::{
-    AreaFailure, AreaGraph, KeptRoot, Outage, RouteChange, WithoutFault, single_failures,
-};
+use ospf_whatif::{AreaFailure, AreaGraph, KeptRoot, Outage, RouteChange, single_failures};
 use rayon::prelude::*;
 use serde_json::{Value, put};
 use std::alloc::{AllocError, Global};
@@ -120,18 +117,17 @@ impl Report {
 /// most dearer, then what moves most; where these are equal, links in subnets, other links,
 /// attachments, networks and routers, each by Router IDs and addresses.
 ///
-/// `Links` or `Memory` as `Outage::of` has it.
+/// `AllocError` where memory runs out.
 pub fn reports(
     alloc: Global,
     rt: &(impl Threads + Sync),
     listing: &Listing,
     root: RouterId,
     table: &RouteTable,
-) -> Result<Vec<Report>, WithoutFault>
+) -> Result<Vec<Report>, AllocError>
     requires { IsTable (advertisements_of listing.now) root table.now }
-    ensures reported { IfOk result (λ reports. IsReported (advertisements_of listing.now) root
+    ensures { IfOk result (λ reports. IsReported (advertisements_of listing.now) root
         table.now reports.items) }
-    ensures large { result ≡ Err WithoutFault.Links → HasLarge (advertisements_of listing.now) }
 {
     let failures = other_failures(alloc, listing, root)?;
     let area = AreaGraph::of(alloc, listing)?;
@@ -238,13 +234,12 @@ fn reports_of(
     kept: &KeptRoot,
     table: &RouteTable,
     failures: &[AreaFailure],
-) -> Result<Vec<Report>, WithoutFault>
+) -> Result<Vec<Report>, AllocError>
     requires graph { IsAreaGraph (advertisements_of listing.now) area.now }
     requires kept { IsKeptRoot (advertisements_of listing.now) kept.now }
     requires table { IsTable (advertisements_of listing.now) kept.now.root table.now }
     // One report a failure, in their order, each with what that changes in the table.
     ensures failures { IfOk result (λ reports. map (λ r. r.0) reports.items ≡ failures.now) }
-    ensures large { result ≡ Err WithoutFault.Links → HasLarge (advertisements_of listing.now) }
     ensures changed { IfOk result (λ reports. All (λ r. IsEffect (advertisements_of listing.now)
         kept.now.root r.0 table.now r.1) reports.items) }
 {
@@ -252,7 +247,7 @@ fn reports_of(
         .par_iter()
         .with_min_len(1)
         .map(
-            |failure: &AreaFailure| -> Result<Report, WithoutFault>
+            |failure: &AreaFailure| -> Result<Report, AllocError>
                 requires graph { IsAreaGraph (advertisements_of listing.now) area.now }
                 requires kept { IsKeptRoot (advertisements_of listing.now) kept.now }
                 requires table { IsTable (advertisements_of listing.now) kept.now.root table.now }
@@ -260,7 +255,7 @@ fn reports_of(
                     table.entry.now failure.now result }
             { report_of(alloc, listing, area, kept, table, failure) },
         )
-        .collect::<Result<Vec<Report>, WithoutFault>>(rt, alloc)?
+        .collect::<Result<Vec<Report>, AllocError>>(rt, alloc)?
 }
 
 // What a failure changes in the root's table.
@@ -271,14 +266,14 @@ fn report_of(
     kept: &KeptRoot,
     table: &RouteTable,
     failure: &AreaFailure,
-) -> Result<Report, WithoutFault>
+) -> Result<Report, AllocError>
     requires graph { IsAreaGraph (advertisements_of listing.now) area.now }
     requires kept { IsKeptRoot (advertisements_of listing.now) kept.now }
     requires table { IsTable (advertisements_of listing.now) kept.now.root table.now }
     ensures { IsReportFound (advertisements_of listing.now) kept.now.root table.now failure.now
         result }
 {
-    let outage = Outage::of(alloc, listing, area, failure)?;
+    let outage = Outage::of(alloc, listing, failure)?;
     let changes = kept.effect(alloc, listing, area, &outage, table)?;
     Ok(Report::of(*failure, changes))
 }

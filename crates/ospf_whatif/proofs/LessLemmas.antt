@@ -1,5 +1,5 @@
 -- A failure only takes away: edges and ends of the area after it are edges and ends of the area before it.
-use Rattle.std.proofs.Common.{◌≡◌, ◌↔◌, ◌+◌, ◌≤◌, ℕ, ◌⊎◌, Bool, true, eqb-true, List, [], ◌∷◌, map, not, None, Some, refl, sym, ◌∙◌, ap, subst, inl, inr, arith}
+use Rattle.std.proofs.Common.{◌≡◌, ◌↔◌, ◌+◌, ◌≤◌, ℕ, ◌⊎◌, Bool, true, cond, eqb-true, false, List, [], ◌∷◌, map, not, None, Some, refl, sym, ◌∙◌, ap, subst, inl, inr, arith}
 use Rattle.std.specs.List.{Contains, filter}
 use Rattle.std.proofs.lemmas.List.Elements.{All-contains}
 use Rattle.ospf_base.specs.declared.ids.RouterId.{RouterId}
@@ -19,7 +19,7 @@ use Rattle.ospf_graph.specs.Tree.{IsTree}
 use Rattle.ospf_graph.specs.Search.{AtIn, StartsIn}
 use Rattle.ospf_graph.specs.declared.paths.Settled.{Settled}
 use Rattle.ospf_graph.specs.declared.paths.VertexStart.{VertexStart}
-use Rattle.ospf_graph.proofs.ListLemmas.{bool_cases, member_cases, member_later, member_of_map, member_to_map}
+use Rattle.ospf_graph.proofs.ListLemmas.{bool_cases, member_cases, member_head, member_later, member_of_map, member_to_map}
 use Rattle.ospf_graph.proofs.TreeLemmas.{IsPath-map, at_end}
 use Rattle.ospf_whatif.specs.Failure.{left_of_lsa, kept_links, takes, without}
 use Rattle.ospf_whatif.specs.Laws.{IsOffLeastPaths}
@@ -28,7 +28,7 @@ use Rattle.ospf_whatif.specs.declared.failure.AreaFailure.TheVariants as fails
 
 -- ---- links of a router to one network: a failure takes all of them or none
 
-transit_taken : (f : AreaFailure) (r : RouterId) (n id link_data metric : ℕ) (k : LinkKind)
+pub transit_taken : (f : AreaFailure) (r : RouterId) (n id link_data metric : ℕ) (k : LinkKind)
     → is_transit_to n (record { id = id; link_data = link_data; kind = k; metric = metric }) ≡ true
     → takes f r (record { id = id; link_data = link_data; kind = k; metric = metric }) ≡ takes f r (record { id = n; link_data = 0; kind = kind.Transit; metric = 0 })
 transit_taken f r n id link_data metric kind.PointToPoint is = absurd (cc)
@@ -41,13 +41,13 @@ transit_taken (fails.Network m) r n id link_data metric kind.Transit is = let sa
 transit_taken (fails.Router q) r n id link_data metric kind.Transit is = refl
 
 module _ (f : AreaFailure) (r : RouterId) (n : ℕ) where
-  abbrev On : Bool
+  abbrev pub On : Bool
   On = takes f r (record { id = n; link_data = 0; kind = kind.Transit; metric = 0 })
 
   taken_is : (l : Link) → is_transit_to n l ≡ true → takes f r l ≡ On
   taken_is l is = transit_taken f r n l.id l.link_data l.metric l.kind is
 
-  none_left : On ≡ true → (links : List Link) → transit_address n (kept_links f r links) ≡ None
+  pub none_left : On ≡ true → (links : List Link) → transit_address n (kept_links f r links) ≡ None
   none_left all [] = refl
   none_left all (l ∷ rest) =
       elim (bool_cases (takes f r l)) [
@@ -55,6 +55,20 @@ module _ (f : AreaFailure) (r : RouterId) (n : ℕ) where
         | inr stays ↦ elim (bool_cases (is_transit_to n l)) [
           | inl is ↦ absurd (let other : takes f r l ≡ true = taken_is l is ∙ all in cc)
           | inr other ↦ rw (stays, other) (none_left all rest)
+        ]
+      ]
+
+  pub address_stays : On ≡ false → (links : List Link) → transit_address n (kept_links f r links) ≡ transit_address n links
+  address_stays none [] = refl
+  address_stays none (l ∷ rest) =
+      elim (bool_cases (takes f r l)) [
+        | inl goes ↦ elim (bool_cases (is_transit_to n l)) [
+          | inl is ↦ absurd (let other : takes f r l ≡ false = taken_is l is ∙ none in cc)
+          | inr other ↦ rw (goes, other) (address_stays none rest)
+        ]
+        | inr stays ↦ elim (bool_cases (is_transit_to n l)) [
+          | inl is ↦ rw (stays, is) refl
+          | inr other ↦ rw (stays, other) (address_stays none rest)
         ]
       ]
 
@@ -72,16 +86,28 @@ module _ (f : AreaFailure) (r : RouterId) (n : ℕ) where
         ]
       ]
 
-filter_of : {X : Type 0} (p : X → Bool) (xs : List X) (x : X) → Contains (filter p xs) x → Contains xs x
-filter_of p [] x h = h
-filter_of p (y ∷ ys) x h =
-    elim (bool_cases (p y)) [
-      | inl pass ↦ elim (member_cases y (filter p ys) x (rw pass at h)) [
-        | inl same ↦ (0, omega arith, same)
-        | inr later ↦ member_later y ys x (filter_of p ys x later)
-      ]
-      | inr off ↦ member_later y ys x (filter_of p ys x (rw off at h))
+-- ---- what a test lets through, and nothing else, stays in a filter
+
+pub kept_of : {X : Type 0} (p : X → Bool) (xs : List X) (x : X) → Contains (filter p xs) x → Contains xs x × (p x ≡ true)
+kept_of p [] x c = absurd (omega (arith, c.1))
+kept_of p (y ∷ xs) x c = go (p y) refl c (kept_of p xs x)
+  where
+    go : (b : Bool) → p y ≡ b → Contains (cond b (y ∷ filter p xs) (filter p xs)) x → (Contains (filter p xs) x → Contains xs x × (p x ≡ true)) → Contains (y ∷ xs) x × (p x ≡ true)
+    go false e c rec = let r = rec c in (member_later y xs x r.0, r.1)
+    go true e c rec = elim (member_cases y (filter p xs) x c) [
+      | inl is ↦ (subst (Contains (y ∷ xs)) is (member_head y xs), ap p (sym is) ∙ e)
+      | inr rest ↦ let r = rec rest in (member_later y xs x r.0, r.1)
     ]
+
+pub of_kept : {X : Type 0} (p : X → Bool) (xs : List X) (x : X) → Contains xs x → p x ≡ true → Contains (filter p xs) x
+of_kept p [] x c t = absurd (omega (arith, c.1))
+of_kept p (y ∷ xs) x c t = go (p y) refl (member_cases y xs x c) (λ rest. of_kept p xs x rest t)
+  where
+    go : (b : Bool) → p y ≡ b → (y ≡ x) ⊎ Contains xs x → (Contains xs x → Contains (filter p xs) x) → Contains (cond b (y ∷ filter p xs) (filter p xs)) x
+    go true e (inl is) rec = subst (Contains (y ∷ filter p xs)) is (member_head y (filter p xs))
+    go true e (inr rest) rec = member_later y (filter p xs) x (rec rest)
+    go false e (inl is) rec = let f : false ≡ true = sym e ∙ ap p is ∙ t in cc
+    go false e (inr rest) rec = rec rest
 
 -- ---- an area and what a failure leaves of it
 
@@ -89,7 +115,7 @@ module _ (f : AreaFailure) (A : List Advertisement) where
   abbrev B : List Advertisement
   B = map (left_of_lsa f) A
 
-  router_back : (r : RouterId) (links : List Link) → Contains B (router_lsa r links)
+  pub router_back : (r : RouterId) (links : List Link) → Contains B (router_lsa r links)
       → (all : List Link) × Contains A (router_lsa r all) × (kept_links f r all ≡ links)
   router_back r links h = let m = member_of_map (left_of_lsa f) A _ h in router_is m.0 m.1 m.2
     where
@@ -100,14 +126,14 @@ module _ (f : AreaFailure) (A : List Advertisement) where
           (all, subst (λ x. Contains A (router_lsa x all)) same m, subst (λ x. kept_links f x all ≡ links) same left)
       router_is (network_lsa n q mask attached) m e = cc
 
-  network_back : (n : ℕ) (r : RouterId) (mask : ℕ) (attached : List RouterId) → Contains B (network_lsa n r mask attached) → Contains A (network_lsa n r mask attached)
+  pub network_back : (n : ℕ) (r : RouterId) (mask : ℕ) (attached : List RouterId) → Contains B (network_lsa n r mask attached) → Contains A (network_lsa n r mask attached)
   network_back n r mask attached h = let m = member_of_map (left_of_lsa f) A _ h in network_is m.0 m.1 m.2
     where
       network_is : (x : Advertisement) → Contains A x → left_of_lsa f x ≡ network_lsa n r mask attached → Contains A (network_lsa n r mask attached)
       network_is (router_lsa q all) m e = cc
       network_is (network_lsa k q other names) m e = rw (← e) m
 
-  network_to : (n : ℕ) (r : RouterId) (mask : ℕ) (attached : List RouterId) → Contains A (network_lsa n r mask attached) → Contains B (network_lsa n r mask attached)
+  pub network_to : (n : ℕ) (r : RouterId) (mask : ℕ) (attached : List RouterId) → Contains A (network_lsa n r mask attached) → Contains B (network_lsa n r mask attached)
   network_to n r mask attached h = member_to_map (left_of_lsa f) A (network_lsa n r mask attached) h
 
   listed_from : (r : RouterId) → IsListed B r → IsListed A r
@@ -120,7 +146,7 @@ module _ (f : AreaFailure) (A : List Advertisement) where
   link_from r k id link_data metric h =
       let x = router_back r h.links h.listed in
       let link : Link = record { id = id; link_data = link_data; kind = k; metric = metric } in
-      record { links = x.0; listed = x.1; link_in = filter_of (λ l. not (takes f r l)) x.0 link (subst (λ l. Contains l link) (sym x.2) h.link_in) }
+      record { links = x.0; listed = x.1; link_in = (kept_of (λ l. not (takes f r l)) x.0 link (subst (λ l. Contains l link) (sym x.2) h.link_in)).0 }
 
   network_from : (n mask : ℕ) (attached : List RouterId) → IsNetwork B n mask attached → IsNetwork A n mask attached
   network_from n mask attached h =
@@ -138,7 +164,7 @@ module _ (f : AreaFailure) (A : List Advertisement) where
       let x = router_back r h.links h.listed in
       record { links = x.0; listed = x.1; first = address_kept f r n x.0 address (ap (λ l. transit_address n l) x.2 ∙ h.first) }
 
-  edge_from : (from to : Vertex) (cost address : ℕ) → IsEdgeBetween B from to cost address → IsEdgeBetween A from to cost address
+  pub edge_from : (from to : Vertex) (cost address : ℕ) → IsEdgeBetween B from to cost address → IsEdgeBetween A from to cost address
   edge_from (vertex.Router a) (vertex.Router b) cost address e =
       (link_from a kind.PointToPoint b.0 address cost e.0, e.1, e.2, link_from b kind.PointToPoint a.0 e.1 e.2 e.3)
   edge_from (vertex.Router a) (vertex.Network n) cost address e = (link_from a kind.Transit n address cost e.0, attached_from n a e.1)

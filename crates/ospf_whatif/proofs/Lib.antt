@@ -1,6 +1,7 @@
 pub mod WithoutLemmas
 pub mod LessLemmas
 pub mod SingleLemmas
+pub mod LostLemmas
 pub mod OutageLemmas
 pub mod EffectLemmas
 pub mod FailureOrder

@@ -1,5 +1,5 @@
 -- What a failure takes from the graph of an area, and which routes stay.
-use Rattle.std.proofs.Common.{◌≡◌, ◌↔◌, ◌+◌, ◌++◌, ◌∷◌, ◌<◌, ℕ, Bool, true, false, List, [], IsTrue, Some, length, take, get_or, refl, sym, ap, subst, ◌∙◌, inl, inr, arith}
+use Rattle.std.proofs.Common.{◌≡◌, ◌↔◌, ◌+◌, ◌++◌, ◌∷◌, ◌<◌, ℕ, Bool, true, false, List, [], IsTrue, Some, length, take, get_or, refl, sym, ap, subst, ◌∙◌, inl, inr}
 use Rattle.std.specs.List.{All, Contains}
 use Rattle.std.proofs.lemmas.List.{take_more}
 use Rattle.std.proofs.lemmas.List.Elements.{All-push, Contains-append_left, Contains-push, Contains-push_cases}
@@ -25,7 +25,8 @@ use Rattle.ospf_edges.specs.Given.{IsEdgesOf}
 use Rattle.ospf_spf.proofs.RouteFrame.{IsKeptHere, kept_routes}
 use Rattle.ospf_whatif.specs.Failure.{without}
 use Rattle.ospf_whatif.specs.Laws.{IsOffLeastPaths}
-use Rattle.ospf_whatif.specs.Outage.{AreMissing, HasOtherFrom, IsAreaGraph, IsLeftOver, IsOutage, IsToldBy, MayChange, StandsIn, left_of_area}
+use Rattle.ospf_whatif.specs.Lost.{AreEdgesLost, AreEndsLost}
+use Rattle.ospf_whatif.specs.Outage.{AreLost, AreMissing, HasOtherFrom, IsAreaGraph, IsLeftOver, IsOutage, IsToldBy, MayChange, StandsIn, left_of_area}
 use Rattle.ospf_whatif.specs.Told.{IsAdvertised, IsLive}
 use Rattle.ospf_whatif.specs.declared.failure.AreaFailure.{AreaFailure}
 use Rattle.ospf_whatif.specs.declared.outage.AreaGraph.{AreaGraph}
@@ -34,35 +35,25 @@ use Rattle.ospf_whatif.proofs.LessLemmas.{failures_leave_listed, failures_make_n
 
 -- ---- lists
 
-pub missing_start : {X : Type 0} (after : List X) → AreMissing [] after []
-missing_start after = record { within = λ x m. absurd (let low = m.1 in omega arith); all = λ x m. absurd (let low = m.1 in omega arith) }
-
-module _ {X : Type 0} (before after : List X) (i : ℕ) (x : X) (lt : i < length before) (missing : List X) (are : AreMissing (take i before) after missing) where
-  pub missing_none : Contains after (get_or before i x) → AreMissing (take (i + 1) before) after missing
-  missing_none there = record {
+module _ {X : Type 0} (before : List X) (After : X → Type 0) (i : ℕ) (x : X) (lt : i < length before) (is : x ≡ get_or before i x) (lost : List X)
+    (are : AreLost (Contains (take i before)) After lost) where
+  pub lost_none : After x → AreLost (Contains (take (i + 1) before)) After lost
+  lost_none there = record {
     within = λ y m. let w = are.within y m in ((more_members before i x lt y).1 (inl w.0), w.1);
-    all = λ y m. elim ((more_members before i x lt y).0 m) [ inl earlier ↦ are.all y earlier | inr same ↦ inr (subst (λ z. Contains after z) same there) ];
+    all = λ y m. elim ((more_members before i x lt y).0 m) [ inl earlier ↦ are.all y earlier | inr same ↦ inr (subst After (is ∙ same) there) ];
   }
 
-  pub missing_more : (Contains after (get_or before i x) → ⊥) → AreMissing (take (i + 1) before) after (missing ++ get_or before i x ∷ [])
-  missing_more not = record {
-    within = λ y m. elim (Contains-push_cases missing (get_or before i x) y m) [
+  pub lost_more : (After x → ⊥) → AreLost (Contains (take (i + 1) before)) After (lost ++ x ∷ [])
+  lost_more not = record {
+    within = λ y m. elim (Contains-push_cases lost x y m) [
       | inl old ↦ (let w = are.within y old in ((more_members before i x lt y).1 (inl w.0), w.1))
-      | inr same ↦ ((more_members before i x lt y).1 (inr same), subst (λ z. Contains after z → ⊥) same not)
+      | inr same ↦ ((more_members before i x lt y).1 (inr (sym is ∙ same)), subst (λ z. After z → ⊥) same not)
     ];
     all = λ y m. elim ((more_members before i x lt y).0 m) [
-      | inl earlier ↦ elim (are.all y earlier) [ inl old ↦ inl (Contains-append_left missing (get_or before i x ∷ []) y old) | inr there ↦ inr there ]
-      | inr same ↦ inl (subst (λ z. Contains (missing ++ get_or before i x ∷ []) z) same (Contains-push missing (get_or before i x)))
+      | inl earlier ↦ elim (are.all y earlier) [ inl old ↦ inl (Contains-append_left lost (x ∷ []) y old) | inr there ↦ inr there ]
+      | inr same ↦ inl (subst (λ z. Contains (lost ++ x ∷ []) z) (is ∙ same) (Contains-push lost x))
     ];
   }
-
-module _ {X : Type 0} (before after : List X) (i : ℕ) (x : X) (lt : i < length before) (is : x ≡ get_or before i x) (missing : List X) (are : AreMissing (take i before) after missing) where
-  pub missing_none_at : Contains after x → AreMissing (take (i + 1) before) after missing
-  missing_none_at there = missing_none before after i x lt missing are (subst (λ z. Contains after z) is there)
-
-  pub missing_more_at : (Contains after x → ⊥) → AreMissing (take (i + 1) before) after (missing ++ x ∷ [])
-  missing_more_at not =
-      subst (λ z. AreMissing (take (i + 1) before) after (missing ++ z ∷ [])) (sym is) (missing_more before after i x lt missing are (subst (λ z. Contains after z → ⊥) is not))
 
 -- of the edges in order all are found that leave a vertex
 pub from_all : (v : Vertex) (edges some : List Edge) → HaveSameFrom v edges some → (e : Edge) → Contains edges e → e.from ≡ v → Contains some e
@@ -72,24 +63,12 @@ from_all v edges some same e m at =
 
 -- ---- what a failure takes
 
-pub outage_is : (f : AreaFailure) (A B : List Advertisement) → B ≡ without f A → (before after : AreaGraph) → IsAreaGraph A before → IsAreaGraph B after → (o : Outage)
-    → o.failure ≡ f → AreMissing before.edges.items after.edges.items o.edges.items → AreMissing before.ends.items after.ends.items o.ends.items → IsOutage A o
-outage_is f A B left before after was is o of edges ends =
-    let same : B ≡ left_of_area A o = left ∙ ap (λ (g : AreaFailure). without g A) (sym of) in
-    record {
-      edges_gone = λ e m. let w = edges.within e m in
-          ((was.edges_are e).0 w.0, (λ there. w.1 ((is.edges_are e).1 (subst (λ (l : List Advertisement). IsEdge l e) (sym same) there))));
-      edges_or = λ e there. elim (edges.all e ((was.edges_are e).1 there)) [
-        | inl gone ↦ inl gone
-        | inr stays ↦ inr (subst (λ (l : List Advertisement). IsEdge l e) same ((is.edges_are e).0 stays))
-      ];
-      ends_gone = λ e m. let w = ends.within e m in
-          ((was.ends_are e).0 w.0, (λ there. w.1 ((is.ends_are e).1 (subst (λ (l : List Advertisement). StandsIn l e) (sym same) there))));
-      ends_or = λ e there. elim (ends.all e ((was.ends_are e).1 there)) [
-        | inl gone ↦ inl gone
-        | inr stays ↦ inr (subst (λ (l : List Advertisement). StandsIn l e) same ((is.ends_are e).0 stays))
-      ];
-    }
+pub outage_is : (f : AreaFailure) (A : List Advertisement) (o : Outage) → o.failure ≡ f → AreEdgesLost A f o.edges.items → AreEndsLost A f o.ends.items → IsOutage A o
+outage_is f A o of edges ends =
+    let same : without f A ≡ left_of_area A o = ap (λ (g : AreaFailure). without g A) (sym of) in
+    let edges : AreLost (IsEdge A) (IsEdge (left_of_area A o)) o.edges.items = subst (λ (l : List Advertisement). AreLost (IsEdge A) (IsEdge l) o.edges.items) same edges in
+    let ends : AreLost (StandsIn A) (StandsIn (left_of_area A o)) o.ends.items = subst (λ (l : List Advertisement). AreLost (StandsIn A) (StandsIn l) o.ends.items) same ends in
+    record { edges_gone = edges.within; edges_or = edges.all; ends_gone = ends.within; ends_or = ends.all }
 
 -- the tree over the edges of an area
 pub tree_over : (A : List Advertisement) (root : RouterId) (k : KeptTree) → k.root ≡ Router root → IsEdgesOf A k.edges → IsKeptTree k

@@ -1,23 +1,50 @@
 -- Single failures of an area, as they are found in lists of edges and ends.
-use Rattle.std.proofs.Common.{◌≡◌, ◌+◌, ◌<◌, ◌≤◌, ◌↔◌, ◌⊎◌, ◌∙◌, ℕ, zero, suc, List, [], map, take, length, get_or, refl, sym, subst, inl, inr, arith}
+use Rattle.std.proofs.Common.{◌≡◌, ◌+◌, ◌<◌, ◌≤◌, ◌↔◌, ◌⊎◌, ◌∙◌, ◌^◌, ℕ, zero, suc, Bool, List, [], IsTrue, None, Some, map, take, length, get_or, ap, refl, sym, subst, inl, inr, arith}
 use Rattle.std.specs.List.{Contains}
+use Rattle.std.specs.List.Sorted.{IsPermutation}
+use Rattle.std.specs.Prelude.{MatchOption, Option, bit_and}
+use Rattle.std.proofs.lemmas.List.Sorted.{Contains-permutation, IsPermutation-sym}
+use Rattle.ospf_base.specs.Masks.{mask_of}
 use Rattle.ospf_base.specs.declared.ids.RouterId.{RouterId}
 use Rattle.ospf_base.specs.declared.prefix.Prefix.{Prefix}
+use Rattle.ospf_base.proofs.PrefixLaws.{prefix_same}
 use Rattle.ospf_graph.specs.declared.graph.Edge.{Edge}
 use Rattle.ospf_graph.specs.declared.graph.Vertex.{Vertex}
 use Rattle.ospf_graph.specs.declared.graph.Vertex.TheVariants as vertex
 use Rattle.ospf_graph.specs.Advertisements.{Advertisement, router_lsa, network_lsa}
 use Rattle.ospf_graph.specs.Graph.{IsEdgeBetween}
+use Rattle.ospf_graph.specs.Pairs.{pair_code}
 use Rattle.ospf_graph.specs.Routes.{IsEnd}
+use Rattle.ospf_graph.specs.Search.{AreFitEdges, HaveSameFrom, vertex_id}
 use Rattle.ospf_graph.proofs.ListLemmas.{member_of_map, member_to_map, more_members}
 use Rattle.ospf_edges.specs.Listed.{advertisement_of, advertisements_of}
 use Rattle.ospf_edges.specs.declared.end.End.{End}
 use Rattle.std.proofs.lemmas.List.{get_or_default}
-use Rattle.ospf_edges.specs.Given.{Adds, IsEdgesOf, IsEndsOf}
+use Rattle.ospf_edges.specs.Given.{Adds, AreEndsAt, IsEdgesOf}
 use Rattle.ospf_edges.proofs.AddsLemmas.{adds_next}
-use Rattle.ospf_whatif.specs.Single.{AttachmentGiven, EdgeGiven, GivenBy, HasLonger, HasWire, IsFailure, IsOn, IsShared, IsSharedIn, IsWire, IsWireBetween, LinksGiven, NetworkGiven, RouterGiven, WireGiven}
+use Rattle.ospf_whatif.specs.Single.{AttachmentGiven, EdgeGiven, GivenBy, HasEndFor, IsFailure, IsLongestOf, IsLongestSuch, IsOn, IsPairOf, IsShared, IsSharedIn, IsWire, IsWireAt, LinksGiven, NetworkGiven, RouterGiven, WireGiven}
 use Rattle.ospf_whatif.specs.declared.failure.AreaFailure.{AreaFailure}
 use Rattle.ospf_whatif.specs.declared.failure.AreaFailure.TheVariants.{Attachment, Link, Links, Network, Router}
+use Rattle.ospf_whatif.proofs.OutageLemmas.{from_all}
+
+-- ---- what is added
+
+pub adds_at : {X Y : Type 0} (P : X → Y → Type 0) (xs : List X) (i : ℕ) (d : X) (old mid new : List Y) → i < length xs → Adds (GivenBy P (take i xs)) old mid
+    → Adds (P (get_or xs i d)) mid new → Adds (GivenBy P (take (i + 1) xs)) old new
+adds_at P xs i d old mid new within before here = adds_next P xs i (get_or xs i d) old mid new within (get_or_default xs i d _ within) before here
+
+-- the same in another order
+pub adds_sorted : {X : Type 0} (P : X → Type 0) (old list sorted : List X) → IsPermutation list sorted → Adds P old list → Adds P old sorted
+adds_sorted P old list sorted same adds x = (
+  λ m. (adds x).0 (Contains-permutation sorted list x (IsPermutation-sym list sorted same) m),
+  λ either. Contains-permutation list sorted x same ((adds x).1 either),
+)
+
+-- what stands for an edge past the end of a list
+abbrev pub no_edge : Edge
+no_edge = record { to = vertex.Network 0; from = vertex.Network 0; cost = 0; link_data = 0 }
+
+-- ---- what edges give beside links in subnets
 
 pub one_attachment : (e : Edge) (r : RouterId) (n : ℕ) → e.from ≡ vertex.Router r → e.to ≡ vertex.Network n → (f : AreaFailure)
     → (f ≡ Attachment r n) ↔ AttachmentGiven e f
@@ -33,64 +60,99 @@ one_network e r n from to f = (
   λ g. let b = g.3 in let d = g.4 in cc,
 )
 
--- one more that is no link of the two routers
-pub wires_more : (wires : List AreaFailure) (i : ℕ) (x : AreaFailure) (a b : RouterId) → i < length wires → (HasWire (take i wires) a b → ⊥)
-    → (((subnet : Prefix) × (get_or wires i x ≡ Link a b subnet)) → ⊥) → HasWire (take (i + 1) wires) a b → ⊥
-wires_more wires i x a b within none not h =
-    elim ((more_members wires i x within (Link a b h.0)).0 h.1) [
-      | inl old ↦ none (h.0, old)
-      | inr here ↦ not (h.0, here)
-    ]
-
-pub one_links : (wires : List AreaFailure) (e : Edge) (a b : RouterId) → e.from ≡ vertex.Router a → e.to ≡ vertex.Router b → a.0 < b.0 → (HasWire wires a b → ⊥)
-    → (f : AreaFailure) → (f ≡ Links a b) ↔ LinksGiven wires e f
-one_links wires e a b from to less none f = (
+pub one_links : (wired : List ℕ) (e : Edge) (a b : RouterId) → e.from ≡ vertex.Router a → e.to ≡ vertex.Router b → a.0 < b.0 → (Contains wired (pair_code a.0 b.0) → ⊥)
+    → (f : AreaFailure) → (f ≡ Links a b) ↔ LinksGiven wired e f
+one_links wired e a b from to less none f = (
   λ is. (a, b, from, to, less, none, is),
   λ g. let d = g.2 in let h = g.3 in let k = g.6 in cc,
 )
 
--- none where there is a link in a subnet, or the second router is the smaller
-pub no_links : (wires : List AreaFailure) (e : Edge) (a b : RouterId) → e.from ≡ vertex.Router a → e.to ≡ vertex.Router b → ((a.0 < b.0) → (HasWire wires a b → ⊥) → ⊥)
-    → (f : AreaFailure) → LinksGiven wires e f → ⊥
-no_links wires e a b from to not f g =
-    let d = g.2 in
-    let h = g.3 in
-    let one : g.0 ≡ a = cc in
-    let two : g.1 ≡ b = cc in
-    not (subst (λ x. x.0 < b.0) one (subst (λ x. g.0.0 < x.0) two g.4)) (λ has. g.5 (subst (λ x. HasWire wires x g.1) (sym one) (subst (λ x. HasWire wires a x) (sym two) has)))
+-- ---- the link of an edge in a subnet
 
-pub adds_at : {X Y : Type 0} (P : X → Y → Type 0) (xs : List X) (i : ℕ) (d : X) (old mid new : List Y) → i < length xs → Adds (GivenBy P (take i xs)) old mid
-    → Adds (P (get_or xs i d)) mid new → Adds (GivenBy P (take (i + 1) xs)) old new
-adds_at P xs i d old mid new within before here = adds_next P xs i (get_or xs i d) old mid new within (get_or_default xs i d _ within) before here
-
--- what one thing gives, and then another
-pub adds_both : {Y : Type 0} (P Q : Y → Type 0) (old mid new : List Y) → Adds P old mid → Adds Q mid new → Adds (λ y. P y ⊎ Q y) old new
-adds_both P Q old mid new first second y = (
-  λ m. elim ((second y).0 m) [
-    | inl in_mid ↦ elim ((first y).0 in_mid) [ inl in_old ↦ inl in_old | inr p ↦ inr (inl p) ]
-    | inr q ↦ inr (inr q)
-  ],
-  λ m. elim m [
-    | inl in_old ↦ (second y).1 (inl ((first y).1 (inl in_old)))
-    | inr either ↦ elim either [ inl p ↦ (second y).1 (inl ((first y).1 (inr p))) | inr q ↦ (second y).1 (inr q) ]
-  ],
+pub wire_given : (A : List Advertisement) (e : Edge) (a b : RouterId) → e.from ≡ vertex.Router a → e.to ≡ vertex.Router b → a.0 < b.0
+    → (f : AreaFailure) → IsWireAt A a b e.link_data f ↔ WireGiven A e f
+wire_given A e a b from to less f = (
+  λ w. (a, b, from, to, less, w),
+  λ g.
+      let d = g.2 in
+      let h = g.3 in
+      let one : g.0 ≡ a = cc in
+      let two : g.1 ≡ b = cc in
+      subst (λ x. IsWireAt A x b e.link_data f) one (subst (λ x. IsWireAt A g.0 x e.link_data f) two g.5),
 )
 
--- what stands for an edge past the end of a list
-abbrev pub no_edge : Edge
-no_edge = record { to = vertex.Network 0; from = vertex.Network 0; cost = 0; link_data = 0 }
+-- an address is in one prefix of a length
+longest_one : (A : List Advertisement) (a b : RouterId) (address : ℕ) (p q : Prefix) → IsLongestSuch (IsShared A a b address) p → IsLongestSuch (IsShared A a b address) q → q ≡ p
+longest_one A a b address p q first second =
+    let low = first.1 q second.0 in
+    let high = second.1 p first.0 in
+    let same : q.length ≡ p.length = omega arith in
+    prefix_same q p (sym second.0.here ∙ ap (λ n. bit_and address (mask_of n)) same ∙ first.0.here) same
+
+pub one_wire : (A : List Advertisement) (a b : RouterId) (address : ℕ) (p : Prefix) → IsLongestSuch (IsShared A a b address) p
+    → (f : AreaFailure) → (f ≡ Link a b p) ↔ IsWireAt A a b address f
+one_wire A a b address p longest f = (
+  λ is. (p, longest, is),
+  λ g. g.2 ∙ ap (λ q. Link a b q) (longest_one A a b address p g.0 longest g.1),
+)
+
+-- ---- the longest prefix of ends
 
 longer_or_not : (m n : ℕ) → (m ≤ n) ⊎ (n < m)
 longer_or_not m n = grind arith
 
--- one end more that is not that of a longer prefix
-pub longer_more : (edges : List Edge) (ends : List End) (e : Edge) (a b : RouterId) (len : ℕ) (i : ℕ) (x : End) → i < length ends → x ≡ get_or ends i x
-    → (HasLonger edges ends e a b len (take i ends) → ⊥) → (((len < x.prefix.length) × IsSharedIn edges ends e a b x) → ⊥) → HasLonger edges ends e a b len (take (i + 1) ends) → ⊥
-longer_more edges ends e a b len i x within is none not h =
-    elim ((more_members ends i x within h.0).0 h.1) [
-      | inl old ↦ none (h.0, old, h.2, h.3)
-      | inr here ↦ let same : h.0 ≡ x = sym here ∙ sym is in not (subst (λ (y : End). (len < y.prefix.length) × IsSharedIn edges ends e a b y) same (h.2, h.3))
-    ]
+module _ (Q : Prefix → Type 0) (ends : List End) (i : ℕ) (x : End) (within : i < length ends) (is : x ≡ get_or ends i x) where
+  -- such a prefix of one of the first ends
+  abbrev In : ℕ → Prefix → Type 0
+  In n p = HasEndFor (take n ends) p × Q p
+
+  one_later : (p : Prefix) → In i p → In (i + 1) p
+  one_later p h = ((h.0.0, h.0.1, (more_members ends i x within _).1 (inl h.0.2)), h.1)
+
+  one_more : (p : Prefix) → In (i + 1) p → In i p ⊎ ((x.prefix ≡ p) × Q p)
+  one_more p h =
+      elim ((more_members ends i x within _).0 h.0.2) [
+        | inl old ↦ inl ((h.0.0, h.0.1, old), h.1)
+        | inr here ↦ inr (ap (λ (y : End). y.prefix) (is ∙ here), h.1)
+      ]
+
+  pub longer_more : (o : Option Prefix) (r : Bool) → MatchOption o (IsTrue r) (λ other. IsTrue r ↔ (other.length < x.prefix.length)) → IsTrue r → Q x.prefix
+      → IsLongestOf (In i) o → IsLongestOf (In (i + 1)) (Some x.prefix)
+  longer_more o r tells so q before = (
+    ((x.vertex, x.cost, (more_members ends i x within x).1 (inr (sym is))), q),
+    λ other h. elim (one_more other h) [
+      | inr here ↦ let same = ap (λ (p : Prefix). p.length) here.0 in omega arith
+      | inl old ↦ older o tells before other old
+    ],
+  )
+    where
+      older : (o : Option Prefix) → MatchOption o (IsTrue r) (λ other. IsTrue r ↔ (other.length < x.prefix.length)) → IsLongestOf (In i) o
+          → (other : Prefix) → In i other → other.length ≤ x.prefix.length
+      older None tells before other old = absurd (before other old)
+      older (Some p) tells before other old = let low = before.1 other old in let high = tells.0 so in omega arith
+
+  -- an end that is no longer, or whose prefix is no such
+  pub longest_stays : (o : Option Prefix) (r : Bool) → MatchOption o (IsTrue r) (λ other. IsTrue r ↔ (other.length < x.prefix.length)) → (IsTrue r → Q x.prefix → ⊥)
+      → IsLongestOf (In i) o → IsLongestOf (In (i + 1)) o
+  longest_stays None r tells not before = λ other h. elim (one_more other h) [
+    | inl old ↦ before other old
+    | inr here ↦ not tells (subst Q (sym here.0) here.1)
+  ]
+  longest_stays (Some p) r tells not before = (
+    one_later p before.0,
+    λ other h. elim (one_more other h) [
+      | inl old ↦ before.1 other old
+      | inr here ↦
+          elim (longer_or_not other.length p.length) [
+            | inl low ↦ low
+            | inr longer ↦ absurd (not (tells.1 (let same = ap (λ (y : Prefix). y.length) here.0 in omega arith)) (subst Q (sym here.0) here.1))
+          ]
+    ],
+  )
+
+longest_as : (P Q : Prefix → Type 0) → ((p : Prefix) → P p ↔ Q p) → (o : Option Prefix) → IsLongestOf P o → IsLongestOf Q o
+longest_as P Q both None none = λ p q. none p ((both p).1 q)
+longest_as P Q both (Some p) longest = ((both p).0 longest.0, λ other q. longest.1 other ((both other).1 q))
 
 -- two routers without a link in a subnet share no prefix: the longest would be that of one
 none_shared : (A : List Advertisement) (a b : RouterId) → a.0 < b.0 → ((subnet : Prefix) → IsWire A a b subnet → ⊥) → (cost address : ℕ)
@@ -110,9 +172,61 @@ none_shared A a b less none cost address edge (suc k) p far s =
       ];
     }
 
+-- ---- near two routers
+
+told : (A : List Advertisement) (v : Vertex) (ends : List End) → AreEndsAt A v ends → (p : Prefix) → HasEndFor ends p → (cost : ℕ) × IsEnd A p v cost
+told A v ends are p h =
+    let w = (are _).0 h.2 in
+    (h.1, subst (λ x. IsEnd A p x h.1) w.1 w.0)
+
+to_tell : (A : List Advertisement) (v : Vertex) (ends : List End) → AreEndsAt A v ends → (p : Prefix) (cost : ℕ) → IsEnd A p v cost → HasEndFor ends p
+to_tell A v ends are p cost is = (v, cost, (are _).1 (is, refl))
+
+module _ (A : List Advertisement) (edges back : List Edge) (edges_are : IsEdgesOf A edges) (a b : RouterId) (same : HaveSameFrom (vertex.Router b) edges back)
+    (part : (e : Edge) → Contains back e → Contains edges e) (near far : List End) (near_are : AreEndsAt A (vertex.Router a) near) (far_are : AreEndsAt A (vertex.Router b) far)
+    (address : ℕ) where
+  shared_from : (p : Prefix) → IsSharedIn near far back address a b p → IsShared A a b address p
+  shared_from p s =
+      let here = told A (vertex.Router a) near near_are p s.0 in
+      let there = told A (vertex.Router b) far far_are p s.1.1 in
+      let leads = s.1.2 in
+      record {
+        here = s.1.0;
+        metric = here.0;
+        told_here = here.1;
+        other_metric = there.0;
+        told_there = there.1;
+        cost = leads.0;
+        other_address = leads.1;
+        back = (edges_are _).0 (part _ leads.2);
+        there = leads.3;
+      }
+
+  shared_to : (p : Prefix) → IsShared A a b address p → IsSharedIn near far back address a b p
+  shared_to p s =
+      let e : Edge = record { to = vertex.Router a; from = vertex.Router b; cost = s.cost; link_data = s.other_address } in (
+        to_tell A (vertex.Router a) near near_are p s.metric s.told_here,
+        (
+          s.here,
+          to_tell A (vertex.Router b) far far_are p s.other_metric s.told_there,
+          (s.cost, s.other_address, from_all (vertex.Router b) edges back same e ((edges_are e).1 s.back) refl, s.there),
+        ),
+      )
+
+  -- the longest of what is looked at is that of the area
+  pub longest_near : (o : Option Prefix) → IsLongestOf (IsSharedIn near far back address a b) o → IsLongestOf (IsShared A a b address) o
+  longest_near o longest = longest_as (IsSharedIn near far back address a b) (IsShared A a b address) (λ p. (shared_from p, shared_to p)) o longest
+
 -- ---- all of them
 
-module _ (A : List Advertisement) (edges : List Edge) (ends : List End) (edges_are : IsEdgesOf A edges) (ends_are : IsEndsOf A ends) where
+-- pairs are told apart by their numbers
+pair_same : (a b c d : RouterId) → b.0 < 2 ^ 32 → d.0 < 2 ^ 32 → pair_code a.0 b.0 ≡ pair_code c.0 d.0 → (a ≡ c) × (b ≡ d)
+pair_same a b c d low low' same =
+    let first : a.0 ≡ c.0 = omega arith in
+    let second : b.0 ≡ d.0 = omega arith in
+    ((λ i. record { 0 = first i }), (λ i. record { 0 = second i }))
+
+module _ (A : List Advertisement) (edges : List Edge) (edges_are : IsEdgesOf A edges) (fit : AreFitEdges edges) where
   -- an edge, with the vertices that it is known to join
   edge_of : (e : Edge) → Contains edges e → (v w : Vertex) → e.from ≡ v → e.to ≡ w → IsEdgeBetween A v w e.cost e.link_data
   edge_of e m v w from to =
@@ -121,93 +235,66 @@ module _ (A : List Advertisement) (edges : List Edge) (ends : List End) (edges_a
   edge_in : (v w : Vertex) (cost address : ℕ) → IsEdgeBetween A v w cost address → Contains edges (record { to = w; from = v; cost = cost; link_data = address })
   edge_in v w cost address is = (edges_are (record { to = w; from = v; cost = cost; link_data = address })).1 is
 
-  end_of : (e : End) → Contains ends e → (v : Vertex) → e.vertex ≡ v → IsEnd A e.prefix v e.cost
-  end_of e m v at = subst (λ x. IsEnd A e.prefix x e.cost) at ((ends_are e).0 m)
+  fits : (e : Edge) → Contains edges e → (b : RouterId) → e.to ≡ vertex.Router b → b.0 < 2 ^ 32
+  fits e m b to = subst (λ v. vertex_id v < 2 ^ 32) to (fit.id_fits e m)
 
-  end_in : (prefix : Prefix) (v : Vertex) (cost : ℕ) → IsEnd A prefix v cost → Contains ends (record { prefix = prefix; vertex = v; cost = cost })
-  end_in prefix v cost is = (ends_are (record { prefix = prefix; vertex = v; cost = cost })).1 is
+  module _ (wires : List AreaFailure) (wires_are : Adds (GivenBy (WireGiven A) edges) [] wires) (wired : List ℕ) (wired_are : Adds (GivenBy IsPairOf wires) [] wired) where
+    -- what gives a link in a subnet
+    given_of : (f : AreaFailure) → Contains wires f → GivenBy (WireGiven A) edges f
+    given_of f m = elim ((wires_are f).0 m) [ inl none ↦ absurd (let low = none.1 in omega arith) | inr g ↦ g ]
 
-  shared_from : (e : Edge) (a b : RouterId) (end : End) → Contains ends end → IsSharedIn edges ends e a b end → IsShared A a b e.link_data end.prefix
-  shared_from e a b end n s =
-      let stands = s.2 in
-      let back = s.3 in
-      record {
-        here = s.1;
-        metric = end.cost;
-        told_here = end_of end n (vertex.Router a) s.0;
-        other_metric = stands.0;
-        told_there = (ends_are _).0 stands.1;
-        cost = back.0;
-        other_address = back.1;
-        back = (edges_are _).0 back.2;
-        there = back.3;
-      }
-
-  -- the end at the first router of a prefix that two share
-  abbrev end_at : (a : RouterId) (prefix : Prefix) (metric : ℕ) → End
-  end_at a prefix metric = record { prefix = prefix; vertex = vertex.Router a; cost = metric }
-
-  shared_to : (e : Edge) (a b : RouterId) (prefix : Prefix) (s : IsShared A a b e.link_data prefix)
-      → Contains ends (end_at a prefix s.metric) × IsSharedIn edges ends e a b (end_at a prefix s.metric)
-  shared_to e a b prefix s = (
-    end_in prefix (vertex.Router a) s.metric s.told_here,
-    (
-      refl,
-      s.here,
-      (s.other_metric, end_in prefix (vertex.Router b) s.other_metric s.told_there),
-      (s.cost, s.other_address, edge_in (vertex.Router b) (vertex.Router a) s.cost s.other_address s.back, s.there),
-    ),
-  )
-
-  wire_from : (e : Edge) → Contains edges e → (end : End) → Contains ends end → (a b : RouterId) → e.from ≡ vertex.Router a → e.to ≡ vertex.Router b
-      → IsWireBetween edges ends e end a b → IsWire A a b end.prefix
-  wire_from e m end n a b from to w =
-      record {
-        smaller = w.0;
-        cost = e.cost;
-        address = e.link_data;
-        edge = edge_of e m (vertex.Router a) (vertex.Router b) from to;
-        shared = shared_from e a b end n w.1;
-        longest = λ other s. elim (longer_or_not other.length end.prefix.length) [
-          | inl low ↦ low
-          | inr longer ↦ let t = shared_to e a b other s in absurd (w.2 (end_at a other s.metric, t.0, longer, t.1))
-        ];
-      }
-
-  wire_to : (a b : RouterId) (subnet : Prefix) → IsWire A a b subnet → (e : Edge) × Contains edges e × (end : End) × Contains ends end × WireGiven edges ends e end (Link a b subnet)
-  wire_to a b subnet w =
-      let e : Edge = record { to = vertex.Router b; from = vertex.Router a; cost = w.cost; link_data = w.address } in
-      let t = shared_to e a b subnet w.shared in
-      let none : HasLonger edges ends e a b subnet.length ends → ⊥ =
-      λ h. (let low = w.longest h.0.prefix (shared_from e a b h.0 h.1 h.3) in let high = h.2 in omega arith) in (
-        e,
-        edge_in (vertex.Router a) (vertex.Router b) w.cost w.address w.edge,
-        end_at a subnet w.shared.metric,
-        t.0,
-        (a, b, refl, refl, (w.smaller, t.1, none), refl),
-      )
-
-  module _ (wires : List AreaFailure) (wires_are : Adds (GivenBy (λ e. GivenBy (WireGiven edges ends e) ends) edges) [] wires) where
     wire_sound : (f : AreaFailure) → Contains wires f → IsFailure A f
-    wire_sound f m = elim ((wires_are f).0 m) [
-      | inl none ↦ absurd (let low = none.1 in omega arith)
-      | inr g ↦
-          let h = g.2 in
-          let k = h.2 in
-          let is : f ≡ Link k.0 k.1 h.0.prefix = k.5 in
-          subst (λ x. IsFailure A x) (sym is) (wire_from g.0 g.1 h.0 h.1 k.0 k.1 k.2 k.3 k.4)
-    ]
+    wire_sound f m =
+        let g = given_of f m in
+        let h = g.2 in
+        let w = h.5 in
+        let is : f ≡ Link h.0 h.1 w.0 = w.2 in
+        subst (λ x. IsFailure A x) (sym is)
+        record {
+          smaller = h.4;
+          cost = g.0.cost;
+          address = g.0.link_data;
+          edge = edge_of g.0 g.1 (vertex.Router h.0) (vertex.Router h.1) h.2 h.3;
+          shared = w.1.0;
+          longest = w.1.1;
+        }
 
     wire_complete : (a b : RouterId) (subnet : Prefix) → IsWire A a b subnet → Contains wires (Link a b subnet)
-    wire_complete a b subnet w = let g = wire_to a b subnet w in (wires_are (Link a b subnet)).1 (inr (g.0, g.1, (g.2, g.3, g.4)))
+    wire_complete a b subnet w =
+        let e : Edge = record { to = vertex.Router b; from = vertex.Router a; cost = w.cost; link_data = w.address } in
+        (wires_are (Link a b subnet)).1
+        (inr (e, edge_in (vertex.Router a) (vertex.Router b) w.cost w.address w.edge, (a, b, refl, refl, w.smaller, (subnet, (w.shared, w.longest), refl))))
 
-    edge_sound : (f : AreaFailure) (e : Edge) → Contains edges e → EdgeGiven wires e f → IsFailure A f
+    wire_fits : (a b : RouterId) (subnet : Prefix) → Contains wires (Link a b subnet) → b.0 < 2 ^ 32
+    wire_fits a b subnet m =
+        let g = given_of (Link a b subnet) m in
+        let h = g.2 in
+        let is : Link a b subnet ≡ Link h.0 h.1 h.5.0 = h.5.2 in
+        let same : h.1 ≡ b = cc in
+        subst (λ (r : RouterId). r.0 < 2 ^ 32) same (fits g.0 g.1 h.1 h.3)
+
+    -- two routers have a link in a subnet exactly where their pair is there
+    wired_from : (a b : RouterId) → b.0 < 2 ^ 32 → Contains wired (pair_code a.0 b.0) → (subnet : Prefix) × Contains wires (Link a b subnet)
+    wired_from a b low m = elim ((wired_are (pair_code a.0 b.0)).0 m) [
+      | inl none ↦ absurd (let few = none.1 in omega arith)
+      | inr g ↦
+          let p = g.2 in
+          let there : Contains wires (Link p.0 p.1 p.2) = subst (λ x. Contains wires x) p.3 g.1 in
+          let same = pair_same a b p.0 p.1 low (wire_fits p.0 p.1 p.2 there) p.4 in
+          (p.2, subst (λ x. Contains wires (Link x b p.2)) (sym same.0) (subst (λ x. Contains wires (Link p.0 x p.2)) (sym same.1) there))
+    ]
+
+    wired_to : (a b : RouterId) (subnet : Prefix) → Contains wires (Link a b subnet) → Contains wired (pair_code a.0 b.0)
+    wired_to a b subnet m = (wired_are (pair_code a.0 b.0)).1 (inr (Link a b subnet, m, (a, b, subnet, refl, refl)))
+
+    edge_sound : (f : AreaFailure) (e : Edge) → Contains edges e → EdgeGiven wired e f → IsFailure A f
     edge_sound f e m (inl (inl g)) =
         let is : f ≡ Links g.0 g.1 = g.6 in
         subst (λ x. IsFailure A x) (sym is) (
           g.4,
           (e.cost, e.link_data, edge_of e m (vertex.Router g.0) (vertex.Router g.1) g.2 g.3),
-          (λ cost address prefix edge s. none_shared A g.0 g.1 g.4 (λ subnet w. g.5 (subnet, wire_complete g.0 g.1 subnet w)) cost address edge 33 prefix (omega arith) s),
+          (λ cost address prefix edge s.
+              none_shared A g.0 g.1 g.4 (λ subnet w. g.5 (wired_to g.0 g.1 subnet (wire_complete g.0 g.1 subnet w))) cost address edge 33 prefix (omega arith) s),
         )
     edge_sound f e m (inl (inr g)) =
         let is : f ≡ Attachment g.0 g.1 = g.4 in
@@ -221,55 +308,55 @@ module _ (A : List Advertisement) (edges : List Edge) (ends : List End) (edges_a
         (record { to = vertex.Network n; from = vertex.Router router; cost = h.0; link_data = h.1 }, edge_in (vertex.Router router) (vertex.Network n) h.0 h.1 h.2, refl, refl)
 
     -- a failure of each kind but the last is among what the edges give
-    edge_complete : (f : AreaFailure) → IsFailure A f → ((r : RouterId) → f ≡ Router r → ⊥) → Contains wires f ⊎ GivenBy (EdgeGiven wires) edges f
+    edge_complete : (f : AreaFailure) → IsFailure A f → ((r : RouterId) → f ≡ Router r → ⊥) → Contains wires f ⊎ GivenBy (EdgeGiven wired) edges f
     edge_complete (Link a b subnet) h not = inl (wire_complete a b subnet h)
     edge_complete (Links a b) h not =
         let e : Edge = record { to = vertex.Router b; from = vertex.Router a; cost = h.1.0; link_data = h.1.1 } in
-        let none : HasWire wires a b → ⊥ = λ w. (let is : IsWire A a b w.0 = wire_sound (Link a b w.0) w.1 in h.2 is.cost is.address w.0 is.edge is.shared) in
-        inr (e, edge_in (vertex.Router a) (vertex.Router b) h.1.0 h.1.1 h.1.2, inl (inl (a, b, refl, refl, h.0, none, refl)))
+        let m = edge_in (vertex.Router a) (vertex.Router b) h.1.0 h.1.1 h.1.2 in
+        let none : Contains wired (pair_code a.0 b.0) → ⊥ = λ there. (
+        let w = wired_from a b (fits e m b refl) there in
+        let is : IsWire A a b w.0 = wire_sound (Link a b w.0) w.1 in
+        h.2 is.cost is.address w.0 is.edge is.shared) in
+        inr (e, m, inl (inl (a, b, refl, refl, h.0, none, refl)))
     edge_complete (Attachment router n) h not = let o = on_network router n h in inr (o.0, o.1, inl (inr (router, n, o.2, o.3, refl)))
     edge_complete (Network n) h not = let o = on_network h.0 n h.1 in inr (o.0, o.1, inr (h.0, n, o.2, o.3, refl))
     edge_complete (Router r) h not = absurd (not r refl)
 
-pub single_sound : (lsas : List (List ℕ)) (edges : List Edge) (ends : List End) → IsEdgesOf (advertisements_of lsas) edges → IsEndsOf (advertisements_of lsas) ends
-    → (wires mid all : List AreaFailure) → Adds (GivenBy (λ e. GivenBy (WireGiven edges ends e) ends) edges) [] wires → Adds (GivenBy (EdgeGiven wires) edges) wires mid
-    → Adds (GivenBy (λ lsa. RouterGiven (advertisement_of lsa)) lsas) mid all → (f : AreaFailure) → Contains all f → IsFailure (advertisements_of lsas) f
-unfolding advertisements_of
-single_sound lsas edges ends edges_are ends_are wires mid all wires_are mid_are all_are f m =
-    let A = map advertisement_of lsas in
-    elim ((all_are f).0 m) [
-      | inl in_mid ↦ elim ((mid_are f).0 in_mid) [
-        | inl in_wires ↦ wire_sound A edges ends edges_are ends_are wires wires_are f in_wires
-        | inr g ↦ edge_sound A edges ends edges_are ends_are wires wires_are f g.0 g.1 g.2
-      ]
-      | inr g ↦ listed_router (advertisement_of g.0) (member_to_map advertisement_of lsas g.0 g.1) g.2
-    ]
-  where
-    listed_router : (x : Advertisement) → Contains (map advertisement_of lsas) x → RouterGiven x f → IsFailure (map advertisement_of lsas) f
-    listed_router (router_lsa r links) at is = subst (λ y. IsFailure (map advertisement_of lsas) y) (sym is) (links, at)
-    listed_router (network_lsa n r mask attached) at is = absurd is
-
-pub single_complete : (lsas : List (List ℕ)) (edges : List Edge) (ends : List End) → IsEdgesOf (advertisements_of lsas) edges → IsEndsOf (advertisements_of lsas) ends
-    → (wires mid all : List AreaFailure) → Adds (GivenBy (λ e. GivenBy (WireGiven edges ends e) ends) edges) [] wires → Adds (GivenBy (EdgeGiven wires) edges) wires mid
-    → Adds (GivenBy (λ lsa. RouterGiven (advertisement_of lsa)) lsas) mid all → (f : AreaFailure) → IsFailure (advertisements_of lsas) f → Contains all f
-unfolding advertisements_of
-single_complete lsas edges ends edges_are ends_are wires mid all wires_are mid_are all_are f h = by_kind f h
-  where
-    A : List Advertisement
-    A = map advertisement_of lsas
-
-    others : (g : AreaFailure) → IsFailure (map advertisement_of lsas) g → ((r : RouterId) → g ≡ Router r → ⊥) → Contains all g
-    others g is not =
-        elim (edge_complete (map advertisement_of lsas) edges ends edges_are ends_are wires wires_are g is not) [
-          | inl in_wires ↦ (all_are g).1 (inl ((mid_are g).1 (inl in_wires)))
-          | inr given ↦ (all_are g).1 (inl ((mid_are g).1 (inr given)))
+module _ (lsas : List (List ℕ)) (edges : List Edge) (edges_are : IsEdgesOf (advertisements_of lsas) edges) (fit : AreFitEdges edges) (wires mid all : List AreaFailure)
+    (wires_are : Adds (GivenBy (WireGiven (advertisements_of lsas)) edges) [] wires) (wired : List ℕ) (wired_are : Adds (GivenBy IsPairOf wires) [] wired)
+    (mid_are : Adds (GivenBy (EdgeGiven wired) edges) wires mid) (all_are : Adds (GivenBy (λ lsa. RouterGiven (advertisement_of lsa)) lsas) mid all) where
+  pub single_sound : (f : AreaFailure) → Contains all f → IsFailure (advertisements_of lsas) f
+  unfolding advertisements_of
+  single_sound f m =
+      let A = map advertisement_of lsas in
+      elim ((all_are f).0 m) [
+        | inl in_mid ↦ elim ((mid_are f).0 in_mid) [
+          | inl in_wires ↦ wire_sound A edges edges_are fit wires wires_are wired wired_are f in_wires
+          | inr g ↦ edge_sound A edges edges_are fit wires wires_are wired wired_are f g.0 g.1 g.2
         ]
+        | inr g ↦ listed_router (advertisement_of g.0) (member_to_map advertisement_of lsas g.0 g.1) g.2
+      ]
+    where
+      listed_router : (x : Advertisement) → Contains (map advertisement_of lsas) x → RouterGiven x f → IsFailure (map advertisement_of lsas) f
+      listed_router (router_lsa r links) at is = subst (λ y. IsFailure (map advertisement_of lsas) y) (sym is) (links, at)
+      listed_router (network_lsa n r mask attached) at is = absurd is
 
-    by_kind : (g : AreaFailure) → IsFailure (map advertisement_of lsas) g → Contains all g
-    by_kind (Link a b subnet) is = others (Link a b subnet) is (λ r e. cc)
-    by_kind (Links a b) is = others (Links a b) is (λ r e. cc)
-    by_kind (Attachment router n) is = others (Attachment router n) is (λ r e. cc)
-    by_kind (Network n) is = others (Network n) is (λ r e. cc)
-    by_kind (Router r) is =
-        let m = member_of_map advertisement_of lsas (router_lsa r is.0) is.1 in
-        (all_are (Router r)).1 (inr (m.0, m.1, subst (λ x. RouterGiven x (Router r)) (sym m.2) refl))
+  pub single_complete : (f : AreaFailure) → IsFailure (advertisements_of lsas) f → Contains all f
+  unfolding advertisements_of
+  single_complete f h = by_kind f h
+    where
+      others : (g : AreaFailure) → IsFailure (map advertisement_of lsas) g → ((r : RouterId) → g ≡ Router r → ⊥) → Contains all g
+      others g is not =
+          elim (edge_complete (map advertisement_of lsas) edges edges_are fit wires wires_are wired wired_are g is not) [
+            | inl in_wires ↦ (all_are g).1 (inl ((mid_are g).1 (inl in_wires)))
+            | inr given ↦ (all_are g).1 (inl ((mid_are g).1 (inr given)))
+          ]
+
+      by_kind : (g : AreaFailure) → IsFailure (map advertisement_of lsas) g → Contains all g
+      by_kind (Link a b subnet) is = others (Link a b subnet) is (λ r e. cc)
+      by_kind (Links a b) is = others (Links a b) is (λ r e. cc)
+      by_kind (Attachment router n) is = others (Attachment router n) is (λ r e. cc)
+      by_kind (Network n) is = others (Network n) is (λ r e. cc)
+      by_kind (Router r) is =
+          let m = member_of_map advertisement_of lsas (router_lsa r is.0) is.1 in
+          (all_are (Router r)).1 (inr (m.0, m.1, subst (λ x. RouterGiven x (Router r)) (sym m.2) refl))

@@ -5,6 +5,7 @@ pub mod Laws
 pub mod Told
 pub mod Name
 pub mod Outage
+pub mod Lost
 pub mod Wanted
 pub mod LinksBack
 pub mod Renamed

@@ -38,10 +38,14 @@ pub record IsAreaGraph (adverts : List Advertisement) (area : AreaGraph) : Type 
 
 -- ---- a failure
 
+-- of those before, exactly the ones that are not there after
+pub record AreLost {X : Type 0} (Before After : X → Type 0) (lost : List X) : Type 0 where
+  pub within : (x : X) → Contains lost x → Before x × (After x → ⊥)
+  pub all : (x : X) → Before x → Contains lost x ⊎ After x
+
 -- those of the first list that are not in the second
-pub record AreMissing {X : Type 0} (before after missing : List X) : Type 0 where
-  pub within : (x : X) → Contains missing x → Contains before x × (Contains after x → ⊥)
-  pub all : (x : X) → Contains before x → Contains missing x ⊎ Contains after x
+abbrev pub AreMissing : {X : Type 0} → List X → List X → List X → Type 0
+AreMissing before after missing = AreLost (Contains before) (Contains after) missing
 
 -- what its failure leaves of the area
 abbrev pub left_of_area : List Advertisement → Outage → List Advertisement

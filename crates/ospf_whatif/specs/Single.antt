@@ -1,12 +1,14 @@
 -- The single failures of an area: what may fail in it, one at a time.
-use Rattle.std.specs.Prelude.{◌≡◌, ◌<◌, ◌≤◌, ◌↔◌, ◌⊎◌, ℕ, List, Contains}
+use Rattle.std.specs.Prelude.{◌≡◌, ◌<◌, ◌≤◌, ◌↔◌, ◌⊎◌, ℕ, List, Contains, MatchOption, Option}
 use Rattle.ospf_base.specs.declared.ids.RouterId.{RouterId}
 use Rattle.ospf_base.specs.declared.prefix.Prefix.{Prefix}
 use Rattle.ospf_base.specs.Prefixes.{Holds, IsPrefixBefore}
 use Rattle.ospf_graph.specs.declared.graph.Edge.{Edge}
+use Rattle.ospf_graph.specs.declared.graph.Vertex.{Vertex}
 use Rattle.ospf_graph.specs.declared.graph.Vertex.TheVariants as vertex
 use Rattle.ospf_graph.specs.Advertisements.{Advertisement, IsListed, router_lsa, network_lsa}
 use Rattle.ospf_graph.specs.Graph.{IsEdgeBetween}
+use Rattle.ospf_graph.specs.Pairs.{pair_code}
 use Rattle.ospf_graph.specs.Routes.{IsEnd}
 use Rattle.ospf_edges.specs.declared.end.End.{End}
 use Rattle.ospf_whatif.specs.declared.failure.AreaFailure as failure
@@ -83,13 +85,23 @@ IsFailureBefore (Network n) (Network m) = n < m
 IsFailureBefore (Router r) (Router s) = r.0 < s.0
 IsFailureBefore f g = kind_place f < kind_place g
 
+-- ---- prefixes by length
+
+-- none of such prefixes is longer
+abbrev pub IsLongestSuch : (Prefix → Type 0) → Prefix → Type 0
+IsLongestSuch P prefix = P prefix × ((other : Prefix) → P other → other.length ≤ prefix.length)
+
+-- the longest of such prefixes, if there is one
+abbrev pub IsLongestOf : (Prefix → Type 0) → Option Prefix → Type 0
+IsLongestOf P longest = MatchOption longest ((prefix : Prefix) → P prefix → ⊥) (IsLongestSuch P)
+
 -- ---- over lists of edges and ends
 
--- a router tells the prefix by a type 3 link
-abbrev pub StandsAt : List End → Prefix → RouterId → Type 0
-StandsAt ends prefix router =
-    (cost : ℕ)
-    × Contains ends (record { prefix = prefix; vertex = vertex.Router router; cost = cost })
+-- one of the ends is that of the prefix
+abbrev pub HasEndFor : List End → Prefix → Type 0
+HasEndFor ends prefix =
+    (at : Vertex) × (cost : ℕ)
+    × Contains ends (record { prefix = prefix; vertex = at; cost = cost })
 
 -- an edge leads from a router to another out of an address in the subnet
 abbrev pub LeadsBack : List Edge → RouterId → RouterId → Prefix → Type 0
@@ -99,41 +111,43 @@ LeadsBack edges from to subnet =
     (record { to = vertex.Router to; from = vertex.Router from; cost = cost; link_data = address })
     × Holds subnet address
 
--- the prefix of an end at the first router holds the edge's own address, and the second tells
--- it too, and leads back out of it
-abbrev pub IsSharedIn : List Edge → List End → Edge → RouterId → RouterId → End → Type 0
-IsSharedIn edges ends edge a b end =
-    (end.vertex ≡ vertex.Router a) × Holds end.prefix edge.link_data × StandsAt ends end.prefix b
-    × LeadsBack edges b a end.prefix
+-- the prefix holds the address, an end far is that of it, and an edge leads back in it
+abbrev pub IsSharedFar : List End → List Edge → ℕ → RouterId → RouterId → Prefix → Type 0
+IsSharedFar far back address a b prefix =
+    Holds prefix address × HasEndFor far prefix × LeadsBack back b a prefix
 
--- one of some ends is that of a longer prefix which the two share
-abbrev pub HasLonger : List Edge → List End → Edge → RouterId → RouterId → ℕ → List End → Type 0
-HasLonger edges ends edge a b length some =
-    (other : End) × Contains some other × (length < other.prefix.length)
-    × IsSharedIn edges ends edge a b other
+-- and an end near is that of it too
+abbrev pub IsSharedIn : List End → List End → List Edge → ℕ → RouterId → RouterId → Prefix → Type 0
+IsSharedIn near far back address a b prefix =
+    HasEndFor near prefix × IsSharedFar far back address a b prefix
 
--- an edge between two routers, seen from the one of the smaller Router ID, and an end at that one:
--- their link in the end's subnet
-abbrev pub IsWireBetween : List Edge → List End → Edge → End → RouterId → RouterId → Type 0
-IsWireBetween edges ends edge end a b =
-    (a.0 < b.0) × IsSharedIn edges ends edge a b end
-    × (HasLonger edges ends edge a b end.prefix.length ends → ⊥)
+-- ---- what edges and LSAs give
 
--- the failure is that of a link of its own prefix between two routers
-abbrev pub WireGiven : List Edge → List End → Edge → End → failure.AreaFailure → Type 0
-WireGiven edges ends edge end f =
-    (a b : RouterId) × (edge.from ≡ vertex.Router a) × (edge.to ≡ vertex.Router b)
-    × IsWireBetween edges ends edge end a b × (f ≡ fails.Link a b end.prefix)
+-- the failure is that of the link of two routers at an address of the first, in its subnet
+abbrev pub IsWireAt
+    : List Advertisement → RouterId → RouterId → ℕ → failure.AreaFailure → Type 0
+IsWireAt adverts a b address f =
+    (subnet : Prefix) × IsLongestSuch (IsShared adverts a b address) subnet
+    × (f ≡ fails.Link a b subnet)
 
--- a link of two routers in some subnet is among these
-abbrev pub HasWire : List failure.AreaFailure → RouterId → RouterId → Type 0
-HasWire wires a b = (subnet : Prefix) × Contains wires (fails.Link a b subnet)
-
--- the failure is that of all links between two routers, which no such prefix tells apart
-abbrev pub LinksGiven : List failure.AreaFailure → Edge → failure.AreaFailure → Type 0
-LinksGiven wires edge f =
+-- the failure is that of the link of an edge, seen from the router of the smaller Router ID
+abbrev pub WireGiven : List Advertisement → Edge → failure.AreaFailure → Type 0
+WireGiven adverts edge f =
     (a b : RouterId) × (edge.from ≡ vertex.Router a) × (edge.to ≡ vertex.Router b) × (a.0 < b.0)
-    × (HasWire wires a b → ⊥) × (f ≡ Links a b)
+    × IsWireAt adverts a b edge.link_data f
+
+-- the number is that of the pair of routers of a link in a subnet
+abbrev pub IsPairOf : failure.AreaFailure → ℕ → Type 0
+IsPairOf f pair =
+    (a b : RouterId) × (subnet : Prefix) × (f ≡ fails.Link a b subnet)
+    × (pair ≡ pair_code a.0 b.0)
+
+-- the failure is that of all links between two routers whose pair is not there, so that no subnet
+-- tells the links apart
+abbrev pub LinksGiven : List ℕ → Edge → failure.AreaFailure → Type 0
+LinksGiven wired edge f =
+    (a b : RouterId) × (edge.from ≡ vertex.Router a) × (edge.to ≡ vertex.Router b) × (a.0 < b.0)
+    × (Contains wired (pair_code a.0 b.0) → ⊥) × (f ≡ Links a b)
 
 -- the failure is that of a router's link to a network
 abbrev pub AttachmentGiven : Edge → failure.AreaFailure → Type 0
@@ -148,8 +162,8 @@ NetworkGiven edge f =
     × (edge.to ≡ vertex.Network n) × (f ≡ Network n)
 
 -- an edge gives this failure
-abbrev pub EdgeGiven : List failure.AreaFailure → Edge → failure.AreaFailure → Type 0
-EdgeGiven wires edge f = (LinksGiven wires edge f ⊎ AttachmentGiven edge f) ⊎ NetworkGiven edge f
+abbrev pub EdgeGiven : List ℕ → Edge → failure.AreaFailure → Type 0
+EdgeGiven wired edge f = (LinksGiven wired edge f ⊎ AttachmentGiven edge f) ⊎ NetworkGiven edge f
 
 -- the failure is that of the router of an LSA
 abbrev pub RouterGiven : Advertisement → failure.AreaFailure → Type 0

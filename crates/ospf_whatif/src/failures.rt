@@ -1,21 +1,21 @@
 //! The single failures of an area.
 
-ghost use Rattle.std.specs.Prelude.{◌≡◌, ◌↔◌, ◌<◌, [], IsTrue, IfOk, IfSome, IfNone, OnOk, Contains, AllPairs};
-ghost use Rattle.ospf_base.specs.declared.prefix.Prefix.{Prefix};
+ghost use Rattle.std.specs.Prelude.{◌≡◌, ◌↔◌, ◌<◌, [], IsTrue, IfOk, MatchOption, OnOk, Contains, AllPairs};
 ghost use Rattle.ospf_base.specs.Prefixes.{Holds};
-ghost use Rattle.ospf_graph.specs.declared.graph.Edge.{Edge};
+ghost use Rattle.ospf_graph.specs.Search.{AreEdgesInOrder};
 ghost use Rattle.ospf_graph.specs.declared.graph.Vertex.TheVariants.{Router};
-ghost use Rattle.ospf_edges.specs.declared.end.End.{End};
-ghost use Rattle.ospf_edges.specs.Given.{Adds};
+ghost use Rattle.ospf_edges.specs.Given.{Adds, IsEdgesOf};
 ghost use Rattle.ospf_edges.specs.Listed.{advertisement_of, advertisements_of};
-ghost use Rattle.ospf_whatif.specs.Single.{AreFailures, AttachmentGiven, EdgeGiven, GivenBy, HasLonger, HasWire, IsFailureBefore, IsSharedIn, IsWireBetween, LeadsBack, LinksGiven, NetworkGiven, RouterGiven, StandsAt, WireGiven};
+ghost use Rattle.ospf_whatif.specs.Single.{AreFailures, AttachmentGiven, EdgeGiven, GivenBy, HasEndFor, IsFailureBefore, IsLongestOf, IsPairOf, IsShared, IsSharedFar, IsSharedIn, IsWireAt, LeadsBack, LinksGiven, NetworkGiven, RouterGiven, WireGiven};
 ghost use Rattle.ospf_whatif.specs.declared.failure.AreaFailure.{AreaFailure};
 
 use crate::failure::AreaFailure;
+use crate::outage::edges_in_order;
 use ospf_base::{Addr, Kind, Prefix, RouterId};
-use ospf_edges::{End, edges_of, ends_of};
-use ospf_graph::{Edge, Vertex};
+use ospf_edges::{End, ends_at};
+use ospf_graph::{Edge, Pairs, Vertex, edges_from, pair_order};
 use ospf_lsa::{Listing, Lsa};
+use ospf_spf::is_same_prefix;
 use std::alloc::{AllocError, Global};
 
 /// What may fail in an area, each once, in the order of `AreaFailure`: links with a subnet, other
@@ -26,151 +26,170 @@ pub fn single_failures(alloc: Global, listing: &Listing) -> Result<Vec<AreaFailu
     ensures all { IfOk result (λ all. AreFailures (advertisements_of listing.now) all.items) }
     ensures in_order { IfOk result (λ all. AllPairs IsFailureBefore all.items) }
 {
-    let edges = edges_of(alloc, listing)?;
-    let ends = ends_of(alloc, listing)?;
-    let wires = wires_of(alloc, &edges, &ends)?;
+    let edges = edges_in_order(alloc, listing)?;
+    let wires = wires_of(alloc, listing, &edges)?;
+    let wired = wired_pairs(alloc, &wires)?;
     let mut failures = Vec::from_slice(alloc, &wires)?;
-    add_edges(&wires, &edges, &mut failures)?;
+    add_edges(&wired, &edges, &mut failures)?;
     add_routers(listing, &mut failures)?;
     put_in_order(&mut failures);
     Ok(failures)
 }
 
 // The links between two routers in subnets that both tell.
-fn wires_of(alloc: Global, edges: &[Edge], ends: &[End]) -> Result<Vec<AreaFailure>, AllocError>
+fn wires_of(
+    alloc: Global,
+    listing: &Listing,
+    edges: &[Edge],
+) -> Result<Vec<AreaFailure>, AllocError>
+    requires edges { IsEdgesOf (advertisements_of listing.now) edges.now }
+    requires in_order { AreEdgesInOrder edges.now }
     ensures { IfOk result (λ wires. Adds
-        (GivenBy (λ e. GivenBy (WireGiven edges.now ends.now e) ends.now) edges.now) []
-        wires.items) }
+        (GivenBy (WireGiven (advertisements_of listing.now)) edges.now) [] wires.items) }
 {
     let mut wires = Vec::new(alloc);
     for edge in edges {
-        add_edge_wires(edges, ends, edge, &mut wires)?;
+        add_edge_wire(alloc, listing, edges, edge, &mut wires)?;
     }
     Ok(wires)
 }
 
-// Adds the links of an edge in the subnets of all ends.
-fn add_edge_wires(
+// Adds the link of an edge from a router to one of a larger Router ID, if it has a subnet.
+fn add_edge_wire(
+    alloc: Global,
+    listing: &Listing,
     edges: &[Edge],
-    ends: &[End],
     edge: &Edge,
     failures: &mut Vec<AreaFailure>,
 ) -> Result<(), AllocError>
-    ensures { OnOk result (Adds (GivenBy (WireGiven edges.now ends.now edge.now) ends.now)
+    requires edges { IsEdgesOf (advertisements_of listing.now) edges.now }
+    requires in_order { AreEdgesInOrder edges.now }
+    ensures { OnOk result (Adds (WireGiven (advertisements_of listing.now) edge.now)
         failures.old.items failures.new.items) }
 {
-    for end in ends {
-        add_wire(edges, ends, edge, end, failures)?;
+    match (edge.from, edge.to) {
+        (Vertex::Router(a), Vertex::Router(b)) => {
+            if a.0 < b.0 {
+                add_wire(alloc, listing, edges, edge.link_data, a, b, failures)?;
+            }
+            Ok(())
+        }
+        (Vertex::Router(_), Vertex::Network(_)) => Ok(()),
+        (Vertex::Network(_), Vertex::Router(_)) => Ok(()),
+        (Vertex::Network(_), Vertex::Network(_)) => Ok(()),
     }
-    Ok(())
 }
 
-// Adds it, if there is one.
+// Adds the link of two routers at an address of the first, if they share a prefix there.
 fn add_wire(
+    alloc: Global,
+    listing: &Listing,
     edges: &[Edge],
-    ends: &[End],
-    edge: &Edge,
-    end: &End,
+    address: u32,
+    a: RouterId,
+    b: RouterId,
     failures: &mut Vec<AreaFailure>,
 ) -> Result<(), AllocError>
-    ensures { OnOk result (Adds (WireGiven edges.now ends.now edge.now end.now) failures.old.items
-        failures.new.items) }
+    requires edges { IsEdgesOf (advertisements_of listing.now) edges.now }
+    requires in_order { AreEdgesInOrder edges.now }
+    ensures { OnOk result (Adds (IsWireAt (advertisements_of listing.now) a b address)
+        failures.old.items failures.new.items) }
 {
-    match wire_of(edges, ends, edge, end) {
-        Some(failure) => {
-            add_failure(failures, failure)?;
+    match shared_subnet(alloc, listing, edges, address, a, b)? {
+        Some(subnet) => {
+            add_failure(failures, AreaFailure::Link { a, b, subnet })?;
             Ok(())
         }
         None => Ok(()),
     }
 }
 
-// The link of an edge between two routers in the subnet of an end.
-fn wire_of(edges: &[Edge], ends: &[End], edge: &Edge, end: &End) -> Option<AreaFailure>
-    ensures some { IfSome result (λ failure. WireGiven edges.now ends.now edge.now end.now
-        failure) }
-    ensures only { IfSome result (λ failure. (f : AreaFailure) →
-        WireGiven edges.now ends.now edge.now end.now f → f ≡ failure) }
-    ensures none { IfNone result ((f : AreaFailure) →
-        WireGiven edges.now ends.now edge.now end.now f →
-        ⊥) }
+// The longest prefix that two routers share at an address of the first: of all ends those at the
+// two alone are looked at, and of all edges those that leave the second.
+fn shared_subnet(
+    alloc: Global,
+    listing: &Listing,
+    edges: &[Edge],
+    address: u32,
+    a: RouterId,
+    b: RouterId,
+) -> Result<Option<Prefix>, AllocError>
+    requires edges { IsEdgesOf (advertisements_of listing.now) edges.now }
+    requires in_order { AreEdgesInOrder edges.now }
+    ensures { IfOk result (IsLongestOf (IsShared (advertisements_of listing.now) a b address)) }
 {
-    match (edge.from, edge.to) {
-        (Vertex::Router(a), Vertex::Router(b)) => {
-            if is_wire(edges, ends, edge, end, a, b) {
-                Some(AreaFailure::Link {
-                    a,
-                    b,
-                    subnet: end.prefix,
-                })
-            } else {
-                None
-            }
+    let near = ends_at(alloc, listing, Vertex::Router(a))?;
+    let far = ends_at(alloc, listing, Vertex::Router(b))?;
+    let back = edges_from(edges, Vertex::Router(b));
+    Ok(longest_of(&near, &far, back, address, a, b))
+}
+
+// The longest prefix of the ends near that both routers share.
+fn longest_of(
+    near: &[End],
+    far: &[End],
+    back: &[Edge],
+    address: u32,
+    a: RouterId,
+    b: RouterId,
+) -> Option<Prefix>
+    ensures { IsLongestOf (IsSharedIn near.now far.now back.now address a b) result }
+{
+    let mut longest = None;
+    for end in near {
+        let prefix = end.prefix;
+        if is_longer(prefix, longest) && is_shared(far, back, address, a, b, prefix) {
+            longest = Some(prefix);
         }
-        (Vertex::Router(_), Vertex::Network(_)) => None,
-        (Vertex::Network(_), Vertex::Router(_)) => None,
-        (Vertex::Network(_), Vertex::Network(_)) => None,
+    }
+    longest
+}
+
+// Whether a prefix is longer than one, if there is one.
+fn is_longer(prefix: Prefix, than: Option<Prefix>) -> bool
+    ensures { MatchOption than (IsTrue result)
+        (λ other. IsTrue result ↔ (other.length < prefix.length)) }
+{
+    match than {
+        Some(other) => other.length < prefix.length,
+        None => true,
     }
 }
 
-// Whether two routers have a link in the subnet of an end: they share it, and no longer one.
-fn is_wire(edges: &[Edge], ends: &[End], edge: &Edge, end: &End, a: RouterId, b: RouterId) -> bool
-    ensures { IsTrue result ↔ IsWireBetween edges.now ends.now edge.now end.now a b }
+// Whether a prefix holds an address, and the far router shares it.
+fn is_shared(
+    far: &[End],
+    back: &[Edge],
+    address: u32,
+    a: RouterId,
+    b: RouterId,
+    prefix: Prefix,
+) -> bool
+    ensures { IsTrue result ↔ IsSharedFar far.now back.now address a b prefix }
 {
-    a.0 < b.0
-        && is_shared(edges, ends, edge, a, b, end)
-        && !has_longer(edges, ends, edge, a, b, end.prefix.length)
+    prefix.holds(Addr(address)) && is_met(far, back, a, b, prefix)
 }
 
-// Whether two routers share the prefix of an end.
-fn is_shared(edges: &[Edge], ends: &[End], edge: &Edge, a: RouterId, b: RouterId, end: &End) -> bool
-    ensures { IsTrue result ↔ IsSharedIn edges.now ends.now edge.now a b end.now }
+// Whether an end far is that of a prefix, and an edge leads back out of it.
+fn is_met(far: &[End], back: &[Edge], a: RouterId, b: RouterId, prefix: Prefix) -> bool
+    ensures { IsTrue result ↔ (HasEndFor far.now prefix × LeadsBack back.now b a prefix) }
 {
-    is_near(edge, end, a) && is_far(edges, ends, end.prefix, a, b)
+    has_end_for(far, prefix) && leads_back(back, b, a, prefix)
 }
 
-// Whether an end is at the first router, in a subnet that the edge's own address is in.
-fn is_near(edge: &Edge, end: &End, a: RouterId) -> bool
-    ensures { IsTrue result ↔ ((end.now.vertex ≡ Router a)
-        × Holds end.now.prefix edge.now.link_data) }
-{
-    is_vertex_at(end, a) && end.prefix.holds(Addr(edge.link_data))
-}
-
-// Whether it is the end of a prefix at a router, of any prefix.
-fn is_vertex_at(end: &End, router: RouterId) -> bool
-    ensures { IsTrue result ↔ (end.now.vertex ≡ Router router) }
-{
-    end.vertex == Vertex::Router(router)
-}
-
-// Whether the second router tells a subnet too, and an edge leads back in it.
-fn is_far(edges: &[Edge], ends: &[End], subnet: Prefix, a: RouterId, b: RouterId) -> bool
-    ensures { IsTrue result ↔ (StandsAt ends.now subnet b × LeadsBack edges.now b a subnet) }
-{
-    stands_at(ends, subnet, b) && leads_back(edges, b, a, subnet)
-}
-
-// Whether a router tells a prefix by a type 3 link.
-fn stands_at(ends: &[End], prefix: Prefix, router: RouterId) -> bool
-    ensures { IsTrue result ↔ StandsAt ends.now prefix router }
+// Whether one of some ends is that of a prefix.
+fn has_end_for(ends: &[End], prefix: Prefix) -> bool
+    ensures { IsTrue result ↔ HasEndFor ends.now prefix }
 {
     for end in ends {
-        if is_end_at(end, prefix, router) {
+        if is_same_prefix(end.prefix, prefix) {
             return true;
         }
     }
     false
 }
 
-// Whether it is the end of a prefix at a router.
-fn is_end_at(end: &End, prefix: Prefix, router: RouterId) -> bool
-    ensures { IsTrue result ↔ ((end.now.prefix ≡ prefix) × (end.now.vertex ≡ Router router)) }
-{
-    end.prefix == prefix && end.vertex == Vertex::Router(router)
-}
-
-// Whether one of these does.
+// Whether one of some edges leads from one router to another out of an address in a subnet.
 fn leads_back(edges: &[Edge], from: RouterId, to: RouterId, subnet: Prefix) -> bool
     ensures { IsTrue result ↔ LeadsBack edges.now from to subnet }
 {
@@ -182,7 +201,7 @@ fn leads_back(edges: &[Edge], from: RouterId, to: RouterId, subnet: Prefix) -> b
     false
 }
 
-// Whether an edge leads from one router to another out of an address in a subnet.
+// Whether an edge does.
 fn is_edge_in(edge: &Edge, from: RouterId, to: RouterId, subnet: Prefix) -> bool
     ensures { IsTrue result ↔ ((edge.now.from ≡ Router from) × (edge.now.to ≡ Router to)
         × Holds subnet edge.now.link_data) }
@@ -190,41 +209,6 @@ fn is_edge_in(edge: &Edge, from: RouterId, to: RouterId, subnet: Prefix) -> bool
     edge.from == Vertex::Router(from)
         && edge.to == Vertex::Router(to)
         && subnet.holds(Addr(edge.link_data))
-}
-
-// Whether the prefix of one of the ends is such.
-fn has_longer(
-    edges: &[Edge],
-    ends: &[End],
-    edge: &Edge,
-    a: RouterId,
-    b: RouterId,
-    length: u8,
-) -> bool
-    ensures { IsTrue result ↔ HasLonger edges.now ends.now edge.now a b length ends.now }
-{
-    for end in ends {
-        if is_longer(edges, ends, edge, a, b, length, end) {
-            return true;
-        }
-    }
-    false
-}
-
-// Whether they share one that is longer than this.
-fn is_longer(
-    edges: &[Edge],
-    ends: &[End],
-    edge: &Edge,
-    a: RouterId,
-    b: RouterId,
-    length: u8,
-    end: &End,
-) -> bool
-    ensures { IsTrue result ↔ ((length < end.now.prefix.length)
-        × IsSharedIn edges.now ends.now edge.now a b end.now) }
-{
-    length < end.prefix.length && is_shared(edges, ends, edge, a, b, end)
 }
 
 // Adds a failure.
@@ -235,48 +219,67 @@ fn add_failure(failures: &mut Vec<AreaFailure>, failure: AreaFailure) -> Result<
     Ok(())
 }
 
+// The pairs of routers that have a link in a subnet.
+fn wired_pairs(alloc: Global, wires: &[AreaFailure]) -> Result<Pairs, AllocError>
+    ensures { IfOk result (Adds (GivenBy IsPairOf wires.now) []) }
+{
+    let mut pairs = Vec::new(alloc);
+    for wire in wires {
+        push_pair(wire, &mut pairs)?;
+    }
+    Ok(Pairs::of(pairs))
+}
+
+// Adds the pair of a link in a subnet.
+fn push_pair(failure: &AreaFailure, pairs: &mut Vec<u64>) -> Result<(), AllocError>
+    ensures { OnOk result (Adds (IsPairOf failure.now) pairs.old.items pairs.new.items) }
+{
+    match *failure {
+        AreaFailure::Link { a, b, .. } => {
+            pairs.push(pair_order(a.0, b.0))?;
+            Ok(())
+        }
+        AreaFailure::Links { .. } => Ok(()),
+        AreaFailure::Attachment { .. } => Ok(()),
+        AreaFailure::Network(_) => Ok(()),
+        AreaFailure::Router(_) => Ok(()),
+    }
+}
+
 // Adds what edges give beside links in subnets.
 fn add_edges(
-    wires: &[AreaFailure],
+    wired: &Pairs,
     edges: &[Edge],
     failures: &mut Vec<AreaFailure>,
 ) -> Result<(), AllocError>
-    ensures { OnOk result (Adds (GivenBy (EdgeGiven wires.now) edges.now) failures.old.items
+    ensures { OnOk result (Adds (GivenBy (EdgeGiven wired.now) edges.now) failures.old.items
         failures.new.items) }
 {
     for edge in edges {
-        add_edge(wires, edge, failures)?;
+        add_edge(wired, edge, failures)?;
     }
     Ok(())
 }
 
 // Adds what an edge gives beside links in subnets.
-fn add_edge(
-    wires: &[AreaFailure],
-    edge: &Edge,
-    failures: &mut Vec<AreaFailure>,
-) -> Result<(), AllocError>
-    ensures { OnOk result (Adds (EdgeGiven wires.now edge.now) failures.old.items
+fn add_edge(wired: &Pairs, edge: &Edge, failures: &mut Vec<AreaFailure>) -> Result<(), AllocError>
+    ensures { OnOk result (Adds (EdgeGiven wired.now edge.now) failures.old.items
         failures.new.items) }
 {
-    add_links(wires, edge, failures)?;
+    add_links(wired, edge, failures)?;
     add_attachment(edge, failures)?;
     add_network(edge, failures)?;
     Ok(())
 }
 
 // Adds the links between two routers that have none in a subnet.
-fn add_links(
-    wires: &[AreaFailure],
-    edge: &Edge,
-    failures: &mut Vec<AreaFailure>,
-) -> Result<(), AllocError>
-    ensures { OnOk result (Adds (LinksGiven wires.now edge.now) failures.old.items
+fn add_links(wired: &Pairs, edge: &Edge, failures: &mut Vec<AreaFailure>) -> Result<(), AllocError>
+    ensures { OnOk result (Adds (LinksGiven wired.now edge.now) failures.old.items
         failures.new.items) }
 {
     match (edge.from, edge.to) {
         (Vertex::Router(a), Vertex::Router(b)) => {
-            if a.0 < b.0 && !has_wire(wires, a, b) {
+            if a.0 < b.0 && !wired.has(a.0, b.0) {
                 add_failure(failures, AreaFailure::Links { a, b })?;
             }
             Ok(())
@@ -285,39 +288,6 @@ fn add_links(
         (Vertex::Network(_), Vertex::Router(_)) => Ok(()),
         (Vertex::Network(_), Vertex::Network(_)) => Ok(()),
     }
-}
-
-// Whether one of these is.
-fn has_wire(wires: &[AreaFailure], first: RouterId, second: RouterId) -> bool
-    ensures { IsTrue result ↔ HasWire wires.now first second }
-{
-    for wire in wires {
-        if is_wire_of(wire, first, second) {
-            return true;
-        }
-    }
-    false
-}
-
-// Whether a failure is a link between two routers in some subnet.
-fn is_wire_of(failure: &AreaFailure, first: RouterId, second: RouterId) -> bool
-    ensures { IsTrue result ↔ ((subnet : Prefix)
-        × (failure.now ≡ AreaFailure.Link first second subnet)) }
-{
-    match *failure {
-        AreaFailure::Link { a, b, .. } => are(a, b, first, second),
-        AreaFailure::Links { .. } => false,
-        AreaFailure::Attachment { .. } => false,
-        AreaFailure::Network(_) => false,
-        AreaFailure::Router(_) => false,
-    }
-}
-
-// Whether two routers are these.
-fn are(a: RouterId, b: RouterId, first: RouterId, second: RouterId) -> bool
-    ensures { IsTrue result ↔ ((a ≡ first) × (b ≡ second)) }
-{
-    a == first && b == second
 }
 
 // Adds the attachment of an edge from a router to a network.

@@ -1,19 +1,19 @@
 //! The graph of an area, and what a failure takes from it.
 
-ghost use Rattle.std.specs.Prelude.{◌≡◌, ◌↔◌, Contains, Err, IfOk, IsTrue};
+ghost use Rattle.std.specs.Prelude.{◌≡◌, ◌↔◌, Contains, IfOk, IsTrue};
 ghost use Rattle.ospf_edges.specs.Given.{IsEdgesOf};
 ghost use Rattle.ospf_edges.specs.Listed.{advertisements_of};
 ghost use Rattle.ospf_graph.specs.Search.{AreEdgesInOrder, AreFitEdges};
-ghost use Rattle.ospf_spf.specs.Spared.{AreEndsInOrder};
-ghost use Rattle.ospf_whatif.specs.Failure.{HasLarge};
-ghost use Rattle.ospf_whatif.specs.Outage.{AreMissing, IsAreaGraph, IsOutage};
+ghost use Rattle.ospf_whatif.specs.Lost.{AreEdgesLost, AreEndsLost, AreStubsOf, Connects, IsOutside, IsTwoWay, IsWayBack, Stays};
+ghost use Rattle.ospf_whatif.specs.Lost.{centre_of as centre_of_spec};
+ghost use Rattle.ospf_whatif.specs.Outage.{AreLost};
 
-use crate::area::{WithoutFault, without};
 use crate::failure::AreaFailure;
-use ospf_edges::{End, edges_of};
-use ospf_graph::{Edge, edges_from, is_same, sorted_edges};
+use ospf_base::{Addr, Prefix, RouterId};
+use ospf_edges::{End, edges_at, edges_of, ends_at};
+use ospf_graph::{Edge, Vertex, is_same, sorted_edges};
 use ospf_lsa::Listing;
-use ospf_spf::{ends_in_order, ends_to, is_same_prefix};
+use ospf_spf::{ends_in_order, is_same_prefix};
 use std::alloc::{AllocError, Global};
 
 /// The edges of an area and the ends of its prefixes (RFC 2328, section 16.1), in the
@@ -50,30 +50,20 @@ pub struct Outage {
 }
 
 impl Outage {
-    ghost use Rattle.std.specs.Prelude.{◌≡◌, Err, IfOk};
+    ghost use Rattle.std.specs.Prelude.{◌≡◌, IfOk};
     ghost use Rattle.ospf_edges.specs.Listed.{advertisements_of};
-    ghost use Rattle.ospf_whatif.specs.Failure.{HasLarge};
-    ghost use Rattle.ospf_whatif.specs.Outage.{IsAreaGraph, IsOutage};
+    ghost use Rattle.ospf_whatif.specs.Outage.{IsOutage};
 
-    /// What a failure takes from the graph of the area of a listing, as `without` leaves that.
+    /// What a failure takes from the graph of the area of a listing, as `without` leaves that. It
+    /// looks at the edges of one vertex, and at the ends of two at most.
     ///
-    /// `Links` or `Memory` as `without` has it.
-    pub fn of(
-        alloc: Global,
-        listing: &Listing,
-        area: &AreaGraph,
-        failure: &AreaFailure,
-    ) -> Result<Outage, WithoutFault>
-        requires { IsAreaGraph (advertisements_of listing.now) area.now }
+    /// `AllocError` where memory runs out.
+    pub fn of(alloc: Global, listing: &Listing, failure: &AreaFailure) -> Result<Outage, AllocError>
         ensures failure { IfOk result (λ outage. outage.failure ≡ failure.now) }
         ensures outage { IfOk result (IsOutage (advertisements_of listing.now)) }
-        ensures large { result ≡ Err WithoutFault.Links →
-            HasLarge (advertisements_of listing.now) }
     {
-        let left = without(alloc, listing, failure)?;
-        let after = AreaGraph::of(alloc, &left)?;
-        let edges = missing_edges(alloc, &area.edges, &after.edges)?;
-        let ends = missing_ends(alloc, &area.ends, &after.ends)?;
+        let edges = edges_lost(alloc, listing, failure)?;
+        let ends = ends_lost(alloc, listing, failure)?;
         Ok(Outage {
             failure: *failure,
             edges,
@@ -82,8 +72,8 @@ impl Outage {
     }
 }
 
-// The edges of a listing, in the order of the vertices that they leave.
-fn edges_in_order(alloc: Global, listing: &Listing) -> Result<Vec<Edge>, AllocError>
+/// The edges of a listing, in the order of the vertices that they leave.
+pub(crate) fn edges_in_order(alloc: Global, listing: &Listing) -> Result<Vec<Edge>, AllocError>
     ensures edges { IfOk result (λ edges. IsEdgesOf (advertisements_of listing.now) edges.items) }
     ensures fit { IfOk result (λ edges. AreFitEdges edges.items) }
     ensures in_order { IfOk result (λ edges. AreEdgesInOrder edges.items) }
@@ -93,32 +83,126 @@ fn edges_in_order(alloc: Global, listing: &Listing) -> Result<Vec<Edge>, AllocEr
     Ok(sorted)
 }
 
-// The edges that are no more.
-fn missing_edges(alloc: Global, before: &[Edge], after: &[Edge]) -> Result<Vec<Edge>, AllocError>
-    requires { AreEdgesInOrder after.now }
-    ensures { IfOk result (λ missing. AreMissing before.now after.now missing.items) }
+// The edges that a failure takes.
+fn edges_lost(
+    alloc: Global,
+    listing: &Listing,
+    failure: &AreaFailure,
+) -> Result<Vec<Edge>, AllocError>
+    ensures { IfOk result (λ lost. AreEdgesLost (advertisements_of listing.now) failure.now
+        lost.items) }
 {
-    let mut missing = Vec::new(alloc);
-    for edge in before {
-        if !has_edge(edges_from(after, edge.from), *edge) {
-            missing.push(*edge)?;
-        }
-    }
-    Ok(missing)
+    let near = edges_at(alloc, listing, centre_of(failure))?;
+    edges_going(alloc, failure, &near)
 }
 
-// The ends that are no more.
-fn missing_ends(alloc: Global, before: &[End], after: &[End]) -> Result<Vec<End>, AllocError>
-    requires { AreEndsInOrder after.now }
-    ensures { IfOk result (λ missing. AreMissing before.now after.now missing.items) }
+// The edges that a failure takes, of those at one vertex.
+fn edges_going(alloc: Global, failure: &AreaFailure, near: &[Edge]) -> Result<Vec<Edge>, AllocError>
+    ensures { IfOk result (λ lost. AreLost (Contains near.now) (Stays failure.now near.now)
+        lost.items) }
 {
-    let mut missing = Vec::new(alloc);
-    for end in before {
-        if !has_end(ends_to(after, end.prefix), *end) {
-            missing.push(*end)?;
+    let mut lost = Vec::new(alloc);
+    for edge in near {
+        if !stays(failure, edge, near) {
+            lost.push(*edge)?;
         }
     }
-    Ok(missing)
+    Ok(lost)
+}
+
+// The vertex that each edge touches which a failure takes.
+fn centre_of(failure: &AreaFailure) -> Vertex
+    ensures { result ≡ centre_of_spec failure.now }
+{
+    match *failure {
+        AreaFailure::Link { a, .. } => Vertex::Router(a),
+        AreaFailure::Links { a, .. } => Vertex::Router(a),
+        AreaFailure::Attachment { router, .. } => Vertex::Router(router),
+        AreaFailure::Network(network) => Vertex::Network(network),
+        AreaFailure::Router(gone) => Vertex::Router(gone),
+    }
+}
+
+// Whether an edge stays, of those that touch that vertex.
+fn stays(failure: &AreaFailure, edge: &Edge, near: &[Edge]) -> bool
+    ensures { IsTrue result ↔ Stays failure.now near.now edge.now }
+{
+    match *failure {
+        AreaFailure::Link { a, b, subnet } => {
+            !connects(edge, Vertex::Router(a), Vertex::Router(b)) || is_two_way(edge, near, subnet)
+        }
+        AreaFailure::Links { a, b } => !connects(edge, Vertex::Router(a), Vertex::Router(b)),
+        AreaFailure::Attachment { router, network } => {
+            !connects(edge, Vertex::Router(router), Vertex::Network(network))
+        }
+        AreaFailure::Network(_) => false,
+        AreaFailure::Router(_) => false,
+    }
+}
+
+// Whether an edge leads from one of two vertices to the other.
+fn connects(edge: &Edge, one: Vertex, other: Vertex) -> bool
+    ensures { IsTrue result ↔ Connects edge.now one other }
+{
+    (is_same(edge.from, one) && is_same(edge.to, other))
+        || (is_same(edge.from, other) && is_same(edge.to, one))
+}
+
+// Whether an edge lies outside a subnet, and one of these that leads back too.
+fn is_two_way(edge: &Edge, near: &[Edge], subnet: Prefix) -> bool
+    ensures { IsTrue result ↔ IsTwoWay near.now subnet edge.now }
+{
+    is_outside(edge, subnet) && near.iter().any(|back| is_way_back(back, edge, subnet))
+}
+
+// Whether an edge leads back over another one, outside a subnet.
+fn is_way_back(back: &Edge, edge: &Edge, subnet: Prefix) -> bool
+    ensures { IsTrue result ↔ IsWayBack subnet edge.now back.now }
+{
+    is_same(back.from, edge.to) && is_same(back.to, edge.from) && is_outside(back, subnet)
+}
+
+// Whether the Link Data of an edge lies outside a subnet.
+fn is_outside(edge: &Edge, subnet: Prefix) -> bool
+    ensures { IsTrue result ↔ IsOutside subnet edge.now }
+{
+    !subnet.holds(Addr(edge.link_data))
+}
+
+// The ends that a failure takes.
+fn ends_lost(
+    alloc: Global,
+    listing: &Listing,
+    failure: &AreaFailure,
+) -> Result<Vec<End>, AllocError>
+    ensures { IfOk result (λ lost. AreEndsLost (advertisements_of listing.now) failure.now
+        lost.items) }
+{
+    match *failure {
+        AreaFailure::Link { a, b, subnet } => stubs_of(alloc, listing, a, b, subnet),
+        AreaFailure::Links { .. } => Ok(Vec::new(alloc)),
+        AreaFailure::Attachment { .. } => Ok(Vec::new(alloc)),
+        AreaFailure::Network(_) => Ok(Vec::new(alloc)),
+        AreaFailure::Router(gone) => ends_at(alloc, listing, Vertex::Router(gone)),
+    }
+}
+
+// The ends of a prefix at two routers.
+fn stubs_of(
+    alloc: Global,
+    listing: &Listing,
+    a: RouterId,
+    b: RouterId,
+    prefix: Prefix,
+) -> Result<Vec<End>, AllocError>
+    ensures { IfOk result (λ ends. AreStubsOf (advertisements_of listing.now) a b prefix
+        ends.items) }
+{
+    let mut ends = ends_at(alloc, listing, Vertex::Router(a))?;
+    let mut others = ends_at(alloc, listing, Vertex::Router(b))?;
+    ends.append(&mut others)?;
+    ends.retain(|end| is_same_prefix(end.prefix, prefix));
+    Ok(ends)
 }
 
 /// Whether an edge is among these.

@@ -75,7 +75,7 @@ fn effect(alloc: Global, failure: &AreaFailure) -> Result<Vec<RouteChange>, Fail
     let listing = listing(alloc)?;
     let table = RouteTable::of(alloc, &listing, FIRST)?;
     let area = AreaGraph::of(alloc, &listing)?;
-    let outage = Outage::of(alloc, &listing, &area, failure)?;
+    let outage = Outage::of(alloc, &listing, failure)?;
     let kept = KeptRoot::of(alloc, &area, FIRST)?;
     Ok(kept.effect(alloc, &listing, &area, &outage, &table)?)
 }

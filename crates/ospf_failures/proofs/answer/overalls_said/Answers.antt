@@ -10,12 +10,12 @@ use Rattle.ospf_failures.proofs.answer.overalls_said.Goals as goal
 
 pub returns-clause-said : goal.returns-clause-said
 returns-clause-said g c =
-    let printed = c.in-Ok.printed.items in
+    let printed = c.in_ok-printed.printed.items in
     let cuts : IsTrue c.cuts_somewhere.result ↔ CutsSomewhere printed =
     subst (λ (l : List Overall). IsTrue c.cuts_somewhere.result ↔ CutsSomewhere l) c.deref-2.ensures.value c.cuts_somewhere.ensures in
     record {
       printed = printed;
-      are = subst (λ (d : RouteDetail). AreOveralls (advertisements_of c.args.listing.now) d printed) c.detail_of.ensures c.in-Ok.ensures.printed;
+      are = subst (λ (d : RouteDetail). AreOveralls (advertisements_of c.args.listing.now) d printed) c.detail_of.ensures c.in_ok-printed.ensures;
       text_is = c.in_ok-text.ensures ∙ ap (added_text c.args.form c.args.each) c.deref.ensures.value;
       ends = subst (λ (e : FailuresStatus). IsEndBy c.args.strict (CutsSomewhere printed) e) (sym c.end_of-end.ensures)
           (end_is (CutsSomewhere printed) c.args.strict c.cuts_somewhere.result cuts);

@@ -7,8 +7,8 @@ use Rattle.ospf_failures.specs.declared.overall.Before.{Before}
 use Rattle.ospf_failures.proofs.OverallLemmas.{overalls_are, roots_of}
 use Rattle.ospf_failures.proofs.overall.overalls.Goals as goal
 
-pub returns-clause-printed : goal.returns-clause-printed
-returns-clause-printed g c =
+pub returns : goal.returns
+returns g c =
     let A = advertisements_of c.args.listing.now in
     let overalls = c.in_ok-overalls.overalls.items in
     let befores = c.in_ok-befores.befores.items in

@@ -15,6 +15,6 @@ returns g c =
     let slice = ap (λ it. it.slice.now) (ap (λ m. m.base) c.map.ensures.base ∙ c.with_min_len.ensures.base) ∙ c.par_iter.ensures in
     let chain = rw c.map.ensures.f at c.in_ok-collect.ensures in
     let each_found = slice-AllZip chain.1.0 c.args.failures.now (chain.1.1 ∙ slice) (IsOverallFound A c.args.befores.now c.args.detail) chain.0 chain.1.2 in
-    let found = all_found A (λ o. o.failure) (λ f o. IsSoFar (without f A) c.args.befores.now c.args.detail (map (λ b. b.root) c.args.befores.now) o) c.args.failures.now chain.0
+    let found = all_found (λ o. o.failure) (λ f o. IsSoFar (without f A) c.args.befores.now c.args.detail (map (λ b. b.root) c.args.befores.now) o) c.args.failures.now chain.0
     c.in_ok-collect.field-0 each_found chain.2 in
-    record { failures_are = found.0; large = found.1; seen = found.2 }
+    record { failures_are = found.0; seen = found.1 }

@@ -14,8 +14,8 @@ pub reports_of-requires-clause-table : goal.reports_of-requires-clause-table
 reports_of-requires-clause-table g c κs within =
     subst (λ (r : RouterId). IsTable (advertisements_of c.args.listing.now) r c.args.table.now) (sym c.in_ok-kept.ensures.root) c.requires
 
-pub returns-clause-reported : goal.returns-clause-reported
-returns-clause-reported g c =
+pub returns : goal.returns
+returns g c =
     let A = advertisements_of c.args.listing.now in
     let reports = c.in_ok-reports.reports.items in
     record {

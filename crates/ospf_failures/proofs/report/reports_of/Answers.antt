@@ -15,5 +15,5 @@ returns g c =
     let slice = ap (λ it. it.slice.now) (ap (λ m. m.base) c.map.ensures.base ∙ c.with_min_len.ensures.base) ∙ c.par_iter.ensures in
     let chain = rw c.map.ensures.f at c.in_ok-collect.ensures in
     let each_found = slice-AllZip chain.1.0 c.args.failures.now (chain.1.1 ∙ slice) (IsReportFound A c.args.kept.now.root c.args.table.now) chain.0 chain.1.2 in
-    let found = all_found A (λ r. r.0) (λ f r. IsEffect A c.args.kept.now.root f c.args.table.now r.1) c.args.failures.now chain.0 c.in_ok-collect.field-0 each_found chain.2 in
-    record { failures = found.0; large = found.1; changed = found.2 }
+    let found = all_found (λ r. r.0) (λ f r. IsEffect A c.args.kept.now.root f c.args.table.now r.1) c.args.failures.now chain.0 c.in_ok-collect.field-0 each_found chain.2 in
+    record { failures = found.0; changed = found.1 }

@@ -4,4 +4,4 @@ use Rattle.ospf_whatif.specs.Single.{GivenBy, EdgeGiven}
 use Rattle.ospf_whatif.proofs.failures.add_edges.Given as goal
 
 abbrev pub invariant-loop-edge : goal.invariant-loop-edge
-invariant-loop-edge l = Adds (GivenBy (EdgeGiven l.wires) (take l.edge-index l.edges)) l.initial.failures.items l.failures.items
+invariant-loop-edge l = Adds (GivenBy (EdgeGiven l.wired) (take l.edge-index l.edges)) l.initial.failures.items l.failures.items

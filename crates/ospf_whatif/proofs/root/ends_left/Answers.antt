@@ -1,7 +1,8 @@
 use Rattle.std.proofs.Common.{◌≤◌, ◌+◌, length, take, ap, sym, subst, ◌∙◌}
+use Rattle.std.specs.List.{Contains}
 use Rattle.std.proofs.lemmas.List.{take_all}
 use Rattle.ospf_whatif.specs.Outage.{AreMissing}
-use Rattle.ospf_whatif.proofs.OutageLemmas.{false_true, missing_more_at, missing_none_at}
+use Rattle.ospf_whatif.proofs.OutageLemmas.{false_true, lost_more, lost_none}
 use Rattle.ospf_whatif.proofs.root.ends_left.Goals as goal
 use Rattle.ospf_whatif.proofs.root.ends_left.Goals.{then-not-has_end+in_ok-push, else-not-has_end}
 
@@ -14,10 +15,10 @@ loop-end-preserved c =
     elim c.if-not-has_end.branch [
       | then-not-has_end+in_ok-push w ↦
           subst (λ l. AreMissing (take (i + 1) before) after l) (sym (ap (λ v. v.items) w.left-is ∙ w.in_ok-push.ensures.items))
-          (missing_more_at before after i c.end-item.result c.loop-end-test.true c.end-item.is c.loop-end.left.items inv (λ m. false_true c.has_end.result w.if-not-has_end.true (c.has_end.ensures.1 m)))
+          (lost_more before (Contains after) i c.end-item.result c.loop-end-test.true c.end-item.is c.loop-end.left.items inv (λ m. false_true c.has_end.result w.if-not-has_end.true (c.has_end.ensures.1 m)))
       | else-not-has_end w ↦
           subst (λ l. AreMissing (take (i + 1) before) after l) (sym (ap (λ v. v.items) w.left-is))
-          (missing_none_at before after i c.end-item.result c.loop-end-test.true c.end-item.is c.loop-end.left.items inv (c.has_end.ensures.0 w.if-not-has_end.false))
+          (lost_none before (Contains after) i c.end-item.result c.loop-end-test.true c.end-item.is c.loop-end.left.items inv (c.has_end.ensures.0 w.if-not-has_end.false))
     ]
 
 pub returns : goal.returns

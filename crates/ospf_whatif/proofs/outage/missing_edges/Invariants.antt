@@ -1,6 +1,0 @@
-use Rattle.std.proofs.Common.{take}
-use Rattle.ospf_whatif.specs.Outage.{AreMissing}
-use Rattle.ospf_whatif.proofs.outage.missing_edges.Given as goal
-
-abbrev pub invariant-loop-edge : goal.invariant-loop-edge
-invariant-loop-edge l = AreMissing (take l.edge-index l.before) l.after l.missing.items

@@ -1,6 +1,0 @@
-use Rattle.std.proofs.Common.{take}
-use Rattle.ospf_whatif.specs.Outage.{AreMissing}
-use Rattle.ospf_whatif.proofs.outage.missing_ends.Given as goal
-
-abbrev pub invariant-loop-end : goal.invariant-loop-end
-invariant-loop-end l = AreMissing (take l.end-index l.before) l.after l.missing.items

@@ -1,0 +1,71 @@
+-- What a failure takes of the edges and the ends about it (RFC 2328, sections 12.4.1 and 16.1).
+use Rattle.std.specs.Prelude.{◌≡◌, ◌⊎◌, ◌↔◌, List, Any, Contains}
+use Rattle.ospf_base.specs.Prefixes.{Holds}
+use Rattle.ospf_base.specs.declared.ids.RouterId.{RouterId}
+use Rattle.ospf_base.specs.declared.prefix.Prefix.{Prefix}
+use Rattle.ospf_edges.specs.declared.end.End.{End}
+use Rattle.ospf_graph.specs.Advertisements.{Advertisement}
+use Rattle.ospf_graph.specs.Graph.{IsEdge}
+use Rattle.ospf_graph.specs.declared.graph.Edge.{Edge}
+use Rattle.ospf_graph.specs.declared.graph.Vertex.{Vertex}
+use Rattle.ospf_graph.specs.declared.graph.Vertex.TheVariants as vertex
+use Rattle.ospf_whatif.specs.Failure.{without}
+use Rattle.ospf_whatif.specs.Outage.{AreLost, StandsIn}
+use Rattle.ospf_whatif.specs.declared.failure.AreaFailure.{AreaFailure}
+use Rattle.ospf_whatif.specs.declared.failure.AreaFailure.TheVariants.{Attachment, Link, Links, Network, Router}
+
+-- ---- edges
+
+-- the vertex that each edge touches which the failure takes
+abbrev pub centre_of : AreaFailure → Vertex
+centre_of (Link a b subnet) = vertex.Router a
+centre_of (Links a b) = vertex.Router a
+centre_of (Attachment router network) = vertex.Router router
+centre_of (Network network) = vertex.Network network
+centre_of (Router gone) = vertex.Router gone
+
+-- it leads from one of the two vertices to the other
+abbrev pub Connects : Edge → Vertex → Vertex → Type 0
+Connects e v w = ((e.from ≡ v) × (e.to ≡ w)) ⊎ ((e.from ≡ w) × (e.to ≡ v))
+
+-- its Link Data lies outside the subnet
+abbrev pub IsOutside : Prefix → Edge → Type 0
+IsOutside subnet e = Holds subnet e.link_data → ⊥
+
+-- the second edge leads back, outside the subnet
+abbrev pub IsWayBack : Prefix → Edge → Edge → Type 0
+IsWayBack subnet e back = (back.from ≡ e.to) × (back.to ≡ e.from) × IsOutside subnet back
+
+-- it lies outside the subnet, and so does one of these edges that leads back
+abbrev pub IsTwoWay : List Edge → Prefix → Edge → Type 0
+IsTwoWay near subnet e = IsOutside subnet e × Any (λ back. IsWayBack subnet e back) near
+
+-- what of an edge at the centre has to hold for it to stay
+abbrev pub Stays : AreaFailure → List Edge → Edge → Type 0
+Stays (Link a b subnet) near e =
+    Connects e (vertex.Router a) (vertex.Router b) → IsTwoWay near subnet e
+Stays (Links a b) near e = Connects e (vertex.Router a) (vertex.Router b) → ⊥
+Stays (Attachment router network) near e =
+    Connects e (vertex.Router router) (vertex.Network network) → ⊥
+Stays (Network network) near e = ⊥
+Stays (Router gone) near e = ⊥
+
+-- exactly the edges that the failure takes
+abbrev pub AreEdgesLost : List Advertisement → AreaFailure → List Edge → Type 0
+AreEdgesLost adverts f lost = AreLost (IsEdge adverts) (IsEdge (without f adverts)) lost
+
+-- ---- ends
+
+-- the end is one of the prefix at one of the two routers
+abbrev pub IsStubOf : RouterId → RouterId → Prefix → End → Type 0
+IsStubOf a b prefix e =
+    (e.prefix ≡ prefix) × ((e.vertex ≡ vertex.Router a) ⊎ (e.vertex ≡ vertex.Router b))
+
+-- exactly these
+abbrev pub AreStubsOf : List Advertisement → RouterId → RouterId → Prefix → List End → Type 0
+AreStubsOf adverts a b prefix ends =
+    (e : End) → Contains ends e ↔ (StandsIn adverts e × IsStubOf a b prefix e)
+
+-- exactly the ends that the failure takes
+abbrev pub AreEndsLost : List Advertisement → AreaFailure → List End → Type 0
+AreEndsLost adverts f lost = AreLost (StandsIn adverts) (StandsIn (without f adverts)) lost
