@@ -1,6 +1,6 @@
 //! The least fault of keys.
 
-ghost use Rattle.std.specs.Prelude.{◌≡◌, ◌⊎◌, Any, All, IsSome, is_some};
+ghost use Rattle.std.specs.Prelude.{◌≡◌, Any, All, IsSome, is_some};
 ghost use Rattle.std.specs.List.{list_all};
 ghost use Rattle.toml.specs.Data.{as_table};
 ghost use Rattle.toml.specs.View.{view, table_view, items_view};

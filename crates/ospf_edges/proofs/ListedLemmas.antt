@@ -1,20 +1,19 @@
 -- The LSAs of a listing, as the route calculation reads them.
 use Rattle.std.proofs.Common.{◌≡◌, ◌≤◌, ℕ, List, refl, sym, ◌∙◌, ap, subst, inl, inr, arith}
-use Rattle.std.specs.List.{Any, Contains}
+use Rattle.std.specs.List.{Contains}
 use Rattle.ospf_base.specs.Bytes.{number_at}
 use Rattle.ospf_base.specs.declared.ids.RouterId.{RouterId}
 use Rattle.ospf_base.specs.declared.ids.LsaKey.{LsaKey}
 use Rattle.ospf_base.specs.declared.ids.Kind.TheVariants as kind
 use Rattle.ospf_lsa.specs.declared.link.Link.{Link}
-use Rattle.ospf_lsa.specs.declared.link.LinkKind.{LinkKind}
 use Rattle.ospf_lsa.specs.declared.fault.LsaFault.TheVariants as fault
 use Rattle.ospf_lsa.specs.Lsa.{IsLsa, IsRouterLsa, IsNetworkLsa, key_of, kind_of, links_of, attached_of, network_mask_of}
 use Rattle.ospf_lsa.specs.Listing.{IsListing, HasKey, IsNetworkOf, IsOfNetwork}
 use Rattle.ospf_lsa.proofs.ListingLemmas.{one_key, listed_in}
-use Rattle.ospf_graph.specs.Advertisements.{Advertisement, router_lsa, network_lsa, IsListed, IsNetwork}
+use Rattle.ospf_graph.specs.Advertisements.{router_lsa, network_lsa, IsListed, IsNetwork}
 use Rattle.ospf_graph.proofs.ListLemmas.{member_of_map, member_to_map}
 use Rattle.ospf_edges.specs.Listed.{advertisement_of, advertisements_of}
-use Rattle.ospf_edges.specs.Given.{LinksTo, StandsFor}
+use Rattle.ospf_edges.specs.Given.{StandsFor}
 
 -- the key of a router's LSA
 abbrev pub router_key : RouterId → LsaKey

@@ -1,6 +1,6 @@
 //! LSAs that are made.
 
-ghost use Rattle.std.specs.Prelude.{◌≡◌, ◌≤◌, ◌++◌, ◌↔◌, ◌<◌, ◌^◌, ◌*◌, ◌+◌, ℕ, IsTrue, IfOk, IfErr, OnOk, All, length};
+ghost use Rattle.std.specs.Prelude.{◌≡◌, ◌≤◌, ◌++◌, ◌↔◌, ◌<◌, ◌*◌, ◌+◌, ℕ, IsTrue, IfOk, IfErr, OnOk, All, length};
 ghost use Rattle.std.specs.List.{flat_map, AllByRecursion};
 ghost use Rattle.ospf_base.specs.Constants.{largest_lsa};
 ghost use Rattle.ospf_base.specs.Sums.{IsChecksum, with_checksum};

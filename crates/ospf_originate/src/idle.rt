@@ -1,7 +1,7 @@
 //! Whether anything is due of the router's own LSAs, found without building any of them.
 
 ghost use Rattle.std.specs.Prelude.{◌≡◌, ◌||◌, ◌↔◌, IsTrue, [], is_some, not, option_copied};
-ghost use Rattle.std.specs.List.{flat_map, list_all, list_any};
+ghost use Rattle.std.specs.List.{list_all, list_any};
 ghost use Rattle.ospf_base.specs.declared.ids.LsaKey.{LsaKey};
 ghost use Rattle.ospf_area.specs.State.{kept_number};
 ghost use Rattle.ospf_originate.specs.Actions.{is_due, next_action};

@@ -1,6 +1,6 @@
 //! Packets that are written.
 
-ghost use Rattle.std.specs.Prelude.{◌≡◌, ◌+◌, ◌*◌, ◌^◌, ◌<◌, ◌≤◌, ◌∷◌, ◌++◌, ◌↔◌, IfSome, IfNone, OnSome, IfOk, OnOk, OnErr, Some, Err, length, take, drop, vec_len, vec_capacity};
+ghost use Rattle.std.specs.Prelude.{◌≡◌, ◌+◌, ◌*◌, ◌^◌, ◌<◌, ◌≤◌, ◌∷◌, ◌++◌, ◌↔◌, IfSome, IfNone, OnSome, OnOk, OnErr, Some, Err, length, take, drop, vec_len, vec_capacity};
 ghost use Rattle.std.specs.List.{flat_map, AllByRecursion};
 ghost use Rattle.ospf_base.specs.Constants.{largest_packet, lsa_header, packet_header};
 ghost use Rattle.ospf_packet.specs.Fields.{hello_fields};

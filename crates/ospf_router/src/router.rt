@@ -1,6 +1,6 @@
 //! The router.
 
-ghost use Rattle.std.specs.Prelude.{◌≡◌, ◌≢◌, ◌<◌, ◌⊎◌, ◌↔◌, [], IsTrue, IfErr, IfOk, IfSome, OnErr, OnOk, None, Some, is_some, map};
+ghost use Rattle.std.specs.Prelude.{◌≡◌, ◌≢◌, ◌<◌, ◌↔◌, [], IsTrue, IfErr, IfOk, IfSome, OnErr, OnOk, None, Some, is_some, map};
 ghost use Rattle.ospf_base.specs.Sums.{contents};
 ghost use Rattle.ospf_edges.specs.Listed.{advertisements_of};
 ghost use Rattle.ospf_flood.specs.Rules.{max_sequence_number};

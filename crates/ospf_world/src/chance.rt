@@ -1,7 +1,6 @@
 //! What chance draws.
 
-ghost use Rattle.std.specs.Prelude.{◌≡◌, ◌<◌, ◌==◌, IsTrue, IfSome};
-ghost use Rattle.rand_pcg.specs.Lcg.{Lcg};
+ghost use Rattle.std.specs.Prelude.{◌≡◌, ◌<◌, ◌==◌, IfSome};
 ghost use Rattle.ospf_world.specs.Draws.{chosen_of, drawn_delivery, drawn_for, drawn_link_down, drawn_link_up, drawn_turn, words_from};
 
 use ospf_base::{NO_FLOOR, RouterId};
