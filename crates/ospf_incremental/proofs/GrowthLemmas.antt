@@ -5,7 +5,7 @@ use Rattle.ospf_graph.specs.declared.graph.Vertex.{Vertex}
 use Rattle.ospf_graph.specs.declared.graph.Start.{Start}
 use Rattle.ospf_graph.specs.declared.graph.Start.TheVariants.{Here}
 use Rattle.ospf_graph.specs.Graph.{IsPath, path_cost}
-use Rattle.ospf_incremental.specs.Growth.{Improves, IsGrowing, IsOwed, IsRelaxed}
+use Rattle.ospf_incremental.specs.Growth.{Improves, IsGrowing, IsOwed, IsRelaxed, NoneWaits}
 use Rattle.ospf_graph.specs.Tree.{extend, IsTree}
 use Rattle.ospf_graph.proofs.CandidateLemmas.{same_or_other}
 use Rattle.ospf_graph.proofs.SearchLemmas.{IsPath-push, path_cost-push, start_from-push}
@@ -16,7 +16,7 @@ less_or_level a b le = grind arith
 
 -- with no edge that waits it is a tree
 pub grown : (is_edge : Edge → Type 0) (root : Vertex) (At : Vertex → ℕ → Type 0) (Starts : Vertex → Start → Type 0) (Waits : Edge → Type 0)
-    → IsGrowing is_edge root At Starts Waits → ((e : Edge) → Waits e → ⊥) → IsTree is_edge root At Starts
+    → IsGrowing is_edge is_edge root At Starts Waits → ((e : Edge) → Waits e → ⊥) → IsTree is_edge root At Starts
 grown is_edge root At Starts Waits g none =
     let relaxed : (e : Edge) (d : ℕ) → is_edge e → At e.from d → IsRelaxed At Starts e d =
     λ e d is at. elim (g.owed e d is at) [ inl w ↦ absurd (none e w) | inr r ↦ r ] in
@@ -40,7 +40,7 @@ grown is_edge root At Starts Waits g none =
 pub begun : (was is_edge : Edge → Type 0) (root : Vertex) (At : Vertex → ℕ → Type 0) (Starts : Vertex → Start → Type 0) (Waits : Edge → Type 0)
     → IsTree was root At Starts → ((e : Edge) → was e → is_edge e) → ((e : Edge) → Waits e → is_edge e)
     → ((e : Edge) (d : ℕ) → is_edge e → At e.from d → was e ⊎ IsOwed At Starts Waits e d)
-    → IsGrowing is_edge root At Starts Waits
+    → IsGrowing is_edge is_edge root At Starts Waits
 begun was is_edge root At Starts Waits t stays waiting came =
     record {
       one = t.one;
@@ -48,6 +48,7 @@ begun was is_edge root At Starts Waits t stays waiting came =
       root_start = t.root_start;
       path_of = λ v d at. let p = t.path_of v d at in (p.0, IsPath-map was is_edge stays p.0 root v p.1, p.2);
       path_with = λ v x has. let p = t.path_with v x has in (p.0, IsPath-map was is_edge stays p.0 root v p.1, p.2, p.3);
+      within = λ e is. is;
       waiting = waiting;
       owed = λ e d is at. elim (came e d is at) [
         | inr owed ↦ owed
@@ -62,10 +63,25 @@ begun was is_edge root At Starts Waits t stays waiting came =
       ];
     }
 
-module _ (is_edge : Edge → Type 0) (root : Vertex) (At : Vertex → ℕ → Type 0) (Starts : Vertex → Start → Type 0) (Waits Waits' : Edge → Type 0)
-    (g : IsGrowing is_edge root At Starts Waits) (e : Edge) (is : is_edge e) (keeps : (f : Edge) → Waits f → Waits' f ⊎ (f ≡ e)) where
+-- once none waits
+pub settled : (is_edge is_seen : Edge → Type 0) (root : Vertex) (At : Vertex → ℕ → Type 0) (Starts : Vertex → Start → Type 0) (Waits : Edge → Type 0)
+    → IsGrowing is_edge is_seen root At Starts Waits → ((e : Edge) → Waits e → ⊥) → IsGrowing is_edge is_seen root At Starts NoneWaits
+settled is_edge is_seen root At Starts Waits g none =
+    record {
+      one = g.one;
+      root_at = g.root_at;
+      root_start = g.root_start;
+      path_of = g.path_of;
+      path_with = g.path_with;
+      within = g.within;
+      waiting = λ e no. absurd no;
+      owed = λ e d is at. elim (g.owed e d is at) [ inl w ↦ absurd (none e w) | inr r ↦ inr r ];
+    }
+
+module _ (is_edge is_seen : Edge → Type 0) (root : Vertex) (At : Vertex → ℕ → Type 0) (Starts : Vertex → Start → Type 0) (Waits Waits' : Edge → Type 0)
+    (g : IsGrowing is_edge is_seen root At Starts Waits) (e : Edge) (is : is_edge e) (keeps : (f : Edge) → Waits f → Waits' f ⊎ (f ≡ e)) where
   -- an edge that owes nothing is taken
-  pub seen : ((f : Edge) → Waits' f → Waits f) → ((d : ℕ) → At e.from d → IsRelaxed At Starts e d) → IsGrowing is_edge root At Starts Waits'
+  pub seen : ((f : Edge) → Waits' f → Waits f) → ((d : ℕ) → At e.from d → IsRelaxed At Starts e d) → IsGrowing is_edge is_seen root At Starts Waits'
   seen back relaxed =
       record {
         one = g.one;
@@ -73,6 +89,7 @@ module _ (is_edge : Edge → Type 0) (root : Vertex) (At : Vertex → ℕ → Ty
         root_start = g.root_start;
         path_of = g.path_of;
         path_with = g.path_with;
+        within = g.within;
         waiting = λ f w. g.waiting f (back f w);
         owed = λ f d is_f at. elim (g.owed f d is_f at) [
           | inl w ↦ elim (keeps f w) [
@@ -85,7 +102,7 @@ module _ (is_edge : Edge → Type 0) (root : Vertex) (At : Vertex → ℕ → Ty
 
   -- an edge that improves its end is taken, and the edges from there wait
   pub improved : (At' : Vertex → ℕ → Type 0) (Starts' : Vertex → Start → Type 0) (d : ℕ) → Improves e d At At' Starts Starts' → ((f : Edge) → Waits' f → is_edge f)
-      → ((f : Edge) (j : ℕ) → is_edge f → f.from ≡ e.to → At' f.from j → IsOwed At' Starts' Waits' f j) → IsGrowing is_edge root At' Starts' Waits'
+      → ((f : Edge) (j : ℕ) → is_seen f → f.from ≡ e.to → At' f.from j → IsOwed At' Starts' Waits' f j) → IsGrowing is_edge is_seen root At' Starts' Waits'
   improved At' Starts' d i waiting further =
       let further_path : (path : List Edge) → IsPath is_edge root path e.from → IsPath is_edge root (path ++ e ∷ []) e.to =
       λ path leads. IsPath-push is_edge path root e leads is in
@@ -132,6 +149,7 @@ module _ (is_edge : Edge → Type 0) (root : Vertex) (At : Vertex → ℕ → Ty
               let p = g.path_with v x (i.starts_out v x other has) in
               (p.0, p.1, i.at_in v _ other p.2, p.3)
         ];
+        within = g.within;
         waiting = waiting;
         owed = λ f j is_f at. elim (same_or_other f.from e.to) [
           | inl here ↦ further f j is_f here at

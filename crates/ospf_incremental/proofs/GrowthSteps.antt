@@ -1,16 +1,15 @@
 -- What an edge that is taken does to what is reached, and which edges wait then.
-use Rattle.std.proofs.Common.{◌≡◌, ◌+◌, ◌<◌, ◌⊎◌, ◌↔◌, ◌≢◌, ◌^◌, ℕ, Option, Some, None, List, [], ◌∷◌, ◌++◌, length, take, drop, get_or, set, refl, sym, ◌∙◌, ap, subst, inl, inr, ⊎_elim, arith, append_assoc, append-nil}
+use Rattle.std.proofs.Common.{◌≡◌, ◌+◌, ◌<◌, ◌⊎◌, ◌↔◌, ◌≢◌, ◌^◌, ℕ, Option, Some, None, List, [], ◌∷◌, ◌++◌, length, take, drop, get_or, set, sym, ◌∙◌, ap, subst, inl, inr, ⊎_elim, arith, append_assoc, append-nil}
 use Rattle.std.specs.List.{All, Contains}
 use Rattle.std.specs.List.Sorted.{IsPermutation}
 use Rattle.std.proofs.lemmas.Bool.{cases_eq}
-use Rattle.std.proofs.lemmas.List.{get_or_default, get_or-map, get_or-set_same, get_or-set_other, length-map, length-set, map-append, take_more, take-append-drop}
+use Rattle.std.proofs.lemmas.List.{get_or_default, get_or-set_same, get_or-set_other, length-set, map-append, take_more, take-append-drop}
 use Rattle.std.proofs.lemmas.List.Elements.{All-contains, Contains-append_left, Contains-append_right, Contains-append_cases, Contains-push, Contains-push_cases}
 use Rattle.std.proofs.lemmas.List.Sorted.{IsPermutation-sym, Contains-permutation}
 use Rattle.ospf_graph.specs.declared.candidates.SpfCandidate.{SpfCandidate}
 use Rattle.ospf_graph.specs.declared.graph.Edge.{Edge}
 use Rattle.ospf_graph.specs.declared.graph.Start.{Start}
 use Rattle.ospf_graph.specs.declared.graph.Vertex.{Vertex}
-use Rattle.ospf_graph.specs.declared.paths.Settled.{Settled}
 use Rattle.ospf_graph.specs.declared.reached.Reached.{Reached}
 use Rattle.ospf_incremental.specs.Growth.{AreNear, IsAt, HasEdge, Improves, IsRelaxed, IsResetAt, Offers, PaysFor, Spares, HasStart}
 use Rattle.ospf_graph.specs.Reached.{ArePlaces, settled_of, starts_at, starts_of}
@@ -283,26 +282,26 @@ in_part xs i k x h =
 -- an edge that is taken, and improves nothing
 pub pays_same : (edges : List Edge) (edge : Edge) (rs : List Reached) (list : List SpfCandidate) (d : ℕ) → IsAt rs edge.from d
     → IsRelaxed (IsAt rs) (HasStart rs) edge d → PaysFor edges edge rs rs list list
-pays_same edges edge rs list d from relaxed root before g waits keeps back =
-    seen (Contains edges) root (IsAt rs) (HasStart rs) (HasEdge before) (HasEdge list) g edge (g.waiting edge waits) keeps back
+pays_same edges edge rs list d from relaxed all root before g waits keeps back =
+    seen (Contains all) (Contains edges) root (IsAt rs) (HasStart rs) (HasEdge before) (HasEdge list) g edge (g.waiting edge waits) keeps back
     (λ k at. subst (λ n. IsRelaxed (IsAt rs) (HasStart rs) edge n) (g.one edge.from d k from at) relaxed)
 
 -- one that begins nowhere
 pub pays_nothing : (edges : List Edge) (edge : Edge) (rs : List Reached) (list : List SpfCandidate) → ((d : ℕ) → IsAt rs edge.from d → ⊥)
     → PaysFor edges edge rs rs list list
-pays_nothing edges edge rs list none root before g waits keeps back =
-    seen (Contains edges) root (IsAt rs) (HasStart rs) (HasEdge before) (HasEdge list) g edge (g.waiting edge waits) keeps back (λ k at. absurd (none k at))
+pays_nothing edges edge rs list none all root before g waits keeps back =
+    seen (Contains all) (Contains edges) root (IsAt rs) (HasStart rs) (HasEdge before) (HasEdge list) g edge (g.waiting edge waits) keeps back (λ k at. absurd (none k at))
 
 -- one that improves its end, from where the edges are offered
 pub pays_better : (edges some : List Edge) (edge : Edge) (old new : List Reached) (waited waits : List SpfCandidate) (d : ℕ)
     → Improves edge d (IsAt old) (IsAt new) (HasStart old) (HasStart new) → Offers some (IsAt new) (HasStart new) waited waits
     → ((f : Edge) → Contains some f → Contains edges f) → ((k : ℕ) → candidates_from edge.to k edges ≡ candidates_from edge.to k some)
     → PaysFor edges edge old new waited waits
-pays_better edges some edge old new waited waits d better offers part same root before g has keeps back =
-    improved (Contains edges) root (IsAt old) (HasStart old) (HasEdge before) (HasEdge waits) g edge (g.waiting edge has)
+pays_better edges some edge old new waited waits d better offers part same all root before g has keeps back =
+    improved (Contains all) (Contains edges) root (IsAt old) (HasStart old) (HasEdge before) (HasEdge waits) g edge (g.waiting edge has)
     (λ f w. elim (keeps f w) [ inl there ↦ inl (offers.kept f there) | inr is ↦ inr is ])
     (IsAt new) (HasStart new) d better
-    (λ f w. elim (offers.only f w) [ inl there ↦ g.waiting f (back f there) | inr more ↦ part f more ])
+    (λ f w. elim (offers.only f w) [ inl there ↦ g.waiting f (back f there) | inr more ↦ g.within f (part f more) ])
     (λ f j is here at.
     let there = candidates_from-has edge.to 0 edges f is here in
     let there' : Contains (candidates_from edge.to 0 some) (record { edge = f; distance = 0 + f.cost }) = rw (same 0) at there in
@@ -360,33 +359,11 @@ spares_better changed e d old new i =
       starts_out = λ v x no m. i.starts_out v x (other v no) m;
     }
 
--- one more is copied
-settled_push : (rs : List Reached) (r : Reached) → settled_of (rs ++ r ∷ []) ≡ settled_of rs ++ record { vertex = r.vertex; distance = r.distance } ∷ []
+-- one more
+pub settled_push : (rs : List Reached) (r : Reached) → settled_of (rs ++ r ∷ []) ≡ settled_of rs ++ record { vertex = r.vertex; distance = r.distance } ∷ []
 settled_push rs r = map-append (λ (s : Reached). record { vertex = s.vertex; distance = s.distance }) rs (r ∷ [])
 
-starts_push : (rs : List Reached) (r : Reached) → starts_of (rs ++ r ∷ []) ≡ starts_of rs ++ starts_at r.vertex r.starts.items
+pub starts_push : (rs : List Reached) (r : Reached) → starts_of (rs ++ r ∷ []) ≡ starts_of rs ++ starts_at r.vertex r.starts.items
 starts_push [] r = append-nil (starts_at r.vertex r.starts.items)
 starts_push (s ∷ rest) r =
     ap (λ l. starts_at s.vertex s.starts.items ++ l) (starts_push rest r) ∙ sym (append_assoc (starts_at s.vertex s.starts.items) (starts_of rest) (starts_at r.vertex r.starts.items))
-
-module _ (rs ks ks' : List Reached) (i : ℕ) (x r : Reached) (lt : i < length rs) (grows : ks' ≡ ks ++ r ∷ []) (vertex : r.vertex ≡ (get_or rs i x).vertex) where
-  pub settled_copied : settled_of ks ≡ settled_of (take i rs) → r.distance ≡ (get_or rs i x).distance → settled_of ks' ≡ settled_of (take (i + 1) rs)
-  settled_copied same far =
-      ap settled_of grows ∙ settled_push ks r ∙ rw (same, vertex, far, take_more rs i x lt, settled_push (take i rs) (get_or rs i x)) refl
-
-  pub starts_copied : starts_of ks ≡ starts_of (take i rs) → r.starts.items ≡ (get_or rs i x).starts.items → starts_of ks' ≡ starts_of (take (i + 1) rs)
-  starts_copied same has =
-      ap starts_of grows ∙ starts_push ks r ∙ rw (same, vertex, has, take_more rs i x lt, starts_push (take i rs) (get_or rs i x)) refl
-
--- a copy has the same places
-pub places_copied : (place : ℕ → Option ℕ) (rs ks : List Reached) → settled_of ks ≡ settled_of rs → ArePlaces place rs → ArePlaces place ks
-places_copied place rs ks same are =
-    let seen : Reached → Settled = λ r. record { vertex = r.vertex; distance = r.distance } in
-    let long : length ks ≡ length rs = sym (length-map ks seen) ∙ ap (λ l. length l) same ∙ length-map rs seen in
-    let stands_at : (k : ℕ) (d : Reached) → k < length rs → (get_or ks k d).vertex ≡ (get_or rs k d).vertex =
-    λ k d lt.
-    ap (λ s. s.vertex) (sym (get_or-map seen ks k d (seen d) (omega arith)) ∙ ap (λ l. get_or l k (seen d)) same ∙ get_or-map seen rs k d (seen d) lt) in
-    record {
-      found = λ q k some. (let f = are.found q k some in (omega arith, λ d. ap vertex_code (stands_at k d f.0) ∙ f.1 d));
-      known = λ k d lt. (let lt' : k < length rs = omega arith in ap (λ v. place (vertex_code v)) (stands_at k d lt') ∙ are.known k d lt');
-    }

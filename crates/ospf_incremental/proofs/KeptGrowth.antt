@@ -11,12 +11,12 @@ use Rattle.ospf_graph.specs.declared.graph.Edge.{Edge}
 use Rattle.ospf_graph.specs.declared.graph.Vertex.{Vertex}
 use Rattle.ospf_graph.specs.declared.reached.Reached.{Reached}
 use Rattle.ospf_graph.specs.Graph.{IsPath}
-use Rattle.ospf_incremental.specs.Growth.{AreNear, HasEdge, HasStart, IsAt, IsGrowing, Offers, Spares}
+use Rattle.ospf_incremental.specs.Growth.{AreNear, HasEdge, HasStart, IsAt, IsGrowing, NoneWaits, Offers, Spares}
 use Rattle.ospf_incremental.specs.Kept.{AddsEdges, IsKeptTree, IsSameBut, KeptTree, vertices_of}
 use Rattle.ospf_graph.specs.Reached.{ArePlaces, settled_of, starts_of}
 use Rattle.ospf_graph.specs.Search.{AreEdgesInOrder, AtIn, AreFitEdges, StartsIn, vertex_code}
 use Rattle.ospf_graph.specs.Tree.{IsTree}
-use Rattle.ospf_incremental.proofs.GrowthLemmas.{begun}
+use Rattle.ospf_incremental.proofs.GrowthLemmas.{begun, grown}
 use Rattle.ospf_incremental.proofs.GrowthSteps.{at_from, at_one, none_waits}
 use Rattle.ospf_graph.proofs.ListLemmas.{member_cases, member_head, member_later, member_to_map, more_members}
 use Rattle.ospf_graph.proofs.ReachedLemmas.{none_some}
@@ -76,7 +76,7 @@ fit_more more old new adds a b =
 
 -- the edges that come wait
 growth_begun : (more old new : List Edge) (root : Vertex) (rs : List Reached) (none waits : List SpfCandidate) → none ≡ [] → IsTree (Contains old) root (IsAt rs) (HasStart rs)
-    → AddsEdges more old new → Offers more (IsAt rs) (HasStart rs) none waits → IsGrowing (Contains new) root (IsAt rs) (HasStart rs) (HasEdge waits)
+    → AddsEdges more old new → Offers more (IsAt rs) (HasStart rs) none waits → IsGrowing (Contains new) (Contains new) root (IsAt rs) (HasStart rs) (HasEdge waits)
 growth_begun more old new root rs none waits empty t adds o =
     begun (Contains old) (Contains new) root (IsAt rs) (HasStart rs) (HasEdge waits) t (λ e m. (adds e).1 (inl m))
     (λ e w. elim (o.only e w) [ inl h ↦ absurd (none_waits none empty e h) | inr m ↦ (adds e).1 (inr m) ])
@@ -85,11 +85,15 @@ growth_begun more old new root rs none waits empty t adds o =
 -- and once none does, it is a tree of all edges
 pub tree_grown : (more old new seen : List Edge) (root : Vertex) (rs rs' : List Reached) (none waits : List SpfCandidate) → none ≡ [] → IsTree (Contains old) root (IsAt rs) (HasStart rs)
     → AddsEdges more old new → Offers more (IsAt rs) (HasStart rs) none waits → seen ≡ new
-    → ((v : Vertex) → IsGrowing (Contains seen) v (IsAt rs) (HasStart rs) (HasEdge waits) → IsTree (Contains seen) v (IsAt rs') (HasStart rs'))
+    → ((all : List Edge) (v : Vertex) → IsGrowing (Contains all) (Contains seen) v (IsAt rs) (HasStart rs) (HasEdge waits)
+    → IsGrowing (Contains all) (Contains seen) v (IsAt rs') (HasStart rs') NoneWaits)
     → IsTree (Contains new) root (IsAt rs') (HasStart rs')
 tree_grown more old new seen root rs rs' none waits empty t adds offers same settles =
-    let settles' = subst (λ l. (v : Vertex) → IsGrowing (Contains l) v (IsAt rs) (HasStart rs) (HasEdge waits) → IsTree (Contains l) v (IsAt rs') (HasStart rs')) same settles in
-    settles' root (growth_begun more old new root rs none waits empty t adds offers)
+    let settles' = subst
+    (λ l. (all : List Edge) (v : Vertex) → IsGrowing (Contains all) (Contains l) v (IsAt rs) (HasStart rs) (HasEdge waits)
+    → IsGrowing (Contains all) (Contains l) v (IsAt rs') (HasStart rs') NoneWaits) same settles in
+    grown (Contains new) root (IsAt rs') (HasStart rs') NoneWaits
+    (settles' new root (growth_begun more old new root rs none waits empty t adds offers)) (λ e no. no)
 
 some_inj : (j k : ℕ) → Some j ≡ Some k → j ≡ k
 some_inj j k h = cc

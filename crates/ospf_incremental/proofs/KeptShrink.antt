@@ -8,12 +8,13 @@ use Rattle.ospf_graph.specs.declared.graph.Edge.{Edge}
 use Rattle.ospf_graph.specs.declared.graph.Vertex.{Vertex}
 use Rattle.ospf_incremental.specs.declared.grow.FoundPaths.{FoundPaths}
 use Rattle.ospf_graph.specs.declared.reached.Reached.{Reached}
-use Rattle.ospf_incremental.specs.Growth.{AreNear, HasEdge, HasStart, HoldsAll, IsAt, IsGrowing, Spares}
+use Rattle.ospf_incremental.specs.Growth.{AreNear, HasEdge, HasStart, HoldsAll, IsAt, IsGrowing, NoneWaits, Spares}
 use Rattle.ospf_incremental.specs.Kept.{AddsEdges, ChangesEdges, IsSameBut, KeptTree, vertices_of}
 use Rattle.ospf_graph.specs.Reached.{settled_of, starts_of}
 use Rattle.ospf_graph.specs.Search.{AreFitEdges}
 use Rattle.ospf_incremental.specs.Shrinking.{IsClosed, LeadsTo, Leaves, OpensEdges, TakesEdges}
 use Rattle.ospf_graph.specs.Tree.{IsTree}
+use Rattle.ospf_incremental.proofs.GrowthLemmas.{grown}
 use Rattle.ospf_incremental.proofs.GrowthSteps.{none_waits}
 use Rattle.ospf_incremental.proofs.KeptGrowth.{reached_named}
 use Rattle.ospf_incremental.proofs.ShrinkLemmas.{left}
@@ -27,34 +28,40 @@ fit_less less old new takes a =
       id_fits = λ e is. a.id_fits e ((takes e).0 is).0;
     }
 
+-- what was tested makes these vertices closed
+pub closed : (less old new : List Edge) (root : Vertex) (f : FoundPaths) (gone : List Vertex) → TakesEdges less old new → (Contains gone root → ⊥) → All (LeadsTo gone f) less
+    → ((e : Edge) → Contains old e → Contains gone e.from → LeadsTo gone f e) → IsClosed (Contains old) (Contains new) root (IsAt f.reached.items) (Contains gone)
+closed less old new root f gone takes free lead from_gone =
+    record {
+      stays = free;
+      went = λ e d was from to. elim (gone_or_not gone e.to) [
+        | inl there ↦ inr there
+        | inr other ↦ inl ((takes e).1 (was, λ m. other (All-contains (LeadsTo gone f) less e lead m d from to)))
+      ];
+      spreads = λ e d was from to mark. from_gone e was mark d from to;
+    }
+
 module _ (less old new : List Edge) (root : Vertex) (f : FoundPaths) (gone : List Vertex) (ks : List Reached)
     (t : IsTree (Contains old) root (IsAt f.reached.items) (HasStart f.reached.items)) (takes : TakesEdges less old new)
     (l : Leaves (Contains gone) (IsAt f.reached.items) (IsAt ks) (HasStart f.reached.items) (HasStart ks)) where
-  closed : (Contains gone root → ⊥) → All (LeadsTo gone f) less → ((e : Edge) → Contains old e → Contains gone e.from → LeadsTo gone f e)
-      → IsClosed (Contains old) (Contains new) root (IsAt f.reached.items) (Contains gone)
-  closed free lead from_gone =
-      record {
-        stays = free;
-        went = λ e d was from to. elim (gone_or_not gone e.to) [
-          | inl there ↦ inr there
-          | inr other ↦ inl ((takes e).1 (was, λ m. other (All-contains (LeadsTo gone f) less e lead m d from to)))
-        ];
-        spreads = λ e d was from to mark. from_gone e was mark d from to;
-      }
-
   -- what is left grows to a tree of the edges that are left
   pub tree_shrunk : (Contains gone root → ⊥) → All (LeadsTo gone f) less → ((e : Edge) → Contains old e → Contains gone e.from → LeadsTo gone f e) → (some seen : List Edge) (rs : List Reached) (none waits : List SpfCandidate) → none ≡ []
       → some ≡ new → OpensEdges gone some (IsAt ks) none waits → seen ≡ new
-      → ((v : Vertex) → IsGrowing (Contains seen) v (IsAt ks) (HasStart ks) (HasEdge waits) → IsTree (Contains seen) v (IsAt rs) (HasStart rs))
+      → ((all : List Edge) (v : Vertex) → IsGrowing (Contains all) (Contains seen) v (IsAt ks) (HasStart ks) (HasEdge waits)
+      → IsGrowing (Contains all) (Contains seen) v (IsAt rs) (HasStart rs) NoneWaits)
       → IsTree (Contains new) root (IsAt rs) (HasStart rs)
   tree_shrunk free lead from_gone some seen rs none waits empty same_some o same settles =
       let opens = subst (λ s. OpensEdges gone s (IsAt ks) none waits) same_some o in
-      let settles' = subst (λ s. (v : Vertex) → IsGrowing (Contains s) v (IsAt ks) (HasStart ks) (HasEdge waits) → IsTree (Contains s) v (IsAt rs) (HasStart rs)) same settles in
-      settles' root
-      (left (Contains old) (Contains new) root (IsAt f.reached.items) (HasStart f.reached.items) t (Contains gone) (closed free lead from_gone) (IsAt ks) (HasStart ks) (HasEdge waits) l
+      let settles' = subst
+      (λ s. (all : List Edge) (v : Vertex) → IsGrowing (Contains all) (Contains s) v (IsAt ks) (HasStart ks) (HasEdge waits)
+      → IsGrowing (Contains all) (Contains s) v (IsAt rs) (HasStart rs) NoneWaits) same settles in
+      grown (Contains new) root (IsAt rs) (HasStart rs) NoneWaits
+      (settles' new root
+      (left (Contains old) (Contains new) root (IsAt f.reached.items) (HasStart f.reached.items) t (Contains gone) (closed less old new root f gone takes free lead from_gone) (IsAt ks) (HasStart ks) (HasEdge waits) l
       (λ e is. ((takes e).0 is).0) (gone_or_not gone)
       (λ e w. elim (opens.only e w) [ inl h ↦ absurd (none_waits none empty e h) | inr m ↦ m ])
-      (λ e d is at to. opens.waits e d is at to (λ k there. (l.at_out e.to k there).0 to)))
+      (λ e d is at to. opens.waits e d is at to (λ k there. (l.at_out e.to k there).0 to))))
+      (λ e no. no)
 
   pub near_left : AreNear f.reached.items → AreNear ks
   near_left near k x within =

@@ -4,3 +4,4 @@ pub mod ShrinkLemmas
 pub mod ShrinkSteps
 pub mod KeptGrowth
 pub mod KeptShrink
+pub mod LeftLemmas

@@ -14,7 +14,7 @@ use Rattle.ospf_graph.proofs.TreeLemmas.{at_end}
 -- edges went: the least paths to a vertex that stays have edges that stay
 module _ (was is_edge : Edge → Type 0) (root : Vertex) (At : Vertex → ℕ → Type 0) (Starts : Vertex → Start → Type 0) (t : IsTree was root At Starts)
     (Gone : Vertex → Type 0) (closed : IsClosed was is_edge root At Gone) where
-  path_stays : (path : List Edge) (u v : Vertex) (d : ℕ) → IsPath was u path v → At u d → At v (d + path_cost path) → (Gone v → ⊥)
+  pub path_stays : (path : List Edge) (u v : Vertex) (d : ℕ) → IsPath was u path v → At u d → At v (d + path_cost path) → (Gone v → ⊥)
       → (Gone u → ⊥) × IsPath is_edge u path v
   path_stays [] u v d leads at end stays = (λ gone. stays (rw leads at gone), leads)
   path_stays (e ∷ rest) u v d leads at end stays =
@@ -33,7 +33,7 @@ module _ (was is_edge : Edge → Type 0) (root : Vertex) (At : Vertex → ℕ �
   -- what is left grows again from the edges that lead to what went
   pub left : (At' : Vertex → ℕ → Type 0) (Starts' : Vertex → Start → Type 0) (Waits : Edge → Type 0) → Leaves Gone At At' Starts Starts'
       → ((e : Edge) → is_edge e → was e) → ((v : Vertex) → Gone v ⊎ (Gone v → ⊥)) → ((e : Edge) → Waits e → is_edge e)
-      → ((e : Edge) (d : ℕ) → is_edge e → At' e.from d → Gone e.to → Waits e) → IsGrowing is_edge root At' Starts' Waits
+      → ((e : Edge) (d : ℕ) → is_edge e → At' e.from d → Gone e.to → Waits e) → IsGrowing is_edge is_edge root At' Starts' Waits
   left At' Starts' Waits l back tells waiting owes =
       record {
         one = λ v d k p q. t.one v d k (l.at_out v d p).1 (l.at_out v k q).1;
@@ -48,6 +48,7 @@ module _ (was is_edge : Edge → Type 0) (root : Vertex) (At : Vertex → ℕ �
             let old = l.starts_out v x has in
             let p = t.path_with v x old.1 in
             (p.0, (path_stays p.0 root v 0 p.1 t.root_at (rw zero-add p.2) old.0).1, l.at_in v _ old.0 p.2, p.3);
+        within = λ e is. is;
         waiting = waiting;
         owed = λ e d is at. elim (tells e.to) [
           | inl gone ↦ inl (owes e d is at gone)

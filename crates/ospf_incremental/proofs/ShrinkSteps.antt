@@ -53,10 +53,10 @@ nat_cases a b = cases_eq a b
 below_last : (j n : ℕ) → j < n → (j ≡ n - 1 → ⊥) → j + 1 < n
 below_last j n lt apart = elim (less_or_more (j + 1) n) [ inl less ↦ less | inr past ↦ absurd (apart (omega arith)) ]
 
-is_equal : (a b : ℕ) → nat_eq a b ≡ true → a ≡ b
+pub is_equal : (a b : ℕ) → nat_eq a b ≡ true → a ≡ b
 is_equal a b same = grind arith
 
-is_itself : (a : ℕ) → nat_eq a a ≡ true
+pub is_itself : (a : ℕ) → nat_eq a a ≡ true
 is_itself a = grind arith
 
 -- a map that has another value at one key

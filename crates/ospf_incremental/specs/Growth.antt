@@ -11,7 +11,7 @@ use Rattle.ospf_graph.specs.declared.reached.Reached.{Reached}
 use Rattle.ospf_graph.specs.Graph.{IsPath, path_cost}
 use Rattle.ospf_graph.specs.Reached.{ArePlaces, settled_of, starts_of}
 use Rattle.ospf_graph.specs.Search.{AtIn, StartsIn, vertex_code}
-use Rattle.ospf_graph.specs.Tree.{extend, start_from, IsTree}
+use Rattle.ospf_graph.specs.Tree.{extend, start_from}
 use Rattle.ospf_graph.specs.Waiting.{Waiting}
 
 -- the edge's end is reached nearer than the edge leads, or as near, with
@@ -27,10 +27,10 @@ abbrev pub IsOwed : (Vertex → ℕ → Type 0) → (Vertex → Start → Type 0
     → Type 0
 IsOwed At Starts Waits e d = Waits e ⊎ IsRelaxed At Starts e d
 
--- a tree, but for the edges that wait
-pub record IsGrowing (is_edge : Edge → Type 0) (root : Vertex) (At : Vertex → ℕ → Type 0)
-    (Starts : Vertex → Start → Type 0)
-    (Waits : Edge → Type 0) : Type 0 where
+-- paths over edges, of which those that are seen owe nothing but while they wait: where all are
+-- seen, and none waits, it is a tree
+pub record IsGrowing (is_edge is_seen : Edge → Type 0) (root : Vertex) (At : Vertex → ℕ → Type 0)
+    (Starts : Vertex → Start → Type 0) (Waits : Edge → Type 0) : Type 0 where
   pub one : (v : Vertex) (d k : ℕ) → At v d → At v k → d ≡ k
   pub root_at : At root 0
   pub root_start : Starts root Here
@@ -39,8 +39,9 @@ pub record IsGrowing (is_edge : Edge → Type 0) (root : Vertex) (At : Vertex �
   pub path_with : (v : Vertex) (x : Start) → Starts v x →
       (path : List Edge) × IsPath is_edge root path v × At v (path_cost path)
       × (start_from Here path ≡ x)
+  pub within : (e : Edge) → is_seen e → is_edge e
   pub waiting : (e : Edge) → Waits e → is_edge e
-  pub owed : (e : Edge) (d : ℕ) → is_edge e → At e.from d → IsOwed At Starts Waits e d
+  pub owed : (e : Edge) (d : ℕ) → is_seen e → At e.from d → IsOwed At Starts Waits e d
 
 -- the edge's end is as near as the edge leads from d, and no nearer than before, with its starts as
 -- far as they are of that distance and those that the edge brings; all else is as before
@@ -94,17 +95,17 @@ HasStart rs = StartsIn (starts_of rs)
 abbrev pub AreNear : List Reached → Type 0
 AreNear rs = All (λ x. x.distance < 2 ^ 63) (settled_of rs)
 
--- the edge waits no more, and what it owed is paid: what is a tree but for the edges that waited is
--- one but for those that wait now
+-- the edge waits no more, and what it owed is paid: where these edges are seen, they owe nothing
+-- but while they wait now, as before
 abbrev pub PaysFor : List Edge → Edge → List Reached → List Reached → List SpfCandidate
     → List SpfCandidate → Type 0
 PaysFor edges edge old new waited waits =
-    (root : Vertex) (before : List SpfCandidate)
-    → IsGrowing (Contains edges) root (IsAt old) (HasStart old) (HasEdge before)
+    (all : List Edge) (root : Vertex) (before : List SpfCandidate)
+    → IsGrowing (Contains all) (Contains edges) root (IsAt old) (HasStart old) (HasEdge before)
     → HasEdge before edge
     → ((f : Edge) → HasEdge before f → HasEdge waited f ⊎ (f ≡ edge))
     → ((f : Edge) → HasEdge waited f → HasEdge before f)
-    → IsGrowing (Contains edges) root (IsAt new) (HasStart new) (HasEdge waits)
+    → IsGrowing (Contains all) (Contains edges) root (IsAt new) (HasStart new) (HasEdge waits)
 
 -- what is not among these vertices is as before
 pub record Spares (changed : List Vertex) (old new : List Reached) : Type 0 where
@@ -175,13 +176,18 @@ Pays edges e old new waited waits =
 abbrev pub SparesIn : List Vertex → FoundPaths → FoundPaths → Type 0
 SparesIn changed old new = Spares changed old.reached.items new.reached.items
 
--- what was a tree but for the edges that waited is a tree
-abbrev pub SettlesTree : List Edge → Waiting → FoundPaths → FoundPaths → Type 0
-SettlesTree edges waited old new =
-    (root : Vertex)
-    → IsGrowing (Contains edges) root (IsAt old.reached.items) (HasStart old.reached.items)
-    (HasEdge waited.list)
-    → IsTree (Contains edges) root (IsAt new.reached.items) (HasStart new.reached.items)
+-- no edge waits
+abbrev pub NoneWaits : Edge → Type 0
+NoneWaits e = ⊥
+
+-- where these edges are seen, and owed nothing but while they waited, they owe nothing
+abbrev pub PaysAll : List Edge → Waiting → FoundPaths → FoundPaths → Type 0
+PaysAll edges waited old new =
+    (all : List Edge) (root : Vertex)
+    → IsGrowing (Contains all) (Contains edges) root (IsAt old.reached.items)
+    (HasStart old.reached.items) (HasEdge waited.list)
+    → IsGrowing (Contains all) (Contains edges) root (IsAt new.reached.items)
+    (HasStart new.reached.items) NoneWaits
 
 -- what was among these is among those
 abbrev pub HoldsAll : List Vertex → List Vertex → Type 0

@@ -1,3 +1,4 @@
 pub mod Growth
 pub mod Shrinking
 pub mod Kept
+pub mod Left

@@ -1,8 +1,7 @@
 //! Shortest paths that grow while edges come.
 
 ghost use Rattle.std.specs.Prelude.{◌≡◌, ◌+◌, ◌<◌, ◌↔◌, ◌^◌, ◌∷◌, [], ℕ, Contains, IsTrue, IfOk, IfSome, OnOk, None, Some, length};
-ghost use Rattle.ospf_incremental.specs.Growth.{AreNear, AreThere, BringsNothing, HasPlaces, HasStart, HoldsAll, ImprovesIn, IsAt, IsRelaxedIn, OffersIn, OnFalse, OnTrue, Pays, ResetsAt, SettlesTree, SparesIn, found_place};
-ghost use Rattle.ospf_graph.specs.Reached.{settled_of, starts_of};
+ghost use Rattle.ospf_incremental.specs.Growth.{AreNear, AreThere, BringsNothing, HasPlaces, HasStart, HoldsAll, ImprovesIn, IsAt, IsRelaxedIn, OffersIn, OnFalse, OnTrue, Pays, ResetsAt, PaysAll, SparesIn, found_place};
 ghost use Rattle.ospf_graph.specs.Search.{AreEdgesInOrder};
 ghost use Rattle.ospf_graph.specs.declared.graph.Start.{Start};
 
@@ -21,28 +20,6 @@ const MOST: u64 = 1 << 63;
 pub(crate) struct FoundPaths {
     pub(crate) reached: Vec<Reached>,
     pub(crate) places: HashMap<u64, usize>,
-}
-
-/// What is found, once more.
-pub(crate) fn copied(alloc: Global, found: &FoundPaths) -> Result<FoundPaths, AllocError>
-    requires { HasPlaces found.now }
-    ensures places { IfOk result (λ copy. HasPlaces copy) }
-    ensures settled { IfOk result (λ copy. settled_of copy.reached.items
-        ≡ settled_of found.now.reached.items) }
-    ensures starts { IfOk result (λ copy. starts_of copy.reached.items
-        ≡ starts_of found.now.reached.items) }
-{
-    let places = found.places.clone()?;
-    let mut reached = Vec::with_capacity(alloc, found.reached.len())?;
-    for one in &found.reached {
-        reached.push(Reached {
-            vertex: one.vertex,
-            distance: one.distance,
-            starts: Vec::from_slice(alloc, &one.starts)?,
-            in_order: one.in_order,
-        })?;
-    }
-    Ok(FoundPaths { reached, places })
 }
 
 /// The distance of a vertex, if it is reached.
@@ -123,8 +100,8 @@ pub(crate) fn settle(
     requires in_order { AreEdgesInOrder edges.now }
     requires near { AreNear found.old.reached.items }
     requires places { HasPlaces found.old }
-    // Where none waits any more, what was a tree but for the edges that waited is one.
-    ensures tree { OnTrue result (SettlesTree edges.now waits.old found.old found.new) }
+    // Where none waits any more, the edges owe nothing.
+    ensures settles { OnTrue result (PaysAll edges.now waits.old found.old found.new) }
     // What is found stays below the limit and in its places.
     ensures near { OnOk result (AreNear found.new.reached.items) }
     ensures places { OnOk result (HasPlaces found.new) }

@@ -5,10 +5,12 @@ ghost use Rattle.ospf_incremental.specs.Growth.{HoldsAll};
 ghost use Rattle.ospf_graph.specs.Paths.{AreLeastOver, AreSettledInOrder, AreStartsInOrder, IsTreeOver};
 ghost use Rattle.ospf_incremental.specs.Kept.{AddsEdge, AddsEdges, ChangesEdges, IsKeptTree, IsSameBut, vertices_of};
 ghost use Rattle.ospf_graph.specs.Search.{AreEdgesInOrder, AtIn, AreFitEdges, StartsIn, vertex_id};
+ghost use Rattle.ospf_incremental.specs.Left.{LeadBack};
 ghost use Rattle.ospf_incremental.specs.Shrinking.{TakesEdges};
 ghost use Rattle.ospf_graph.specs.declared.graph.Start.{Start};
 
-use crate::grow::{FoundPaths, copied, distance_of, offer_all, settle, starts_of};
+use crate::grow::{FoundPaths, distance_of, offer_all, settle, starts_of};
+use crate::left::{LeftPaths, regrown};
 use crate::shrink::{behind, is_closed, leave, left_of, offer_to};
 use ospf_graph::{
     Candidates, Edge, Reached, ShortestPaths, Start, Vertex, listed, search, sorted_edges,
@@ -57,19 +59,6 @@ impl KeptPaths {
     {
         let sorted = sorted_edges(alloc, edges)?;
         anew(alloc, sorted, root)
-    }
-
-    /// The paths, once more. `AllocError` where memory runs out.
-    pub fn copy(&self, alloc: Global) -> Result<KeptPaths, AllocError>
-        ensures { IfOk result (λ k. k ≡ self.now) }
-    {
-        let edges = Vec::from_slice(alloc, &self.edges)?;
-        let found = copied(alloc, &self.found)?;
-        Ok(KeptPaths {
-            root: self.root,
-            edges,
-            found,
-        })
     }
 
     /// The distance of a vertex from the root, if some path reaches it.
@@ -192,6 +181,52 @@ impl KeptPaths {
         push_vertices(&found.reached, changed)?;
         let paths = anew(alloc, edges, root)?;
         Ok(paths)
+    }
+
+    /// The shortest paths without some edges, beside these, which stay: as `shrink`, but nothing is
+    /// copied of what no least path reached over one of the edges, and no other edge is looked at
+    /// than those at what one did. Of each edge that is kept another one has to lead back.
+    ///
+    /// `AllocError` where memory runs out; `changed` may have got some vertices then.
+    pub fn without<'a>(
+        &'a self,
+        alloc: Global,
+        less: &'a [Edge],
+        changed: &mut Vec<Vertex>,
+    ) -> Result<LeftPaths<'a>, AllocError>
+        requires both_ways { LeadBack self.now.edges }
+        // What is left is the tree of shortest paths from the same root, over the edges left.
+        ensures root { IfOk result (λ k. k.root ≡ self.now.root) }
+        ensures edges { IfOk result (λ k. TakesEdges less.now self.now.edges k.edges) }
+        ensures tree { IfOk result (λ k. IsKeptTree k) }
+        // Only vertices that are put behind `changed` are reached otherwise than before.
+        ensures same { IfOk result (λ k. IsSameBut changed.new.items self.now k) }
+        ensures changed { OnOk result (HoldsAll changed.old.items changed.new.items) }
+    {
+        let gone = behind(alloc, &self.edges, less, &self.found)?;
+        if is_closed(&self.found, &self.edges, less, &gone, self.root) {
+            let grown = regrown(alloc, &self.edges, &self.found, self.root, less, &gone)?;
+            if let Some(own) = grown {
+                changed.extend_from_slice(&gone)?;
+                return Ok(LeftPaths {
+                    whole: self,
+                    less,
+                    is_all: false,
+                    gone,
+                    own,
+                });
+            }
+        }
+        push_vertices(&self.found.reached, changed)?;
+        let edges = left_of(alloc, &self.edges, less)?;
+        let paths = anew(alloc, edges, self.root)?;
+        Ok(LeftPaths {
+            whole: self,
+            less,
+            is_all: true,
+            gone: Vec::new(alloc),
+            own: paths.found,
+        })
     }
 
     /// The shortest paths without some edges and with others: `shrink`, if there

@@ -105,8 +105,8 @@ pub(crate) fn offer_to(
     Ok(())
 }
 
-// Whether an edge is among these.
-fn has_edge(edges: &[Edge], edge: Edge) -> bool
+/// Whether an edge is among these.
+pub(crate) fn has_edge(edges: &[Edge], edge: Edge) -> bool
     ensures { IsTrue result ↔ Contains edges.now edge }
 {
     for one in edges {
@@ -180,8 +180,8 @@ fn is_tight(found: &FoundPaths, edge: Edge) -> bool
     from + edge.cost as u64 == to
 }
 
-// Whether a vertex is among these.
-fn is_among(vertices: &[Vertex], vertex: Vertex) -> bool
+/// Whether a vertex is among these.
+pub(crate) fn is_among(vertices: &[Vertex], vertex: Vertex) -> bool
     requires { AreVerticesInOrder vertices.now }
     ensures { IsTrue result ↔ Contains vertices.now vertex }
 {

@@ -4,7 +4,6 @@ use Rattle.std.specs.List.{Contains}
 use Rattle.std.proofs.lemmas.List.Elements.{Contains-append_left, Contains-push, Contains-push_cases}
 use Rattle.ospf_graph.proofs.ListLemmas.{more_members}
 use Rattle.ospf_graph.specs.Search.{AtIn}
-use Rattle.ospf_graph.specs.declared.graph.Vertex.{Vertex}
 use Rattle.ospf_graph.specs.declared.paths.Settled.{Settled}
 use Rattle.ospf_spf.specs.Reach.{IsReachOf, reach_of}
 use Rattle.ospf_edges.specs.declared.end.End.{End}
@@ -21,7 +20,7 @@ module _ (ends : List End) (settled : List Settled) (i : ℕ) (d : End) (lt : i 
     ],
   )
 
-  pub reach_more : ((v : Vertex) (j k : ℕ) → AtIn settled v j → AtIn settled v k → j ≡ k) → (k : ℕ) → AtIn settled (get_or ends i d).vertex k
+  pub reach_more : ((j k : ℕ) → AtIn settled (get_or ends i d).vertex j → AtIn settled (get_or ends i d).vertex k → j ≡ k) → (k : ℕ) → AtIn settled (get_or ends i d).vertex k
       → (new : List Reach) → new ≡ old ++ reach_of (get_or ends i d) k ∷ [] → (r : Reach) → Contains new r ↔ IsReachOf (take (i + 1) ends) settled r
   reach_more one k at new is r =
       let e = get_or ends i d in
@@ -33,7 +32,7 @@ module _ (ends : List End) (settled : List Settled) (i : ℕ) (d : End) (lt : i 
         λ m. elim ((more_members ends i d lt m.0).0 m.1) [
           | inl before ↦ Contains-append_left old _ r ((so_far r).1 (m.0, before, m.2, m.3, m.4))
           | inr here ↦
-              (let same : k ≡ m.2 = one m.0.vertex k m.2 (rw here at at) m.3 in
+              (let same : k ≡ m.2 = one k m.2 at (rw (← here) at m.3) in
               let made : reach_of e k ≡ r = ap (λ x. reach_of x k) here ∙ ap (λ j. reach_of m.0 j) same ∙ sym m.4 in
               rw made (Contains-push old r))
         ],

@@ -24,7 +24,7 @@ use ospf_graph::{
     Hops, NextHop, Route, Settled, ShortestPaths, Start, Vertex, VertexStart, distance_at, is_same,
     starts_at,
 };
-use ospf_incremental::KeptPaths;
+use ospf_incremental::Paths;
 use std::alloc::{AllocError, Global};
 
 // Up to twice as many hops are gathered before doubles are looked for.
@@ -63,17 +63,17 @@ pub fn table_of(
 /// nothing where the paths reach none.
 ///
 /// `AllocError` where memory runs out.
-pub fn route_by(
+pub fn route_by<P: Paths>(
     alloc: Global,
     prefix: Prefix,
     ends: &[End],
-    paths: &KeptPaths,
+    paths: &P,
 ) -> Result<Option<Route>, AllocError>
     ensures none { IfOk result (λ o. IfNone o ((r : Reach) →
-        IsReachOf ends.now paths.now.settled r → r.prefix ≡ prefix → ⊥)) }
+        IsReachOf ends.now (P.kept paths.now).settled r → r.prefix ≡ prefix → ⊥)) }
     ensures prefix { IfOk result (λ o. IfSome o (λ route. route.prefix ≡ prefix)) }
     ensures route { IfOk result (λ o. IfSome o
-        (IsRouteBy ends.now paths.now.settled paths.now.starts)) }
+        (IsRouteBy ends.now (P.kept paths.now).settled (P.kept paths.now).starts)) }
 {
     let reaches = reaches_by(alloc, ends, paths)?;
     let Some(cost) = least_cost(prefix, &reaches) else {
@@ -105,13 +105,13 @@ fn reaches_of(alloc: Global, ends: &[End], settled: &[Settled]) -> Result<Vec<Re
 }
 
 // The ends that kept paths reach.
-fn reaches_by(alloc: Global, ends: &[End], paths: &KeptPaths) -> Result<Vec<Reach>, AllocError>
+fn reaches_by<P: Paths>(alloc: Global, ends: &[End], paths: &P) -> Result<Vec<Reach>, AllocError>
     ensures { IfOk result (λ reaches. (r : Reach) →
-        Contains reaches.items r ↔ IsReachOf ends.now paths.now.settled r) }
+        Contains reaches.items r ↔ IsReachOf ends.now (P.kept paths.now).settled r) }
 {
     let mut reaches = Vec::new(alloc);
     for end in ends {
-        if let Some(distance) = paths.distance_of(end.vertex) {
+        if let Some(distance) = paths.distance(end.vertex) {
             reaches.push(Reach {
                 prefix: end.prefix,
                 vertex: end.vertex,
@@ -287,15 +287,15 @@ fn hops_of(
 }
 
 // The hops of a prefix at its least cost, over kept paths.
-fn hops_by(
+fn hops_by<P: Paths>(
     alloc: Global,
     prefix: Prefix,
     cost: u64,
     reaches: &[Reach],
-    paths: &KeptPaths,
+    paths: &P,
 ) -> Result<Hops, AllocError>
-    ensures { IfOk result (λ hops. AddsHops (HasHopOf reaches.now paths.now.starts prefix cost) []
-        hops) }
+    ensures { IfOk result (λ hops. AddsHops
+        (HasHopOf reaches.now (P.kept paths.now).starts prefix cost) [] hops) }
 {
     let network = chosen_network(prefix, cost, reaches);
     let mut hops = Vec::new(alloc);
@@ -399,11 +399,15 @@ fn add_hops(
 }
 
 // Gathers the hops of all starts of a vertex, over kept paths.
-fn add_hops_by(paths: &KeptPaths, vertex: Vertex, hops: &mut Vec<NextHop>) -> Result<(), AllocError>
-    ensures { OnOk result (GathersHops (HasHop paths.now.starts vertex) hops.old.items
+fn add_hops_by<P: Paths>(
+    paths: &P,
+    vertex: Vertex,
+    hops: &mut Vec<NextHop>,
+) -> Result<(), AllocError>
+    ensures { OnOk result (GathersHops (HasHop (P.kept paths.now).starts vertex) hops.old.items
         hops.new.items) }
 {
-    for start in paths.starts_of(vertex) {
+    for start in paths.starts(vertex) {
         hops.push(hop_from(*start))?;
     }
     Ok(())

@@ -1,5 +1,5 @@
 -- What a failure takes from the graph of an area, and which routes stay.
-use Rattle.std.proofs.Common.{◌≡◌, ◌↔◌, ◌+◌, ◌++◌, ◌∷◌, ◌<◌, ℕ, Bool, true, false, List, [], IsTrue, Some, length, take, get_or, refl, sym, ap, subst, ◌∙◌, inl, inr}
+use Rattle.std.proofs.Common.{◌≡◌, ◌==◌, ◌↔◌, ◌+◌, ◌++◌, ◌∷◌, ◌<◌, ℕ, Bool, true, false, List, [], IsTrue, Some, length, take, get_or, refl, sym, ap, subst, ◌∙◌, inl, inr, arith}
 use Rattle.std.specs.List.{All, Contains}
 use Rattle.std.proofs.lemmas.List.{take_more}
 use Rattle.std.proofs.lemmas.List.Elements.{All-push, Contains-append_left, Contains-push, Contains-push_cases}
@@ -7,7 +7,7 @@ use Rattle.ospf_base.specs.declared.ids.RouterId.{RouterId}
 use Rattle.ospf_base.specs.declared.prefix.Prefix.{Prefix}
 use Rattle.ospf_edges.specs.declared.end.End.{End}
 use Rattle.ospf_graph.specs.Advertisements.{Advertisement}
-use Rattle.ospf_graph.specs.Graph.{IsEdge}
+use Rattle.ospf_graph.specs.Graph.{IsEdge, IsEdgeBetween}
 use Rattle.ospf_graph.specs.Routes.{IsEnd, IsRoute}
 use Rattle.ospf_graph.specs.Search.{AtIn, HaveSameFrom, StartsIn}
 use Rattle.ospf_graph.specs.Tree.{IsTree}
@@ -17,9 +17,10 @@ use Rattle.ospf_graph.specs.declared.graph.Vertex.{Vertex}
 use Rattle.ospf_graph.specs.declared.graph.Vertex.TheVariants.{Network, Router}
 use Rattle.ospf_graph.specs.declared.route.Route.{Route}
 use Rattle.ospf_graph.proofs.CandidateLemmas.{candidates_from-has, candidates_from-is}
-use Rattle.ospf_graph.proofs.ListLemmas.{more_members}
+use Rattle.ospf_graph.proofs.ListLemmas.{more_members, transit_exists, transit_found}
 use Rattle.ospf_graph.proofs.TreeLemmas.{IsTree-map}
 use Rattle.ospf_incremental.specs.Kept.{IsKeptTree, IsSameBut, KeptTree}
+use Rattle.ospf_incremental.specs.Left.{LeadBack}
 use Rattle.ospf_incremental.specs.Shrinking.{TakesEdges}
 use Rattle.ospf_edges.specs.Given.{IsEdgesOf}
 use Rattle.ospf_spf.proofs.RouteFrame.{IsKeptHere, kept_routes}
@@ -60,6 +61,29 @@ pub from_all : (v : Vertex) (edges some : List Edge) → HaveSameFrom v edges so
 from_all v edges some same e m at =
     (candidates_from-is v 0 some e (0 + e.cost)
     (subst (λ (cs : List SpfCandidate). Contains cs (record { edge = e; distance = 0 + e.cost })) (same 0) (candidates_from-has v 0 edges e m at))).0
+
+-- ---- edges
+
+eqb_itself : (n : ℕ) → (n == n) ≡ true
+eqb_itself n = grind arith
+
+-- of each edge another one leads back
+back_between : (A : List Advertisement) (u v : Vertex) (cost link_data : ℕ) → IsEdgeBetween A u v cost link_data
+    → (back : Edge) × IsEdge A back × (back.from ≡ v) × (back.to ≡ u)
+back_between A (Router a) (Router b) cost link_data h =
+    (record { from = Router b; to = Router a; cost = h.2; link_data = h.1 }, (h.3, link_data, cost, h.0), refl, refl)
+back_between A (Router a) (Network n) cost link_data h =
+    let t = transit_exists n h.0.links _ h.0.link_in (eqb_itself n) in
+    (record { from = Network n; to = Router a; cost = 0; link_data = t.0 }, (refl, record { links = h.0.links; listed = h.0.listed; first = t.1 }, h.1), refl, refl)
+back_between A (Network n) (Router b) cost link_data h =
+    let t = transit_found n h.1.links link_data h.1.first in
+    (record { from = Router b; to = Network n; cost = t.0; link_data = link_data }, (record { links = h.1.links; listed = h.1.listed; link_in = t.1 }, h.2), refl, refl)
+back_between A (Network n) (Network m) cost link_data h = absurd h
+
+pub lead_back : (A : List Advertisement) (edges : List Edge) → IsEdgesOf A edges → LeadBack edges
+lead_back A edges are e m =
+    let b = back_between A e.from e.to e.cost e.link_data ((are e).0 m) in
+    (b.0, (are b.0).1 b.1, b.2, b.3)
 
 -- ---- what a failure takes
 

@@ -22,7 +22,7 @@ use crate::outage::{AreaGraph, Outage, has_edge, has_end};
 use ospf_base::{Prefix, RouterId};
 use ospf_edges::{End, ends_at};
 use ospf_graph::{Edge, Route, Vertex, edges_from, is_same};
-use ospf_incremental::KeptPaths;
+use ospf_incremental::{KeptPaths, Paths};
 use ospf_lsa::Listing;
 use ospf_spf::{RouteTable, ends_to, is_same_prefix, is_same_route, route_by};
 use std::alloc::{AllocError, Global};
@@ -59,7 +59,8 @@ impl KeptRoot {
     /// a listing: each route that the table of the area after the failure does not have, once, in
     /// the order of prefixes. No other prefix is reached after a failure, and none at a lower cost
     /// (`failures_take_away`). Where no least path goes over an edge that the failure takes there
-    /// is no search, and only routes are looked at whose prefix loses an end.
+    /// is no search, and only routes are looked at whose prefix loses an end; else only what one
+    /// reached over it is found anew, and nothing else is copied.
     ///
     /// `AllocError` where memory runs out.
     pub fn effect(
@@ -82,8 +83,7 @@ impl KeptRoot {
             return changes_over(alloc, listing, area, outage, &self.paths, &[], table);
         }
         let mut changed = Vec::new(alloc);
-        let paths = self.paths.copy(alloc)?;
-        let left = paths.shrink(alloc, &outage.edges, &mut changed)?;
+        let left = self.paths.without(alloc, &outage.edges, &mut changed)?;
         changes_over(alloc, listing, area, outage, &left, &changed, table)
     }
 }
@@ -116,19 +116,20 @@ fn is_last(paths: &KeptPaths, edge: &Edge) -> bool
 
 // What becomes of the routes of a table, by the paths over what is left, which reach no vertex
 // otherwise than before but these.
-fn changes_over(
+fn changes_over<P: Paths>(
     alloc: Global,
     listing: &Listing,
     area: &AreaGraph,
     outage: &Outage,
-    paths: &KeptPaths,
+    paths: &P,
     changed: &[Vertex],
     table: &RouteTable,
 ) -> Result<Vec<RouteChange>, AllocError>
     requires graph { IsAreaGraph (advertisements_of listing.now) area.now }
     requires outage { IsOutage (advertisements_of listing.now) outage.now }
     ensures { IfOk result (λ changes. (root : RouterId) (before : KeptTree) →
-        IsLeftOver (advertisements_of listing.now) outage.now root changed.now before paths.now →
+        IsLeftOver (advertisements_of listing.now) outage.now root changed.now before
+        (P.kept paths.now) →
         IsTable (advertisements_of listing.now) root table.now →
         IsEffect (advertisements_of listing.now) root outage.now.failure table.now changes.items) }
 {
@@ -185,11 +186,11 @@ fn add_places(ends: &[End], routes: &[Route], places: &mut Vec<usize>) -> Result
 }
 
 // What becomes of the routes at places in order, of those that do not stay.
-fn changes_at(
+fn changes_at<P: Paths>(
     alloc: Global,
     area: &AreaGraph,
     outage: &Outage,
-    paths: &KeptPaths,
+    paths: &P,
     routes: &[Route],
     places: &[usize],
 ) -> Result<Vec<RouteChange>, AllocError>
@@ -200,7 +201,7 @@ fn changes_at(
     requires in_order { IsNonDecreasing places.now }
     // Of any listing whose graph, ends and routes these are: what the outage does at these routes.
     ensures { IfOk result (λ changes. (adverts : List Advertisement) (root : RouterId) →
-        AreOverLeft adverts root area.now outage.now paths.now →
+        AreOverLeft adverts root area.now outage.now (P.kept paths.now) →
         All (IsRoute adverts root) routes.now →
         AreChangesTo (left_of_area adverts outage.now) root routes.now places.now
         (length routes.now) changes.items) }
@@ -218,18 +219,19 @@ fn changes_at(
 }
 
 // Adds what becomes of a route, unless it stays.
-fn add_change(
+fn add_change<P: Paths>(
     alloc: Global,
     area: &AreaGraph,
     outage: &Outage,
-    paths: &KeptPaths,
+    paths: &P,
     route: &Route,
     changes: &mut Vec<RouteChange>,
 ) -> Result<(), AllocError>
     requires edges { AreEdgesInOrder area.now.edges.items }
     requires ends { AreEndsInOrder area.now.ends.items }
     ensures { OnOk result ((adverts : List Advertisement) (root : RouterId) →
-        AreOverLeft adverts root area.now outage.now paths.now → IsRoute adverts root route.now →
+        AreOverLeft adverts root area.now outage.now (P.kept paths.now) →
+        IsRoute adverts root route.now →
         AddsLoss (left_of_area adverts outage.now) root route.now changes.old.items
         changes.new.items) }
 {
@@ -245,17 +247,18 @@ fn add_change(
 }
 
 // What becomes of a route, unless it stays.
-fn loss_of(
+fn loss_of<P: Paths>(
     alloc: Global,
     area: &AreaGraph,
     outage: &Outage,
-    paths: &KeptPaths,
+    paths: &P,
     route: &Route,
 ) -> Result<Option<Loss>, AllocError>
     requires edges { AreEdgesInOrder area.now.edges.items }
     requires ends { AreEndsInOrder area.now.ends.items }
     ensures { IfOk result (λ loss. (adverts : List Advertisement) (root : RouterId) →
-        AreOverLeft adverts root area.now outage.now paths.now → IsRoute adverts root route.now →
+        AreOverLeft adverts root area.now outage.now (P.kept paths.now) →
+        IsRoute adverts root route.now →
         StaysOr (left_of_area adverts outage.now) root route.now loss) }
 {
     let ends = ends_left(alloc, ends_to(&area.ends, route.prefix), &outage.ends)?;

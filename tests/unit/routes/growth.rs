@@ -5,7 +5,7 @@ use ospf_base::{Addr, RouterId};
 use ospf_graph::{
     Edge, NextHop, ShortestPaths, Start, Vertex, distance_at, shortest_paths, starts_at,
 };
-use ospf_incremental::KeptPaths;
+use ospf_incremental::{KeptPaths, Paths};
 use rand_core::utils::NextWord;
 use rand_pcg::Pcg32;
 use std::alloc::Global;
@@ -245,27 +245,85 @@ fn shrinking_is_a_search_of_what_is_left(rt: HostRuntime) -> Result<(), Fail> {
     Ok(())
 }
 
-#[test]
-fn a_copy_stays_where_the_paths_shrink(rt: HostRuntime) -> Result<(), Fail> {
-    let alloc = rt.alloc();
-    for seed in 0..12 {
-        let mut chance = Pcg32::new(seed, 5);
-        let mut edges = Vec::new(alloc);
-        for _ in 0..100 {
-            edges.push(drawn_edge(&mut chance))?;
-        }
-        let whole = shortest_paths(alloc, &edges, ROOT)?;
-        let kept = KeptPaths::of(alloc, &edges, ROOT)?;
-        let mut changed = Vec::new(alloc);
-        for _ in 0..10 {
-            let less = chosen_edges(alloc, &mut chance, &edges)?;
-            let left = kept.copy(alloc)?.shrink(alloc, &less, &mut changed)?;
-            let mut others = Vec::from_slice(alloc, &edges)?;
-            others.retain(|edge| !less.contains(edge));
-            assert!(rt; is_same(alloc, &left, &shortest_paths(alloc, &others, ROOT)?)?);
-            assert!(rt; is_same(alloc, &kept, &whole)?);
+// Edges by chance, of each of which another one leads back.
+fn edges_both_ways(alloc: Global, chance: &mut Pcg32, count: u32) -> Result<Vec<Edge>, Fail> {
+    let mut edges = Vec::new(alloc);
+    for _ in 0..count {
+        let there = drawn_edge(chance);
+        let cost = match there.to {
+            Vertex::Network(_) => 0,
+            Vertex::Router(_) => 1 + (chance.next_word() % 4) as u16,
+        };
+        edges.push(there)?;
+        edges.push(edge(there.to, there.from, cost, chance.next_word() % 3))?;
+    }
+    Ok(edges)
+}
+
+// Whether paths say the same of each vertex as a search does.
+fn is_found<P: Paths>(alloc: Global, paths: &P, searched: &ShortestPaths) -> Result<bool, Fail> {
+    for vertex in vertices(alloc)? {
+        let starts = once(Vec::from_slice(alloc, paths.starts(vertex))?);
+        let is_same_distance = paths.distance(vertex) == distance_at(&searched.settled, vertex);
+        if !is_same_distance || starts.as_slice() != starts_in(alloc, searched, vertex)?.as_slice() {
+            return Ok(false);
         }
     }
+    Ok(true)
+}
+
+#[test]
+fn what_is_left_beside_the_paths_is_a_search(rt: HostRuntime) -> Result<(), Fail> {
+    let alloc = rt.alloc();
+    let mut stayed = 0;
+    for seed in 0..12 {
+        let mut chance = Pcg32::new(seed, 5);
+        let edges = edges_both_ways(alloc, &mut chance, 40)?;
+        let whole = shortest_paths(alloc, &edges, ROOT)?;
+        let kept = KeptPaths::of(alloc, &edges, ROOT)?;
+        for _ in 0..10 {
+            let less = chosen_edges(alloc, &mut chance, &edges)?;
+            let mut others = Vec::from_slice(alloc, &edges)?;
+            others.retain(|edge| !less.contains(edge));
+            let mut changed = Vec::new(alloc);
+            let left = kept.without(alloc, &less, &mut changed)?;
+            assert!(rt; is_found(alloc, &left, &shortest_paths(alloc, &others, ROOT)?)?);
+            assert!(rt; is_found(alloc, &kept, &whole)? && is_same(alloc, &kept, &whole)?);
+            for vertex in vertices(alloc)? {
+                if !changed.contains(&vertex) {
+                    assert!(rt; left.distance(vertex) == kept.distance(vertex));
+                    stayed += 1;
+                }
+            }
+        }
+    }
+    assert!(rt; stayed > 12 * 10 * 9);
+    Ok(())
+}
+
+#[test]
+fn without_edges_all_stays(rt: HostRuntime) -> Result<(), Fail> {
+    let alloc = rt.alloc();
+    let kept = KeptPaths::of(alloc, &line(alloc, 100, 5)?, ROOT)?;
+    let mut changed = Vec::new(alloc);
+    let left = kept.without(alloc, &[], &mut changed)?;
+    assert!(rt; changed.is_empty());
+    assert_eq!(rt; left.distance(router(99)), Some(99 * 5));
+    Ok(())
+}
+
+#[test]
+fn only_what_lies_behind_an_edge_goes(rt: HostRuntime) -> Result<(), Fail> {
+    let alloc = rt.alloc();
+    let kept = KeptPaths::of(alloc, &line(alloc, 100, 5)?, ROOT)?;
+    let mut changed = Vec::new(alloc);
+    let last = [edge(router(98), router(99), 5, 99)];
+    let left = kept.without(alloc, &last, &mut changed)?;
+    assert!(rt; changed.as_slice() == [router(99)].as_slice());
+    assert_eq!(rt; left.distance(router(99)), None);
+    assert!(rt; left.starts(router(99)).is_empty());
+    assert_eq!(rt; left.distance(router(98)), Some(98 * 5));
+    assert_eq!(rt; kept.distance_of(router(99)), Some(99 * 5));
     Ok(())
 }
 

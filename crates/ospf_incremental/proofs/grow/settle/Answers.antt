@@ -1,19 +1,19 @@
 use Rattle.ospf_incremental.specs.Growth.{IsAt, HasEdge, HasStart}
 use Rattle.std.specs.List.{Contains}
-use Rattle.ospf_incremental.proofs.GrowthLemmas.{grown}
+use Rattle.ospf_incremental.proofs.GrowthLemmas.{settled}
 use Rattle.ospf_incremental.proofs.GrowthSteps.{left_in, none_waits, spares_same, spares_then, taken_out, was_in}
 use Rattle.ospf_incremental.proofs.grow.settle.Goals as goal
 
-pub returns-in_default-clause-tree : goal.returns-in_default-clause-tree
-returns-in_default-clause-tree c h root g =
-    grown (Contains c.args.edges.now) root (IsAt c.loop.found.reached.items) (HasStart c.loop.found.reached.items) (HasEdge c.loop.waits.list) (c.loop.invariant.grows root g)
+pub returns-in_default-clause-settles : goal.returns-in_default-clause-settles
+returns-in_default-clause-settles c h all root g =
+    settled (Contains all) (Contains c.args.edges.now) root (IsAt c.loop.found.reached.items) (HasStart c.loop.found.reached.items) (HasEdge c.loop.waits.list) (c.loop.invariant.grows all root g)
     (none_waits c.loop.waits.list c.in_default.ensures.none)
 
 pub loop-preserved : goal.loop-preserved
 loop-preserved c =
     record {
-      grows = λ root g.
-          c.in_ok-take_edge.ensures.pays c.if-not-branch.false root c.loop.waits.list (c.loop.invariant.grows root g)
+      grows = λ all root g.
+          c.in_ok-take_edge.ensures.pays c.if-not-branch.false all root c.loop.waits.list (c.loop.invariant.grows all root g)
           (was_in c.in-Some.candidate c.loop.waits.list c.take_least.new.self.list c.in-Some.ensures.taken)
           (taken_out c.in-Some.candidate c.loop.waits.list c.take_least.new.self.list c.in-Some.ensures.taken)
           (left_in c.in-Some.candidate c.loop.waits.list c.take_least.new.self.list c.in-Some.ensures.taken);
@@ -27,7 +27,7 @@ loop-preserved c =
 pub loop-init : goal.loop-init
 loop-init c =
     record {
-      grows = λ root g. g;
+      grows = λ all root g. g;
       near = c.requires.near;
       places = c.requires.places;
       spares = spares_same c.args.changed.now.items c.args.found.now.reached.items;

@@ -6,4 +6,4 @@ use Rattle.ospf_spf.specs.Reach.{GathersHops}
 use Rattle.ospf_spf.proofs.routes.add_hops_by.Given as goal
 
 abbrev pub invariant-loop-start : goal.invariant-loop-start
-invariant-loop-start l = GathersHops (λ h. (x : Start) × Contains (take l.start-index l.start-items) x × (h ≡ hop_of_start x)) l.initial.hops.items l.hops.items
+invariant-loop-start g l = GathersHops (λ h. (x : Start) × Contains (take l.start-index l.start-items) x × (h ≡ hop_of_start x)) l.initial.hops.items l.hops.items

@@ -8,9 +8,9 @@ use Rattle.ospf_spf.specs.Reach.{HasHop, HasHopOf}
 use Rattle.ospf_spf.proofs.routes.hops_by.Goals as goal
 
 pub loop-reach-preserved : goal.loop-reach-preserved
-loop-reach-preserved c =
+loop-reach-preserved g c =
     let reaches = c.args.reaches.now in
-    let starts = c.args.paths.now.starts in
+    let starts = (g.P.Paths.kept c.args.paths.now).starts in
     let chosen = chosen_is reaches c.args.prefix c.args.cost c.chosen_network-network.result c.chosen_network-network.ensures
     (get_or reaches c.loop-reach.reach-index c.reach-item.result) (Contains-get_or reaches c.loop-reach.reach-index c.reach-item.result c.loop-reach-test.true) in
     elim c.if-counts.branch [
@@ -28,7 +28,7 @@ loop-reach-preserved c =
     ]
 
 pub returns : goal.returns
-returns c =
+returns g c =
     let end : length c.args.reaches.now ≤ c.loop-reach.reach-index = omega arith in
-    adds_gathered (HasHopOf c.args.reaches.now c.args.paths.now.starts c.args.prefix c.args.cost) [] c.loop-reach.hops.items c.of.result
+    adds_gathered (HasHopOf c.args.reaches.now (g.P.Paths.kept c.args.paths.now).starts c.args.prefix c.args.cost) [] c.loop-reach.hops.items c.of.result
     (rw take_all at c.loop-reach.invariant) c.of.ensures.hops c.of.ensures.in_order

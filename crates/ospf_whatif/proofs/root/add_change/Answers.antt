@@ -5,7 +5,7 @@ use Rattle.ospf_whatif.specs.declared.effect.Loss.{Loss}
 use Rattle.ospf_whatif.proofs.root.add_change.Goals as goal
 
 pub returns-in_ok-push-in-Some : goal.returns-in_ok-push-in-Some
-returns-in_ok-push-in-Some c = λ adverts root over was.
+returns-in_ok-push-in-Some g c = λ adverts root over was.
     let left = left_of_area adverts c.args.outage.now in
     inr (
       c.in-Some.loss,
@@ -15,6 +15,6 @@ returns-in_ok-push-in-Some c = λ adverts root over was.
     )
 
 pub returns-in-None : goal.returns-in-None
-returns-in-None c = λ adverts root over was.
+returns-in-None g c = λ adverts root over was.
     let left = left_of_area adverts c.args.outage.now in
     inl (subst (λ (o : Option Loss). StaysOr left root c.args.route.now o) c.in-None.is (c.in_ok-loss.ensures adverts root over was), refl)

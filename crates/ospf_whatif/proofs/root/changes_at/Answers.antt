@@ -9,7 +9,7 @@ use Rattle.ospf_whatif.proofs.root.changes_at.Goals as goal
 use Rattle.ospf_whatif.proofs.root.changes_at.Goals.{then-next-at+in_ok-add_change, else-next-at}
 
 pub loop-place-preserved : goal.loop-place-preserved
-loop-place-preserved c =
+loop-place-preserved g c =
     let inv = c.loop-place.invariant in
     let routes = c.args.routes.now in
     let places = c.args.places.now in
@@ -45,7 +45,7 @@ loop-place-preserved c =
     ]
 
 pub returns : goal.returns
-returns c = λ adverts root over all.
+returns g c = λ adverts root over all.
     let end : length c.args.places.now ≤ c.loop-place.place-index = c.loop-place-test.false in
     let so_far = rw take_all at c.loop-place.invariant.so_far in
     changes_up (left_of_area adverts c.args.outage.now) root c.args.routes.now c.args.places.now c.loop-place.next (length c.args.routes.now) c.loop-place.changes.items

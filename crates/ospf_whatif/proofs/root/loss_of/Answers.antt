@@ -14,10 +14,11 @@ use Rattle.ospf_whatif.specs.Outage.{AreMissing, AreOverLeft, left_of_area}
 use Rattle.ospf_whatif.proofs.EffectLemmas.{loss_here}
 use Rattle.ospf_whatif.proofs.LessLemmas.{failures_leave_listed}
 use Rattle.ospf_whatif.proofs.OutageLemmas.{ends_here, false_true, told_here}
+use Rattle.ospf_whatif.proofs.root.loss_of.Given.{Over}
 use Rattle.ospf_whatif.proofs.root.loss_of.Goals as goal
 use Rattle.ospf_whatif.proofs.root.loss_of.Goals.{In_ok-after}
 
-module _ (c : In_ok-after) (adverts : List Advertisement) (root : RouterId) (over : AreOverLeft adverts root c.args.area.now c.args.outage.now c.args.paths.now)
+module _ (g : Over) (c : In_ok-after g) (adverts : List Advertisement) (root : RouterId) (over : AreOverLeft adverts root c.args.area.now c.args.outage.now (g.P.Paths.kept c.args.paths.now))
     (was : IsRoute adverts root c.args.route.now) where
   abbrev left : List Advertisement
   left = left_of_area adverts c.args.outage.now
@@ -31,7 +32,7 @@ module _ (c : In_ok-after) (adverts : List Advertisement) (root : RouterId) (ove
   missing : AreMissing c.ends_to.result.now c.args.outage.now.ends.items c.in_ok-ends.ends.items
   missing = subst (λ (es : List End). AreMissing c.ends_to.result.now es c.in_ok-ends.ends.items) c.deref-2.ensures.value c.in_ok-ends.ensures
 
-  ends_are : (v : Vertex) (d k : ℕ) → AtIn c.args.paths.now.settled v d
+  ends_are : (v : Vertex) (d k : ℕ) → AtIn (g.P.Paths.kept c.args.paths.now).settled v d
       → Contains c.deref-3.result.now (record { prefix = c.args.route.now.prefix; vertex = v; cost = k }) ↔ IsEnd left c.args.route.now.prefix v k
   ends_are v d k at =
       subst (λ (es : List End). Contains es (record { prefix = c.args.route.now.prefix; vertex = v; cost = k }) ↔ IsEnd left c.args.route.now.prefix v k) (sym c.deref-3.ensures.value)
@@ -42,34 +43,34 @@ module _ (c : In_ok-after) (adverts : List Advertisement) (root : RouterId) (ove
 
   exact : (after : Route) → c.in_ok-after.after ≡ Some after → IsRoute left root after
   exact after is =
-      let by : IsRouteBy c.deref-3.result.now c.args.paths.now.settled c.args.paths.now.starts after =
-      subst (λ (o : Option Route). IfSome o (λ r. IsRouteBy c.deref-3.result.now c.args.paths.now.settled c.args.paths.now.starts r)) is c.in_ok-after.ensures.route in
-      route_is left root c.deref-3.result.now c.args.paths.now.settled c.args.paths.now.starts by.reaches listed over.tree by.reaches_are c.args.route.now.prefix ends_are after
+      let by : IsRouteBy c.deref-3.result.now (g.P.Paths.kept c.args.paths.now).settled (g.P.Paths.kept c.args.paths.now).starts after =
+      subst (λ (o : Option Route). IfSome o (λ r. IsRouteBy c.deref-3.result.now (g.P.Paths.kept c.args.paths.now).settled (g.P.Paths.kept c.args.paths.now).starts r)) is c.in_ok-after.ensures.route in
+      route_is left root c.deref-3.result.now (g.P.Paths.kept c.args.paths.now).settled (g.P.Paths.kept c.args.paths.now).starts by.reaches listed over.tree by.reaches_are c.args.route.now.prefix ends_are after
       (subst (λ (o : Option Route). IfSome o (λ r. r.prefix ≡ c.args.route.now.prefix)) is c.in_ok-after.ensures.prefix) by.route_is
 
   none : c.in_ok-after.after ≡ None → Way left root c.args.route.now.prefix → ⊥
   none is =
-      no_way left root c.deref-3.result.now c.args.paths.now.settled c.args.paths.now.starts listed over.tree c.args.route.now.prefix ends_are
-      (subst (λ (o : Option Route). IfNone o ((r : Reach) → IsReachOf c.deref-3.result.now c.args.paths.now.settled r → r.prefix ≡ c.args.route.now.prefix → ⊥)) is c.in_ok-after.ensures.none)
+      no_way left root c.deref-3.result.now (g.P.Paths.kept c.args.paths.now).settled (g.P.Paths.kept c.args.paths.now).starts listed over.tree c.args.route.now.prefix ends_are
+      (subst (λ (o : Option Route). IfNone o ((r : Reach) → IsReachOf c.deref-3.result.now (g.P.Paths.kept c.args.paths.now).settled r → r.prefix ≡ c.args.route.now.prefix → ⊥)) is c.in_ok-after.ensures.none)
 
 pub returns-in-Some : goal.returns-in-Some
-returns-in-Some c = λ adverts root over was.
-    let d = (goal.at.returns-in-Some c).In_ok-after in
+returns-in-Some g c = λ adverts root over was.
+    let d = (goal.at.returns-in-Some g c).In_ok-after in
     let same = subst (λ (o : Option Route). IfSome o (λ r. r.prefix ≡ c.args.route.now.prefix)) c.in-Some.is c.in_ok-after.ensures.prefix in
-    loss_here c.args.outage.now.failure adverts root c.args.route.now c.in-Some.after was (exact d adverts root over was c.in-Some.after c.in-Some.is) (sym same) c.loss_by.result c.loss_by.ensures
+    loss_here c.args.outage.now.failure adverts root c.args.route.now c.in-Some.after was (exact g d adverts root over was c.in-Some.after c.in-Some.is) (sym same) c.loss_by.result c.loss_by.ensures
 
 pub returns-then-is_told : goal.returns-then-is_told
-returns-then-is_told c = λ adverts root over was.
-    let d = (goal.at.returns-then-is_told c).In_ok-after in
+returns-then-is_told g c = λ adverts root over was.
+    let d = (goal.at.returns-then-is_told g c).In_ok-after in
     let both = told_here adverts c.args.outage.now over.outage_is c.args.area.now over.graph c.args.route.now.prefix c.ends_to.result.now c.in_ok-ends.ends.items
-    (part_in d adverts root over was) (part_all d adverts root over was) (missing d adverts root over was) c.is_told.result
+    (part_in g d adverts root over was) (part_all g d adverts root over was) (missing g d adverts root over was) c.is_told.result
     (rw c.deref-in-None.ensures.value at c.is_told.ensures adverts over.graph over.outage_is) in
-    (none d adverts root over was c.in-None.is, both.0 c.if-is_told.true)
+    (none g d adverts root over was c.in-None.is, both.0 c.if-is_told.true)
 
 pub returns : goal.returns
-returns c = λ adverts root over was.
-    let d = (goal.at.returns c).In_ok-after in
+returns g c = λ adverts root over was.
+    let d = (goal.at.returns g c).In_ok-after in
     let both = told_here adverts c.args.outage.now over.outage_is c.args.area.now over.graph c.args.route.now.prefix c.ends_to.result.now c.in_ok-ends.ends.items
-    (part_in d adverts root over was) (part_all d adverts root over was) (missing d adverts root over was) c.is_told.result
+    (part_in g d adverts root over was) (part_all g d adverts root over was) (missing g d adverts root over was) c.is_told.result
     (rw c.deref-in-None.ensures.value at c.is_told.ensures adverts over.graph over.outage_is) in
-    (none d adverts root over was c.in-None.is, (λ t. false_true c.is_told.result c.if-is_told.false (both.1 t)))
+    (none g d adverts root over was c.in-None.is, (λ t. false_true c.is_told.result c.if-is_told.false (both.1 t)))

@@ -18,7 +18,7 @@ invariant_of-result c =
       places = c.in_ok-settle.ensures.places;
       tree = tree_grown c.args.more.now c.self.inside.edges.items c.insert_all.new.edges.items c.deref.result.now c.self.inside.root
           c.self.inside.found.reached.items c.settle.new.found.reached.items c.new-waits.result.list c.offer_all.new.waits.list (ap (λ w. w.list) c.new-waits.ensures)
-          c.self.invariant.tree c.in_ok-insert_all.ensures.members offered c.deref.ensures.value (c.in_ok-settle.ensures.tree c.if-branch.true);
+          c.self.invariant.tree c.in_ok-insert_all.ensures.members offered c.deref.ensures.value (c.in_ok-settle.ensures.settles c.if-branch.true);
     }
 
 pub returns-then-branch-clause-edges : goal.returns-then-branch-clause-edges
@@ -30,7 +30,7 @@ returns-then-branch-clause-tree c =
     let offered : OffersIn c.self.inside.found c.args.more.now c.new-waits.result c.offer_all.new.waits = (let is = c.in_ok-offer_all.ensures in search) in
     tree_grown c.args.more.now c.self.inside.edges.items c.insert_all.new.edges.items c.deref.result.now c.self.inside.root
     c.self.inside.found.reached.items c.settle.new.found.reached.items c.new-waits.result.list c.offer_all.new.waits.list (ap (λ w. w.list) c.new-waits.ensures)
-    c.self.invariant.tree c.in_ok-insert_all.ensures.members offered c.deref.ensures.value (c.in_ok-settle.ensures.tree c.if-branch.true)
+    c.self.invariant.tree c.in_ok-insert_all.ensures.members offered c.deref.ensures.value (c.in_ok-settle.ensures.settles c.if-branch.true)
 
 pub returns-then-branch-clause-same : goal.returns-then-branch-clause-same
 returns-then-branch-clause-same c =

@@ -68,7 +68,7 @@ invariant_of-result c =
       tree = tree_shrunk less whole c.in_ok-edges.edges.items c.self.inside.root f gone c.leave.new.found.reached.items
           c.self.invariant.tree takes left free lead from c.deref-7.result.now c.deref-8.result.now c.settle.new.found.reached.items
           c.new-waits.result.list c.offer_to.new.waits.list (ap (λ w. w.list) c.new-waits.ensures) c.deref-7.ensures.value opens c.deref-8.ensures.value
-          (c.in_ok-settle.ensures.tree c.if-branch.true);
+          (c.in_ok-settle.ensures.settles c.if-branch.true);
     }
 
 pub returns-then-branch-clause-edges : goal.returns-then-branch-clause-edges
@@ -93,7 +93,7 @@ returns-then-branch-clause-tree c =
     tree_shrunk less whole c.in_ok-edges.edges.items c.self.inside.root f gone c.leave.new.found.reached.items
     c.self.invariant.tree takes left free lead from c.deref-7.result.now c.deref-8.result.now c.settle.new.found.reached.items
     c.new-waits.result.list c.offer_to.new.waits.list (ap (λ w. w.list) c.new-waits.ensures) c.deref-7.ensures.value opens c.deref-8.ensures.value
-    (c.in_ok-settle.ensures.tree c.if-branch.true)
+    (c.in_ok-settle.ensures.settles c.if-branch.true)
 
 pub returns-then-branch-clause-same : goal.returns-then-branch-clause-same
 returns-then-branch-clause-same c =
