@@ -3,9 +3,10 @@ use Rattle.std.proofs.Common.{◌≡◌, ◌≢◌, ◌⊎◌, inl, inr, ◌+◌
 use Rattle.std.specs.List.{AllByRecursion, flat_map, slice_get}
 use Rattle.std.proofs.lemmas.Bool.{leb-true, le-leb}
 use Rattle.std.proofs.lemmas.Option.{none-some, same_Some}
+use Rattle.ospf_base.specs.Rising.{IsRisingBy}
+use Rattle.ospf_base.specs.Keys.{Precedes}
 use Rattle.ospf_base.specs.declared.ids.LsaKey.{LsaKey}
 use Rattle.ospf_lsdb.specs.Database.{Entry, Held, IsDatabase, entry_of, key_at}
-use Rattle.ospf_lsdb.specs.Timers.{KeysRise}
 use Rattle.ospf_packet.specs.Meaning.{update}
 use Rattle.ospf_packet.specs.Slices.{lsas_bytes}
 use Rattle.ospf_packet.specs.declared.entry.RequestEntry.{RequestEntry}
@@ -171,10 +172,10 @@ updates_are_packed own destination mtu delay db keys =
 
 -- ---- keys
 
-answered_rise : (db : List Held) (entries : List RequestEntry) → IsDatabase db → KeysRise (answered_keys db entries)
+answered_rise : (db : List Held) (entries : List RequestEntry) → IsDatabase db → IsRisingBy Precedes (answered_keys db entries)
 answered_rise db entries is = by_test (all_held db entries)
   where
-    by_test : (b : Bool) → KeysRise (if b then asked_keys db entries else [])
+    by_test : (b : Bool) → IsRisingBy Precedes (if b then asked_keys db entries else [])
     by_test true = filter_rises (is_asked entries) (map key_at db) (keys_rise db is.rising)
     by_test false = tt
 

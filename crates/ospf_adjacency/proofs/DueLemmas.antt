@@ -3,12 +3,13 @@ use Rattle.std.proofs.Common.{◌≡◌, ℕ, ◌+◌, ◌<◌, ◌&&◌, ◌||�
 use Rattle.std.specs.BTreeSet as sorted
 use Rattle.std.specs.List.{list_any}
 use Rattle.std.proofs.lemmas.List.{take_more}
-use Rattle.ospf_base.specs.Keys.{same_key, key_cmp}
+use Rattle.ospf_base.specs.Rising.{IsRisingBy}
+use Rattle.ospf_base.specs.Keys.{same_key, key_cmp, Precedes}
 use Rattle.ospf_base.specs.declared.ids.LsaKey.{LsaKey}
 use Rattle.ospf_base.proofs.SameKeys.{same_key-eq}
-use Rattle.ospf_lsdb.specs.Database.{Held, AreKeysRising, entry_of, key_at}
+use Rattle.ospf_lsdb.specs.Database.{Held, entry_of, key_at}
+use Rattle.ospf_lsdb.proofs.Words.{AreKeysRising}
 use Rattle.ospf_lsdb.specs.Moments.{among}
-use Rattle.ospf_lsdb.specs.Timers.{KeysRise}
 use Rattle.ospf_neighbour.specs.Neighbour.{NeighbourValue}
 use Rattle.ospf_neighbour.specs.declared.neighbour.Listed.{Listed}
 use Rattle.ospf_exchange.proofs.KeyLemmas.{among_added}
@@ -92,7 +93,7 @@ any_due retransmit tick db q (l ∷ ls) =
     (λ one. ap (λ (k : LsaKey). is_some (entry_of db k)) (same_key-eq l.instance.key q one))
 
 -- the keys that are due, as keys of the database
-pub due_are : (retransmit tick : ℕ) (db : List Held) (n : NeighbourValue) (ks : List LsaKey) → AreKeysRising db → KeysRise ks
+pub due_are : (retransmit tick : ℕ) (db : List Held) (n : NeighbourValue) (ks : List LsaKey) → AreKeysRising db → IsRisingBy Precedes ks
     → ((q : LsaKey) → among ks q ≡ list_any (is_due_of retransmit tick db q) n.retransmission) → ks ≡ due_keys retransmit tick db n
 due_are retransmit tick db n ks rises keys whole =
     let due = is_key_due retransmit tick n in

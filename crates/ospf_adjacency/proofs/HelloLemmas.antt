@@ -1,12 +1,12 @@
 -- A Hello of a neighbour that was known, and of a new one.
-use Rattle.std.proofs.Common.{◌≡◌, ◌≢◌, ◌≤◌, ◌∷◌, suc, inl, inr, ℕ, Bool, false, List, [], Some, length, set, insert, sym, ap, ◌∙◌, slice_get, unwrap_or, arith, rules}
+use Rattle.std.proofs.Common.{refl, ◌≡◌, ◌≢◌, ◌<◌, ◌≤◌, ◌∷◌, zero, suc, true, get_or, nat_lt, inl, inr, ℕ, Bool, false, List, [], Some, length, set, insert, sym, ap, ◌∙◌, slice_get, unwrap_or, arith, rules}
 use Rattle.std.proofs.lemmas.Grind.{common_steps}
 use Rattle.std.proofs.lemmas.Bool.Decides.{leb_tells}
 use Rattle.ospf_base.specs.declared.ids.Addr.{Addr}
 use Rattle.ospf_base.specs.declared.ids.RouterId.{RouterId}
 use Rattle.ospf_iface.specs.declared.machine.Iface.{Iface}
 use Rattle.ospf_neighbour.specs.Neighbour.{NeighbourValue, new_neighbour}
-use Rattle.ospf_neighbour.specs.Neighbours.{AreNeighboursRising}
+use Rattle.ospf_neighbour.specs.Neighbours.{AreNeighboursRising, IsNeighbourPlace}
 use Rattle.ospf_packet.specs.declared.body.Hello.{Hello}
 use Rattle.ospf_exchange.specs.declared.rule.Local.{Local}
 use Rattle.ospf_area.specs.Turns.{Turn, turn}
@@ -73,3 +73,17 @@ place_within (m ∷ ms) q = elim (leb_tells (suc m.router.0) q) [
   | inl lower ↦ (rw lower.0 (let more = place_within ms q in omega (arith, more)))
   | inr higher ↦ (rw higher.0 (omega arith))
 ]
+
+-- a binary search finds the place
+pub place_is : (ns : List NeighbourValue) (q at : ℕ) → at ≤ length ns → ((k : ℕ) (d : NeighbourValue) → k < at → (get_or ns k d).router.0 < q)
+    → ((k : ℕ) (d : NeighbourValue) → at ≤ k → k < length ns → q ≤ (get_or ns k d).router.0) → at ≡ place_for ns q
+place_is [] q at within below above = omega (arith, within)
+place_is (m ∷ ms) q zero within below above =
+    let not_lower : nat_lt m.router.0 q ≡ false = let high = above zero m (omega arith) (omega arith) in grind arith in
+    rw not_lower refl
+place_is (m ∷ ms) q (suc at) within below above =
+    let lower : nat_lt m.router.0 q ≡ true = let low = below zero m (omega arith) in grind arith in
+    rw lower (ap suc (place_is ms q at (omega (arith, within)) (λ k d lt. below (suc k) d (omega (arith, lt))) (λ k d le lt. above (suc k) d (omega (arith, le)) (omega (arith, lt)))))
+
+pub place_searched : (ns : List NeighbourValue) (q at : ℕ) → IsNeighbourPlace ns q at → at ≡ place_for ns q
+place_searched ns q at p = place_is ns q at p.within (λ k d lt. p.before k d (omega arith) lt) (λ k d le lt. p.from k d le lt)

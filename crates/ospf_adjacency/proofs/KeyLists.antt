@@ -1,13 +1,14 @@
 -- Keys that rise, each once.
 use Rattle.std.proofs.Common.{◌≡◌, ◌&&◌, ◌||◌, ◌⊎◌, inl, inr, Bool, true, false, List, [], ◌∷◌, Option, None, Some, is_some, option_map, map, filter, refl, ap, sym, ◌∙◌, subst, if◌then◌else◌}
 use Rattle.std.specs.List.{AllByRecursion}
+use Rattle.ospf_base.specs.Rising.{IsRisingBy}
 use Rattle.ospf_base.specs.Keys.{Precedes, same_key}
 use Rattle.ospf_base.specs.declared.ids.LsaKey.{LsaKey}
 use Rattle.ospf_base.proofs.KeyOrder.{Precedes-cases, Precedes-trans}
 use Rattle.ospf_base.proofs.SameKeys.{same_key-apart_after, same_key-eq, same_key-refl}
-use Rattle.ospf_lsdb.specs.Database.{Held, AreKeysRising, entry_of, held_of, key_at}
+use Rattle.ospf_lsdb.specs.Database.{Held, entry_of, held_of, key_at}
+use Rattle.ospf_lsdb.proofs.Words.{AreKeysRising}
 use Rattle.ospf_lsdb.specs.Moments.{among}
-use Rattle.ospf_lsdb.specs.Timers.{KeysRise}
 use Rattle.ospf_packet.specs.declared.entry.RequestEntry.{RequestEntry}
 use Rattle.ospf_exchange.specs.Headers.{copy_in_database}
 use Rattle.ospf_exchange.specs.Requests.{Answers, all_held, is_asked, key_asked}
@@ -24,7 +25,7 @@ all_keys : (k : LsaKey) (hs : List Held) → AllByRecursion (λ h. Precedes k (k
 all_keys k [] all = tt
 all_keys k (h ∷ hs) all = (all.0, all_keys k hs all.1)
 
-pub keys_rise : (db : List Held) → AreKeysRising db → KeysRise (map key_at db)
+pub keys_rise : (db : List Held) → AreKeysRising db → IsRisingBy Precedes (map key_at db)
 keys_rise [] rises = tt
 keys_rise (h ∷ hs) rises = (all_keys (key_at h) hs rises.0, keys_rise hs rises.1)
 
@@ -51,7 +52,7 @@ all_passed k p (x ∷ xs) all = elim (bool_cases (p x)) [
   | inr two ↦ rw two (all_passed k p xs all.1)
 ]
 
-pub filter_rises : (p : LsaKey → Bool) (ks : List LsaKey) → KeysRise ks → KeysRise (filter p ks)
+pub filter_rises : (p : LsaKey → Bool) (ks : List LsaKey) → IsRisingBy Precedes ks → IsRisingBy Precedes (filter p ks)
 filter_rises p [] rises = tt
 filter_rises p (x ∷ xs) rises = elim (bool_cases (p x)) [
   | inl one ↦ rw one (all_passed x p xs rises.0, filter_rises p xs rises.1)
@@ -98,7 +99,7 @@ none_among k (x ∷ xs) all = let apart = same_key-apart_after x k all.0 in rw a
 first_among : (k : LsaKey) (ks : List LsaKey) → among (k ∷ ks) k ≡ true
 first_among k ks = let is = same_key-refl k in rw is refl
 
-pub rising_same : (xs ys : List LsaKey) → KeysRise xs → KeysRise ys → ((q : LsaKey) → among xs q ≡ among ys q) → xs ≡ ys
+pub rising_same : (xs ys : List LsaKey) → IsRisingBy Precedes xs → IsRisingBy Precedes ys → ((q : LsaKey) → among xs q ≡ among ys q) → xs ≡ ys
 rising_same [] [] rx ry same = refl
 rising_same [] (y ∷ ys) rx ry same = absurd (let e = same y in let f = first_among y ys in cc)
 rising_same (x ∷ xs) [] rx ry same = absurd (let e = same x in let f = first_among x xs in cc)

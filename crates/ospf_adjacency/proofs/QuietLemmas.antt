@@ -29,7 +29,7 @@ use Rattle.ospf_exchange.specs.Laws.{KeepsRouter}
 use Rattle.ospf_area.specs.Packets.{Parcel, dd_parcel, request_parcel}
 use Rattle.ospf_adjacency.proofs.MemberLemmas.{cons_cases, cons_first, cons_rest, map_from, none_of_nil}
 use Rattle.ospf_adjacency.proofs.LawLemmas.{event_keeps}
-use Rattle.ospf_adjacency.proofs.SayLemmas.{events_say_only}
+use Rattle.ospf_adjacency.proofs.SayLemmas.{event_says}
 use Rattle.ospf_adjacency.specs.Answers.{asked_keys, copies_turn, resent_keys}
 use Rattle.ospf_adjacency.proofs.Words.{resent_copy, with_copy, last_batch}
 use Rattle.ospf_adjacency.specs.Repeats.{dd_again, due_keys, request_again}
@@ -186,7 +186,7 @@ answer_by false i local delay db keys t = record {
   goes = λ told. kept_goes db told t.neighbour (event_turn i local BadLsReq t).neighbour (event_keeps BadLsReq i.settings.dead t.next local.tick t.neighbour);
   enters = bad_enters i t.next local.tick t.neighbour;
   same = bad_same i t.next local.tick t.neighbour;
-  sends = λ p is. elim (events_say_only i local BadLsReq db t p is) [ inl old ↦ inl old | inr new ↦ inr (says_has db delay t.neighbour p.body new) ];
+  sends = λ p is. elim (event_says i local BadLsReq db t p is) [ inl old ↦ inl old | inr new ↦ inr (says_has db delay t.neighbour p.body new) ];
 }
 
 pub answers_are_quiet : AnswersAreQuiet

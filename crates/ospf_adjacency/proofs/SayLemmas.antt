@@ -1,8 +1,9 @@
 -- What goes out to a neighbour.
-use Rattle.std.proofs.Common.{◌≡◌, ◌⊎◌, inl, inr, nat_lt, ℕ, Bool, true, false, List, [], ◌∷◌, ◌++◌, Result, Ok, Err, refl, subst, arith, rules}
+use Rattle.std.proofs.Common.{◌≡◌, ◌⊎◌, inl, inr, nat_lt, ℕ, Bool, true, false, List, [], ◌∷◌, ◌++◌, Result, Ok, Err, refl, sym, ap, ◌∙◌, subst, arith, rules}
 use Rattle.std.specs.List.{Contains}
 use Rattle.std.proofs.lemmas.Grind.{common_steps}
 use Rattle.std.proofs.lemmas.List.Elements.{Contains-append_cases}
+use Rattle.ospf_base.specs.Constants.{router_options}
 use Rattle.ospf_base.specs.declared.ids.RouterId.{RouterId}
 use Rattle.ospf_iface.specs.declared.machine.Iface.{Iface}
 use Rattle.ospf_lsa.specs.declared.header.LsaHeader.{LsaHeader}
@@ -50,8 +51,8 @@ both db n a b c p q x is = elim (q x is) [ inl old ↦ p x old | inr new ↦ inr
 begun_bare : (e : NbrEvent) (dead next tick : ℕ) (n : NeighbourValue) → begins_by e n ≡ true → (event_taken e dead next tick n).last_dd ≡ []
 begun_bare e dead next tick n is = first_of (search rules, grind (arith, common_steps))
 
-pub events_say_only : EventsSayOnly
-events_say_only i local e db t =
+pub event_says : (i : Iface) (local : Local) (e : NbrEvent) (db : List Held) (t : Turn) → AllSayOnly db t.neighbour t.sent (event_turn i local e t).sent
+event_says i local e db t =
     let m = event_taken e i.settings.dead t.next local.tick t.neighbour in
     more_if db t.neighbour t.sent (begins_by e t.neighbour) (dd_parcel i local.mtu m)
     (λ is h has. absurd (none_of_nil h (subst (λ (hs : List LsaHeader). Contains hs h) (begun_bare e i.settings.dead t.next local.tick t.neighbour is) has)))
@@ -60,8 +61,29 @@ requests_say : (i : Iface) (local : Local) (db : List Held) (n : NeighbourValue)
 requests_say i local db n t =
     more_if db n t.sent (request_due (loaded t.neighbour)) (request_parcel i (asked_next local.mtu local.tick (loaded t.neighbour))) (λ is. tt)
 
+-- a packet that may have gone out is the one that there is
+one_if : (b : Bool) (p q : Parcel) → Contains (parcel_if b p) q → (b ≡ true) × (p ≡ q)
+one_if true p q is = elim (cons_cases p [] q is) [ inl same ↦ (refl, same) | inr none ↦ absurd (none_of_nil q none) ]
+one_if false p q is = absurd (none_of_nil q is)
+
+pub events_say_only : EventsSayOnly
+events_say_only i local e t p is =
+    let m = event_taken e i.settings.dead t.next local.tick t.neighbour in
+    elim (Contains-append_cases t.sent (parcel_if (begins_by e t.neighbour) (dd_parcel i local.mtu m)) p is) [
+      | inl old ↦ inl old
+      | inr new ↦
+          let w = one_if (begins_by e t.neighbour) (dd_parcel i local.mtu m) p new in
+          let fields : Description = record { mtu = local.mtu; options = router_options; flags = m.exchanging.flags; number = m.exchanging.number } in
+          inr (fields, sym (ap (λ (x : Parcel). x.body) w.1) ∙ ap (λ (hs : List LsaHeader). description fields hs) (begun_bare e i.settings.dead t.next local.tick t.neighbour w.0))
+    ]
+
 pub requests_say_only : RequestsSayOnly
-requests_say_only i local db t = requests_say i local db t.neighbour t
+requests_say_only i local t p is =
+    let n = asked_next local.mtu local.tick (loaded t.neighbour) in
+    elim (Contains-append_cases t.sent (parcel_if (request_due (loaded t.neighbour)) (request_parcel i n)) p is) [
+      | inl old ↦ inl old
+      | inr new ↦ inr (_, sym (ap (λ (x : Parcel). x.body) (one_if (request_due (loaded t.neighbour)) (request_parcel i n) p new).1))
+    ]
 
 -- what follows an answer
 answer_says : (a : Result DdAnswer ExchangeFault) (i : Iface) (local : Local) (db : List Held) (n : NeighbourValue) (t : Turn)
@@ -109,7 +131,7 @@ greeted_says i local sender d headers db t = elim (bool_cases (is_init t.neighbo
   | inl init ↦
       let e = TwoWayReceived (wants_adjacency i t.neighbour.address) in
       let g = event_turn i local e t in
-      (rw init (both db t.neighbour t.sent g.sent (exchange_turn i local sender d headers db g).sent (events_say_only i local e db t)
+      (rw init (both db t.neighbour t.sent g.sent (exchange_turn i local sender d headers db g).sent (event_says i local e db t)
       (λ q is. elim (exchange_says i local sender d headers db g q is) [
         | inl old ↦ inl old
         | inr new ↦ inr (says_before db t.neighbour g.neighbour q.body (event_keeps e i.settings.dead t.next local.tick t.neighbour) new)

@@ -47,7 +47,7 @@ AdjOkGoes =
     (i : Iface) (tick next : ℕ) (ns : List NeighbourValue) (p : RouterId)
     → KeepsOrLosesLists (neighbour_of ns p) (neighbour_of (adjusted i tick next ns) p)
 
--- and they stay the neighbours of a link, at most one more than there were
+-- and they stay the neighbours of a link
 pub record StayOfLink (i : Iface) (ns : List NeighbourValue) : Type 0 where
   pub hello : (local : Local) (q : RouterId) (source : Addr) (h : Hello) (named : Bool)
       → q.0 ≢ i.settings.router.0 → (x : Neighbourhood) → x.neighbours ≡ ns

@@ -15,6 +15,7 @@ use Rattle.ospf_neighbour.specs.declared.machine.NbrEvent.{NbrEvent}
 use Rattle.ospf_neighbour.specs.declared.machine.NbrEvent.TheVariants.{NegotiationDone}
 use Rattle.ospf_packet.specs.Meaning.{BodyMeaning, hello, description, request, update, acknowledgment}
 use Rattle.ospf_packet.specs.declared.body.Description.{Description}
+use Rattle.ospf_packet.specs.declared.entry.RequestEntry.{RequestEntry}
 use Rattle.ospf_packet.specs.Fields.{description_fields}
 use Rattle.ospf_exchange.specs.Exchange.{describes}
 use Rattle.ospf_exchange.specs.Laws.{HasHeader, HasInstance, KeepsRouter}
@@ -27,8 +28,9 @@ use Rattle.ospf_area.specs.Sending.{packet_from}
 use Rattle.ospf_area.specs.declared.sending.Own.{Own}
 use Rattle.ospf_area.specs.Packets.{Parcel, dd_parcel}
 
--- a neighbour goes on: new on its lists are copies of the database and, on the request list, what
--- it told; a list is left only below Exchange
+-- a neighbour goes on: new on its lists are copies of the database, on the request list what it
+-- told, and in the last Database Description also what the summary list had; what waits for its
+-- acknowledgement stops waiting only below Exchange
 pub record GoesOn (db : List Held) (told : List LsaHeader) (n m : NeighbourValue) : Type 0 where
   pub requests : (h : LsaHeader) → Contains m.requests h → Contains n.requests h ⊎ Contains told h
   pub retransmission : (i : Instance) → Waits m i → Waits n i ⊎ HasInstance db i
@@ -119,8 +121,8 @@ DroppedIsUnchanged =
 
 -- ---- what goes out
 
--- a packet to the neighbour names only what stood on its lists, or is a copy of the
--- database, and has no LSA (10.8)
+-- a packet to the neighbour is no Update and no Acknowledgment, and a Database Description names
+-- only what stood on its lists, or a copy of the database (10.8)
 abbrev pub SaysOnly : List Held → NeighbourValue → BodyMeaning → Type 0
 SaysOnly db n (hello fields heard) = ⊤
 SaysOnly db n (description fields headers) =
@@ -130,24 +132,26 @@ SaysOnly db n (request entries) = ⊤
 SaysOnly db n (update lsas) = ⊥
 SaysOnly db n (acknowledgment headers) = ⊥
 
--- so are those of a list
+-- so is each of a list that was not in another
 abbrev pub AllSayOnly : List Held → NeighbourValue → List Parcel → List Parcel → Type 0
 AllSayOnly db n before after =
     (p : Parcel) → Contains after p → Contains before p ⊎ SaysOnly db n p.body
 
--- by an event there goes out at most a first DD packet, which has no headers
+-- by an event nothing goes out but Database Descriptions without headers (10.8)
 abbrev pub EventsSayOnly : Type 0
 EventsSayOnly =
-    (i : Iface) (local : Local) (e : NbrEvent) (db : List Held) (t : Turn)
-    → AllSayOnly db t.neighbour t.sent (event_turn i local e t).sent
+    (i : Iface) (local : Local) (e : NbrEvent) (t : Turn) (p : Parcel)
+    → Contains (event_turn i local e t).sent p
+    → Contains t.sent p ⊎ ((fields : Description) × (p.body ≡ description fields []))
 
--- by a Request that is due nothing else goes out (10.9)
+-- where a Request may be due nothing goes out but Requests (10.9)
 abbrev pub RequestsSayOnly : Type 0
 RequestsSayOnly =
-    (i : Iface) (local : Local) (db : List Held) (t : Turn)
-    → AllSayOnly db t.neighbour t.sent (request_turn i local t).sent
+    (i : Iface) (local : Local) (t : Turn) (p : Parcel)
+    → Contains (request_turn i local t).sent p
+    → Contains t.sent p ⊎ ((entries : List RequestEntry) × (p.body ≡ request entries))
 
--- by a Database Description that comes nothing else goes out (10.6)
+-- what goes out by a Database Description that comes is such a packet (10.6)
 abbrev pub DescriptionSaysOnly : Type 0
 DescriptionSaysOnly =
     (i : Iface) (local : Local) (sender : RouterId) (d : Description) (headers : List LsaHeader)

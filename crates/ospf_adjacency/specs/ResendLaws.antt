@@ -1,12 +1,13 @@
 -- What the answers to Requests and the repeats keep of a neighbour, and what they send (RFC
 -- 2328, sections 10.7 and 13.6).
 use Rattle.std.specs.Prelude.{◌≡◌, ◌⊎◌, ℕ, List, Some, Contains, map}
+use Rattle.ospf_base.specs.Rising.{IsRisingBy}
+use Rattle.ospf_base.specs.Keys.{Precedes}
 use Rattle.ospf_base.specs.declared.ids.Addr.{Addr}
 use Rattle.ospf_base.specs.declared.ids.LsaKey.{LsaKey}
 use Rattle.ospf_iface.specs.declared.machine.Iface.{Iface}
 use Rattle.ospf_lsa.specs.declared.header.LsaHeader.{LsaHeader}
 use Rattle.ospf_lsdb.specs.Database.{Entry, Held, IsDatabase, entry_of, lsa_of}
-use Rattle.ospf_lsdb.specs.Timers.{KeysRise}
 use Rattle.ospf_neighbour.specs.Neighbour.{NeighbourValue}
 use Rattle.ospf_packet.specs.Meaning.{BodyMeaning, hello, description, request, update, acknowledgment}
 use Rattle.ospf_packet.specs.declared.entry.RequestEntry.{RequestEntry}
@@ -27,8 +28,8 @@ abbrev pub IsCopy : List Held → ℕ → List ℕ → Type 0
 IsCopy db delay lsa =
     (key : LsaKey) × (e : Entry) × (entry_of db key ≡ Some e) × (lsa ≡ sent_lsa delay (lsa_of e))
 
--- a packet to the neighbour has only copies of the database, and names only
--- what stood on its lists, or copies
+-- a packet to the neighbour is no Acknowledgment, an Update has only copies of the database, and a
+-- Database Description names only what stood on its lists, or copies
 abbrev pub HasCopiesOnly : List Held → ℕ → NeighbourValue → BodyMeaning → Type 0
 HasCopiesOnly db delay n (hello fields heard) = Unit {0}
 HasCopiesOnly db delay n (description fields headers) = SaysOnly db n (description fields headers)
@@ -71,6 +72,6 @@ UpdatesArePacked =
 -- and in their order (10.7, 13.6)
 pub record KeysGoInOrder : Type 0 where
   pub answered : (db : List Held) (entries : List RequestEntry) → IsDatabase db
-      → KeysRise (answered_keys db entries)
+      → IsRisingBy Precedes (answered_keys db entries)
   pub again : (retransmit tick : ℕ) (db : List Held) (n : NeighbourValue) → IsDatabase db
-      → KeysRise (due_keys retransmit tick db n)
+      → IsRisingBy Precedes (due_keys retransmit tick db n)

@@ -32,7 +32,7 @@ pub fn wants_adjacency(iface: &Iface, address: Addr) -> bool
 /// by it, the neighbour takes the router's next Database Description number, which counts up,
 /// and a first packet goes out to it.
 ///
-/// `AllocError` where memory runs out.
+/// `AllocError` where memory runs out; then the router is to be stopped.
 pub fn take_event(
     neighbour: &mut Neighbour,
     event: NbrEvent,

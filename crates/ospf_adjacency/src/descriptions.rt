@@ -35,7 +35,7 @@ pub fn is_dropped(
 /// Takes a Database Description (RFC 2328, section 10.6) of the neighbour's router, `sender`.
 /// Answers whether it was taken: where not, it is dropped, and nothing changes.
 ///
-/// `AllocError` where memory runs out.
+/// `AllocError` where memory runs out; then the router is to be stopped.
 pub fn take_description(
     neighbour: &mut Neighbour,
     sender: RouterId,

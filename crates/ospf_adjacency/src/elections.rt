@@ -1,6 +1,6 @@
 //! The election that ends a step on a link.
 
-ghost use Rattle.std.specs.Prelude.{◌≡◌, ◌++◌, List, Contains, true, map, IfOk, OnOk};
+ghost use Rattle.std.specs.Prelude.{◌≡◌, ◌++◌, List, Contains, true, IfOk, OnOk};
 ghost use Rattle.ospf_iface.specs.Election.{AreDistinct};
 ghost use Rattle.ospf_iface.specs.declared.candidate.Candidate.{Candidate};
 ghost use Rattle.ospf_iface.specs.declared.machine.IfaceChange.{IfaceChange};
@@ -18,7 +18,7 @@ use std::alloc::{AllocError, Global};
 /// The election of a link on which one is due (RFC 2328, section 9.4), and AdjOK? where the
 /// Designated Router or the Backup is another.
 ///
-/// `AllocError` where memory runs out.
+/// `AllocError` where memory runs out; then the router is to be stopped.
 pub fn elect_on(
     iface: &mut Iface,
     neighbours: &mut [Neighbour],

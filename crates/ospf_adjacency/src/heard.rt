@@ -1,6 +1,6 @@
 //! Hellos that come.
 
-ghost use Rattle.std.specs.Prelude.{◌≡◌, ◌≢◌, ◌∷◌, ◌<◌, ◌||◌, ◌==◌, List, true, false, IsTrue, OnOk, IfOk, length, slice_set, slice_get, Some};
+ghost use Rattle.std.specs.Prelude.{◌≡◌, ◌≢◌, ◌<◌, ◌||◌, ◌==◌, true, false, IsTrue, OnOk, IfOk, length, slice_get, Some};
 ghost use Rattle.ospf_neighbour.specs.Neighbour.{NeighbourValue};
 ghost use Rattle.ospf_neighbour.specs.Neighbours.{AreNeighboursRising};
 ghost use Rattle.ospf_area.specs.Turns.{turn};
@@ -52,16 +52,10 @@ pub fn is_settled(state: IfaceState) -> bool
 
 /// Where a neighbour of a Router ID stands, or is put in, among neighbours in rising Router ID.
 pub fn place_for(all: &[Neighbour], router: RouterId) -> usize
+    requires { AreNeighboursRising all.now }
     ensures { result ≡ place_for all.now router.0 }
 {
-    let mut at = 0;
-    for neighbour in all {
-        if neighbour.router().0 >= router.0 {
-            return at;
-        }
-        at += 1;
-    }
-    at
+    all.partition_point(|n| n.router().0 < router.0)
 }
 
 /// Whether the neighbour at a place has this Router ID.
@@ -82,7 +76,7 @@ pub fn is_at(all: &[Neighbour], at: usize, router: RouterId) -> bool
 /// address `source`; `named` tells whether it names the router itself. The sender is found among
 /// the link's neighbours, or is a new one. Answers whether an election of the link is due by it.
 ///
-/// `AllocError` where memory runs out.
+/// `AllocError` where memory runs out; then the router is to be stopped.
 pub fn hello_on(
     neighbours: &mut Vec<Neighbour>,
     sender: RouterId,

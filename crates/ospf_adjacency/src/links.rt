@@ -57,10 +57,10 @@ pub fn tick_timers(iface: &mut Iface, neighbours: &mut Vec<Neighbour>) -> bool
     ensures neighbours { neighbours.new.items ≡ timed neighbours.old.items }
 {
     let state = iface.state;
-    let lost = some_lost(neighbours);
+    let lost = is_settled(state) && some_lost(neighbours);
     let over = iface.wait_tick();
     tick_neighbours(neighbours);
-    (is_waiting(state) && over) || (is_settled(state) && lost)
+    (is_waiting(state) && over) || lost
 }
 
 // The inactive neighbours are removed.

@@ -23,7 +23,7 @@ const HEAD: usize = IP_HEADER + PACKET_HEADER + COUNT_SIZE;
 /// key without a copy is left out, and an LSA that does not fit has an Update of its own. `delay`
 /// is InfTransDelay, in ticks, `mtu` the interface's, in bytes.
 ///
-/// `AllocError` where memory runs out.
+/// `AllocError` where memory runs out; then the router is to be stopped.
 pub fn send_copies(
     keys: &BTreeSet<LsaKey>,
     database: &Lsdb,

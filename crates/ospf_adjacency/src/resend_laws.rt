@@ -2,8 +2,10 @@
 
 ghost use Rattle.ospf_adjacency.specs.ResendLaws.{AnswersAreQuiet, KeysGoInOrder, RepeatsAreQuiet, UpdatesArePacked};
 
-/// By a Request that is answered, or not, no list gains an entry, none loses one but below
-/// Exchange, the neighbour does not enter Exchange, and only copies of the database go out.
+/// By a Request that is answered, or not, new on a neighbour's lists are only copies of the
+/// database, and in its last Database Description those and what its summary list had; what waits
+/// for an acknowledgement stops waiting only below Exchange, and the neighbour stays the router
+/// that it is and does not enter Exchange. Each Update that goes out has only copies.
 pub fn answers_are_quiet()
     ensures { AnswersAreQuiet }
 {}

@@ -13,7 +13,7 @@ use std::alloc::{AllocError, Global};
 
 /// The Hello of a link goes out (RFC 2328, section 9.5).
 ///
-/// `AllocError` where memory runs out.
+/// `AllocError` where memory runs out; then the router is to be stopped.
 pub fn send_hello(
     iface: &Iface,
     neighbours: &[Neighbour],
@@ -30,7 +30,7 @@ pub fn send_hello(
 
 /// A tick of a link's Hello timer: the Hello goes out where it is due (RFC 2328, section 9.5).
 ///
-/// `AllocError` where memory runs out.
+/// `AllocError` where memory runs out; then the router is to be stopped.
 pub fn send_due_hello(
     iface: &mut Iface,
     neighbours: &[Neighbour],

@@ -8,3 +8,4 @@ pub mod WaitLemmas
 pub mod ShortLemmas
 pub mod PackLemmas
 pub mod Words
+pub mod ChangeLemmas

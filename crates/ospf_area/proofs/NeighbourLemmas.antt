@@ -40,7 +40,7 @@ with_effect-router Removed dead n = refl
 pub after_event-router : (e : NbrEvent) (dead : ℕ) (n : NeighbourValue) → (after_event e dead n).router ≡ n.router
 after_event-router e dead n = with_effect-router (transition n.state e (is_empty n.requests)).effect dead n
 
-changed-router : (change : AdjacencyChange) (tick : ℕ) (n : NeighbourValue) → (neighbour_changed change tick n).router ≡ n.router
+pub changed-router : (change : AdjacencyChange) (tick : ℕ) (n : NeighbourValue) → (neighbour_changed change tick n).router ≡ n.router
 changed-router (Acknowledges i) tick n = refl
 changed-router (IsSent i) tick n = refl
 changed-router (Restarts number) tick n = after_event-router BadLsReq 0 n

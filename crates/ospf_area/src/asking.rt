@@ -24,7 +24,7 @@ use std::alloc::{AllocError, Global};
 /// A neighbour's request list may have changed: LoadingDone where it is empty, and the next Request
 /// goes out where one is due (RFC 2328, sections 10.3 and 10.9).
 ///
-/// `AllocError` where memory runs out.
+/// `AllocError` where memory runs out; then the router is to be stopped.
 pub fn request_turn(
     neighbour: &mut Neighbour,
     at: &OnLink,

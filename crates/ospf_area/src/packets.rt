@@ -39,7 +39,7 @@ pub fn description_body(mtu: u16, exchanging: Exchanging, headers: Vec<LsaHeader
 
 /// The last Database Description of a neighbour goes out to it (RFC 2328, section 10.8).
 ///
-/// `AllocError` where memory runs out.
+/// `AllocError` where memory runs out; then the router is to be stopped.
 pub fn send_dd(neighbour: &Neighbour, at: &OnLink, post: &mut Post) -> Result<(), AllocError>
     ensures next { post.new.next ≡ post.old.next }
     ensures sent { OnOk result
@@ -53,7 +53,7 @@ pub fn send_dd(neighbour: &Neighbour, at: &OnLink, post: &mut Post) -> Result<()
 
 /// The last Request of a neighbour goes out to it (RFC 2328, section 10.9).
 ///
-/// `AllocError` where memory runs out.
+/// `AllocError` where memory runs out; then the router is to be stopped.
 pub fn send_request(neighbour: &Neighbour, at: &OnLink, post: &mut Post) -> Result<(), AllocError>
     ensures { OnOk result (post.new ≡ and_parcels post.old
         (request_parcel at.now.iface neighbour.now ∷ [])) }
@@ -64,7 +64,7 @@ pub fn send_request(neighbour: &Neighbour, at: &OnLink, post: &mut Post) -> Resu
 
 /// An LSA goes out in an Update of its own.
 ///
-/// `AllocError` where memory runs out.
+/// `AllocError` where memory runs out; then the router is to be stopped.
 pub fn send_lsa(lsa: Lsa, destination: Addr, post: &mut Post) -> Result<(), AllocError>
     ensures { OnOk result (post.new ≡ and_parcels post.old (lsa_parcel destination lsa ∷ [])) }
 {

@@ -86,7 +86,7 @@ impl Post {
 
     /// A packet is to go out.
     ///
-    /// `AllocError` where memory runs out.
+    /// `AllocError` where memory runs out; then the router is to be stopped.
     pub fn put(&mut self, destination: Addr, body: BodyValue) -> Result<(), AllocError>
         ensures next { self.new.next ≡ self.old.next }
         ensures sent { OnOk result
@@ -100,7 +100,7 @@ impl Post {
     /// All goes out of the link of this number, whose interface this is, behind these outputs. A
     /// packet that is longer than `ospf_packet::LARGEST_PACKET` is not sent.
     ///
-    /// `AllocError` where memory runs out.
+    /// `AllocError` where memory runs out; then the router is to be stopped.
     pub fn send_all(
         self,
         out: &mut Outputs,

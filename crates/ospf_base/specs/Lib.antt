@@ -7,6 +7,7 @@ pub mod Sums
 pub mod Masks
 pub mod Instances
 pub mod Keys
+pub mod Rising
 pub mod Laws
 pub mod Prefixes
 pub mod Text

@@ -1,4 +1,4 @@
--- Prefixes of addresses (RFC 2328, sections 2.1.2 and 11.1).
+-- Prefixes of addresses (RFC 2328, sections 1.2 and 11.1).
 use Rattle.std.specs.Prelude.{◌≡◌, ℕ, ◌<◌, ◌⊎◌, bit_and}
 use Rattle.ospf_base.specs.Masks.{mask_of}
 use Rattle.ospf_base.specs.declared.prefix.Prefix.{Prefix}

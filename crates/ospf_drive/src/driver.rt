@@ -1,6 +1,6 @@
 //! The driver of one router.
 
-ghost use Rattle.std.specs.Prelude.{◌≡◌, ◌+◌, ◌<◌, ◌^◌};
+ghost use Rattle.std.specs.Prelude.{◌+◌, ◌<◌, ◌^◌};
 ghost use Rattle.ospf_drive.specs.Moments.{at};
 ghost use Rattle.ospf_drive.specs.Drives.{Drives};
 ghost use Rattle.ospf_drive.specs.Whole.{Whole};
@@ -20,8 +20,9 @@ use std::sync::Wait;
 /// publish told, if there was any.
 ///
 /// `Recv` and `Send` where the wire fails, `Stopped` where the router met want of memory, and
-/// `Publish` where a changed table met it. Then the router and what is published are as the last
-/// step left them, or as they were before the arrival at which the router stopped.
+/// `Publish` where a changed table met it. At `Stopped` the router has stopped, and what is
+/// published is as before the arrival; else the router is as the last step left it. At `Send` some
+/// of what that step sent has not gone out, and at `Send` and `Publish` its table is not published.
 pub fn drive<W: Wire, R: Wait + Drop, S: Wait>(
     rt: &S,
     alloc: Global,

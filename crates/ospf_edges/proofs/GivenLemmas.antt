@@ -20,7 +20,8 @@ use Rattle.ospf_graph.specs.Routes.{IsEnd}
 use Rattle.ospf_graph.proofs.ListLemmas.{member_of_map, member_to_map}
 use Rattle.ospf_edges.specs.declared.end.End.{End}
 use Rattle.ospf_edges.specs.Listed.{advertisement_of, advertisements_of}
-use Rattle.ospf_edges.specs.Given.{Adds, StandsFor, AttachedGives, EdgesOf, EndsOf, StubGives, NetworkGives, link_count}
+use Rattle.ospf_graph.specs.Adds.{Adds}
+use Rattle.ospf_edges.specs.Given.{StandsFor, AttachedGives, EdgesOf, EndsOf, StubGives, NetworkGives, link_count}
 use Rattle.ospf_edges.specs.Given.{IsEdgesOf, IsEndsOf}
 use Rattle.ospf_edges.proofs.AddsLemmas.{GivenBy, adds_as, adds_none}
 use Rattle.ospf_edges.proofs.ListedLemmas.{router_of, network_of}

@@ -12,7 +12,9 @@ use Rattle.ospf_graph.specs.Advertisements.{Advertisement, router_lsa, network_l
 use Rattle.ospf_graph.specs.Pairs.{pair_code}
 use Rattle.ospf_graph.proofs.ListLemmas.{member_of_map, member_to_map}
 use Rattle.ospf_edges.specs.Index.{AreBackLinks, AreMembers, LinksOf, MembersOf, NamedOn}
-use Rattle.ospf_edges.specs.Given.{Adds, LinksTo, StandsFor}
+use Rattle.ospf_graph.specs.Adds.{Adds}
+use Rattle.ospf_edges.specs.Costs.{HasLinkTo}
+use Rattle.ospf_edges.specs.Given.{StandsFor}
 use Rattle.ospf_edges.specs.Listed.{advertisement_of, advertisements_of}
 use Rattle.ospf_edges.proofs.AddsLemmas.{GivenBy, adds_as, adds_none}
 use Rattle.ospf_edges.proofs.FitLemmas.{router_fits, network_fits}
@@ -54,7 +56,7 @@ module _ (lsas : List (List ℕ)) (is : IsListing lsas) (pairs list : List ℕ) 
         Contains-permutation list pairs _ perm ((adds _).1 (inr (y.0, y.1, subst (λ x. LinksOf x (pair_code to.0 from.0)) (sym y.2) (_, h.link_in, (refl, refl))))),
   )
     where
-      names : (x : Advertisement) → Contains A x → LinksOf x (pair_code to.0 from.0) → LinksTo A from to
+      names : (x : Advertisement) → Contains A x → LinksOf x (pair_code to.0 from.0) → HasLinkTo A from LinkKind.PointToPoint to.0
       names (router_lsa r links) listed g =
           let link = g.0 in
           let has : HasLink A r LinkKind.PointToPoint link.id link.link_data link.metric =

@@ -3,10 +3,10 @@ use Rattle.std.proofs.Common.{◌≡◌, ◌<◌, ◌≤◌, ◌++◌, ◌⊎◌
 use Rattle.std.proofs.lemmas.List.Elements.{Contains-append_left, Contains-push, Contains-push_cases}
 use Rattle.std.proofs.lemmas.Bool.{ltb-false, ltb-true}
 use Rattle.std.specs.List.{Contains}
-use Rattle.std.specs.Prelude.{IsTrue, ◌↔◌, nat_lt}
+use Rattle.std.specs.Prelude.{nat_lt}
 use Rattle.ospf_lsa.specs.declared.link.Link.{Link}
 use Rattle.ospf_lsa.specs.declared.link.LinkKind.{LinkKind}
-use Rattle.ospf_edges.specs.Costs.{IsLeastOf, IsTo, NamesLinkTo, least_with, lesser_of}
+use Rattle.ospf_edges.specs.Costs.{IsLeastOf, IsTo, NamesLinkTo, lesser_of}
 
 pub names_more : (xs : List Link) (x : Link) (kind : LinkKind) (id : ℕ) → (NamesLinkTo xs kind id → ⊥) → (IsTo kind id x → ⊥) → NamesLinkTo (xs ++ x ∷ []) kind id → ⊥
 names_more xs x kind id none not h =
@@ -20,20 +20,6 @@ bool_cases true = inl refl
 bool_cases false = inr refl
 
 module _ (P : Link → Type 0) where
-  -- one that does not count
-  skip : (xs : List Link) (x : Link) (o : Option ℕ) → (P x → ⊥) → IsLeastOf P xs o → IsLeastOf P (xs ++ x ∷ []) o
-  skip xs x None not none = λ l there p. elim (Contains-push_cases xs x l there) [
-    | inl before ↦ none l before p
-    | inr same ↦ not (subst (λ (y : Link). P y) (sym same) p)
-  ]
-  skip xs x (Some n) not h = (
-    (h.0.0, Contains-append_left xs (x ∷ []) h.0.0 h.0.1, h.0.2, h.0.3),
-    λ l there p. elim (Contains-push_cases xs x l there) [
-      | inl before ↦ h.1 l before p
-      | inr same ↦ absurd (not (subst (λ (y : Link). P y) (sym same) p))
-    ],
-  )
-
   -- one that does, and is the least
   here : (xs : List Link) (x : Link) → P x → ((l : Link) → Contains xs l → P l → x.metric ≤ l.metric) → IsLeastOf P (xs ++ x ∷ []) (Some x.metric)
   here xs x p low = (
@@ -54,13 +40,9 @@ module _ (P : Link → Type 0) where
     ],
   )
 
-  take : (xs : List Link) (x : Link) (o : Option ℕ) → P x → IsLeastOf P xs o → IsLeastOf P (xs ++ x ∷ []) (Some (lesser_of o x.metric))
-  take xs x None p none = here xs x p (λ l before q. absurd (none l before q))
-  take xs x (Some n) p h = elim (bool_cases (nat_lt n x.metric)) [
+  pub least_more : (xs : List Link) (x : Link) (o : Option ℕ) → P x → IsLeastOf P xs o → IsLeastOf P (xs ++ x ∷ []) (Some (lesser_of o x.metric))
+  least_more xs x None p none = here xs x p (λ l before q. absurd (none l before q))
+  least_more xs x (Some n) p h = elim (bool_cases (nat_lt n x.metric)) [
     | inl less ↦ rw less (there xs x n (ltb-true n x.metric less) h)
     | inr more ↦ rw more (here xs x p (λ l before q. let low : n ≤ l.metric = h.1 l before q in let high : x.metric ≤ n = ltb-false n x.metric more in omega arith))
   ]
-
-  pub least_more : (xs : List Link) (x : Link) (o : Option ℕ) (counts : Bool) → (IsTrue counts ↔ P x) → IsLeastOf P xs o → IsLeastOf P (xs ++ x ∷ []) (least_with o counts x.metric)
-  least_more xs x o true is h = take xs x o (is.0 refl) h
-  least_more xs x o false is h = skip xs x o (λ p. let t : false ≡ true = is.1 p in cc) h

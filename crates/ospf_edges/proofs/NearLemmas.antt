@@ -10,7 +10,8 @@ use Rattle.ospf_graph.specs.declared.graph.Vertex.TheVariants.{Router, Network}
 use Rattle.ospf_graph.specs.Advertisements.{Advertisement, HasLink, IsAttached, IsListed}
 use Rattle.ospf_graph.specs.Graph.{IsEdge, IsEdgeBetween}
 use Rattle.ospf_graph.proofs.ListLemmas.{transit_found}
-use Rattle.ospf_edges.specs.Given.{Adds, LinksTo}
+use Rattle.ospf_graph.specs.Adds.{Adds}
+use Rattle.ospf_edges.specs.Costs.{HasLinkTo}
 use Rattle.ospf_edges.specs.Near.{AreEdgesAt, AreLinksBy, AreAttachedTo, HasNoNetwork, EdgesNear, LinkLeadsTo, LinksSend, MemberGives, NamesRouter, NearLink, NearLinks, NearMembers, Returns, SendsEdge, edge_to}
 use Rattle.ospf_edges.proofs.AddsLemmas.{adds_as, adds_none}
 use Rattle.ospf_edges.proofs.GivenLemmas.{link_as}
@@ -63,7 +64,7 @@ module _ (A : List Advertisement) where
   sent_to r to e g = ap (λ (y : Edge). y.to) g.2.2.1
 
   module _ (r : RouterId) (links : List Link) (are : AreLinksBy A r links) where
-    own_link : (link : Link) → Contains links link → (x : RouterId) → LinkLeadsTo link (Router x) → LinksTo A r x
+    own_link : (link : Link) → Contains links link → (x : RouterId) → LinkLeadsTo link (Router x) → HasLinkTo A r LinkKind.PointToPoint x.0
     own_link link link_in x leads = (
       link.link_data,
       link.metric,

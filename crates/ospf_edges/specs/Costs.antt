@@ -1,5 +1,5 @@
 -- Links that a next hop may use (RFC 2328, section 16.1).
-use Rattle.std.specs.Prelude.{◌≡◌, ◌≤◌, ℕ, Bool, List, Option, None, Some, Contains, nat_lt, if◌then◌else◌}
+use Rattle.std.specs.Prelude.{◌≡◌, ◌≤◌, ℕ, List, Option, None, Some, Contains, nat_lt, if◌then◌else◌}
 use Rattle.ospf_base.specs.declared.ids.RouterId.{RouterId}
 use Rattle.ospf_lsa.specs.declared.link.Link.{Link}
 use Rattle.ospf_lsa.specs.declared.link.LinkKind.{LinkKind}
@@ -42,7 +42,3 @@ IsLeastOf P links (Some least) =
 abbrev pub lesser_of : Option ℕ → ℕ → ℕ
 lesser_of None metric = metric
 lesser_of (Some least) metric = if nat_lt least metric then least else metric
-
--- the least so far, after a number that counts or does not
-abbrev pub least_with : Option ℕ → Bool → ℕ → Option ℕ
-least_with least counts metric = if counts then Some (lesser_of least metric) else least

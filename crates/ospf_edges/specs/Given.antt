@@ -8,24 +8,17 @@ use Rattle.ospf_lsa.specs.declared.link.LinkKind.{LinkKind}
 use Rattle.ospf_graph.specs.declared.graph.Edge.{Edge}
 use Rattle.ospf_graph.specs.declared.graph.Vertex.{Vertex}
 use Rattle.ospf_graph.specs.declared.graph.Vertex.TheVariants.{Router, Network}
-use Rattle.ospf_graph.specs.Advertisements.{Advertisement, router_lsa, network_lsa, HasLink, IsAttached, IsAddressOn}
+use Rattle.ospf_graph.specs.Advertisements.{Advertisement, router_lsa, network_lsa, IsAttached, IsAddressOn}
 use Rattle.ospf_graph.specs.Graph.{IsEdge}
 use Rattle.ospf_graph.specs.Routes.{IsEnd}
+use Rattle.ospf_edges.specs.Costs.{HasLinkTo}
 use Rattle.ospf_edges.specs.declared.end.End.{End}
-
--- exactly what P says is added
-abbrev pub Adds : {X : Type 0} → (X → Type 0) → List X → List X → Type 0
-Adds {X} P old new = (x : X) → Contains new x ↔ (Contains old x ⊎ P x)
-
--- the router's LSA has a type 1 link to the other
-abbrev pub LinksTo : List Advertisement → RouterId → RouterId → Type 0
-LinksTo adverts from to =
-    (link_data metric : ℕ) × HasLink adverts from LinkKind.PointToPoint to.0 link_data metric
 
 -- the edge of a link: to a router that links back, or to a network that names the router
 abbrev pub LinkGives : List Advertisement → RouterId → Link → Edge → Type 0
 LinkGives adverts a link e =
-    ((link.kind ≡ LinkKind.PointToPoint) × LinksTo adverts (record { 0 = link.id }) a
+    ((link.kind ≡ LinkKind.PointToPoint)
+    × HasLinkTo adverts (record { 0 = link.id }) LinkKind.PointToPoint a.0
     × (e ≡ record {
       from = Router a;
       to = Router (record { 0 = link.id });
@@ -66,19 +59,20 @@ link_count [] = 0
 link_count (router_lsa _ links ∷ rest) = length links + link_count rest
 link_count (network_lsa _ _ _ attached ∷ rest) = length attached + link_count rest
 
--- the end of a stub link, and that of a network
+-- the end of a stub link
 abbrev pub StubGives : RouterId → Link → End → Type 0
 StubGives router link e =
     (link.kind ≡ LinkKind.Stub) × (prefix : Prefix) × IsPrefixOf link.id link.link_data prefix
     × (e ≡ record { prefix = prefix; vertex = Router router; cost = link.metric })
 
--- a network is an end itself: its prefix, at no further cost (16.1.1)
+-- a network is an end itself: its prefix, at no further cost (16.1, step 4)
 abbrev pub NetworkGives : ℕ → ℕ → End → Type 0
 NetworkGives n mask e =
     (prefix : Prefix) × IsPrefixOf n mask prefix
     × (e ≡ record { prefix = prefix; vertex = Network n; cost = 0 })
 
--- the LSA gives this end (16.1, step 4)
+-- the LSA gives this end: of a transit network in step 4 of 16.1, of a stub link in its second
+-- stage
 abbrev pub EndsOf : List Advertisement → Advertisement → End → Type 0
 EndsOf adverts (router_lsa r links) e = (link : Link) × Contains links link × StubGives r link e
 EndsOf adverts (network_lsa n r mask attached) e = StandsFor adverts n r × NetworkGives n mask e

@@ -5,7 +5,8 @@ use Rattle.ospf_lsa.specs.declared.link.Link.{Link}
 use Rattle.ospf_lsa.specs.declared.link.LinkKind.{LinkKind}
 use Rattle.ospf_graph.specs.Advertisements.{Advertisement, router_lsa, network_lsa, IsAddressOn, IsAttached}
 use Rattle.ospf_graph.specs.Pairs.{pair_code}
-use Rattle.ospf_edges.specs.Given.{LinksTo, StandsFor}
+use Rattle.ospf_edges.specs.Costs.{HasLinkTo}
+use Rattle.ospf_edges.specs.Given.{StandsFor}
 
 -- the pair of a type 1 link: whom it names, and whose it is
 abbrev pub LinkNames : RouterId → Link → ℕ → Type 0
@@ -30,7 +31,7 @@ MembersOf adverts (network_lsa n router mask attached) q =
 abbrev pub AreBackLinks : List Advertisement → List ℕ → Type 0
 AreBackLinks adverts pairs =
     (from to : RouterId) → from.0 < 2 ^ 32
-    → Contains pairs (pair_code to.0 from.0) ↔ LinksTo adverts from to
+    → Contains pairs (pair_code to.0 from.0) ↔ HasLinkTo adverts from LinkKind.PointToPoint to.0
 
 -- exactly the pairs of a router and a network that names it
 abbrev pub AreMembers : List Advertisement → List ℕ → Type 0

@@ -27,7 +27,7 @@ items_of_all (x ∷ rest) = items_of x ++ items_of_all rest
 
 -- ---- reading them back
 
--- the links, or the attached routers, that stand at the front
+-- the links that the items begin with
 abbrev pub links_at : List GraphItem → List Link
 links_at (item.Link l ∷ rest) = l ∷ links_at rest
 links_at _ = []

@@ -1,6 +1,5 @@
 pub mod Costs
 pub mod Listed
-pub mod Vertices
 pub mod Given
 pub mod Addresses
 pub mod Index

@@ -11,7 +11,9 @@ use Rattle.ospf_graph.specs.Advertisements.{Advertisement, router_lsa, IsAddress
 use Rattle.ospf_graph.specs.Elsewhere.{Touches}
 use Rattle.ospf_graph.specs.Graph.{IsEdge}
 use Rattle.ospf_edges.specs.Listed.{advertisements_of}
-use Rattle.ospf_edges.specs.Given.{Adds, AttachedGives, LinksTo}
+use Rattle.ospf_graph.specs.Adds.{Adds}
+use Rattle.ospf_edges.specs.Costs.{HasLinkTo}
+use Rattle.ospf_edges.specs.Given.{AttachedGives}
 
 -- all edges of a listing that touch a vertex
 abbrev pub AreEdgesAt : List Advertisement → Vertex → List Edge → Type 0
@@ -60,7 +62,7 @@ LeadsNowhere link = (to : Vertex) → LinkLeadsTo link to → ⊥
 
 -- the LSA of the vertex names the router
 abbrev pub NamesRouter : List Advertisement → Vertex → RouterId → Type 0
-NamesRouter adverts (Router x) r = LinksTo adverts x r
+NamesRouter adverts (Router x) r = HasLinkTo adverts x LinkKind.PointToPoint r.0
 NamesRouter adverts (Network n) r = IsAttached adverts n r
 
 -- the edge of a router's link to a vertex

@@ -3,7 +3,7 @@
 ghost use Rattle.std.specs.Prelude.{◌≡◌, ◌↔◌, ℕ, IsTrue, IfSome, IfNone};
 ghost use Rattle.ospf_graph.specs.Walk.{HasLinkFor, IsLinkCost};
 ghost use Rattle.ospf_edges.specs.Listed.{advertisements_of};
-ghost use Rattle.ospf_edges.specs.Costs.{IsLeastOf, Leads, least_with, lesser_of};
+ghost use Rattle.ospf_edges.specs.Costs.{IsLeastOf, Leads, lesser_of};
 
 use crate::lookups::{is_attached, links_by, links_to};
 use ospf_base::RouterId;
@@ -30,8 +30,9 @@ fn least_of(links: Links, listing: &Listing, router: RouterId, hop: &NextHop) ->
 {
     let mut least = None;
     for link in links {
-        let leads_there = leads(listing, router, hop, &link);
-        least = with_link(least, leads_there, link.metric);
+        if leads(listing, router, hop, &link) {
+            least = Some(lesser(least, link.metric));
+        }
     }
     least
 }
@@ -66,23 +67,9 @@ fn leads(listing: &Listing, router: RouterId, hop: &NextHop, link: &Link) -> boo
     }
 }
 
-// The least so far, after a link that leads there or does not.
-fn with_link(least: Option<u16>, leads: bool, metric: u16) -> Option<u16>
-    ensures { result ≡ least_with least leads metric }
-{
-    if leads {
-        Some(lesser(least, metric))
-    } else {
-        least
-    }
-}
-
 // The lesser of a metric and the least so far.
 fn lesser(least: Option<u16>, metric: u16) -> u16
     ensures { result ≡ lesser_of least metric }
 {
-    match least {
-        Some(least) if least < metric => least,
-        _ => metric,
-    }
+    least.map_or(metric, |least| least.min(metric))
 }

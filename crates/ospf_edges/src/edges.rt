@@ -6,7 +6,8 @@ ghost use Rattle.ospf_lsa.specs.declared.link.Link.{Link};
 ghost use Rattle.ospf_graph.specs.declared.graph.Edge.{Edge};
 ghost use Rattle.ospf_graph.specs.Search.{AreFitEdges};
 ghost use Rattle.ospf_edges.specs.Listed.{advertisement_of, advertisements_of};
-ghost use Rattle.ospf_edges.specs.Given.{Adds, LinkGives, AttachedGives, EdgesOf, link_count};
+ghost use Rattle.ospf_graph.specs.Adds.{Adds};
+ghost use Rattle.ospf_edges.specs.Given.{LinkGives, AttachedGives, EdgesOf, link_count};
 ghost use Rattle.ospf_edges.specs.Given.{IsEdgesOf};
 
 use crate::index::GraphIndex;

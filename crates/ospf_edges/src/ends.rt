@@ -2,13 +2,16 @@
 
 ghost use Rattle.std.specs.Prelude.{◌≡◌, ◌↔◌, MatchOption, OnOk, IfOk, Contains};
 ghost use Rattle.ospf_lsa.specs.declared.link.Link.{Link};
+ghost use Rattle.ospf_graph.specs.declared.graph.Vertex.TheVariants.{Router, Network};
 ghost use Rattle.ospf_edges.specs.declared.end.End.{End};
 ghost use Rattle.ospf_edges.specs.Listed.{advertisement_of, advertisements_of};
-ghost use Rattle.ospf_edges.specs.Given.{Adds, StubGives, NetworkGives, EndsOf};
+ghost use Rattle.ospf_graph.specs.Adds.{Adds};
+ghost use Rattle.ospf_edges.specs.Given.{StubGives, NetworkGives, EndsOf};
 ghost use Rattle.ospf_edges.specs.Given.{AreEndsAt, IsEndsOf};
 
 use crate::end::End;
-use crate::listed::{lsa_at, stands_for};
+use crate::listed::stands_for;
+use crate::lookups::links_by;
 use ospf_base::{Addr, Kind, Prefix, RouterId};
 use ospf_graph::Vertex;
 use ospf_lsa::{Link, LinkKind, Links, Listing, Lsa};
@@ -31,10 +34,36 @@ pub fn ends_of(alloc: Global, listing: &Listing) -> Result<Vec<End>, AllocError>
 pub fn ends_at(alloc: Global, listing: &Listing, vertex: Vertex) -> Result<Vec<End>, AllocError>
     ensures { IfOk result (λ ends. AreEndsAt (advertisements_of listing.now) vertex ends.items) }
 {
+    match vertex {
+        Vertex::Router(router) => stubs_of(alloc, listing, router),
+        Vertex::Network(id) => ends_on(alloc, listing, id),
+    }
+}
+
+// The ends of a router's stub networks.
+fn stubs_of(alloc: Global, listing: &Listing, router: RouterId) -> Result<Vec<End>, AllocError>
+    ensures { IfOk result (λ ends. AreEndsAt (advertisements_of listing.now) (Router router)
+        ends.items) }
+{
     let mut ends = Vec::new(alloc);
-    match lsa_at(listing, vertex) {
+    match links_by(listing, router) {
+        Some(links) => {
+            add_stubs(router, links, &mut ends)?;
+            Ok(ends)
+        }
+        None => Ok(ends),
+    }
+}
+
+// The end of a transit network, if an LSA stands for it.
+fn ends_on(alloc: Global, listing: &Listing, id: u32) -> Result<Vec<End>, AllocError>
+    ensures { IfOk result (λ ends. AreEndsAt (advertisements_of listing.now) (Network id)
+        ends.items) }
+{
+    let mut ends = Vec::new(alloc);
+    match listing.network(id) {
         Some(lsa) => {
-            add_ends(listing, lsa, &mut ends)?;
+            add_network(id, lsa.view().mask(), &mut ends)?;
             Ok(ends)
         }
         None => Ok(ends),

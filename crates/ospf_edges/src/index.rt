@@ -3,9 +3,12 @@
 ghost use Rattle.std.specs.Prelude.{◌≡◌, ◌↔◌, ℕ, IsTrue, IfOk, IfSome, IfNone, OnOk, Contains};
 ghost use Rattle.ospf_base.specs.declared.ids.RouterId.{RouterId};
 ghost use Rattle.ospf_lsa.specs.declared.link.Link.{Link};
+ghost use Rattle.ospf_lsa.specs.declared.link.LinkKind.TheVariants.{PointToPoint};
 ghost use Rattle.ospf_graph.specs.Advertisements.{IsAttached, IsAddressOn};
 ghost use Rattle.ospf_edges.specs.Index.{AreBackLinks, AreMembers, LinkNames, LinksOf, MembersOf, NamedOn};
-ghost use Rattle.ospf_edges.specs.Given.{Adds, LinksTo, StandsFor};
+ghost use Rattle.ospf_graph.specs.Adds.{Adds};
+ghost use Rattle.ospf_edges.specs.Costs.{HasLinkTo};
+ghost use Rattle.ospf_edges.specs.Given.{StandsFor};
 ghost use Rattle.ospf_edges.specs.Listed.{advertisement_of, advertisements_of};
 
 use crate::addresses::{address_at, addresses_in};
@@ -60,7 +63,7 @@ impl<'a> GraphIndex<'a> {
 
     /// Whether the router-LSA of one router has a type 1 link to the other.
     pub(crate) fn links_to(&self, from: RouterId, to: RouterId) -> bool
-        ensures { IsTrue result ↔ LinksTo self.now from to }
+        ensures { IsTrue result ↔ HasLinkTo self.now from PointToPoint to.0 }
     {
         self.links.has(to.0, from.0)
     }

@@ -4,7 +4,7 @@ ghost use Rattle.std.specs.Prelude.{◌≡◌, ◌↔◌, IsTrue, IfSome, IfNone
 ghost use Rattle.ospf_lsa.specs.Listing.{IsListing};
 ghost use Rattle.ospf_graph.specs.Search.{AreFitEdges};
 ghost use Rattle.ospf_edges.specs.Listed.{advertisements_of};
-ghost use Rattle.ospf_edges.specs.Given.{Adds};
+ghost use Rattle.ospf_graph.specs.Adds.{Adds};
 ghost use Rattle.ospf_edges.specs.Near.{AddsAt, AreEdgesAt, EdgesNear, LinkLeadsTo, LeadsNowhere, LinkSends, LinksSend};
 ghost use Rattle.ospf_edges.specs.Near.{MemberGives, NamesRouter, NearLink, NearLinks, NearMember, NearMembers, Returns, SendsEdge};
 ghost use Rattle.ospf_edges.specs.Near.{edge_to as edge_to_spec};

@@ -24,20 +24,10 @@ abbrev pub found_of : Bool → Table → List Table → Option Table
 found_of true table tables = slice_get tables (length tables - 1)
 found_of false table tables = Some table
 
--- the list that a table ends, which is live or comes after this list
-abbrev pub shown_tables : Bool → Table → List Table → List Table
-shown_tables true table tables = tables
-shown_tables false table tables = tables ++ table ∷ []
-
--- the list with the table, where it was added
-abbrev pub added_of : Bool → Table → List Table → List Table
-added_of true table tables = tables ++ table ∷ []
-added_of false table tables = tables
-
--- the list that what is handed over leads to: the opening adds no table
-abbrev pub after_of : Bool → Table → List Table → List Table
-after_of true table tables = tables
-after_of false table tables = tables ++ table ∷ []
+-- the list with this table behind it, unless the condition holds
+abbrev pub added_unless : Bool → Table → List Table → List Table
+added_unless true table tables = tables
+added_unless false table tables = tables ++ table ∷ []
 
 -- the table that what is handed over leads to: at the opening it has no route
 abbrev pub edited_by : Bool → Table → List Change → Table

@@ -4,13 +4,13 @@ use Rattle.ospf_index.specs.Known.{Known, Table}
 use Rattle.ospf_fib.specs.declared.shown.ShownTable.{ShownTable}
 use Rattle.ospf_fib.specs.declared.shown.HandedOver.{HandedOver}
 use Rattle.ospf_fib.specs.declared.shown.Common.{Common}
-use Rattle.ospf_fib.specs.Versions.{shown_tables, after_of, edited_by}
+use Rattle.ospf_fib.specs.Versions.{added_unless, edited_by}
 
 -- readers find the last table of this list
 abbrev pub IsListShown : ShownTable → Known → Type 0
 IsListShown shown known = (shown.live ≡ true) × (shown.known ≡ known)
 
--- what is shown, as the writer and the readers have it in common
+-- what is shown, as the writer and the readers have it in common: the list that the table ends
 abbrev pub common_of : ShownTable → Common
 common_of shown =
     record {
@@ -18,11 +18,11 @@ common_of shown =
       list =
           record {
             fib = shown.known.fib;
-            tables = shown_tables shown.live shown.table shown.known.tables;
+            tables = added_unless shown.live shown.table shown.known.tables;
           };
     }
 
--- what is shown once the changes that were handed over are made
+-- what is shown once the changes that were handed over are made: the opening adds no table
 abbrev pub shown_after : Common → HandedOver → Common
 shown_after was next =
     record {
@@ -31,7 +31,7 @@ shown_after was next =
           record {
             fib = next.known.fib;
             tables =
-                after_of next.is_opening (edited_by next.is_opening was.table next.changes)
+                added_unless next.is_opening (edited_by next.is_opening was.table next.changes)
                 next.known.tables;
           };
     }

@@ -45,13 +45,13 @@ impl Model for Publisher {
 
     ghost Value = { Known };
 
-    ghost view = { λ d. d.list };
+    ghost view = { λ d. d.list.known };
 
-    ghost invariant = { λ d. IsKnownBook (view_of d.copies.desk.place) d.list.fib
-        × IsListShown d.copies.desk.shown.value d.list
+    ghost invariant = { λ d. IsKnownBook (view_of d.copies.desk.place) d.list.known.fib
+        × IsListShown d.copies.desk.shown.value d.list.known
         × ((shown_end d.copies.desk.shown.value (drop d.copies.behind d.copies.log.items)).table
         ≡ d.handed)
-        × ((arc_value d.tries).counter ≡ counter_of d.list.fib) };
+        × ((arc_value d.tries).counter ≡ counter_of d.list.known.fib) };
 }
 
 impl Publisher {
@@ -141,7 +141,7 @@ impl Publisher {
 // The list is closed again. Nobody adds a table beside this publish, which is not proved.
 pub(crate) fn closed<R: Wait>(rt: &R, opened: &Opened, counter: &Counter) -> ClosedList
     requires { counter.now ≡ counter_of opened.now.fib }
-    ensures { result ≡ opened.now }
+    ensures { result.known ≡ opened.now }
 {
     if let Some(list) = opened.close(counter) {
         return list;
@@ -474,7 +474,7 @@ fn wait_forever<R: Wait>(rt: &R)
 fn closed_shown<R: Wait>(rt: &R, shown: &ShownTable, counter: &Counter) -> ClosedList
     requires { counter.now ≡ counter_of shown.now.known.fib }
     ensures live { shown.now.live ≡ true }
-    ensures list { result ≡ shown.now.known }
+    ensures list { result.known ≡ shown.now.known }
 {
     if !shown.live {
         wait_forever(rt);

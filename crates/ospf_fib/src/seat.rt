@@ -98,7 +98,7 @@ impl Seat {
     /// that holds the address (RFC 2328, section 11.1), with the hop at `choice` modulo the number
     /// of hops; `None` where no route's prefix holds it. It waits for nobody and takes no memory.
     ///
-    /// `Closed` where the writer is gone.
+    /// `Closed` where the writer is gone; that it comes for nothing else is not proved.
     pub fn lookup(&mut self, address: Addr, choice: u32) -> Result<Option<Answer>, Closed>
         ensures fib { self.new.fib ≡ self.old.fib }
         ensures known { IfOk result (λ _. IsPrefix self.old.tables self.new.tables) }

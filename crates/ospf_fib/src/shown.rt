@@ -1,10 +1,10 @@
 //! What readers find, and what the writer hands over to get there.
 
-ghost use Rattle.std.specs.Prelude.{◌≡◌, [], true, false, OnOk, OnErr, Some};
+ghost use Rattle.std.specs.Prelude.{◌≡◌, true, false, not, OnOk, OnErr, Some};
 ghost use Rattle.std.specs.Arc.{arc_value};
 ghost use Rattle.ospf_index.specs.Known.{opening};
 ghost use Rattle.ospf_index.specs.Rule.{counter_of};
-ghost use Rattle.ospf_fib.specs.Versions.{added_of, edited_by, found_of};
+ghost use Rattle.ospf_fib.specs.Versions.{added_unless, edited_by, found_of};
 
 use crate::changes::Changes;
 use left_right::Absorb;
@@ -33,29 +33,13 @@ pub(crate) struct ShownTable {
 }
 
 impl Absorb<HandedOver> for ShownTable {
-    ghost use Rattle.ospf_fib.specs.Versions.{shown_tables, after_of, edited_by};
+    ghost use Rattle.ospf_fib.specs.Writing.{common_of, shown_after};
 
     type State = Common;
 
-    ghost state = { λ shown. record {
-      table = shown.table;
-      list =
-          record {
-            fib = shown.known.fib;
-            tables = shown_tables shown.live shown.table shown.known.tables;
-          };
-    } };
+    ghost state = { common_of };
 
-    ghost applied = { λ was next. record {
-      table = edited_by next.is_opening was.table next.changes;
-      list =
-          record {
-            fib = next.known.fib;
-            tables =
-                after_of next.is_opening (edited_by next.is_opening was.table next.changes)
-                next.known.tables;
-          };
-    } };
+    ghost applied = { shown_after };
 
     fn absorb_first(
         &mut self,
@@ -103,7 +87,8 @@ impl HandedOver {
     // refused are absorbed by the next one.
     fn announced(&self, table: &RouteTable) -> (bool, Opened)
         ensures fib { result.1.fib ≡ self.now.known.fib }
-        ensures tables { result.1.tables ≡ added_of result.0 table.now self.now.known.tables }
+        ensures tables { result.1.tables
+            ≡ added_unless (not result.0) table.now self.now.known.tables }
         ensures opening { self.now.is_opening ≡ true → result.0 ≡ false }
     {
         let is_present = self.tries.present.load(Ordering::SeqCst) == self.number;

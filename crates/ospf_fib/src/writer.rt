@@ -49,7 +49,8 @@ impl<R: Wait + Drop> Writer<R> {
     /// Publishes the table as the next version, all of it at once: each lookup answers from it or
     /// from what was published before. It may wait for lookups that are under way.
     ///
-    /// `AllocError` where memory runs out; then what is published is unchanged.
+    /// `AllocError` where memory runs out, or the steps that the list counts, three a publish, are
+    /// within three of 2^64; then what is published is unchanged.
     pub fn publish(&mut self, table: &RouteTable) -> Result<Told, AllocError>
         ensures fib { self.new.fib ≡ self.old.fib }
         ensures published { IfOk result (λ _. self.new.tables ≡ self.old.tables ++ table.now ∷ []) }
@@ -66,7 +67,8 @@ impl<R: Wait + Drop> Writer<R> {
     /// the place of one to the same prefix, mostly no other route is looked at. It may wait
     /// for lookups that are under way.
     ///
-    /// `AllocError` where memory runs out; then what is published is unchanged.
+    /// `AllocError` where memory runs out, or the steps that the list counts, three a publish, are
+    /// within three of 2^64; then what is published is unchanged.
     pub fn publish_changes(&mut self, changes: &[Change]) -> Result<Told, AllocError>
         requires in_order { AllPairs IsChangeBefore changes.now }
         requires have_hops { All PutsHops changes.now }
@@ -102,17 +104,5 @@ impl<R: Wait + Drop> Writer<R> {
         self.publisher
             .list
             .covers(&self.publisher.tries.counter, &seat.known);
-    }
-
-    /// All that a publish told was published by this writer. What was
-    /// told is of the same `Fib::open`.
-    pub fn covers_told(&mut self, told: &Told)
-        requires { told.now.fib ≡ self.old.fib }
-        ensures same { self.new ≡ self.old }
-        ensures covers { IsPrefix told.now.tables self.new.tables }
-    {
-        self.publisher
-            .list
-            .covers(&self.publisher.tries.counter, &told.known);
     }
 }

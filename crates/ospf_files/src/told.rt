@@ -1,9 +1,9 @@
 //! What is told of a file that is not taken.
 
-ghost use Rattle.std.specs.Prelude.{◌≡◌, IfErr, IfOk, OnErr, OnOk, string_bytes};
+ghost use Rattle.std.specs.Prelude.{◌≡◌, ◌⊎◌, IfErr, IfOk, OnErr, OnOk, string_bytes};
 ghost use Rattle.std.specs.Io.KnownBytes.{Appends};
 ghost use Rattle.ospf_files.specs.Files.{refused_line, unread_line};
-ghost use Rattle.ospf_files.specs.Streams.{IsBegun, IsErrorCut};
+ghost use Rattle.ospf_files.specs.Streams.{IsBegun, IsErrorCut, with_error};
 
 use crate::files::NamedFile;
 use crate::status::Failure;
@@ -21,10 +21,15 @@ pub fn tell_unread<E: Write>(
     err: &mut E,
     streams: &mut FailedStreams,
 ) -> Result<(), Failure>
+    // The line is written, and no stream has failed by it.
+    ensures same { OnOk result (streams.new ≡ streams.old) }
     ensures told { OnOk result
         (Appends (E.contents err.old) (E.contents err.new) (unread_line file.now)) }
+    // Else a beginning of it stands there, and standard error has failed, or memory ran out.
     ensures begun { OnErr result
         (IsBegun (E.contents err.old) (E.contents err.new) (unread_line file.now)) }
+    ensures failed { OnErr result ((streams.new ≡ streams.old)
+        ⊎ (streams.new ≡ with_error streams.old)) }
     ensures cut { IfErr result (IsErrorCut streams.new) }
 {
     let line = unread_line(alloc, file)?;
@@ -41,10 +46,15 @@ pub fn tell_refused<E: Write>(
     err: &mut E,
     streams: &mut FailedStreams,
 ) -> Result<(), Failure>
+    // The line is written, and no stream has failed by it.
+    ensures same { OnOk result (streams.new ≡ streams.old) }
     ensures told { OnOk result
         (Appends (E.contents err.old) (E.contents err.new) (refused_line file.now fault)) }
+    // Else a beginning of it stands there, and standard error has failed, or memory ran out.
     ensures begun { OnErr result
         (IsBegun (E.contents err.old) (E.contents err.new) (refused_line file.now fault)) }
+    ensures failed { OnErr result ((streams.new ≡ streams.old)
+        ⊎ (streams.new ≡ with_error streams.old)) }
     ensures cut { IfErr result (IsErrorCut streams.new) }
 {
     let line = refused_line(alloc, file, fault)?;

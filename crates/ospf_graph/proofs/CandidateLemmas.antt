@@ -1,7 +1,7 @@
 -- The candidates that a vertex brings.
 use Rattle.std.proofs.Common.{◌≡◌, ◌+◌, ◌<◌, ◌≤◌, ◌⊎◌, ℕ, zero, true, false, eqb, Option, Some, List, [], ◌∷◌, ◌++◌, length, take, drop, get_or, refl, sym, ◌∙◌, ap, subst, inl, inr, arith, append-nil, length-append, eqb-true, eq-eqb, ◌≢◌}
 use Rattle.std.specs.List.{Contains}
-use Rattle.std.proofs.lemmas.List.{take_more, take-append-drop}
+use Rattle.std.proofs.lemmas.List.{get_or_default, take_more, take-append-drop}
 use Rattle.std.specs.List.Sorted.{IsPermutation}
 use Rattle.std.proofs.lemmas.List.Sorted.{IsPermutation-sym, Contains-permutation, length_permutation}
 use Rattle.std.proofs.lemmas.List.Elements.{Contains-append_left, Contains-append_right, Contains-append_cases}
@@ -195,20 +195,15 @@ joins_then a b n0 n1 n2 old mid new x y =
 
 -- an edge from the vertex is offered
 pub candidates_joined : (v : Vertex) (d : ℕ) (edges : List Edge) (i : ℕ) (x : Edge) (n0 n1 n2 : ℕ → Option ℕ) (old now new : List SpfCandidate) → i < length edges
-    → vertex_eq (get_or edges i x).from v ≡ true → Joins (candidates_from v d (take i edges)) n0 n1 old now
+    → ((e : Edge) → Contains edges e → e.from ≡ v) → Joins (candidates_from v d (take i edges)) n0 n1 old now
     → Joins (record { distance = d + (get_or edges i x).cost; edge = get_or edges i x } ∷ []) n1 n2 now new
     → Joins (candidates_from v d (take (i + 1) edges)) n0 n2 old new
-candidates_joined v d edges i x n0 n1 n2 old now new lt same so_far one =
+candidates_joined v d edges i x n0 n1 n2 old now new lt from so_far one =
     let c : SpfCandidate = record { distance = d + (get_or edges i x).cost; edge = get_or edges i x } in
+    let there : Contains edges (get_or edges i x) = (i, lt, get_or_default edges i (get_or edges i x) x lt) in
+    let same : vertex_eq (get_or edges i x).from v ≡ true = rw (from (get_or edges i x) there) (vertex_eq-refl v) in
     let more : candidates_from v d (take (i + 1) edges) ≡ candidates_from v d (take i edges) ++ c ∷ [] = rw same at (candidates_from-more v d edges i x lt) in
     subst (λ l. Joins l n0 n2 old new) (sym more) (joins_then (candidates_from v d (take i edges)) (c ∷ []) n0 n1 n2 old now new so_far one)
-
--- an edge from elsewhere is not
-pub candidates_kept : (v : Vertex) (d : ℕ) (edges : List Edge) (i : ℕ) (x : Edge) → i < length edges → vertex_eq (get_or edges i x).from v ≡ false
-    → candidates_from v d (take (i + 1) edges) ≡ candidates_from v d (take i edges)
-candidates_kept v d edges i x lt other =
-    let more = candidates_from-more v d edges i x lt in
-    rw (more, other, append-nil) refl
 
 -- two vertices are one, or are not
 pub same_or_other : (v w : Vertex) → (v ≡ w) ⊎ (v ≢ w)

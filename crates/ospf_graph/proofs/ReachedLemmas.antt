@@ -6,7 +6,8 @@ use Rattle.std.proofs.lemmas.Bool.{cases_eq}
 use Rattle.std.proofs.lemmas.List.Elements.{Contains-append_left, Contains-append_right, Contains-append_cases}
 use Rattle.ospf_graph.proofs.ListLemmas.{member_cases, member_head, member_later, member_of_map, member_to_map}
 use Rattle.ospf_graph.proofs.CandidateLemmas.{code_injective}
-use Rattle.ospf_graph.specs.Reached.{AddsStarts, ArePlaces, extended_by, settled_of, starts_at, starts_of}
+use Rattle.ospf_graph.specs.Adds.{Adds}
+use Rattle.ospf_graph.specs.Reached.{ArePlaces, extended_by, settled_of, starts_at, starts_of}
 use Rattle.ospf_graph.specs.Search.{AtIn, BringsStarts, vertex_code}
 use Rattle.ospf_graph.specs.Tree.{extend}
 use Rattle.ospf_graph.specs.declared.graph.Edge.{Edge}
@@ -83,7 +84,7 @@ module _ (place : ℕ → Option ℕ) (rs : List Reached) (are : ArePlaces place
 
   module _ (edge : Edge) (from to : ℕ) (at_from : place (vertex_code edge.from) ≡ Some from) (at_to : place (vertex_code edge.to) ≡ Some to)
       (first last new : Reached) (first_is : first ≡ get_or rs from first) (last_is : last ≡ get_or rs to last) (same : new.vertex ≡ last.vertex)
-      (adds : AddsStarts (extended_by edge first.starts.items) last.starts.items new.starts.items) where
+      (adds : Adds (Contains (extended_by edge first.starts.items)) last.starts.items new.starts.items) where
     lt_from : from < length rs
     lt_from = (are.found (vertex_code edge.from) from at_from).0
 

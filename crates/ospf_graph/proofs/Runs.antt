@@ -127,6 +127,9 @@ module _ (edges : List Edge) (v : Vertex) (n i j : ℕ) (run : IsRun (λ e. vert
       let at : vertex_code (get_or edges (i + (j - i + m.0)) e).from ≡ vertex_code v = ap (λ x. vertex_code x.from) there ∙ ap vertex_code from in
       absurd (omega arith))
 
+  pub edges_only : i ≤ j → (e : Edge) → Contains (take (j - i) (drop i edges)) e → e.from ≡ v
+  edges_only le e m = code_injective e.from v ((of_run (λ e. vertex_code e.from) edges n i j run e le m).0 ∙ is)
+
   pub edges_no_run : j < i → (d : ℕ) → candidates_from v d edges ≡ []
   edges_no_run lt d =
       candidates_from-none v d edges

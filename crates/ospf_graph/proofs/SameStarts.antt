@@ -5,7 +5,8 @@ use Rattle.std.proofs.lemmas.List.{length-map}
 use Rattle.std.proofs.lemmas.List.Elements.{Contains-append_left, Contains-append_right, Contains-append_cases}
 use Rattle.ospf_graph.proofs.ListLemmas.{member_of_map, member_to_map}
 use Rattle.ospf_graph.proofs.TreeLemmas.{IsTree-same}
-use Rattle.ospf_graph.specs.Reached.{AddsStarts, AreSameStarts, HaveSameStarts, settled_of, starts_at, starts_of}
+use Rattle.ospf_graph.specs.Adds.{Adds}
+use Rattle.ospf_graph.specs.Reached.{AreSameStarts, HaveSameStarts, settled_of, starts_at, starts_of}
 use Rattle.ospf_graph.specs.Search.{AtIn, BringsStarts, StartsIn}
 use Rattle.ospf_graph.specs.Tree.{IsTree}
 use Rattle.ospf_graph.specs.declared.graph.Edge.{Edge}
@@ -64,12 +65,12 @@ tree_same edges root rs ss settled same t =
     (λ v d. (λ m. m, λ m. m)) (λ v x. (λ m. (same _).1 m, λ m. (same _).0 m)) t)
 
 -- starts behind others, and then in another order
-pub adds_append : (more old new : List Start) → new ≡ old ++ more → AddsStarts more old new
+pub adds_append : (more old new : List Start) → new ≡ old ++ more → Adds (Contains more) old new
 adds_append more old new is y =
     rw is (
       λ m. Contains-append_cases old more y m,
       λ m. elim m [ inl o ↦ Contains-append_left old more y o | inr n ↦ Contains-append_right old more y n ],
     )
 
-pub adds_in_order : (more old mid new : List Start) → AddsStarts more old mid → AreSameStarts mid new → AddsStarts more old new
+pub adds_in_order : (more old mid new : List Start) → Adds (Contains more) old mid → AreSameStarts mid new → Adds (Contains more) old new
 adds_in_order more old mid new adds same y = (λ m. (adds y).0 ((same y).0 m), λ m. (same y).1 ((adds y).1 m))

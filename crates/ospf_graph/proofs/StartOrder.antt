@@ -1,5 +1,5 @@
 -- When `==` says that two starts are one.
-use Rattle.std.proofs.Common.{◌≡◌, ◌==◌, true, refl, ap, inl, inr, Ordering, Less, Equal, Greater}
+use Rattle.std.proofs.Common.{◌≡◌, ◌==◌, true, refl, ap, inl, inr, Decides, Ordering, Less, Equal, Greater}
 use Rattle.std.specs.Ordering.{is_eq}
 use Rattle.std.proofs.lemmas.Bool.Decides.{eqb_tells}
 use Rattle.ospf_base.specs.declared.ids.Addr.{Addr}
@@ -8,6 +8,7 @@ use Rattle.ospf_graph.specs.declared.graph.Start.{Start}
 use Rattle.ospf_graph.specs.declared.graph.Start.TheVariants.{Here, OnNetwork, Hop}
 use Rattle.ospf_graph.specs.contracts.hop.NextHopOrd.TheImpl.Laws.{matches_eq-law}
 use Rattle.ospf_graph.specs.contracts.hop.NextHopPartialEq.TheImpl as hops
+use Rattle.ospf_graph.specs.contracts.graph.StartEq.TheImpl.Laws.{laws-law}
 use Rattle.ospf_graph.specs.contracts.graph.StartPartialEq.TheImpl as starts
 use Rattle.ospf_graph.proofs.HopOrder.{Ranks, hops_told}
 
@@ -32,3 +33,10 @@ start_same (OnNetwork _) (Hop _) e = cc
 start_same (Hop _) Here e = cc
 start_same (Hop _) (OnNetwork _) e = cc
 start_same (Hop g) (Hop h) e = ap (λ z. Hop z) (hop_same g h e)
+
+start_told : (x y : Start) → x ≡ y → starts.eq-value.it x y ≡ true
+start_told x y same = rw same (laws-law.refl y)
+
+-- what `==` says of two starts
+pub starts_decide : (x y : Start) → Decides (starts.eq-value.it x y) (x ≡ y)
+starts_decide x y = (start_same x y, start_told x y)

@@ -13,3 +13,4 @@ pub mod Places
 pub mod Pairs
 pub mod Text
 pub mod Paths
+pub mod Adds

@@ -33,8 +33,7 @@ candidates_from v d (e ∷ rest) =
 abbrev pub HaveSameFrom : Vertex → List Edge → List Edge → Type 0
 HaveSameFrom v edges some = (d : ℕ) → candidates_from v d edges ≡ candidates_from v d some
 
--- the distance at which a vertex is reached, a start that it has, and
--- an edge that waits at a distance
+-- the vertex is reached at this distance
 abbrev pub AtIn : List Settled → Vertex → ℕ → Type 0
 AtIn settled v d = Contains settled (record { vertex = v; distance = d })
 
@@ -80,10 +79,6 @@ pub record Joins (more : List SpfCandidate) (nearest nearest' : ℕ → Option �
   pub noted : (settled : List Settled) → AreNoted nearest settled old
       → AreNoted nearest' settled new
   pub few : length new ≤ length old + length more
-
--- the start is there, at the end where it was not there before
-abbrev pub AddsStart : VertexStart → List VertexStart → List VertexStart → Type 0
-AddsStart begun old new = (new ≡ old ++ begun ∷ []) ⊎ (Contains old begun × (new ≡ old))
 
 -- the starts at the edge's beginning, one edge further, are now at its end, and nothing else is new
 pub record BringsStarts (edge : Edge) (old new : List VertexStart) : Type 0 where

@@ -1,6 +1,6 @@
 //! The candidates of the search.
 
-ghost use Rattle.std.specs.Prelude.{◌≡◌, ◌≤◌, ◌∷◌, [], All, IfSome, IfNone, OnOk, IsPermutation};
+ghost use Rattle.std.specs.Prelude.{◌≡◌, ◌≤◌, ◌∷◌, [], All, IfSome, IfNone, OnErr, OnOk, IsPermutation};
 ghost use Rattle.ospf_graph.specs.Search.{candidate_rank};
 ghost use Rattle.ospf_graph.specs.Waiting.{one_more};
 
@@ -57,9 +57,10 @@ impl Candidates {
         self.looks
     }
 
-    /// Adds a candidate. `AllocError` where memory runs out.
+    /// Adds a candidate. `AllocError` where memory runs out: then those that wait are as before.
     pub fn push(&mut self, candidate: SpfCandidate) -> Result<(), AllocError>
         ensures added { OnOk result (IsPermutation (candidate ∷ self.old.list) self.new.list) }
+        ensures refused { OnErr result (self.new.list ≡ self.old.list) }
         ensures looks { self.new.looks ≡ one_more self.old.looks }
     {
         self.look();
@@ -69,7 +70,7 @@ impl Candidates {
 
     /// Takes a candidate of least rank.
     pub fn take_least(&mut self) -> Option<SpfCandidate>
-        ensures none { IfNone result (self.old.list ≡ []) }
+        ensures none { IfNone result ((self.old.list ≡ []) × (self.new.list ≡ [])) }
         ensures taken { IfSome result (λ c. IsPermutation self.old.list (c ∷ self.new.list)) }
         ensures least { IfSome result (λ c. All (λ d. candidate_rank c ≤ candidate_rank d)
             self.new.list) }

@@ -1,6 +1,6 @@
 //! The shortest paths from one vertex over a list of edges.
 
-ghost use Rattle.std.specs.Prelude.{◌≡◌, ◌+◌, ◌*◌, ◌++◌, ◌<◌, ◌≤◌, ◌↔◌, ◌⊎◌, ◌^◌, ◌∷◌, [], ℕ, All, Contains, IsTrue, IfOk, IfSome, IfNone, OnOk, MatchOption, IsPermutation, None, Some, nat_eq, length};
+ghost use Rattle.std.specs.Prelude.{◌≡◌, ◌+◌, ◌*◌, ◌++◌, ◌<◌, ◌≤◌, ◌↔◌, ◌^◌, ◌∷◌, [], ℕ, All, Contains, IsTrue, IfOk, OnOk, IsPermutation, None, Some, nat_eq, length};
 ghost use Rattle.std.specs.List.Sorted.{IsNonDecreasingBy};
 ghost use Rattle.std.specs.HashMap.{get};
 ghost use Rattle.ospf_graph.specs.declared.graph.Edge.{Edge};
@@ -70,6 +70,7 @@ pub fn edges_from(edges: &[Edge], vertex: Vertex) -> &[Edge]
     requires { AreEdgesInOrder edges.now }
     ensures same { HaveSameFrom vertex edges.now result.now }
     ensures part { (e : Edge) → Contains result.now e → Contains edges.now e }
+    ensures only { (e : Edge) → Contains result.now e → e.from ≡ vertex }
 {
     let order = vertex_order(vertex);
     let from = edges.partition_point(|e| vertex_order(e.from) < order);
@@ -254,7 +255,7 @@ fn add_candidates(
     Ok(())
 }
 
-// Offers those of some edges that leave a vertex at this distance.
+// Offers edges that leave a vertex at this distance.
 fn add_each(
     some: &[Edge],
     vertex: Vertex,
@@ -262,20 +263,19 @@ fn add_each(
     nearest: &mut HashMap<u64, u64>,
     candidates: &mut Candidates,
 ) -> Result<(), AllocError>
-    requires { distance < 2 ^ 63 }
+    requires near { distance < 2 ^ 63 }
+    requires from { (e : Edge) → Contains some.now e → e.from ≡ vertex }
     ensures joins { OnOk result (Joins (candidates_from vertex distance some.now)
         (get nat_eq nearest.old) (get nat_eq nearest.new) candidates.old.list candidates.new.list) }
     ensures looks { OnOk result (candidates.new.looks + length candidates.old.list
         ≤ candidates.old.looks + length candidates.new.list) }
 {
     for edge in some {
-        if is_same(edge.from, vertex) {
-            let candidate = SpfCandidate {
-                distance: distance + edge.cost as u64,
-                edge: *edge,
-            };
-            offer(candidate, nearest, candidates)?;
-        }
+        let candidate = SpfCandidate {
+            distance: distance + edge.cost as u64,
+            edge: *edge,
+        };
+        offer(candidate, nearest, candidates)?;
     }
     Ok(())
 }

@@ -8,7 +8,7 @@ use Rattle.ospf_base.specs.Sums.{contents}
 use Rattle.ospf_base.specs.declared.ids.Kind.{Kind}
 use Rattle.ospf_base.specs.declared.ids.Kind.TheVariants.{Router, Network}
 use Rattle.ospf_lsa.specs.Lsa.{key_of, instance_of, kind_of}
-use Rattle.ospf_lsa.specs.Listing.{IsRising}
+use Rattle.ospf_lsa.proofs.Words.{IsRising}
 use Rattle.ospf_graph.specs.Advertisements.{Advertisement}
 use Rattle.ospf_edges.specs.Listed.{advertisement_of, advertisements_of, advertisement_by}
 use Rattle.ospf_headline.specs.Listings.{ListsInstance, ListTheSame, AgreeByInstance}

@@ -5,7 +5,8 @@ use Rattle.std.proofs.lemmas.Option.{same_Some}
 use Rattle.std.proofs.lemmas.List.Elements.{All-contains}
 use Rattle.ospf_base.specs.declared.ids.RouterId.{RouterId}
 use Rattle.ospf_lsa.specs.Lsa.{instance_of}
-use Rattle.ospf_lsdb.specs.Database.{lsa_of, is_fresh, listed, AreKeysRising, entries}
+use Rattle.ospf_lsdb.specs.Database.{lsa_of, is_fresh, listed, entries}
+use Rattle.ospf_lsdb.proofs.Words.{AreKeysRising}
 use Rattle.ospf_exchange.proofs.LawLemmas.{of_copy}
 use Rattle.ospf_graph.specs.Advertisements.{IsListed}
 use Rattle.ospf_graph.specs.Routes.{IsTable, IsRoute}

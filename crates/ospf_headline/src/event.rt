@@ -10,7 +10,7 @@ pub enum WorldEvent {
     /// The router starts, with nothing remembered.
     Start {
         router: RouterId,
-        /// Its first DD sequence number (RFC 2328, section 10.8).
+        /// Its first DD sequence number (RFC 2328, section 10.3).
         dd_start: u32,
         /// Its numbers begin above this one (section 12.1.6).
         floor: i32,

@@ -1,6 +1,7 @@
 -- The election of the Designated Router and the Backup (RFC 2328, section 9.4).
-use Rattle.std.specs.Prelude.{◌≡◌, ◌≢◌, ◌<◌, ◌==◌, ◌||◌, ◌⊎◌, List, Contains, [], ◌∷◌, AllPairs, Bool, not, map, MatchBool, if◌then◌else◌}
+use Rattle.std.specs.Prelude.{◌≡◌, ◌≢◌, ◌<◌, ◌==◌, ◌||◌, ◌⊎◌, List, Contains, AllPairs, Bool, not, map, MatchBool, if◌then◌else◌}
 use Rattle.std.specs.List.{AllByRecursion}
+use Rattle.ospf_base.specs.Rising.{IsRisingBy}
 use Rattle.ospf_base.specs.Addresses.{nowhere}
 use Rattle.ospf_base.specs.declared.ids.RouterId.{RouterId}
 use Rattle.ospf_base.specs.declared.ids.Addr.{Addr}
@@ -93,9 +94,7 @@ HasMe candidates me = (c : Candidate) × Contains candidates c × (c.id ≡ me)
 
 -- the candidates' Router IDs rise
 abbrev pub AreCandidatesRising : List Candidate → Type 0
-AreCandidatesRising [] = Unit {0}
-AreCandidatesRising (c ∷ cs) =
-    AllByRecursion (λ (d : Candidate). c.id.0 < d.id.0) cs × AreCandidatesRising cs
+AreCandidatesRising candidates = IsRisingBy (λ c d. c.id.0 < d.id.0) candidates
 
 -- no candidate has this Router ID
 abbrev pub AreOthers : RouterId → List Candidate → Type 0

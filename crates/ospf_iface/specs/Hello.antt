@@ -1,5 +1,5 @@
 -- Hello packets (RFC 2328, sections 9.5 and 10.5).
-use Rattle.std.specs.Prelude.{◌≡◌, ◌≢◌, ◌≤◌, ◌⊎◌, List, bit_and}
+use Rattle.std.specs.Prelude.{◌≡◌, ◌≢◌, ◌≤◌, ◌==◌, ◌&&◌, ◌||◌, Bool, false, true, List, bit_and}
 use Rattle.ospf_base.specs.Addresses.{nowhere}
 use Rattle.ospf_base.specs.Constants.{router_options}
 use Rattle.ospf_base.specs.declared.ids.RouterId.{RouterId}
@@ -13,11 +13,12 @@ use Rattle.ospf_base.specs.declared.interface.InterfaceKind.TheVariants.{PointTo
 
 -- a Hello agrees in HelloInterval, RouterDeadInterval and the E bit, and on
 -- broadcast links in the mask (10.5)
-pub record Agrees (i : Iface) (h : Hello) : Type 0 where
-  pub interval : h.hello_interval ≡ i.settings.hello
-  pub dead : h.dead_interval ≡ i.settings.dead
-  pub e_bit : bit_and h.options router_options ≡ router_options
-  pub mask : (h.mask ≡ i.settings.mask) ⊎ (i.settings.kind ≡ PointToPoint)
+abbrev pub agrees : Iface → Hello → Bool
+agrees i h =
+    (h.hello_interval == i.settings.hello) && (h.dead_interval == i.settings.dead)
+    && (bit_and h.options router_options == router_options)
+    && ((h.mask == i.settings.mask)
+    || elim i.settings.kind [ PointToPoint ↦ true | Broadcast ↦ false ])
 
 -- the fields of the Hello that an interface sends: it declares the DR and the Backup, and none
 -- where the link has two ends (9.5)

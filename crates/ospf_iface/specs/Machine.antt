@@ -82,7 +82,7 @@ started i = record i {
   hello_in = i.settings.hello;
 }
 
--- the interface after an election (9.4, steps 5 and 6)
+-- the interface after an election (9.4, step 5)
 abbrev pub elected : Elected → Iface → Iface
 elected e i =
     record i { state = elected_state i.settings.address e; dr = e.dr; backup = e.backup; wait = 0 }

@@ -6,13 +6,13 @@ use ospf_packet::{BodyValue, Hello};
 use std::alloc::{AllocError, Global};
 
 impl Iface {
-    ghost use Rattle.std.specs.Prelude.{◌↔◌, IfOk, IsTrue};
-    ghost use Rattle.ospf_iface.specs.Hello.{Agrees, AreFieldsOf, IsHelloOf};
+    ghost use Rattle.std.specs.Prelude.{◌≡◌, IfOk};
+    ghost use Rattle.ospf_iface.specs.Hello.{AreFieldsOf, IsHelloOf, agrees};
 
     /// Whether a Hello agrees with the interface (section 10.5): in HelloInterval,
     /// RouterDeadInterval and the E bit, and on a broadcast link in the mask. No memory is taken.
     pub fn agrees(&self, hello: &Hello) -> bool
-        ensures { IsTrue result ↔ Agrees self.now hello.now }
+        ensures { result ≡ agrees self.now hello.now }
     {
         hello.hello_interval == self.settings.hello
             && hello.dead_interval == self.settings.dead

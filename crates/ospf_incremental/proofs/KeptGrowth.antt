@@ -12,7 +12,8 @@ use Rattle.ospf_graph.specs.declared.graph.Vertex.{Vertex}
 use Rattle.ospf_graph.specs.declared.reached.Reached.{Reached}
 use Rattle.ospf_graph.specs.Graph.{IsPath}
 use Rattle.ospf_incremental.specs.Growth.{AreNear, HasEdge, HasStart, IsAt, IsGrowing, NoneWaits, Offers, Spares}
-use Rattle.ospf_incremental.specs.Kept.{AddsEdges, IsKeptTree, IsSameBut, KeptTree, vertices_of}
+use Rattle.ospf_graph.specs.Adds.{Adds}
+use Rattle.ospf_incremental.specs.Kept.{IsKeptTree, IsSameBut, KeptTree, vertices_of}
 use Rattle.ospf_graph.specs.Reached.{ArePlaces, settled_of, starts_of}
 use Rattle.ospf_graph.specs.Search.{AreEdgesInOrder, AtIn, AreFitEdges, StartsIn, vertex_code}
 use Rattle.ospf_graph.specs.Tree.{IsTree}
@@ -50,11 +51,11 @@ inserted_in_order edges e n i is order within p =
     (λ k d lt. let low = leb-true (vertex_code (get_or edges k d).from) n (p.0 k d (omega arith) lt) in omega arith)
     (λ k d le lt. let high = not_upto (vertex_code (get_or edges k d).from) n (p.1 k d le lt) in omega arith)
 
-pub adds_none : (edges : List Edge) → AddsEdges [] edges edges
+pub adds_none : (edges : List Edge) → Adds (Contains []) edges edges
 adds_none edges e = (λ m. inl m, λ m. elim m [ inl old ↦ old | inr none ↦ absurd (let low = none.1 in omega arith) ])
 
-pub adds_more : (more : List Edge) (i : ℕ) (x : Edge) (old mid new : List Edge) → i < length more → AddsEdges (take i more) old mid
-    → ((e : Edge) → Contains new e ↔ (Contains mid e ⊎ (get_or more i x ≡ e))) → AddsEdges (take (i + 1) more) old new
+pub adds_more : (more : List Edge) (i : ℕ) (x : Edge) (old mid new : List Edge) → i < length more → Adds (Contains (take i more)) old mid
+    → ((e : Edge) → Contains new e ↔ (Contains mid e ⊎ (get_or more i x ≡ e))) → Adds (Contains (take (i + 1) more)) old new
 adds_more more i x old mid new lt first last e = (
   λ m. elim ((last e).0 m) [
     | inl before ↦ elim ((first e).0 before) [ inl o ↦ inl o | inr n ↦ inr ((more_members more i x lt e).1 (inl n)) ]
@@ -66,7 +67,7 @@ adds_more more i x old mid new lt first last e = (
   ],
 )
 
-pub fit_more : (more old new : List Edge) → AddsEdges more old new → AreFitEdges old → AreFitEdges more → AreFitEdges new
+pub fit_more : (more old new : List Edge) → Adds (Contains more) old new → AreFitEdges old → AreFitEdges more → AreFitEdges new
 fit_more more old new adds a b =
     record {
       rising = λ e d is. elim ((adds e).0 is) [ inl o ↦ a.rising e d o | inr m ↦ b.rising e d m ];
@@ -76,7 +77,7 @@ fit_more more old new adds a b =
 
 -- the edges that come wait
 growth_begun : (more old new : List Edge) (root : Vertex) (rs : List Reached) (none waits : List SpfCandidate) → none ≡ [] → IsTree (Contains old) root (IsAt rs) (HasStart rs)
-    → AddsEdges more old new → Offers more (IsAt rs) (HasStart rs) none waits → IsGrowing (Contains new) (Contains new) root (IsAt rs) (HasStart rs) (HasEdge waits)
+    → Adds (Contains more) old new → Offers more (IsAt rs) (HasStart rs) none waits → IsGrowing (Contains new) (Contains new) root (IsAt rs) (HasStart rs) (HasEdge waits)
 growth_begun more old new root rs none waits empty t adds o =
     begun (Contains old) (Contains new) root (IsAt rs) (HasStart rs) (HasEdge waits) t (λ e m. (adds e).1 (inl m))
     (λ e w. elim (o.only e w) [ inl h ↦ absurd (none_waits none empty e h) | inr m ↦ (adds e).1 (inr m) ])
@@ -84,7 +85,7 @@ growth_begun more old new root rs none waits empty t adds o =
 
 -- and once none does, it is a tree of all edges
 pub tree_grown : (more old new seen : List Edge) (root : Vertex) (rs rs' : List Reached) (none waits : List SpfCandidate) → none ≡ [] → IsTree (Contains old) root (IsAt rs) (HasStart rs)
-    → AddsEdges more old new → Offers more (IsAt rs) (HasStart rs) none waits → seen ≡ new
+    → Adds (Contains more) old new → Offers more (IsAt rs) (HasStart rs) none waits → seen ≡ new
     → ((all : List Edge) (v : Vertex) → IsGrowing (Contains all) (Contains seen) v (IsAt rs) (HasStart rs) (HasEdge waits)
     → IsGrowing (Contains all) (Contains seen) v (IsAt rs') (HasStart rs') NoneWaits)
     → IsTree (Contains new) root (IsAt rs') (HasStart rs')

@@ -9,7 +9,8 @@ use Rattle.ospf_graph.specs.declared.graph.Vertex.{Vertex}
 use Rattle.ospf_incremental.specs.declared.grow.FoundPaths.{FoundPaths}
 use Rattle.ospf_graph.specs.declared.reached.Reached.{Reached}
 use Rattle.ospf_incremental.specs.Growth.{AreNear, HasEdge, HasStart, HoldsAll, IsAt, IsGrowing, NoneWaits, Spares}
-use Rattle.ospf_incremental.specs.Kept.{AddsEdges, ChangesEdges, IsSameBut, KeptTree, vertices_of}
+use Rattle.ospf_graph.specs.Adds.{Adds}
+use Rattle.ospf_incremental.specs.Kept.{ChangesEdges, IsSameBut, KeptTree, vertices_of}
 use Rattle.ospf_graph.specs.Reached.{settled_of, starts_of}
 use Rattle.ospf_graph.specs.Search.{AreFitEdges}
 use Rattle.ospf_incremental.specs.Shrinking.{IsClosed, LeadsTo, Leaves, OpensEdges, TakesEdges}
@@ -96,7 +97,7 @@ module _ (less old new : List Edge) (root : Vertex) (f : FoundPaths) (gone : Lis
         ]
 
 -- edges go, and then edges come
-pub changes_both : (less more old mid new : List Edge) → TakesEdges less old mid → AddsEdges more mid new → ChangesEdges less more old new
+pub changes_both : (less more old mid new : List Edge) → TakesEdges less old mid → Adds (Contains more) mid new → ChangesEdges less more old new
 changes_both less more old mid new takes adds e = (
   λ m. elim ((adds e).0 m) [ inl there ↦ inl ((takes e).0 there) | inr came ↦ inr came ],
   λ m. elim m [ inl stays ↦ (adds e).1 (inl ((takes e).1 stays)) | inr came ↦ (adds e).1 (inr came) ],
@@ -105,7 +106,7 @@ changes_both less more old mid new takes adds e = (
 pub empty_of : (b : Bool) (n : ℕ) → b ≡ nat_eq n 0 → b ≡ true → n ≡ 0
 empty_of b n is told = grind arith
 
-pub changes_more : (less more old new : List Edge) → length less ≡ 0 → AddsEdges more old new → ChangesEdges less more old new
+pub changes_more : (less more old new : List Edge) → length less ≡ 0 → Adds (Contains more) old new → ChangesEdges less more old new
 changes_more less more old new empty adds e =
     let never : Contains less e → ⊥ = λ m. (let low = m.1 in omega arith) in (
       λ m. elim ((adds e).0 m) [ inl there ↦ inl (there, never) | inr came ↦ inr came ],

@@ -17,7 +17,7 @@ use Rattle.ospf_graph.specs.Reached.{ArePlaces, settled_of, starts_at, starts_of
 use Rattle.ospf_graph.specs.Search.{AtIn, HaveSameFrom, StartsIn, vertex_code}
 use Rattle.ospf_graph.specs.Graph.{path_cost}
 use Rattle.ospf_graph.specs.Tree.{IsTree, extend}
-use Rattle.ospf_graph.proofs.CandidateLemmas.{candidates_from-has, candidates_from-is, code_injective}
+use Rattle.ospf_graph.proofs.CandidateLemmas.{code_injective}
 use Rattle.ospf_graph.proofs.ListLemmas.{bool_cases, member_cases, member_head, member_later, member_of_map, member_to_map, more_members}
 use Rattle.ospf_graph.proofs.ReachedLemmas.{none_some, place_at, starts_from}
 use Rattle.ospf_graph.proofs.TreeLemmas.{IsPath-map, IsTree-map, at_end}
@@ -28,7 +28,7 @@ use Rattle.ospf_incremental.specs.Shrinking.{IsClosed, TakesEdges}
 use Rattle.ospf_incremental.proofs.GrowthSteps.{at_from, at_one, at_to, none_waits, settled_push, start_to, starts_push, starts_stand}
 use Rattle.ospf_incremental.proofs.KeptGrowth.{same_less}
 use Rattle.ospf_incremental.proofs.ShrinkLemmas.{path_stays}
-use Rattle.ospf_incremental.proofs.ShrinkSteps.{gone_or_not, is_equal, is_itself}
+use Rattle.ospf_incremental.proofs.ShrinkSteps.{from_all, gone_or_not, is_equal, is_itself}
 
 -- ---- members of two parts of lists
 
@@ -157,12 +157,6 @@ takes_without less edges e = (
 )
 
 -- ---- edges that end at a vertex
-
--- of the edges in order all are found that leave a vertex
-from_all : (v : Vertex) (edges some : List Edge) → HaveSameFrom v edges some → (e : Edge) → Contains edges e → e.from ≡ v → Contains some e
-from_all v edges some same e m at =
-    (candidates_from-is v 0 some e (0 + e.cost)
-    (subst (λ (cs : List SpfCandidate). Contains cs (record { edge = e; distance = 0 + e.cost })) (same 0) (candidates_from-has v 0 edges e m at))).0
 
 pub adds_to_none : (less : List Edge) (v : Vertex) (old : List Edge) → AddsEdgesTo [] less v old old
 adds_to_none less v old e = (λ m. inl m, λ m. elim m [ inl there ↦ there | inr none ↦ absurd (let low = none.0.1 in omega arith) ])

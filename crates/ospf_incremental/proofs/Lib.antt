@@ -1,5 +1,6 @@
 pub mod GrowthLemmas
 pub mod GrowthSteps
+pub mod ChangedLemmas
 pub mod ShrinkLemmas
 pub mod ShrinkSteps
 pub mod KeptGrowth

@@ -1,10 +1,10 @@
 -- What leaves what is found, and which edges wait then.
 use Rattle.std.proofs.Common.{◌≡◌, ◌+◌, ◌-◌, ◌<◌, ◌≤◌, ◌⊎◌, ℕ, Option, Some, None, nat_eq, Bool, true, false, cond, List, [], ◌∷◌, ◌++◌, length, take, get_or, sym, ◌∙◌, ap, subst, inl, inr, arith, ltb, ltb-true}
 use Rattle.std.specs.List.{All, Contains}
-use Rattle.std.specs.List.Sorted.{IsPartitionPoint}
+use Rattle.std.specs.List.Sorted.{IsPartitionPoint, IsPermutation}
 use Rattle.std.proofs.lemmas.Bool.{cases_eq}
 use Rattle.std.proofs.lemmas.List.{get_or_default, get_or-take, length-take, take_more}
-use Rattle.std.proofs.lemmas.List.Sorted.{IsNonDecreasingBy-push}
+use Rattle.std.proofs.lemmas.List.Sorted.{Contains-permutation, IsNonDecreasingBy-push, IsPermutation-sym}
 use Rattle.std.proofs.lemmas.List.Elements.{All-contains, All-push, Contains-append_left, Contains-append_right, Contains-append_cases, Contains-push, Contains-push_cases}
 use Rattle.ospf_graph.specs.declared.candidates.SpfCandidate.{SpfCandidate}
 use Rattle.ospf_graph.specs.declared.graph.Edge.{Edge}
@@ -354,3 +354,16 @@ module _ (gone : List Vertex) (At : Vertex → ℕ → Type 0) where
   pub opens_more : (some : List Edge) (i : ℕ) (x : Edge) (old mid new : List SpfCandidate) → i < length some
       → OpensEdges gone (take i some) At old mid → OpensEdges gone (get_or some i x ∷ []) At mid new → OpensEdges gone (take (i + 1) some) At old new
   opens_more some i x old mid new lt first last = rw (take_more some i x lt) (opens_then (take i some) (get_or some i x ∷ []) old mid new first last)
+
+-- of the edges in order all are found that leave a vertex
+pub from_all : (v : Vertex) (edges some : List Edge) → HaveSameFrom v edges some → (e : Edge) → Contains edges e → e.from ≡ v → Contains some e
+from_all v edges some same e m at =
+    (candidates_from-is v 0 some e (0 + e.cost)
+    (subst (λ (cs : List SpfCandidate). Contains cs (record { edge = e; distance = 0 + e.cost })) (same 0) (candidates_from-has v 0 edges e m at))).0
+
+-- which order they are in that go does not matter
+pub takes_sorted : (less sorted old new : List Edge) → IsPermutation less sorted → TakesEdges sorted old new → TakesEdges less old new
+takes_sorted less sorted old new moved takes e = (
+  λ m. let t = (takes e).0 m in (t.0, λ h. t.1 (Contains-permutation less sorted e moved h)),
+  λ t. (takes e).1 (t.0, λ h. t.1 (Contains-permutation sorted less e (IsPermutation-sym less sorted moved) h)),
+)

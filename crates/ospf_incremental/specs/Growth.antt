@@ -1,5 +1,5 @@
 -- Shortest paths that grow while edges come: all of a tree but what edges that wait owe.
-use Rattle.std.specs.Prelude.{◌≡◌, ◌+◌, ◌<◌, ◌≤◌, ◌⊎◌, ◌≢◌, ◌^◌, ℕ, List, Option, Some, Bool, Result, All, Contains, IfOk, IsTrue, IsFalse, nat_eq}
+use Rattle.std.specs.Prelude.{◌≡◌, ◌+◌, ◌<◌, ◌≤◌, ◌⊎◌, ◌≢◌, ◌^◌, ◌++◌, ℕ, List, Option, Some, Bool, Result, All, Contains, IfOk, IsTrue, IsFalse, nat_eq}
 use Rattle.std.specs.HashMap.{get}
 use Rattle.ospf_graph.specs.declared.graph.Edge.{Edge}
 use Rattle.ospf_graph.specs.declared.graph.Vertex.{Vertex}
@@ -117,12 +117,12 @@ pub record Spares (changed : List Vertex) (old new : List Reached) : Type 0 wher
       → HasStart old v x
 
 -- where the answer is yes, P holds
-abbrev pub OnTrue : {E : Type 0} → Result Bool E → Type 0 → Type 0
-OnTrue result P = IfOk result (λ b. IsTrue b → P)
+abbrev pub OnOkTrue : {E : Type 0} → Result Bool E → Type 0 → Type 0
+OnOkTrue result P = IfOk result (λ b. IsTrue b → P)
 
 -- where it is no, P holds
-abbrev pub OnFalse : {E : Type 0} → Result Bool E → Type 0 → Type 0
-OnFalse result P = IfOk result (λ b. IsFalse b → P)
+abbrev pub OnOkFalse : {E : Type 0} → Result Bool E → Type 0 → Type 0
+OnOkFalse result P = IfOk result (λ b. IsFalse b → P)
 
 -- each vertex that is found has its place
 abbrev pub HasPlaces : FoundPaths → Type 0
@@ -189,6 +189,10 @@ PaysAll edges waited old new =
     → IsGrowing (Contains all) (Contains edges) root (IsAt new.reached.items)
     (HasStart new.reached.items) NoneWaits
 
--- what was among these is among those
+-- what is among these is among those
 abbrev pub HoldsAll : List Vertex → List Vertex → Type 0
-HoldsAll old new = (v : Vertex) → Contains old v → Contains new v
+HoldsAll some all = (v : Vertex) → Contains some v → Contains all v
+
+-- the new ones are the old ones, with more behind them or none
+abbrev pub Extends : List Vertex → List Vertex → Type 0
+Extends old new = (more : List Vertex) × (new ≡ old ++ more)

@@ -40,10 +40,6 @@ vertices_of rs = map (λ r. r.vertex) rs
 abbrev pub AddsEdge : Edge → List Edge → List Edge → Type 0
 AddsEdge edge old new = (e : Edge) → Contains new e ↔ (Contains old e ⊎ (edge ≡ e))
 
--- these edges and those
-abbrev pub AddsEdges : List Edge → List Edge → List Edge → Type 0
-AddsEdges more old new = (e : Edge) → Contains new e ↔ (Contains old e ⊎ Contains more e)
-
 -- those without the one part, and the other part
 abbrev pub ChangesEdges : List Edge → List Edge → List Edge → List Edge → Type 0
 ChangesEdges less more old new =

@@ -1,7 +1,7 @@
 //! Shortest paths that grow while edges come.
 
-ghost use Rattle.std.specs.Prelude.{◌≡◌, ◌+◌, ◌<◌, ◌↔◌, ◌^◌, ◌∷◌, [], ℕ, Contains, IsTrue, IfOk, IfSome, OnOk, None, Some, length};
-ghost use Rattle.ospf_incremental.specs.Growth.{AreNear, AreThere, BringsNothing, HasPlaces, HasStart, HoldsAll, ImprovesIn, IsAt, IsRelaxedIn, OffersIn, OnFalse, OnTrue, Pays, ResetsAt, PaysAll, SparesIn, found_place};
+ghost use Rattle.std.specs.Prelude.{◌≡◌, ◌+◌, ◌<◌, ◌↔◌, ◌^◌, ◌∷◌, [], ℕ, Contains, IsTrue, IfSome, OnOk, None, Some, length};
+ghost use Rattle.ospf_incremental.specs.Growth.{AreNear, AreThere, BringsNothing, Extends, HasPlaces, HasStart, ImprovesIn, IsAt, IsRelaxedIn, OffersIn, OnOkFalse, OnOkTrue, Pays, ResetsAt, PaysAll, SparesIn, found_place};
 ghost use Rattle.ospf_graph.specs.Search.{AreEdgesInOrder};
 ghost use Rattle.ospf_graph.specs.declared.graph.Start.{Start};
 
@@ -101,13 +101,13 @@ pub(crate) fn settle(
     requires near { AreNear found.old.reached.items }
     requires places { HasPlaces found.old }
     // Where none waits any more, the edges owe nothing.
-    ensures settles { OnTrue result (PaysAll edges.now waits.old found.old found.new) }
+    ensures settles { OnOkTrue result (PaysAll edges.now waits.old found.old found.new) }
     // What is found stays below the limit and in its places.
     ensures near { OnOk result (AreNear found.new.reached.items) }
     ensures places { OnOk result (HasPlaces found.new) }
     // Only vertices that are put behind `changed` are found otherwise than before.
     ensures spares { OnOk result (SparesIn changed.new.items found.old found.new) }
-    ensures changed { OnOk result (HoldsAll changed.old.items changed.new.items) }
+    ensures changed { Extends changed.old.items changed.new.items }
 {
     for _ in 0..most {
         let Some(candidate) = waits.take_least() else {
@@ -145,13 +145,13 @@ fn take_edge(
     requires near { AreNear found.old.reached.items }
     requires places { HasPlaces found.old }
     // The edge waits no more, and what it owed is paid in what is found or by edges that wait.
-    ensures pays { OnTrue result (Pays edges.now edge found.old found.new waits.old waits.new) }
+    ensures pays { OnOkTrue result (Pays edges.now edge found.old found.new waits.old waits.new) }
     // What is found stays below the limit and in its places.
     ensures near { OnOk result (AreNear found.new.reached.items) }
     ensures places { OnOk result (HasPlaces found.new) }
     // Only vertices that are put behind `changed` are found otherwise than before.
     ensures spares { OnOk result (SparesIn changed.new.items found.old found.new) }
-    ensures changed { OnOk result (HoldsAll changed.old.items changed.new.items) }
+    ensures changed { Extends changed.old.items changed.new.items }
 {
     let Some(distance) = distance_of(found, edge.from) else {
         return Ok(true);
@@ -188,7 +188,7 @@ fn step(
     ensures places { OnOk result (HasPlaces found.new) }
     // Only vertices that are put behind `changed` are found otherwise than before.
     ensures spares { OnOk result (SparesIn changed.new.items found.old found.new) }
-    ensures changed { OnOk result (HoldsAll changed.old.items changed.new.items) }
+    ensures changed { Extends changed.old.items changed.new.items }
 {
     if relax(alloc, edge, distance, found)? {
         offer_all(edges_from(edges, edge.to), found, waits)?;
@@ -209,9 +209,9 @@ fn relax(
     requires near { distance + edge.cost < 2 ^ 63 }
     requires places { HasPlaces found.old }
     // Its end is nearer, or has more starts; else nothing changes, and it is relaxed.
-    ensures improves { OnTrue result (ImprovesIn edge distance found.old found.new) }
-    ensures same { OnFalse result (found.new ≡ found.old) }
-    ensures relaxed { OnFalse result (IsRelaxedIn found.old edge distance) }
+    ensures improves { OnOkTrue result (ImprovesIn edge distance found.old found.new) }
+    ensures same { OnOkFalse result (found.new ≡ found.old) }
+    ensures relaxed { OnOkFalse result (IsRelaxedIn found.old edge distance) }
     // What is found stays in its places.
     ensures places { OnOk result (HasPlaces found.new) }
 {
@@ -316,9 +316,9 @@ fn relax_level(
     requires level { IsAt found.old.reached.items edge.to (distance + edge.cost) }
     requires places { HasPlaces found.old }
     // Its end gets the starts that it lacked; else nothing changes, and it is relaxed.
-    ensures improves { OnTrue result (ImprovesIn edge distance found.old found.new) }
-    ensures same { OnFalse result (found.new ≡ found.old) }
-    ensures relaxed { OnFalse result (IsRelaxedIn found.old edge distance) }
+    ensures improves { OnOkTrue result (ImprovesIn edge distance found.old found.new) }
+    ensures same { OnOkFalse result (found.new ≡ found.old) }
+    ensures relaxed { OnOkFalse result (IsRelaxedIn found.old edge distance) }
     // What is found stays in its places.
     ensures places { OnOk result (HasPlaces found.new) }
 {
@@ -355,12 +355,7 @@ fn are_there(starts: &[Start], edge: Edge, there: &[Start]) -> bool
 
 // Whether a start is among these.
 fn has_start(starts: &[Start], start: Start) -> bool
-    ensures { IsTrue result → Contains starts.now start }
+    ensures { IsTrue result ↔ Contains starts.now start }
 {
-    for one in starts {
-        if *one == start {
-            return true;
-        }
-    }
-    false
+    starts.contains(&start)
 }

@@ -1,9 +1,10 @@
 //! The shortest paths from a vertex, kept with their edges, so that edges can come and go.
 
-ghost use Rattle.std.specs.Prelude.{◌≡◌, ◌++◌, ◌<◌, ◌↔◌, ◌^◌, ℕ, All, Contains, IsPermutation, IfOk, IfSome, OnOk, Some, IsTrue, length, ◌≤◌};
-ghost use Rattle.ospf_incremental.specs.Growth.{HoldsAll};
+ghost use Rattle.std.specs.Prelude.{◌≡◌, ◌++◌, ◌<◌, ◌↔◌, ◌^◌, ℕ, All, Contains, IsPermutation, IfOk, IfSome, OnOk, Some};
+ghost use Rattle.ospf_incremental.specs.Growth.{Extends};
 ghost use Rattle.ospf_graph.specs.Paths.{AreLeastOver, AreSettledInOrder, AreStartsInOrder, IsTreeOver};
-ghost use Rattle.ospf_incremental.specs.Kept.{AddsEdge, AddsEdges, ChangesEdges, IsKeptTree, IsSameBut, vertices_of};
+ghost use Rattle.ospf_graph.specs.Adds.{Adds};
+ghost use Rattle.ospf_incremental.specs.Kept.{AddsEdge, ChangesEdges, IsKeptTree, IsSameBut, vertices_of};
 ghost use Rattle.ospf_graph.specs.Search.{AreEdgesInOrder, AtIn, AreFitEdges, StartsIn, vertex_id};
 ghost use Rattle.ospf_incremental.specs.Left.{LeadBack};
 ghost use Rattle.ospf_incremental.specs.Shrinking.{TakesEdges};
@@ -11,7 +12,7 @@ ghost use Rattle.ospf_graph.specs.declared.graph.Start.{Start};
 
 use crate::grow::{FoundPaths, distance_of, offer_all, settle, starts_of};
 use crate::left::{LeftPaths, regrown};
-use crate::shrink::{behind, is_closed, leave, left_of, offer_to};
+use crate::shrink::{behind, has_in_order, is_closed, leave, left_of, offer_to};
 use ospf_graph::{
     Candidates, Edge, Reached, ShortestPaths, Start, Vertex, listed, search, sorted_edges,
     vertex_order,
@@ -116,11 +117,11 @@ impl KeptPaths {
         requires fit { AreFitEdges more.now }
         // What is kept is the tree of shortest paths from the same root, over the added edges too.
         ensures root { IfOk result (λ k. k.root ≡ self.root) }
-        ensures edges { IfOk result (λ k. AddsEdges more.now self.edges k.edges) }
+        ensures edges { IfOk result (λ k. Adds (Contains more.now) self.edges k.edges) }
         ensures tree { IfOk result (λ k. IsKeptTree k) }
         // Only vertices that are put behind `changed` are reached otherwise than before.
         ensures same { IfOk result (λ k. IsSameBut changed.new.items self k) }
-        ensures changed { OnOk result (HoldsAll changed.old.items changed.new.items) }
+        ensures changed { Extends changed.old.items changed.new.items }
     {
         let root = self.root;
         let mut edges = self.edges;
@@ -158,7 +159,7 @@ impl KeptPaths {
         ensures tree { IfOk result (λ k. IsKeptTree k) }
         // Only vertices that are put behind `changed` are reached otherwise than before.
         ensures same { IfOk result (λ k. IsSameBut changed.new.items self k) }
-        ensures changed { OnOk result (HoldsAll changed.old.items changed.new.items) }
+        ensures changed { Extends changed.old.items changed.new.items }
     {
         let root = self.root;
         let whole = self.edges;
@@ -183,9 +184,11 @@ impl KeptPaths {
         Ok(paths)
     }
 
-    /// The shortest paths without some edges, beside these, which stay: as `shrink`, but nothing is
-    /// copied of what no least path reached over one of the edges, and no other edge is looked at
-    /// than those at what one did. Of each edge that is kept another one has to lead back.
+    /// The shortest paths without some edges, beside these, which stay: as `shrink`, but of what
+    /// stays only the root and what stands at the other ends of edges to the vertices that go is
+    /// copied, and only edges at these and at those vertices are looked at. Where a test at run
+    /// time does not show that nothing else was reached, or it goes on for too many steps, all is
+    /// searched for anew. Of each edge that is kept another one has to lead back.
     ///
     /// `AllocError` where memory runs out; `changed` may have got some vertices then.
     pub fn without<'a>(
@@ -201,7 +204,7 @@ impl KeptPaths {
         ensures tree { IfOk result (λ k. IsKeptTree k) }
         // Only vertices that are put behind `changed` are reached otherwise than before.
         ensures same { IfOk result (λ k. IsSameBut changed.new.items self.now k) }
-        ensures changed { OnOk result (HoldsAll changed.old.items changed.new.items) }
+        ensures changed { Extends changed.old.items changed.new.items }
     {
         let gone = behind(alloc, &self.edges, less, &self.found)?;
         if is_closed(&self.found, &self.edges, less, &gone, self.root) {
@@ -248,7 +251,7 @@ impl KeptPaths {
         ensures tree { IfOk result (λ k. IsKeptTree k) }
         // Only vertices that are put behind `changed` are reached otherwise than before.
         ensures same { IfOk result (λ k. IsSameBut changed.new.items self k) }
-        ensures changed { OnOk result (HoldsAll changed.old.items changed.new.items) }
+        ensures changed { Extends changed.old.items changed.new.items }
     {
         if less.is_empty() {
             let paths = self.grow(alloc, more, changed)?;
@@ -286,7 +289,7 @@ fn anew(alloc: Global, edges: Vec<Edge>, root: Vertex) -> Result<KeptPaths, Allo
 fn insert_all(edges: &mut Vec<Edge>, more: &[Edge]) -> Result<(), AllocError>
     requires { AreEdgesInOrder edges.old.items }
     ensures in_order { OnOk result (AreEdgesInOrder edges.new.items) }
-    ensures members { OnOk result (AddsEdges more.now edges.old.items edges.new.items) }
+    ensures members { OnOk result (Adds (Contains more.now) edges.old.items edges.new.items) }
 {
     for edge in more {
         insert_edge(edges, *edge)?;
@@ -300,32 +303,19 @@ fn insert_edge(edges: &mut Vec<Edge>, edge: Edge) -> Result<(), AllocError>
     ensures in_order { OnOk result (AreEdgesInOrder edges.new.items) }
     ensures members { OnOk result (AddsEdge edge edges.old.items edges.new.items) }
 {
-    let order = vertex_order(edge.from);
-    let first = edges.partition_point(|e| vertex_order(e.from) < order);
-    let place = edges.partition_point(|e| vertex_order(e.from) <= order);
-    if is_there(edges, edge, first, place) {
+    if has_in_order(edges, edge) {
         return Ok(());
     }
+    let order = vertex_order(edge.from);
+    let place = edges.partition_point(|e| vertex_order(e.from) <= order);
     edges.insert(place, edge)?;
     Ok(())
 }
 
-// Whether the edge stands between two places.
-fn is_there(edges: &[Edge], edge: Edge, from: usize, to: usize) -> bool
-    requires { to ≤ length edges.now }
-    ensures { IsTrue result → Contains edges.now edge }
-{
-    for place in from..to {
-        if edges[place] == edge {
-            return true;
-        }
-    }
-    false
-}
-
 // Puts the vertices that are reached behind others.
 fn push_vertices(reached: &[Reached], vertices: &mut Vec<Vertex>) -> Result<(), AllocError>
-    ensures { OnOk result (vertices.new.items ≡ vertices.old.items ++ vertices_of reached.now) }
+    ensures all { OnOk result (vertices.new.items ≡ vertices.old.items ++ vertices_of reached.now) }
+    ensures behind { Extends vertices.old.items vertices.new.items }
 {
     for one in reached {
         vertices.push(one.vertex)?;

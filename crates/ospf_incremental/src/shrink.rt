@@ -1,14 +1,16 @@
 //! Shortest paths from which edges go: what is behind them goes too, and
 //! grows again from what is left.
 
-ghost use Rattle.std.specs.Prelude.{◌≡◌, ◌↔◌, ◌∷◌, [], All, Contains, IsFalse, IsTrue, IfOk, OnOk};
-ghost use Rattle.ospf_incremental.specs.Growth.{AreNear, HasPlaces, HoldsAll};
+ghost use Rattle.std.specs.Prelude.{◌↔◌, ◌∷◌, [], All, Contains, IsFalse, IsTrue, IfOk, OnOk};
+ghost use Rattle.ospf_incremental.specs.Growth.{AreNear, Extends, HasPlaces, HoldsAll};
 ghost use Rattle.ospf_graph.specs.Search.{AreEdgesInOrder};
 ghost use Rattle.ospf_graph.specs.declared.graph.Edge.{Edge};
 ghost use Rattle.ospf_incremental.specs.Shrinking.{AreVerticesInOrder, IsSlack, LeadsTo, LeavesIn, OpensIn, TakesEdges};
 
 use crate::grow::{FoundPaths, distance_of, offer};
-use ospf_graph::{Candidates, Edge, Vertex, edges_from, is_same, place_of, vertex_order};
+use ospf_graph::{
+    Candidates, Edge, Vertex, edges_from, is_same, place_of, sorted_edges, vertex_order,
+};
 use std::alloc::{AllocError, Global};
 use std::collections::HashSet;
 
@@ -18,12 +20,8 @@ pub(crate) fn left_of(alloc: Global, edges: &[Edge], less: &[Edge]) -> Result<Ve
     ensures in_order { IfOk result (λ left. AreEdgesInOrder left.items) }
     ensures members { IfOk result (λ left. TakesEdges less.now edges.now left.items) }
 {
-    let mut left = Vec::with_capacity(alloc, edges.len())?;
-    for edge in edges {
-        if !has_edge(less, *edge) {
-            left.push(*edge)?;
-        }
-    }
+    let sorted = sorted_edges(alloc, less)?;
+    let left = left_of_sorted(alloc, edges, &sorted)?;
     Ok(left)
 }
 
@@ -78,7 +76,7 @@ pub(crate) fn leave(
     ensures places { OnOk result (HasPlaces found.new) }
     ensures left { OnOk result (LeavesIn gone.now found.old found.new) }
     // They are put behind `changed`.
-    ensures changed { OnOk result (HoldsAll changed.old.items changed.new.items) }
+    ensures changed { Extends changed.old.items changed.new.items }
     ensures gone { OnOk result (HoldsAll gone.now changed.new.items) }
 {
     for vertex in gone {
@@ -109,19 +107,31 @@ pub(crate) fn offer_to(
 pub(crate) fn has_edge(edges: &[Edge], edge: Edge) -> bool
     ensures { IsTrue result ↔ Contains edges.now edge }
 {
-    for one in edges {
-        if is_same_edge(*one, edge) {
-            return true;
-        }
-    }
-    false
+    edges.contains(&edge)
 }
 
-// Whether two edges are one.
-fn is_same_edge(a: Edge, b: Edge) -> bool
-    ensures { IsTrue result ↔ (a ≡ b) }
+/// Whether an edge is among these, which are in order.
+pub(crate) fn has_in_order(edges: &[Edge], edge: Edge) -> bool
+    requires { AreEdgesInOrder edges.now }
+    ensures { IsTrue result ↔ Contains edges.now edge }
 {
-    is_same(a.to, b.to) && is_same(a.from, b.from) && a.cost == b.cost && a.link_data == b.link_data
+    has_edge(edges_from(edges, edge.from), edge)
+}
+
+// The edges without these, which are in order too.
+fn left_of_sorted(alloc: Global, edges: &[Edge], less: &[Edge]) -> Result<Vec<Edge>, AllocError>
+    requires in_order { AreEdgesInOrder edges.now }
+    requires less { AreEdgesInOrder less.now }
+    ensures in_order { IfOk result (λ left. AreEdgesInOrder left.items) }
+    ensures members { IfOk result (λ left. TakesEdges less.now edges.now left.items) }
+{
+    let mut left = Vec::with_capacity(alloc, edges.len())?;
+    for edge in edges {
+        if !has_in_order(less, *edge) {
+            left.push(*edge)?;
+        }
+    }
+    Ok(left)
 }
 
 // The vertices behind edges that go, each once, those first that such an edge leads to.

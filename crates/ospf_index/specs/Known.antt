@@ -1,5 +1,5 @@
 -- What is known of the published tables of one forwarding table.
-use Rattle.std.specs.Prelude.{List, [], ◌∷◌}
+use Rattle.std.specs.Prelude.{ℕ, List, [], ◌∷◌}
 use Rattle.logbook.specs.Pages.{Book}
 use Rattle.ospf_graph.specs.declared.route.Route.{Route}
 
@@ -16,3 +16,9 @@ opening = [] ∷ []
 pub record Known : Type 0 where
   pub fib : Book
   pub tables : List Table
+
+-- the whole of it, and the steps that the list counts: how often it was opened, got a table or
+-- was closed
+pub record WholeList : Type 0 where
+  pub known : Known
+  pub steps : ℕ

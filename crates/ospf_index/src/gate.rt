@@ -1,6 +1,6 @@
 //! The one that may add to the list.
 
-ghost use Rattle.std.specs.Prelude.{◌≡◌, ◌+◌, ◌⊎◌, ◌∷◌, ◌++◌, [], length, IfSome, IfOk, IfErr};
+ghost use Rattle.std.specs.Prelude.{◌≡◌, ◌-◌, ◌^◌, ◌≤◌, ◌∷◌, ◌++◌, [], length, IfSome, IfOk, IfErr, OnErr};
 ghost use mathlib.Core.List.{IsPrefix};
 ghost use Rattle.ospf_index.specs.Known.{opening};
 ghost use Rattle.ospf_index.specs.Rule.{counter_of};
@@ -11,8 +11,7 @@ use logbook::{Offer, Pen, Seen, Start, Word};
 use ospf_spf::RouteTable;
 use std::marker::Model;
 
-// The last count of steps at which a list is opened: opening, a table
-// and closing still fit behind it.
+// The last count of steps at which a list is opened: opening, a table and closing still fit.
 const LAST_OPENING: u64 = u64::MAX - 3;
 
 /// The whole list at some time while it was open. Whoever has this may add a
@@ -82,7 +81,7 @@ impl Opened {
     }
 
     /// Adds a table: in one step it stands at the end of the list. `None` where another was faster,
-    /// or the list has 2^64 - 1 tables.
+    /// or the list has 2^64 - 1 tables or steps; that it comes for nothing else is not proved.
     pub fn added(&self, counter: &Counter, table: &RouteTable) -> Option<Opened>
         requires { counter.now ≡ counter_of self.now.fib }
         ensures fib { IfSome result (λ after. after.fib ≡ self.now.fib) }
@@ -113,10 +112,10 @@ impl Opened {
 
 impl Opened {
     /// Closes the list in one step: nobody else adds a table from here on. `None` where something
-    /// was added meanwhile, or 2^64 - 1 steps were made.
+    /// was added meanwhile, or at 2^64 - 1 steps; that it comes for nothing else is not proved.
     pub fn close(&self, counter: &Counter) -> Option<ClosedList>
         requires { counter.now ≡ counter_of self.now.fib }
-        ensures { IfSome result (λ list. list ≡ self.now) }
+        ensures { IfSome result (λ list. list.known ≡ self.now) }
     {
         if self.events == u64::MAX {
             return None;
@@ -153,12 +152,15 @@ pub struct ClosedList {
 impl Model for ClosedList {
     ghost use Rattle.std.specs.Prelude.{◌≡◌, length, true, false, suc};
     ghost use Rattle.logbook.specs.Pages.{nib, may_write};
-    ghost use Rattle.ospf_index.specs.Known.{Known};
+    ghost use Rattle.ospf_index.specs.Known.{WholeList};
     ghost use Rattle.ospf_index.specs.Rule.{tables_of, closed, opens};
 
-    ghost Value = { Known };
+    ghost Value = { WholeList };
 
-    ghost view = { λ p. record { fib = p.seen.book; tables = tables_of p.seen.log } };
+    ghost view = { λ p. record {
+      known = record { fib = p.seen.book; tables = tables_of p.seen.log };
+      steps = p.events;
+    } };
 
     ghost invariant = { λ p. (p.count ≡ length (tables_of p.seen.log))
         × (p.events ≡ length p.seen.log) × (closed false p.seen.log ≡ true)
@@ -170,9 +172,10 @@ impl ClosedList {
     /// Opens the list. The list is whole, so nobody was faster. It comes back where there is no
     /// room for three steps more among the 2^64 that the list counts.
     pub fn open(self, counter: &Counter) -> Result<Opened, ClosedList>
-        requires { counter.now ≡ counter_of self.fib }
-        ensures opened { IfOk result (λ opened. opened ≡ self) }
-        ensures full { IfErr result (λ list. list ≡ self) }
+        requires { counter.now ≡ counter_of self.known.fib }
+        ensures opened { IfOk result (λ opened. opened ≡ self.known) }
+        ensures same { IfErr result (λ list. list ≡ self) }
+        ensures full { OnErr result (2 ^ 64 - 3 ≤ self.steps) }
     {
         if self.events > LAST_OPENING {
             return Err(self);
@@ -195,10 +198,10 @@ impl ClosedList {
 
     /// All that is known of this list anywhere is a beginning of it.
     pub fn covers(&mut self, counter: &Counter, other: &Published)
-        requires counter { counter.now ≡ counter_of self.old.fib }
-        requires same { other.now.fib ≡ self.old.fib }
+        requires counter { counter.now ≡ counter_of self.old.known.fib }
+        requires same { other.now.fib ≡ self.old.known.fib }
         ensures same { self.new ≡ self.old }
-        ensures covers { IsPrefix other.now.tables self.new.tables }
+        ensures covers { IsPrefix other.now.tables self.new.known.tables }
     {
         let mut seen = self.seen.again();
         seen.learn(&other.seen);
@@ -215,7 +218,7 @@ impl ClosedList {
 
     /// What is known of it.
     pub fn known(&self) -> Published
-        ensures { result ≡ self.now }
+        ensures { result ≡ self.now.known }
     {
         Published {
             count: self.count,

@@ -1,6 +1,7 @@
 //! The numbers of routes' sets of hops: routes with the same hops have the same number.
 
-ghost use Rattle.std.specs.Prelude.{◌≡◌, ◌≤◌, ◌<◌, ◌+◌, ◌↔◌, [], IfOk, IfSome, IsTrue, length, sum_by, vec_len, vec_capacity};
+ghost use Rattle.std.specs.Prelude.{◌≡◌, ◌≤◌, ◌<◌, ◌+◌, ◌↔◌, [], IfOk, IfSome, IsTrue, length, vec_len, vec_capacity};
+ghost use Rattle.ospf_index.specs.Room.{hops_in};
 ghost use Rattle.ospf_index.specs.Sets.{AreChained, AreNumbersOf, IsBegunFor, IsGrown, hops_of};
 
 use crate::sets::{HopSet, HopSets};
@@ -103,8 +104,7 @@ pub(crate) fn numbers_of(
     room: Vec<usize>,
     routes: &[Route],
 ) -> (HopSets, Vec<usize>)
-    requires begun { IsBegunFor (length routes.now) (sum_by (λ r. length r.hops) routes.now)
-        numbering }
+    requires begun { IsBegunFor (length routes.now) (hops_in routes.now) numbering }
     requires room { (room.items ≡ []) × (length routes.now ≤ vec_capacity room) }
     ensures { AreNumbersOf routes.now result.0 result.1.items }
 {

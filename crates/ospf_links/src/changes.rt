@@ -15,7 +15,7 @@ use std::alloc::{AllocError, Global};
 /// A link of the router goes up (RFC 2328, section 9.3): where it was
 /// down its first Hello goes out.
 ///
-/// `AllocError` where memory runs out.
+/// `AllocError` where memory runs out; then the router is to be stopped.
 pub fn take_up(
     area: &mut Area,
     number: usize,

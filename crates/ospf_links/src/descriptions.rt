@@ -20,7 +20,7 @@ use std::alloc::{AllocError, Global};
 /// Takes a Database Description that comes on a link of the router (RFC 2328, section 10.6). One
 /// that is dropped, or whose sender or link is not there, changes nothing.
 ///
-/// `AllocError` where memory runs out.
+/// `AllocError` where memory runs out; then the router is to be stopped.
 pub fn take_description(
     area: &mut Area,
     from: Origin,

@@ -16,7 +16,7 @@ use std::alloc::{AllocError, Global};
 
 /// The elections that are due, link by link, with AdjOK? (RFC 2328, section 9.4).
 ///
-/// `AllocError` where memory runs out.
+/// `AllocError` where memory runs out; then the router is to be stopped.
 pub fn elect(area: &mut Area, out: &mut Outputs, alloc: Global) -> Result<(), AllocError>
     requires { AreReady area.old.links }
     ensures { OnOk result (ElectsAll area.old out.old out.new area.new) }

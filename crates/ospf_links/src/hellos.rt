@@ -18,7 +18,7 @@ use std::alloc::{AllocError, Global};
 /// not dropped: its sender is a neighbour, or there is room for one more. Where there
 /// is no such link nothing is done.
 ///
-/// `AllocError` where memory runs out.
+/// `AllocError` where memory runs out; then the router is to be stopped.
 pub fn take_hello(
     area: &mut Area,
     from: Origin,

@@ -24,7 +24,7 @@ pub fn count_timers(links: &mut [AreaLink], alloc: Global)
 
 /// A tick of the Hello timers of all links: the Hellos that are due go out (RFC 2328, section 9.5).
 ///
-/// `AllocError` where memory runs out.
+/// `AllocError` where memory runs out; then the router is to be stopped.
 pub fn send_hellos(
     links: &mut [AreaLink],
     own: Own,

@@ -12,7 +12,8 @@ use Rattle.ospf_lsa.specs.declared.fault.LsaFault.TheVariants as fault
 use Rattle.ospf_base.specs.Keys.{Precedes, ls_type}
 use Rattle.ospf_base.proofs.KeyOrder.{Precedes-trans, Precedes-irrefl, Precedes-cases}
 use Rattle.ospf_lsa.specs.Lsa.{IsLsa, key_of, kind_of, type_of}
-use Rattle.ospf_lsa.specs.Listing.{IsRising, IsListable, IsListing, HasKey, IsPlace, IsInserted, IsCount, IsNetworkOf, IsOfNetwork}
+use Rattle.ospf_lsa.specs.Listing.{IsListable, IsListing, HasKey, IsPlace, IsInserted, IsCount, IsNetworkOf, IsOfNetwork}
+use Rattle.ospf_lsa.proofs.Words.{IsRising}
 
 abbrev pub AllBefore : LsaKey → List (List ℕ) → Type 0
 AllBefore key lsas = AllByRecursion (λ l. Precedes (key_of l) key) lsas

@@ -5,7 +5,8 @@ use Rattle.std.proofs.lemmas.List.{drop_more, take-append-drop}
 use Rattle.std.proofs.lemmas.List.Elements.{Contains-append_left, Contains-append_right, Contains-append_cases, Contains-push, Contains-push_cases}
 use Rattle.ospf_base.specs.Keys.{Precedes}
 use Rattle.ospf_lsa.specs.Lsa.{key_of}
-use Rattle.ospf_lsa.specs.Listing.{IsRising, IsListable, IsListing, IsPlace, IsPut}
+use Rattle.ospf_lsa.specs.Listing.{IsListable, IsListing, IsPlace, IsPut}
+use Rattle.ospf_lsa.proofs.Words.{IsRising}
 use Rattle.ospf_lsa.proofs.ListingLemmas.{AllBefore, AllAfter, all_join, all_front, all_back, before_it, no_key, IsListing-insert}
 
 -- one element more

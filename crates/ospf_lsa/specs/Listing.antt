@@ -1,7 +1,8 @@
 -- The LSAs that a database lists (RFC 2328, section 12.2; those of age
 -- MaxAge take no part, section 14).
-use Rattle.std.specs.Prelude.{◌≡◌, ◌≢◌, ◌↔◌, ◌⊎◌, ℕ, ◌<◌, ◌≤◌, List, [], ◌∷◌, ◌++◌, length, map, take, drop, slice_index_or}
+use Rattle.std.specs.Prelude.{◌≡◌, ◌≢◌, ◌↔◌, ◌⊎◌, ℕ, ◌<◌, ◌≤◌, List, ◌∷◌, ◌++◌, length, map, take, drop, slice_index_or}
 use Rattle.std.specs.List.{Any, AllByRecursion, Contains}
+use Rattle.ospf_base.specs.Rising.{IsRisingBy}
 use Rattle.ospf_base.specs.Bytes.{number_at}
 use Rattle.ospf_base.specs.Constants.{max_age}
 use Rattle.ospf_base.specs.declared.ids.LsaKey.{LsaKey}
@@ -9,19 +10,13 @@ use Rattle.ospf_base.specs.Keys.{Precedes}
 use Rattle.ospf_lsa.specs.Header.{header_of, HeaderFits}
 use Rattle.ospf_lsa.specs.Lsa.{IsLsa, IsNetworkLsa, key_of}
 
--- the keys rise, so no two are the same
-abbrev pub IsRising : List (List ℕ) → Type 0
-IsRising [] = Unit {0}
-IsRising (lsa ∷ lsas) =
-    AllByRecursion (λ other. Precedes (key_of lsa) (key_of other)) lsas × IsRising lsas
-
 -- an LSA that may be listed, the numbers of its header being those of its fields
 abbrev pub IsListable : List ℕ → Type 0
 IsListable lsa = IsLsa lsa × HeaderFits (header_of lsa) × ((header_of lsa).age < max_age)
 
 -- LSAs below age MaxAge, at most one a key, in the order of their keys
 pub record IsListing (lsas : List (List ℕ)) : Type 0 where
-  pub rising : IsRising lsas
+  pub rising : IsRisingBy (λ a b. Precedes (key_of a) (key_of b)) lsas
   pub listed : AllByRecursion IsListable lsas
 
 -- the keys are those of the LSAs, place by place

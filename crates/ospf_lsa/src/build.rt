@@ -12,7 +12,7 @@ ghost use Rattle.ospf_lsa.specs.Value.{router_value, network_value, lsa_bytes, I
 use crate::fault::LsaFault;
 use crate::header::LsaHeader;
 use crate::layout::{ENTRIES_AT, LINK_SIZE, ROUTER_SIZE, SUM_AT};
-use crate::link::{Link, LinkKind};
+use crate::link::Link;
 use crate::lsa::Lsa;
 use ospf_base::{
     Age, LARGEST_LSA, NETWORK_LSA, OPTIONS, RESERVED_SEQUENCE_NUMBER, ROUTER_LSA, RouterId,
@@ -87,17 +87,14 @@ impl Lsa {
 fn have_masks(links: &[Link]) -> bool
     ensures { IsTrue result ↔ All HasMask links.now }
 {
-    links.iter().all(|link| link.kind != LinkKind::Stub || is_mask(link.link_data))
+    links.iter().all(|link| link.has_mask())
 }
 
 // Whether each link to a router or a transit network costs something.
 fn have_costs(links: &[Link]) -> bool
     ensures { IsTrue result ↔ All HasCost links.now }
 {
-    links.iter().all(|link| match link.kind {
-        LinkKind::PointToPoint | LinkKind::Transit => link.metric > 0,
-        LinkKind::Stub | LinkKind::Virtual => true,
-    })
+    links.iter().all(|link| link.has_cost())
 }
 
 // A router-LSA without its checksum.

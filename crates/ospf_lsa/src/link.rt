@@ -3,7 +3,7 @@
 ghost use Rattle.std.specs.Prelude.{◌≡◌, ◌≤◌, ◌↔◌, IsTrue, IfSome, IfNone, length};
 
 use crate::layout::{LINK_SIZE, TOS_SIZE};
-use ospf_base::{u16_at, u32_at};
+use ospf_base::{is_mask, u16_at, u32_at};
 use std::marker::Model;
 
 /// The types of links.
@@ -45,6 +45,24 @@ pub struct Link {
 
 impl Link {
     ghost use Rattle.ospf_lsa.specs.Link.{link_at, link_bytes, IsLink, IsFirstLink, LinkFits};
+    ghost use Rattle.ospf_lsa.specs.Lsa.{HasMask, HasCost};
+
+    // Whether the Link Data of a link of type 3 is a mask without a hole.
+    pub(crate) fn has_mask(&self) -> bool
+        ensures { IsTrue result ↔ HasMask self.now }
+    {
+        self.kind != LinkKind::Stub || is_mask(self.link_data)
+    }
+
+    // Whether a link to a router or a transit network costs something.
+    pub(crate) fn has_cost(&self) -> bool
+        ensures { IsTrue result ↔ HasCost self.now }
+    {
+        match self.kind {
+            LinkKind::PointToPoint | LinkKind::Transit => self.metric > 0,
+            LinkKind::Stub | LinkKind::Virtual => true,
+        }
+    }
 
     // The 12 bytes of the link, without TOS metrics.
     pub(crate) fn to_bytes(&self) -> [u8; 12]

@@ -2,12 +2,13 @@
 
 ghost use Rattle.std.specs.Prelude.{◌≡◌, ◌<◌, ◌↔◌, ◌⊎◌, ◌∷◌, ◌++◌, ◌≤◌, ℕ, List, [], IsTrue, OnOk, OnErr, Err, IfOk, IfErr, IfSome, IfNone, Contains, length, slice_index_or};
 ghost use Rattle.std.specs.List.{AllByRecursion, insert};
+ghost use Rattle.ospf_base.specs.Rising.{IsRisingBy};
 ghost use Rattle.ospf_base.specs.Constants.{max_age};
 ghost use Rattle.ospf_base.specs.Keys.{Precedes};
 ghost use Rattle.ospf_base.specs.declared.ids.Kind.TheVariants.{Router};
 ghost use Rattle.ospf_lsa.specs.Header.{header_of};
 ghost use Rattle.ospf_lsa.specs.Lsa.{key_of};
-ghost use Rattle.ospf_lsa.specs.Listing.{AreKeysOf, IsKeyed, IsListing, IsListable, IsRising, HasKey, IsPlace, IsInserted, IsPut, IsCount, IsNetworkOf, IsOfNetwork};
+ghost use Rattle.ospf_lsa.specs.Listing.{AreKeysOf, IsKeyed, IsListing, IsListable, HasKey, IsPlace, IsInserted, IsPut, IsCount, IsNetworkOf, IsOfNetwork};
 ghost use Rattle.ospf_lsa.specs.declared.listing.ListingFault.TheVariants as fault;
 
 use crate::lsa::Lsa;
@@ -199,7 +200,7 @@ impl Listing {
 
 // The place of the LSA of a key, or else where one belongs.
 fn search(keys: &[LsaKey], lsas: &[Lsa], key: &LsaKey) -> Result<usize, usize>
-    requires rising { IsRising lsas.now }
+    requires rising { IsRisingBy (λ a b. Precedes (key_of a) (key_of b)) lsas.now }
     requires keys { AreKeysOf keys.now lsas.now }
     ensures found { IfOk result (λ at. (at < length lsas.now)
         × ((d : List ℕ) → key_of (slice_index_or lsas.now at d) ≡ key.now)) }
@@ -218,7 +219,7 @@ fn search(keys: &[LsaKey], lsas: &[Lsa], key: &LsaKey) -> Result<usize, usize>
 
 // How many LSAs have keys that do not stand after this one.
 fn count_through(keys: &[LsaKey], lsas: &[Lsa], key: &LsaKey) -> usize
-    requires rising { IsRising lsas.now }
+    requires rising { IsRisingBy (λ a b. Precedes (key_of a) (key_of b)) lsas.now }
     requires keys { AreKeysOf keys.now lsas.now }
     ensures { IsCount lsas.now key.now result }
 {
@@ -270,7 +271,7 @@ fn is_of_network(lsa: &Lsa, id: u32) -> bool
 
 // Where an LSA of this key belongs, unless one is there.
 fn place_of(keys: &[LsaKey], lsas: &[Lsa], key: &LsaKey) -> Option<usize>
-    requires rising { IsRising lsas.now }
+    requires rising { IsRisingBy (λ a b. Precedes (key_of a) (key_of b)) lsas.now }
     requires keys { AreKeysOf keys.now lsas.now }
     ensures place { IfSome result (λ at. IsPlace lsas.now key.now at) }
     ensures taken { IfNone result (HasKey lsas.now key.now) }

@@ -10,7 +10,7 @@ use crate::header::LsaHeader;
 use crate::layout::{
     COUNT_AT, ENTRIES_AT, ID_AT, LENGTH_AT, NUMBER_AT, ROUTER_AT, ROUTER_SIZE, SUM_AT, TYPE_AT,
 };
-use crate::link::{LinkKind, Links};
+use crate::link::Links;
 use ospf_base::{
     Instance, Kind, LSA_HEADER, LsaKey, NETWORK_LSA, RESERVED_SEQUENCE_NUMBER, ROUTER_LSA,
     RouterId, i32_at, is_mask, lsa_sum_holds, u16_at, u32_at,
@@ -224,7 +224,7 @@ fn has_masks(bytes: &[u8]) -> bool
 fn have_masks(mut links: Links) -> bool
     ensures { IsTrue result ↔ All HasMask links.entry }
 {
-    links.all(|link| link.kind != LinkKind::Stub || is_mask(link.link_data))
+    links.all(|link| link.has_mask())
 }
 
 // Whether each link that has to cost something does.
@@ -242,8 +242,5 @@ fn has_costs(bytes: &[u8]) -> bool
 fn have_costs(mut links: Links) -> bool
     ensures { IsTrue result ↔ All HasCost links.entry }
 {
-    links.all(|link| match link.kind {
-        LinkKind::PointToPoint | LinkKind::Transit => link.metric > 0,
-        LinkKind::Stub | LinkKind::Virtual => true,
-    })
+    links.all(|link| link.has_cost())
 }

@@ -14,7 +14,7 @@ use Rattle.ospf_lsdb.proofs.EntryLemmas.{expired-young}
 use Rattle.ospf_lsdb.proofs.MapLemmas.{bool_cases, Puts-words}
 use Rattle.ospf_base.proofs.SameKeys.{same_key-eq}
 use Rattle.ospf_lsdb.proofs.MomentLemmas.{same_due-refl}
-use Rattle.ospf_lsdb.proofs.TimerLemmas.{all_stored, stored_one, KeysRise-ordered, AreDue-put, Puts-stored, held_of-stored, comes_to}
+use Rattle.ospf_lsdb.proofs.TimerLemmas.{all_stored, stored_one, rising_from-sorted, AreDue-put, Puts-stored, held_of-stored, comes_to}
 
 -- a map that changed at one key, and what is due with it
 pub IsKept-put : (clock : ℕ) (key : LsaKey) (o : Option Stored) (m n : BTreeMap LsaKey Stored) (due after : List AgeDue) → AreKeptEntries clock m.entries due → tree.IsOrdered key_cmp n
@@ -31,7 +31,7 @@ IsKept-put clock key o m n due after kept ordered put fits are_due = record {
         let at : stored_of n.entries k ≡ stored_of m.entries k = put k ∙ (rw two refl) in
         stored_one clock m.entries kept.stored k s (sym at ∙ is)
   ]);
-  rising = KeysRise-ordered (keys_of n.entries) ordered;
+  rising = rising_from-sorted (keys_of n.entries) ordered;
   are_due = are_due;
 }
 

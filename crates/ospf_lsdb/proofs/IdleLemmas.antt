@@ -12,7 +12,7 @@ use Rattle.ospf_lsdb.proofs.MapLemmas.{bool_cases}
 use Rattle.ospf_lsdb.proofs.MomentLemmas.{same_due-refl, split_and}
 use Rattle.ospf_lsdb.proofs.RingLemmas.{ahead-now, ahead-of, ahead-tick}
 use Rattle.ospf_lsdb.proofs.TimerLemmas.{bool_or, told_cases, coming_is}
-use Rattle.ospf_lsdb.proofs.TickLemmas.{then_at, Forgets, Looks, ordered-KeysRise, ticks_kept, ticks_ages}
+use Rattle.ospf_lsdb.proofs.TickLemmas.{then_at, Forgets, Looks, sorted_from-rising, ticks_kept, ticks_ages}
 
 -- less is due, so it stays idle
 pub idle_fewer : (clock count : ℕ) (due after : List AgeDue) → IsIdleUntil clock count due → ((q : AgeDue) → has_due after q ≡ true → has_due due q ≡ true) → IsIdleUntil clock count after
@@ -97,7 +97,7 @@ idle_untouched clock idle es due kept quiet two q = ap (λ (ks : List LsaKey). i
 -- what is kept stays so
 pub idle_kept : (clock idle : ℕ) (m : BTreeMap LsaKey Stored) (due : List AgeDue) → AreKeptEntries clock m.entries due → IsIdleUntil clock idle due → 2 ≤ idle → AreKeptEntries (then_at clock) m.entries due
 idle_kept clock idle m due kept quiet two =
-    ticks_kept clock m m due due kept (ordered-KeysRise (keys_of m.entries) kept.rising) (idle_forgets clock idle m.entries due kept quiet two) (idle_untouched clock idle m.entries due kept quiet two)
+    ticks_kept clock m m due due kept (sorted_from-rising (keys_of m.entries) kept.rising) (idle_forgets clock idle m.entries due kept quiet two) (idle_untouched clock idle m.entries due kept quiet two)
 
 -- the next that is due is one moment nearer
 pub idle_less : (clock next : ℕ) (due : List AgeDue) → clock < 65536 → IsIdleUntil clock (ahead clock next) due → 2 ≤ ahead clock next → IsIdleUntil (then_at clock) (ahead (then_at clock) next) due

@@ -2,15 +2,16 @@
 use Rattle.std.proofs.Common.{◌≡◌, ◌<◌, ◌≤◌, ◌⊎◌, inl, inr, ℕ, ◌+◌, ◌==◌, ◌&&◌, ◌||◌, nat_lt, Bool, true, false, List, [], ◌∷◌, ◌++◌, filter, map, length, refl, ap, sym, ◌∙◌, subst, arith, Option, None, Some, option_map, if◌then◌else◌}
 use Rattle.std.proofs.lemmas.Bool.{lt-ltb}
 use Rattle.std.proofs.lemmas.List.{length-map, nil_from_length}
+use Rattle.ospf_base.specs.Rising.{IsRisingBy}
 use Rattle.ospf_base.specs.declared.ids.LsaKey.{LsaKey}
 use Rattle.ospf_base.specs.Keys.{Precedes, same_key}
 use Rattle.ospf_base.proofs.KeyOrder.{Precedes-cases}
 use Rattle.ospf_base.proofs.SameKeys.{same_key-eq, same_key-refl}
-use Rattle.ospf_lsdb.specs.Database.{Ages, AreKeysRising, Entry, Held, Installs, IsDatabase, Puts, expired, held_of, is_expired, is_fresh, is_some_and, key_at, key_in, older, reached_at, removed}
+use Rattle.ospf_lsdb.specs.Database.{Ages, Entry, Held, Installs, IsDatabase, Puts, expired, held_of, is_expired, is_fresh, is_some_and, key_at, key_in, older, reached_at, removed}
+use Rattle.ospf_lsdb.proofs.Words.{AreKeysRising}
 use Rattle.ospf_lsdb.specs.Expired.{IsIndex, KeysValue, SetsKey}
 use Rattle.ospf_lsdb.specs.Moments.{among}
 use Rattle.ospf_lsdb.specs.Places.{AllBefore, AllAfter}
-use Rattle.ospf_lsdb.specs.Timers.{KeysRise}
 use Rattle.ospf_lsdb.proofs.EntryLemmas.{is_expired-old, is_expired-young, older-young, older-old}
 use Rattle.ospf_lsdb.proofs.KeyLists.{set_same}
 use Rattle.ospf_lsdb.proofs.MapLaws.{one_database}
@@ -141,15 +142,15 @@ abbrev expired_keys : List Held → List LsaKey
 expired_keys db = keys_where is_expired db
 
 -- they rise
-index_rises : (db : List Held) (list : KeysValue) → IsDatabase db → IsIndex db list → KeysRise list.keys
-index_rises db list is_db index = subst (λ (ks : List LsaKey). KeysRise ks) (sym index.keys) (where-rise is_expired db is_db.rising)
+index_rises : (db : List Held) (list : KeysValue) → IsDatabase db → IsIndex db list → IsRisingBy Precedes list.keys
+index_rises db list is_db index = subst (λ (ks : List LsaKey). IsRisingBy Precedes ks) (sym index.keys) (where-rise is_expired db is_db.rising)
 
 -- which are there
 index_among : (db : List Held) (list : KeysValue) → IsDatabase db → IsIndex db list → (k : LsaKey) → among list.keys k ≡ is_some_and is_expired (held_of db k)
 index_among db list is_db index k = ap (λ (ks : List LsaKey). among ks k) index.keys ∙ where-among is_expired db is_db.rising k
 
 -- by those that are there
-index_from : (db : List Held) (list : KeysValue) → IsDatabase db → KeysRise list.keys → ((k : LsaKey) → among list.keys k ≡ is_some_and is_expired (held_of db k)) → length db ≤ list.room → IsIndex db list
+index_from : (db : List Held) (list : KeysValue) → IsDatabase db → IsRisingBy Precedes list.keys → ((k : LsaKey) → among list.keys k ≡ is_some_and is_expired (held_of db k)) → length db ≤ list.room → IsIndex db list
 index_from db list is_db rises here room = record {
   keys = same_keys_lists list.keys (expired_keys db) rises (where-rise is_expired db is_db.rising) (λ k. here k ∙ sym (where-among is_expired db is_db.rising k));
   room = room;
@@ -157,7 +158,7 @@ index_from db list is_db rises here room = record {
 
 -- the entry of a key changes, and so its place in the list
 pub index_puts : (key : LsaKey) (o : Option Held) (is_in : Bool) (a b : List Held) (before after : KeysValue) → IsDatabase a → IsDatabase b → Puts key o a b → before.keys ≡ expired_keys a
-    → is_in ≡ is_some_and is_expired o → KeysRise after.keys → SetsKey key is_in before.keys after.keys → length b ≤ after.room → IsIndex b after
+    → is_in ≡ is_some_and is_expired o → IsRisingBy Precedes after.keys → SetsKey key is_in before.keys after.keys → length b ≤ after.room → IsIndex b after
 index_puts key o is_in a b before after is_a is_b puts was same rises sets room = index_from b after is_b rises (λ k. sets k ∙ here k) room
   where
     here : (k : LsaKey) → (if same_key key k then is_in else among before.keys k) ≡ is_some_and is_expired (held_of b k)
@@ -173,7 +174,7 @@ index_puts key o is_in a b before after is_a is_b puts was same rises sets room 
 
 -- an LSA is installed
 pub index_installs : (key : LsaKey) (e : Entry) (is_in : Bool) (a b : List Held) (before after : KeysValue) → IsDatabase a → IsDatabase b → Installs e a b → key ≡ key_in e.contents → before.keys ≡ expired_keys a
-    → is_in ≡ (e.age == 3600) → KeysRise after.keys → SetsKey key is_in before.keys after.keys → length a + 1 ≤ after.room → IsIndex b after
+    → is_in ≡ (e.age == 3600) → IsRisingBy Precedes after.keys → SetsKey key is_in before.keys after.keys → length a + 1 ≤ after.room → IsIndex b after
 index_installs key e is_in a b before after is_a is_b puts same was is_old rises sets room =
     let now : Option Held = Some (record { entry = e; reached = false }) in
     let put : Puts key now a b = subst (λ (k : LsaKey). Puts k now a b) (sym same) puts in
@@ -252,7 +253,7 @@ comes (Some h) = elim (age_order h.entry.age) [
     young_comes n young = grind arith
 
 pub index_ages : (a b : List Held) (before after : KeysValue) → IsDatabase a → IsDatabase b → Ages a b → IsIndex a before
-    → KeysRise after.keys → ((k : LsaKey) → among after.keys k ≡ (among (reached_at 3600 b) k || among before.keys k)) → before.room ≤ after.room → IsIndex b after
+    → IsRisingBy Precedes after.keys → ((k : LsaKey) → among after.keys k ≡ (among (reached_at 3600 b) k || among before.keys k)) → before.room ≤ after.room → IsIndex b after
 index_ages a b before after is_a is_b ages index rises here room = index_from b after is_b rises (λ k. here k ∙ there_now k) fits
   where
     there_now : (k : LsaKey) → (among (reached_at 3600 b) k || among before.keys k) ≡ is_some_and is_expired (held_of b k)

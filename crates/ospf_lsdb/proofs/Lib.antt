@@ -1,3 +1,4 @@
+pub mod Words
 pub mod EntryLemmas
 pub mod MapLemmas
 pub mod RisingLemmas

@@ -3,7 +3,8 @@ use Rattle.std.proofs.Common.{◌≡◌, inl, inr, nat_lt, false, List, [], ◌�
 use Rattle.ospf_base.specs.declared.ids.LsaKey.{LsaKey}
 use Rattle.ospf_base.specs.Keys.{Precedes, same_key}
 use Rattle.ospf_base.proofs.KeyOrder.{Precedes-cases}
-use Rattle.ospf_lsdb.specs.Database.{Entry, Held, key_at, key_in, held_of, aged, older, AreKeysRising}
+use Rattle.ospf_lsdb.specs.Database.{Entry, Held, key_at, key_in, held_of, aged, older}
+use Rattle.ospf_lsdb.proofs.Words.{AreKeysRising}
 use Rattle.ospf_lsdb.specs.Laws.{InstallsOne, TickAgesAll, OneDatabaseOfAMap}
 use Rattle.ospf_lsdb.proofs.MapLemmas.{bool_cases, after-none}
 use Rattle.ospf_base.proofs.SameKeys.{same_key-eq, same_key-refl}

@@ -4,15 +4,17 @@ use Rattle.std.proofs.lemmas.Bool.{eqb-true}
 use Rattle.std.specs.List.{AllByRecursion}
 use Rattle.std.specs.List.Sorted.{IsStrictlySortedBy}
 use Rattle.std.specs.declared.cmp.Ordering.TheVariants.{Less}
+use Rattle.ospf_base.specs.Rising.{IsRisingBy}
 use Rattle.ospf_base.specs.Keys.{Precedes, same_key}
 use Rattle.ospf_base.proofs.KeyOrder.{Precedes-cases, Precedes-trans}
 use Rattle.ospf_base.specs.declared.ids.LsaKey.{LsaKey}
-use Rattle.ospf_lsdb.specs.Database.{Held, key_at, held_of, is_some_and, reached_at, AreKeysRising}
+use Rattle.ospf_lsdb.specs.Database.{Held, key_at, held_of, is_some_and, reached_at}
+use Rattle.ospf_lsdb.proofs.Words.{AreKeysRising}
 use Rattle.ospf_lsdb.specs.Places.{AllAfter}
 use Rattle.ospf_lsdb.specs.declared.moments.AgeDue.{AgeDue}
 use Rattle.ospf_lsdb.specs.declared.dated.Stored.{Stored}
 use Rattle.ospf_lsdb.specs.Moments.{due_cmp, has_due, same_due, is_due_at, keys_at, among}
-use Rattle.ospf_lsdb.specs.Timers.{age_at, held_at, stored_of, age_of, AreDue, KeysRise, AreKeptEntries}
+use Rattle.ospf_lsdb.specs.Timers.{age_at, held_at, stored_of, age_of, AreDue, AreKeptEntries}
 use Rattle.ospf_lsdb.proofs.MapLemmas.{bool_cases}
 use Rattle.ospf_base.proofs.SameKeys.{same_key-eq, same_key-refl, same_key-apart_after}
 use Rattle.ospf_lsdb.proofs.MomentLemmas.{same_due-eq, same_due-refl, split_and, made_is, apart_at}
@@ -35,7 +37,7 @@ among_first : (k : LsaKey) (ks : List LsaKey) → among (k ∷ ks) k ≡ true
 among_first k ks = let is = same_key-refl k in rw is refl
 
 -- rising lists of the same keys are one
-pub same_keys_lists : (a b : List LsaKey) → KeysRise a → KeysRise b → ((k : LsaKey) → among a k ≡ among b k) → a ≡ b
+pub same_keys_lists : (a b : List LsaKey) → IsRisingBy Precedes a → IsRisingBy Precedes b → ((k : LsaKey) → among a k ≡ among b k) → a ≡ b
 same_keys_lists [] [] ra rb same = refl
 same_keys_lists [] (y ∷ ys) ra rb same = absurd (let e = same y in let f = among_first y ys in cc)
 same_keys_lists (x ∷ xs) [] ra rb same = absurd (let e = same x in let f = among_first x xs in cc)
@@ -75,7 +77,7 @@ due_after m a d (x ∷ xs) at less = elim (bool_cases (is_due_at m a x)) [
   | inr two ↦ rw two (due_after m a d xs at less.1)
 ]
 
-pub keys_at-rise : (m a : ℕ) (ds : List AgeDue) → IsStrictlySortedBy due_cmp ds → KeysRise (keys_at m a ds)
+pub keys_at-rise : (m a : ℕ) (ds : List AgeDue) → IsStrictlySortedBy due_cmp ds → IsRisingBy Precedes (keys_at m a ds)
 unfolding keys_at IsStrictlySortedBy
 keys_at-rise m a [] sorted = tt
 keys_at-rise m a (d ∷ ds) sorted = elim (bool_cases (is_due_at m a d)) [
@@ -120,7 +122,7 @@ where_after test k (h ∷ hs) after = elim (bool_cases (test h)) [
   | inr two ↦ rw two (where_after test k hs after.1)
 ]
 
-pub where-rise : (test : Held → Bool) (hs : List Held) → AreKeysRising hs → KeysRise (keys_where test hs)
+pub where-rise : (test : Held → Bool) (hs : List Held) → AreKeysRising hs → IsRisingBy Precedes (keys_where test hs)
 where-rise test [] rises = tt
 where-rise test (h ∷ hs) rises = elim (bool_cases (test h)) [
   | inl one ↦ rw one (where_after test (key_at h) hs rises.0, where-rise test hs rises.1)
@@ -143,7 +145,7 @@ where-among test (h ∷ hs) rises k = elim (bool_cases (same_key (key_at h) k)) 
   ]
 ]
 
-pub reached-rise : (age : ℕ) (hs : List Held) → AreKeysRising hs → KeysRise (reached_at age hs)
+pub reached-rise : (age : ℕ) (hs : List Held) → AreKeysRising hs → IsRisingBy Precedes (reached_at age hs)
 unfolding reached_at
 reached-rise age hs rises = where-rise (λ h. h.reached && (h.entry.age == age)) hs rises
 

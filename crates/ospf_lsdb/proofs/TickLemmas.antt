@@ -6,6 +6,7 @@ use Rattle.std.specs.List.{AllByRecursion}
 use Rattle.std.specs.List.Sorted.{IsStrictlySortedBy}
 use Rattle.std.specs.Map.{keys_of}
 use Rattle.std.specs.declared.cmp.Ordering.TheVariants.{Less}
+use Rattle.ospf_base.specs.Rising.{IsRisingBy}
 use Rattle.ospf_base.specs.Keys.{Precedes, key_cmp}
 use Rattle.ospf_base.specs.declared.ids.LsaKey.{LsaKey}
 use Rattle.ospf_lsdb.specs.Database.{Held, is_told, older, reached_at, Ages}
@@ -14,21 +15,21 @@ use Rattle.ospf_lsdb.specs.declared.dated.Stored.{Stored}
 use Rattle.ospf_lsdb.specs.declared.dated.Timer.{Timer}
 use Rattle.ospf_lsdb.specs.declared.dated.Timer.TheVariants.{Since, Expired}
 use Rattle.ospf_lsdb.specs.Moments.{ahead, due_cmp, has_due, is_due_at, keys_at, among}
-use Rattle.ospf_lsdb.specs.Timers.{age_at, held_at, stored_of, age_of, timer_stopped, ComesToAge, AreDue, IsStored, KeysRise, AreKeptEntries}
+use Rattle.ospf_lsdb.specs.Timers.{age_at, held_at, stored_of, age_of, timer_stopped, ComesToAge, AreDue, IsStored, AreKeptEntries}
 use Rattle.ospf_lsdb.proofs.EntryLemmas.{older-young, older-old}
 use Rattle.ospf_lsdb.proofs.MapLemmas.{bool_cases}
 use Rattle.ospf_lsdb.proofs.MomentLemmas.{split_and}
 use Rattle.ospf_base.proofs.KeyMaps.{less-key_cmp}
 use Rattle.ospf_lsdb.proofs.RingLemmas.{ahead-none, ahead-now, ahead-of, ahead-tick, ahead-past}
-use Rattle.ospf_lsdb.proofs.TimerLemmas.{told_cases, all_stored, stored_one, held_of-stored, KeysRise-ordered}
+use Rattle.ospf_lsdb.proofs.TimerLemmas.{told_cases, all_stored, stored_one, held_of-stored, rising_from-sorted}
 use Rattle.ospf_lsdb.proofs.ExpireLemmas.{parted, stored_aged, held_made}
 use Rattle.ospf_lsdb.proofs.ReachedKeys.{keys_at-among, keys_at-reached}
 
 -- the keys' order is the map's
-pub ordered-KeysRise : (ks : List LsaKey) → KeysRise ks → IsStrictlySortedBy key_cmp ks
+pub sorted_from-rising : (ks : List LsaKey) → IsRisingBy Precedes ks → IsStrictlySortedBy key_cmp ks
 unfolding IsStrictlySortedBy
-ordered-KeysRise [] rises = tt
-ordered-KeysRise (k ∷ ks) rises = (all_after k ks rises.0, ordered-KeysRise ks rises.1)
+sorted_from-rising [] rises = tt
+sorted_from-rising (k ∷ ks) rises = (all_after k ks rises.0, sorted_from-rising ks rises.1)
   where
     all_after : (k : LsaKey) (ks : List LsaKey) → AllByRecursion (λ o. Precedes k o) ks → AllByRecursion (λ y. key_cmp k y ≡ Less) ks
     all_after k [] all = tt
@@ -309,7 +310,7 @@ pub ticks_kept : (clock : ℕ) (m n : BTreeMap LsaKey Stored) (due after : List 
 ticks_kept clock m n due after kept ordered ops looks = record {
   on_ring = omega arith;
   stored = all_stored (IsStored (then_at clock)) n ordered (λ k t is. (ticks_one clock m.entries n.entries due after kept ops looks k t is).2.stored);
-  rising = KeysRise-ordered (keys_of n.entries) ordered;
+  rising = rising_from-sorted (keys_of n.entries) ordered;
   are_due = record {
     sound = due_sound clock m.entries n.entries due after kept ops looks;
     whole = due_whole clock m.entries n.entries due after kept ops looks;

@@ -9,16 +9,18 @@ use Rattle.std.specs.BTreeMap as tree
 use Rattle.std.proofs.lemmas.Map.Views.{All-found}
 use Rattle.std.proofs.lemmas.List.Elements.{recursion_from_All}
 use Rattle.std.specs.Cmp.{IsTotalOrder}
+use Rattle.ospf_base.specs.Rising.{IsRisingBy}
 use Rattle.ospf_base.specs.contracts.ids.LsaKeyOrd.TheImpl.Laws.{total-law}
 use Rattle.ospf_base.specs.Keys.{Precedes, same_key, key_cmp}
 use Rattle.ospf_base.specs.declared.ids.LsaKey.{LsaKey}
-use Rattle.ospf_lsdb.specs.Database.{key_at, held_of, is_told, AreKeysRising, IsDatabase, Puts}
+use Rattle.ospf_lsdb.specs.Database.{key_at, held_of, is_told, IsDatabase, Puts}
+use Rattle.ospf_lsdb.proofs.Words.{AreKeysRising}
 use Rattle.ospf_lsdb.specs.Places.{AllAfter}
 use Rattle.ospf_lsdb.specs.declared.moments.AgeDue.{AgeDue}
 use Rattle.ospf_lsdb.specs.declared.dated.Stored.{Stored}
 use Rattle.ospf_lsdb.specs.Moments.{ahead, has_due, same_due, coming, is_coming}
 use Rattle.std.proofs.lemmas.Bool.{eqb-true, lt-ltb, ltb-true}
-use Rattle.ospf_lsdb.specs.Timers.{age_at, held_at, stored_of, age_of, ComesToAge, AreDue, IsStored, KeysRise, AreKeptEntries, timer_stopped}
+use Rattle.ospf_lsdb.specs.Timers.{age_at, held_at, stored_of, age_of, ComesToAge, AreDue, IsStored, AreKeptEntries, timer_stopped}
 use Rattle.ospf_lsdb.specs.declared.dated.Timer.TheVariants.{Expired}
 use Rattle.ospf_lsdb.proofs.MapLemmas.{bool_cases}
 use Rattle.ospf_base.proofs.SameKeys.{same_key-eq}
@@ -64,7 +66,7 @@ all_after_keys : (clock : ℕ) (due : List AgeDue) (k : LsaKey) (es : List (LsaK
 all_after_keys clock due k [] all after = tt
 all_after_keys clock due k (e ∷ es) all after = (subst (λ (q : LsaKey). Precedes k q) (sym all.0.0) after.0, all_after_keys clock due k es all.1 after.1)
 
-pub rising_stored : (clock : ℕ) (due : List AgeDue) (es : List (LsaKey × Stored)) → AllByRecursion (IsStored clock) es → KeysRise (keys_of es) → AreKeysRising (map (held_at clock due) es)
+pub rising_stored : (clock : ℕ) (due : List AgeDue) (es : List (LsaKey × Stored)) → AllByRecursion (IsStored clock) es → IsRisingBy Precedes (keys_of es) → AreKeysRising (map (held_at clock due) es)
 rising_stored clock due [] all rise = tt
 rising_stored clock due (e ∷ es) all rise = (subst (λ (q : LsaKey). AllAfter q (map (held_at clock due) es)) (sym all.0.0) (all_after_keys clock due e.0 es all.1 rise.0), rising_stored clock due es all.1 rise.1)
 
@@ -81,10 +83,10 @@ all_less k [] all = tt
 all_less k (x ∷ xs) all = (key_cmp-less k x all.0, all_less k xs all.1)
 
 -- the map's order is the keys'
-pub KeysRise-ordered : (ks : List LsaKey) → IsStrictlySortedBy key_cmp ks → KeysRise ks
+pub rising_from-sorted : (ks : List LsaKey) → IsStrictlySortedBy key_cmp ks → IsRisingBy Precedes ks
 unfolding IsStrictlySortedBy
-KeysRise-ordered [] sorted = tt
-KeysRise-ordered (k ∷ ks) sorted = (all_less k ks sorted.0, KeysRise-ordered ks sorted.1)
+rising_from-sorted [] sorted = tt
+rising_from-sorted (k ∷ ks) sorted = (all_less k ks sorted.0, rising_from-sorted ks sorted.1)
 
 -- what holds of each entry holds of the one of a key
 pub stored_one : (clock : ℕ) (es : List (LsaKey × Stored)) → AllByRecursion (IsStored clock) es → (k : LsaKey) (s : Stored) → stored_of es k ≡ Some s → IsStored clock (k, s)

@@ -1,6 +1,7 @@
 -- The link state database (RFC 2328, sections 12.2 and 14): a map from keys to entries.
 use Rattle.std.specs.Prelude.{◌≡◌, ◌==◌, ◌&&◌, ◌||◌, ℕ, ◌+◌, ◌≤◌, Bool, false, List, [], ◌∷◌, ◌++◌, map, filter, find, Option, None, Some, option_map, if◌then◌else◌, nat_lt}
 use Rattle.std.specs.List.{AllByRecursion}
+use Rattle.ospf_base.specs.Rising.{IsRisingBy}
 use Rattle.ospf_base.specs.Bytes.{number_bytes}
 use Rattle.ospf_base.specs.Constants.{max_age}
 use Rattle.ospf_base.specs.Keys.{same_key, Precedes}
@@ -74,14 +75,9 @@ held_of db key = find (λ h. same_key (key_at h) key) db
 abbrev pub entry_of : List Held → LsaKey → Option Entry
 entry_of db key = option_map (λ h. h.entry) (held_of db key)
 
--- the keys rise, so no two are the same
-abbrev pub AreKeysRising : List Held → Type 0
-AreKeysRising [] = Unit {0}
-AreKeysRising (h ∷ hs) = AllByRecursion (λ o. Precedes (key_at h) (key_at o)) hs × AreKeysRising hs
-
 -- a database: its entries in the order of their keys, at most one a key, none older than MaxAge
 pub record IsDatabase (db : List Held) : Type 0 where
-  pub rising : AreKeysRising db
+  pub rising : IsRisingBy (λ a b. Precedes (key_at a) (key_at b)) db
   pub ages : AllByRecursion (λ h. h.entry.age ≤ max_age) db
 
 -- the entry of one key is another, which may be none, and all else is as it was

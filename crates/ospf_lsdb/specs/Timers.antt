@@ -1,8 +1,9 @@
 -- Entries as they are stored: how old each is follows from a moment on
 -- a ring (RFC 2328, section 14).
-use Rattle.std.specs.Prelude.{◌≡◌, ℕ, ◌+◌, ◌<◌, ◌≤◌, Bool, true, List, [], ◌∷◌, Option, Some, option_map, if◌then◌else◌}
+use Rattle.std.specs.Prelude.{◌≡◌, ℕ, ◌+◌, ◌<◌, ◌≤◌, Bool, true, List, Option, Some, option_map, if◌then◌else◌}
 use Rattle.std.specs.List.{AllByRecursion}
 use Rattle.std.specs.Map.{lookup, keys_of}
+use Rattle.ospf_base.specs.Rising.{IsRisingBy}
 use Rattle.ospf_base.specs.Constants.{max_age}
 use Rattle.ospf_base.specs.Keys.{Precedes, same_key}
 use Rattle.ospf_base.specs.declared.ids.LsaKey.{LsaKey}
@@ -71,17 +72,12 @@ IsStored clock e =
     (key_in e.1.lsa ≡ e.0) × (age_at clock e.1.timer ≤ max_age)
     × (age_at clock e.1.timer ≡ max_age → e.1.timer ≡ Expired)
 
--- the keys rise
-abbrev pub KeysRise : List LsaKey → Type 0
-KeysRise [] = Unit {0}
-KeysRise (k ∷ ks) = AllByRecursion (λ o. Precedes k o) ks × KeysRise ks
-
 -- a database as it is stored, at this moment, and the ages that its entries are yet to come to
 pub record AreKeptEntries (clock : ℕ) (entries : List (LsaKey × Stored)) (due : List AgeDue)
     : Type 0 where
   pub on_ring : clock < 65536
   pub stored : AllByRecursion (IsStored clock) entries
-  pub rising : KeysRise (keys_of entries)
+  pub rising : IsRisingBy Precedes (keys_of entries)
   pub are_due : AreDue clock entries due
 
 -- what is stored at a moment, and the moment before which nothing is due

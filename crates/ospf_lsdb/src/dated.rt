@@ -1,7 +1,7 @@
 //! The entries of a database: a map of entries, whose ages follow from the
 //! moment that a ring has come to.
 
-ghost use Rattle.std.specs.Prelude.{◌≡◌, ◌≤◌, ◌<◌, ◌⊎◌, ◌+◌, ◌-◌, ℕ, List, [], length, map, ◌^◌, OnOk, OnErr, IfOk, option_map, if◌then◌else◌};
+ghost use Rattle.std.specs.Prelude.{◌≡◌, ◌≤◌, ◌<◌, ◌⊎◌, ◌+◌, ◌-◌, List, [], length, map, ◌^◌, OnOk, OnErr, IfOk, option_map, if◌then◌else◌};
 ghost use Rattle.ospf_base.specs.Constants.{max_age};
 ghost use Rattle.ospf_base.specs.declared.ids.LsaKey.{LsaKey};
 ghost use Rattle.ospf_lsdb.specs.Database.{Held, entry_from, held_of, entry_of, IsDatabase, Puts, Installs, Ages, expired, removed, is_fresh, is_expired, is_some_and, listed, ls_refresh_time, reached_at};
@@ -95,8 +95,7 @@ impl Dated {
         ensures database { IsDatabase self.now }
     {
         let stored = self.entries.get(key)?;
-        let age = stored.timer.age(self.clock);
-        Some(EntryView::new(&stored.lsa, age, stored.tick, stored.by_flooding))
+        Some(stored.at(self.clock))
     }
 
     /// The entries in the order of their keys, each at its present age.
@@ -218,8 +217,7 @@ impl Dated {
     {
         let mut listing = Listing::new(alloc);
         for stored in self.entries.values() {
-            let age = stored.timer.age(self.clock);
-            let entry = EntryView::new(&stored.lsa, age, stored.tick, stored.by_flooding);
+            let entry = stored.at(self.clock);
             add_fresh(&mut listing, &entry, alloc)?;
         }
         Ok(listing)

@@ -1,10 +1,11 @@
 //! The keys of the entries at `MAX_AGE`.
 
 ghost use Rattle.std.specs.Prelude.{◌≡◌, ◌+◌, ◌<◌, ◌≤◌, ◌||◌, [], true, false, length, OnOk};
+ghost use Rattle.ospf_base.specs.Rising.{IsRisingBy};
+ghost use Rattle.ospf_base.specs.Keys.{Precedes};
 ghost use Rattle.ospf_base.specs.declared.ids.LsaKey.{LsaKey};
 ghost use Rattle.ospf_lsdb.specs.Expired.{SetsKey};
 ghost use Rattle.ospf_lsdb.specs.Moments.{among};
-ghost use Rattle.ospf_lsdb.specs.Timers.{KeysRise};
 
 use crate::moments::AgesReached;
 use ospf_base::LsaKey;
@@ -19,14 +20,15 @@ pub(crate) struct ExpiredKeys {
 
 impl Model for ExpiredKeys {
     ghost use Rattle.std.specs.Prelude.{vec_capacity};
+    ghost use Rattle.ospf_base.specs.Rising.{IsRisingBy};
+    ghost use Rattle.ospf_base.specs.Keys.{Precedes};
     ghost use Rattle.ospf_lsdb.specs.Expired.{KeysValue};
-    ghost use Rattle.ospf_lsdb.specs.Timers.{KeysRise};
 
     ghost Value = { KeysValue };
 
     ghost view = { λ e. record { keys = e.keys.items; room = vec_capacity e.keys } };
 
-    ghost invariant = { λ e. KeysRise e.keys.items };
+    ghost invariant = { λ e. IsRisingBy Precedes e.keys.items };
 }
 
 impl ExpiredKeys {
@@ -46,7 +48,7 @@ impl ExpiredKeys {
 
     pub(crate) fn keys(&self) -> &[LsaKey]
         ensures keys { result.now ≡ self.now.keys }
-        ensures rising { KeysRise self.now.keys }
+        ensures rising { IsRisingBy Precedes self.now.keys }
     {
         &self.keys
     }
@@ -67,7 +69,7 @@ impl ExpiredKeys {
         requires { length self.old.keys < self.old.room }
         ensures keys { SetsKey key true self.old.keys self.new.keys }
         // The keys stay in order; there is at most one more, and no less room.
-        ensures rising { KeysRise self.new.keys }
+        ensures rising { IsRisingBy Precedes self.new.keys }
         ensures room { self.old.room ≤ self.new.room }
         ensures one_more { length self.new.keys ≤ length self.old.keys + 1 }
     {
@@ -84,7 +86,7 @@ impl ExpiredKeys {
         requires { length self.old.keys + length keys ≤ self.old.room }
         ensures keys { (k : LsaKey) → among self.new.keys k
             ≡ (among keys.entry k || among self.old.keys k) }
-        ensures rising { KeysRise self.new.keys }
+        ensures rising { IsRisingBy Precedes self.new.keys }
         ensures room { self.old.room ≤ self.new.room }
     {
         // For the proof.
@@ -97,7 +99,7 @@ impl ExpiredKeys {
     /// Takes a key out.
     pub(crate) fn remove(&mut self, key: &LsaKey)
         ensures keys { SetsKey key.now false self.old.keys self.new.keys }
-        ensures rising { KeysRise self.new.keys }
+        ensures rising { IsRisingBy Precedes self.new.keys }
         ensures room { self.old.room ≤ self.new.room }
     {
         if let Ok(place) = self.keys.binary_search(key) {

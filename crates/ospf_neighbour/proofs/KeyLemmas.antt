@@ -1,5 +1,5 @@
 -- The keys of a retransmission list, and a list that has no entry of a key.
-use Rattle.std.proofs.Common.{◌≡◌, ◌⊎◌, ◌&&◌, ◌||◌, ◌==◌, ◌∙◌, ◌++◌, ◌<◌, ◌+◌, ℕ, Bool, true, false, cond, not, List, [], ◌∷◌, length, map, filter, take, get_or, inl, inr, refl, sym, ap, subst, if◌then◌else◌, ◌≤◌, zero, suc, drop, Option, Some, None, arith}
+use Rattle.std.proofs.Common.{◌≡◌, ◌⊎◌, ◌&&◌, ◌||◌, ◌==◌, ◌∙◌, ◌++◌, ◌<◌, ◌+◌, ℕ, Bool, true, false, cond, not, List, [], ◌∷◌, length, map, filter, take, get_or, inl, inr, refl, sym, ap, subst, if◌then◌else◌, Option, Some, None}
 use Rattle.std.specs.List.{AllByRecursion, list_any, position, position_from}
 use Rattle.std.proofs.lemmas.Bool.{false≢true}
 use Rattle.std.proofs.lemmas.List.{take_more}
@@ -48,10 +48,10 @@ pub none_leaves : {X : Type 0} (p : X → Bool) (xs : List X) → list_any p xs 
 none_leaves p [] none = refl
 none_leaves p (x ∷ xs) none = kept_if (p x) (list_any p xs) x xs (filter (λ y. not (p y)) xs) none (none_leaves p xs)
 
-pub no_key_leaves : (key : LsaKey) (ls : List Listed) → is_key_listed key ls ≡ false → ls ≡ without_key key ls
+no_key_leaves : (key : LsaKey) (ls : List Listed) → is_key_listed key ls ≡ false → ls ≡ without_key key ls
 no_key_leaves key ls none = sym (none_leaves (is_of_key key) ls none)
 
-pub no_instance_leaves : (i : Instance) (ls : List Listed) → is_listed i ls ≡ false → ls ≡ without_instance i ls
+no_instance_leaves : (i : Instance) (ls : List Listed) → is_listed i ls ≡ false → ls ≡ without_instance i ls
 no_instance_leaves i ls none = sym (none_leaves (is_of_instance i) ls none)
 
 no_instance_if : (k x y more rest : Bool) → k || more ≡ false → (more ≡ false → rest ≡ false) → ((k && x) && y) || rest ≡ false
@@ -89,18 +89,6 @@ nowhere p xs none = none_any p 0 xs (sym (position_from-zero p xs) ∙ none)
 pub no_place_leaves : (i : Instance) (ls : List Listed) → position (is_of_instance i) ls ≡ None → ls ≡ without_instance i ls
 no_place_leaves i ls none = no_instance_leaves i ls (nowhere (is_of_instance i) ls none)
 
-sent_if : (b more : Bool) (tick : ℕ) (l : Listed) (ls sent : List Listed) → b || more ≡ false → (more ≡ false → ls ≡ sent)
-    → l ∷ ls ≡ (if b then record l { sent_at = tick } else l) ∷ sent
-sent_if true more tick l ls sent none rest = absurd (false≢true (sym none))
-sent_if false more tick l ls sent none rest = ap (λ (k : List Listed). l ∷ k) (rest none)
-
-none_sent : (i : Instance) (tick : ℕ) (ls : List Listed) → is_listed i ls ≡ false → ls ≡ map (sent_again i tick) ls
-none_sent i tick [] none = refl
-none_sent i tick (l ∷ ls) none = sent_if (is_of_instance i l) (is_listed i ls) tick l ls (map (sent_again i tick) ls) none (none_sent i tick ls)
-
-pub no_key_sent : (i : Instance) (tick : ℕ) (ls : List Listed) → is_key_listed i.key ls ≡ false → ls ≡ map (sent_again i tick) ls
-no_key_sent i tick ls none = none_sent i tick ls (no_instance i ls none)
-
 -- ---- an instance that is alone of its key
 
 bool_cases : (b : Bool) → (b ≡ true) ⊎ (b ≡ false)
@@ -130,12 +118,6 @@ dropped a b l xs ys p q r = rw (p, q) r
 kept : (a b : Bool) (l : Listed) (xs ys : List Listed) → a ≡ false → b ≡ false → xs ≡ ys → cond (not a) (l ∷ xs) xs ≡ cond (not b) (l ∷ ys) ys
 kept a b l xs ys p q r = rw (p, q) (ap (λ (k : List Listed). l ∷ k) r)
 
-gone : (b : Bool) (l : Listed) (ls : List Listed) → b ≡ true → cond (not b) (l ∷ ls) ls ≡ ls
-gone b l ls is = rw is refl
-
-stays : (b : Bool) (l : Listed) (ls : List Listed) → b ≡ false → cond (not b) (l ∷ ls) ls ≡ l ∷ ls
-stays b l ls is = rw is refl
-
 -- it leaves as its key does
 pub alone_leaves : (i : Instance) (ls : List Listed) → IsAloneOfKeys ls → is_listed i ls ≡ true → without_key i.key ls ≡ without_instance i ls
 alone_leaves i [] alone is = refl
@@ -153,28 +135,15 @@ alone_leaves i (l ∷ ls) alone is = elim (bool_cases (is_of_instance i l)) [
       (apart_listed l.instance.key i ls alone.0 more) other (alone_leaves i ls alone.1 more)
 ]
 
--- and where it stands is where it leaves
-out_at : (i : Instance) (ls : List Listed) (at : ℕ) (d : Listed) → IsAloneOfKeys ls → at + 1 ≤ length ls → is_of_instance i (get_or ls at d) ≡ true
-    → ((k : ℕ) → k + 1 ≤ at → is_of_instance i (get_or ls k d) ≡ false) → take at ls ++ drop (suc at) ls ≡ without_instance i ls
-out_at i [] at d alone within here before = absurd (omega (arith, within))
-out_at i (l ∷ ls) zero d alone within here before =
-    let same = same_instance-eq l.instance i here in
-    let all = subst (λ (j : Instance). AllByRecursion (λ (o : Listed). same_key j.key o.instance.key ≡ false) ls) same alone.0 in
-    no_instance_leaves i ls (no_instance i ls (none_of_key i.key ls all)) ∙ sym (gone (is_of_instance i l) l (without_instance i ls) here)
-out_at i (l ∷ ls) (suc at) d alone within here before =
-    ap (λ (k : List Listed). l ∷ k) (out_at i ls at d alone.1 (omega (arith, within)) here (λ k lt. before (suc k) (omega (arith, lt))))
-    ∙ sym (stays (is_of_instance i l) l (without_instance i ls) (before zero (omega arith)))
-
-pub place_leaves : (i : Instance) (ls : List Listed) (at : ℕ) (d : Listed) → IsAloneOfKeys ls → position (is_of_instance i) ls ≡ Some at
-    → take at ls ++ drop (suc at) ls ≡ without_instance i ls
-place_leaves i ls at d alone found =
-    let p = position-Some (is_of_instance i) ls at d found in
-    out_at i ls at d alone (omega (arith, p.0)) p.1 (λ k lt. p.2 k (omega (arith, lt)))
-
 pub place_listed : (i : Instance) (ls : List Listed) (at : ℕ) (d : Listed) → position (is_of_instance i) ls ≡ Some at → is_listed i ls ≡ true
 place_listed i ls at d found =
     let p = position-Some (is_of_instance i) ls at d found in
     list_any_at (is_of_instance i) ls at d p.0 p.1
+
+pub key_listed : (key : LsaKey) (ls : List Listed) (at : ℕ) (d : Listed) → position (is_of_key key) ls ≡ Some at → is_key_listed key ls ≡ true
+key_listed key ls at d found =
+    let p = position-Some (is_of_key key) ls at d found in
+    list_any_at (is_of_key key) ls at d p.0 p.1
 
 -- ---- the keys of a list
 

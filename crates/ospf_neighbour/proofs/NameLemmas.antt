@@ -65,7 +65,7 @@ one_named n h r is =
     cc
 
 -- and those of a header's name are of its LSA
-named_one : (n : LsaName) (h r : LsaHeader) → is_named n h ≡ true → is_named n r ≡ is_of_one_lsa h r
+pub named_one : (n : LsaName) (h r : LsaHeader) → is_named n h ≡ true → is_named n r ≡ is_of_one_lsa h r
 unfolding is_named is_of_one_lsa
 named_one n h r is =
     let p = split_and ((n.kind == h.kind) && (n.id == h.id)) (n.router.0 == h.router.0) is in

@@ -17,7 +17,8 @@ pub struct Accepted {
     pub number: u32,
 }
 
-/// An instance that waits for an acknowledgement, and the tick at which it was last sent.
+/// An instance that waits for an acknowledgement, and the tick at which it was last sent or, if it
+/// never was, put on the list.
 #[derive(Clone, Copy, Debug, PartialEq, Eq)]
 pub struct Listed {
     pub instance: Instance,
@@ -25,7 +26,7 @@ pub struct Listed {
     pub sent_at: u64,
 }
 
-/// What a neighbour's last Hello declares.
+/// What a neighbour's last Hello declares on a broadcast link; else zeros.
 #[derive(Clone, Copy, Debug, PartialEq, Eq)]
 pub struct Declared {
     pub priority: u8,
@@ -89,7 +90,7 @@ impl Model for Neighbour {
 }
 
 impl Neighbour {
-    ghost use Rattle.std.specs.Prelude.{◌≡◌, ◌≤◌, ◌-◌, ◌∷◌, ◌++◌, ◌↔◌, [], IsTrue, OnOk, OnErr, drop, length, take};
+    ghost use Rattle.std.specs.Prelude.{◌≡◌, ◌≤◌, ◌-◌, ◌↔◌, IsTrue, OnOk, OnErr, drop, length, take};
     ghost use Rattle.ospf_neighbour.specs.Machine.{is_exchanging, transition, LeavesNone};
     ghost use Rattle.ospf_neighbour.specs.Neighbour.{IsSoundNeighbour, is_empty, new_neighbour, effected, negotiated};
     ghost use Rattle.ospf_neighbour.specs.Lists.{request_of, requesting, unrequested, is_listed, is_key_listed, unlisted, key_unlisted, relisted, resent};
@@ -146,7 +147,7 @@ impl Neighbour {
         self.address
     }
 
-    /// What its last Hello declares.
+    /// What its last Hello declares on a broadcast link; else zeros.
     pub fn declared(&self) -> Declared
         ensures { result ≡ self.now.declared }
     {
@@ -203,8 +204,8 @@ impl Neighbour {
         &self.requests.entries()[..self.asked]
     }
 
-    /// Whether it is in Exchange or above. Below, its lists are empty. No
-    /// list has two entries of one LSA.
+    /// Whether it is in Exchange or above. Below, its lists are empty. Neither its request list nor
+    /// its retransmission list has two entries of one LSA.
     pub fn is_exchanging(&self) -> bool
         ensures value { result ≡ is_exchanging self.now.state }
         ensures lists { IsSoundNeighbour self.now.state self.now.summary self.now.last_dd
@@ -248,8 +249,8 @@ impl Neighbour {
         self.retransmission.is_key_listed(key)
     }
 
-    /// Puts an instance on the retransmission list (section 13.3), sent at this tick, in
-    /// place of all others of its key.
+    /// Puts an instance on the retransmission list at this tick (section 13.3), in place of all
+    /// others of its key.
     ///
     /// `AllocError` where memory runs out; then the neighbour is as it was.
     pub fn relist(&mut self, instance: Instance, tick: u64) -> Result<(), AllocError>
@@ -349,7 +350,7 @@ impl Neighbour {
     /// the list (section 10.8). No memory is taken.
     pub fn describe(&mut self, next: Vec<LsaHeader>)
         requires state { IsTrue (is_exchanging self.old.state) }
-        requires few { length next.items ≤ length self.old.summary }
+        requires next { next.items ≡ take (length next.items) self.old.summary }
         ensures { self.new ≡ record self.old
             { last_dd = next.items; summary = drop (length next.items) self.old.summary } }
     {

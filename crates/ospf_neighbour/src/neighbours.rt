@@ -55,8 +55,8 @@ impl Display for NeighbourFault {
 /// The neighbours of an interface, at most `MAX_NEIGHBOURS`, in rising Router ID.
 #[derive(Drop)]
 pub struct Neighbours {
-    /// All of them, to be changed in place: a function that leaves other Router IDs,
-    /// or another order, is not proved.
+    /// All of them, to be changed in place: a function that leaves them out of rising Router ID,
+    /// or more than `MAX_NEIGHBOURS`, is not proved.
     pub all: Vec<Neighbour>,
 }
 

@@ -21,8 +21,8 @@ pub(crate) struct LsaName {
     router: RouterId,
 }
 
-// Headers, in the order in which they were put. The list is long, and an LSA that is
-// looked for is mostly not on it.
+// Headers, one an LSA, in the order in which they were put. The list is long, and an LSA
+// that is looked for is mostly not on it.
 #[derive(Drop)]
 pub(crate) struct Requests {
     entries: Vec<LsaHeader>,
@@ -34,17 +34,19 @@ impl Model for Requests {
     ghost use Rattle.std.specs.HashSet.{contains};
     ghost use Rattle.ospf_lsa.specs.declared.header.LsaHeader.{LsaHeader};
     ghost use Rattle.ospf_neighbour.specs.Lists.{AreNamesOf, name_eq};
+    ghost use Rattle.ospf_neighbour.specs.OneAKey.{AsksOnce};
 
     ghost Value = { List LsaHeader };
 
     ghost view = { λ r. r.entries.items };
 
-    ghost invariant = { λ r. AreNamesOf (contains name_eq r.names) r.entries.items };
+    ghost invariant = { λ r. AreNamesOf (contains name_eq r.names) r.entries.items
+        × AsksOnce r.entries.items };
 }
 
 impl Requests {
-    ghost use Rattle.std.specs.Prelude.{◌≡◌, [], OnOk, OnErr};
-    ghost use Rattle.ospf_neighbour.specs.Lists.{is_requested, request_of, requests_put, requests_without};
+    ghost use Rattle.std.specs.Prelude.{◌≡◌, [], OnOk, OnErr, position};
+    ghost use Rattle.ospf_neighbour.specs.Lists.{is_header_of, is_requested, request_of, requests_put, requests_without};
     ghost use Rattle.ospf_neighbour.specs.Neighbour.{is_empty};
 
     // An empty list.
@@ -93,15 +95,26 @@ impl Requests {
         }
     }
 
-    // Takes the entries of a key off the list. No memory is taken.
+    // The place of the entry of a key.
+    fn place_of(&self, key: &LsaKey) -> Option<usize>
+        ensures { result ≡ position (is_header_of key.now) self.now }
+    {
+        if self.is_requested(key) {
+            lists::request_place(key, &self.entries)
+        } else {
+            None
+        }
+    }
+
+    // Takes the entry of a key off the list. No memory is taken.
     pub(crate) fn remove(&mut self, key: &LsaKey)
         ensures { self.new ≡ requests_without key.now self.old }
     {
-        if self.entries.is_empty() {
-            return;
+        if let Some(at) = self.place_of(key) {
+            // It is the only one of its LSA.
+            self.entries.remove(at);
+            self.names.remove(&name_of_key(key));
         }
-        lists::remove_requests(key, &mut self.entries);
-        self.names.remove(&name_of_key(key));
     }
 
     // Puts headers on the list, each in place of the entry of its LSA.

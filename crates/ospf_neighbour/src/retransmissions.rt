@@ -11,8 +11,8 @@ use std::alloc::{AllocError, Global};
 use std::collections::HashSet;
 use std::marker::Model;
 
-// Entries, in the order in which they were put. The list is long, and a key that is
-// looked for is mostly not on it.
+// Entries, one a key, in the order in which they were put. The list is long, and a key
+// that is looked for is mostly not on it.
 #[derive(Drop)]
 pub(crate) struct Retransmissions {
     entries: Vec<Listed>,
@@ -27,17 +27,20 @@ impl Model for Retransmissions {
     ghost use Rattle.std.specs.HashSet.{contains};
     ghost use Rattle.ospf_neighbour.specs.declared.neighbour.Listed.{Listed};
     ghost use Rattle.ospf_neighbour.specs.Lists.{TellsListedKeys, key_eq};
+    ghost use Rattle.ospf_neighbour.specs.OneAKey.{IsAloneOfKeys};
 
     ghost Value = { List Listed };
 
     ghost view = { λ r. r.entries.items };
 
-    ghost invariant = { λ r. r.is_keyed ≡ true
-        → TellsListedKeys (contains key_eq r.keys) r.entries.items };
+    ghost invariant = { λ r. (r.is_keyed ≡ true
+        → TellsListedKeys (contains key_eq r.keys) r.entries.items)
+        × IsAloneOfKeys r.entries.items };
 }
 
 impl Retransmissions {
     ghost use Rattle.std.specs.Prelude.{◌≡◌, ◌++◌, ◌∷◌, [], OnOk, OnErr, map, position};
+    ghost use Rattle.ospf_base.specs.Keys.{same_key};
     ghost use Rattle.ospf_neighbour.specs.Lists.{is_listed, is_key_listed, is_of_instance, without_instance, without_key, sent_again};
     ghost use Rattle.ospf_neighbour.specs.OneAKey.{IsAloneOfKeys};
 
@@ -92,9 +95,19 @@ impl Retransmissions {
         }
     }
 
+    // The place of the first instance of a key on the list.
+    fn key_place(&self, key: &LsaKey) -> Option<usize>
+        ensures { result ≡ position (λ l. same_key l.instance.key key.now) self.now }
+    {
+        if self.is_key_listed(key) {
+            lists::key_place(key, &self.entries)
+        } else {
+            None
+        }
+    }
+
     // Takes an instance off the list. No memory is taken.
     pub(crate) fn remove_instance(&mut self, instance: &Instance)
-        requires { IsAloneOfKeys self.old }
         ensures { self.new ≡ without_instance instance.now self.old }
     {
         if let Some(at) = self.place_of(instance) {
@@ -108,8 +121,9 @@ impl Retransmissions {
     pub(crate) fn remove_key(&mut self, key: &LsaKey)
         ensures { self.new ≡ without_key key.now self.old }
     {
-        if self.is_key_listed(key) {
-            lists::remove_key(key, &mut self.entries);
+        if let Some(at) = self.key_place(key) {
+            // It is the only one of the key.
+            self.entries.remove(at);
             self.keys.remove(key);
         }
     }
@@ -122,8 +136,11 @@ impl Retransmissions {
             ++ entry ∷ []) }
         ensures err { OnErr result (self.new ≡ self.old) }
     {
-        if self.is_key_listed(&entry.instance.key) {
-            return lists::put(entry, &mut self.entries);
+        if let Some(at) = self.key_place(&entry.instance.key) {
+            // It is the only one of the key, and leaves room.
+            self.entries.remove(at);
+            self.entries.push(entry)?;
+            return Ok(());
         }
         self.entries.reserve(1)?;
         self.keys.insert(entry.instance.key)?;
@@ -131,18 +148,21 @@ impl Retransmissions {
         Ok(())
     }
 
-    // The entries of an instance were sent at this tick.
+    // The entry of an instance was sent at this tick.
     pub(crate) fn mark(&mut self, instance: &Instance, tick: u64)
         ensures { self.new ≡ map (sent_again instance.now tick) self.old }
     {
-        if self.is_key_listed(&instance.key) {
-            lists::mark(instance, tick, &mut self.entries);
-        }
+        let Some(at) = self.place_of(instance) else {
+            return;
+        };
+        // It is the only one of its key.
+        self.entries[at].sent_at = tick;
     }
 
     // Puts other entries in place of all. No memory is wanted: where there is
     // none, their keys are not kept.
     pub(crate) fn replace(&mut self, entries: Vec<Listed>)
+        requires { IsAloneOfKeys entries.items }
         ensures { self.new ≡ entries.items }
     {
         self.keys.clear();

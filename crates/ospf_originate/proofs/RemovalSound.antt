@@ -5,7 +5,8 @@ use Rattle.std.proofs.lemmas.Option.{none-some, same_Some}
 use Rattle.ospf_base.proofs.SameKeys.{same_key-apart, same_key-eq, same_key-refl}
 use Rattle.ospf_base.specs.Keys.{Precedes, same_key}
 use Rattle.ospf_base.specs.declared.ids.LsaKey.{LsaKey}
-use Rattle.ospf_lsdb.specs.Database.{Entry, Held, IsDatabase, AreKeysRising, entries, header_at, held_of, instance_at, is_expired, key_at, removed}
+use Rattle.ospf_lsdb.specs.Database.{Entry, Held, IsDatabase, entries, header_at, held_of, instance_at, is_expired, key_at, removed}
+use Rattle.ospf_lsdb.proofs.Words.{AreKeysRising}
 use Rattle.ospf_area.specs.Numbers.{is_own}
 use Rattle.ospf_area.specs.Outputs.{OutputsValue}
 use Rattle.ospf_area.specs.State.{AreaValue, database_entry, kept_number, some_link_loading}

@@ -2,11 +2,12 @@
 -- over a router's part of an area.
 use Rattle.std.specs.Prelude.{◌≡◌, ◌++◌, ℕ, ℤ, false, List, [], ◌∷◌, Option, None, Some, map}
 use Rattle.std.specs.List.{flat_map}
+use Rattle.ospf_base.specs.Rising.{IsRisingBy}
+use Rattle.ospf_base.specs.Keys.{Precedes}
 use Rattle.ospf_base.specs.declared.ids.LsaKey.{LsaKey}
 use Rattle.ospf_lsa.specs.Lsa.{IsLsa}
 use Rattle.ospf_lsa.specs.Value.{IsMade}
 use Rattle.ospf_lsdb.specs.Moments.{among}
-use Rattle.ospf_lsdb.specs.Timers.{KeysRise}
 use Rattle.ospf_area.specs.Numbers.{is_own}
 use Rattle.ospf_area.specs.Outputs.{OutputsValue}
 use Rattle.ospf_area.specs.Sending.{and_sends}
@@ -100,7 +101,7 @@ candidates ws ns heard = map wanted_key ws ++ map (λ n. n.key) ns ++ heard
 -- what is due in a state: of keys that rise, which leave out none of which something becomes
 pub record IsDue (s : AreaValue) (due : List DueAction) : Type 0 where
   pub keys : List LsaKey
-  pub rising : KeysRise keys
+  pub rising : IsRisingBy Precedes keys
   pub whole : (key : LsaKey) → among keys key ≡ false → action_of s key ≡ Leave
   pub is : due ≡ due_of (action_of s) keys
 

@@ -3,11 +3,11 @@
 ghost use Rattle.std.specs.Prelude.{◌≡◌, ◌++◌, [], false, IfOk, OnErr, OnOk, find, map, option_copied, option_map};
 ghost use Rattle.std.specs.BTreeSet.{IsOrdered};
 ghost use Rattle.std.specs.List.{AllByRecursion, list_any};
-ghost use Rattle.ospf_base.specs.Keys.{same_key, key_cmp};
+ghost use Rattle.ospf_base.specs.Rising.{IsRisingBy};
+ghost use Rattle.ospf_base.specs.Keys.{same_key, key_cmp, Precedes};
 ghost use Rattle.ospf_base.specs.declared.ids.LsaKey.{LsaKey};
 ghost use Rattle.ospf_lsa.specs.Value.{HasAll};
 ghost use Rattle.ospf_lsdb.specs.Moments.{among};
-ghost use Rattle.ospf_lsdb.specs.Timers.{KeysRise};
 ghost use Rattle.ospf_originate.specs.Actions.{IsUsed};
 ghost use Rattle.ospf_wanted.specs.Made.{CanBeMade, CanBeMadeIf, Needs};
 ghost use Rattle.ospf_originate.specs.Idle.{IsIdle};
@@ -85,7 +85,7 @@ fn due_now(area: &Area, all: &[OwnLsa], alloc: Global) -> Result<Vec<DueAction>,
 fn due_keys(area: &Area, all: &[OwnLsa], alloc: Global) -> Result<Vec<LsaKey>, AllocError>
     requires wants { map wanted_value all.now ≡ wants area.now }
     requires numbered { AreNumbered area.now }
-    ensures rising { IfOk result (λ v. KeysRise v.items) }
+    ensures rising { IfOk result (λ v. IsRisingBy Precedes v.items) }
     ensures whole { IfOk result (λ v. (key : LsaKey) → among v.items key ≡ false →
         action_of area.now key ≡ OwnAction.Leave) }
 {
@@ -126,7 +126,7 @@ fn numbered_keys(numbering: &[Numbering], alloc: Global) -> Result<Vec<LsaKey>, 
 
 // The keys, each once, in their order.
 fn sorted(keys: &[LsaKey], alloc: Global) -> Result<Vec<LsaKey>, AllocError>
-    ensures rising { IfOk result (λ v. KeysRise v.items) }
+    ensures rising { IfOk result (λ v. IsRisingBy Precedes v.items) }
     ensures whole { IfOk result (λ v. (q : LsaKey) → among v.items q ≡ among keys.now q) }
 {
     let set = set_of(keys, alloc)?;

@@ -2,7 +2,11 @@
 use Rattle.std.proofs.Common.{rules, ◌≡◌, ◌==◌, ℕ, Bool, true, false, not, List, ◌∙◌, ap, sym, subst, refl, inl, inr, arith, Option, Some, None, option_and_then, if◌then◌else◌}
 use Rattle.std.proofs.lemmas.Option.{same_Some}
 use Rattle.std.specs.List.{Contains}
+use Rattle.ospf_base.specs.Constants.{router_options}
 use Rattle.ospf_base.specs.Masks.{mask_of}
+use Rattle.ospf_iface.specs.Hello.{agrees}
+use Rattle.ospf_iface.specs.declared.machine.Iface.{Iface}
+use Rattle.ospf_packet.specs.declared.body.Hello.{Hello}
 use Rattle.ospf_plan.specs.declared.ends.LinkEnd.{LinkEnd}
 use Rattle.ospf_plan.specs.declared.fault.AreaFault.{AreaFault}
 use Rattle.ospf_plan.specs.declared.fault.AreaFault.TheVariants as fault
@@ -100,11 +104,21 @@ apart x y ne is = grind (arith, ne, is)
 one_by : (x y : ℕ) → (not (x == y) ≡ true → ⊥) → x ≡ y
 one_by x y h = grind (arith, h)
 
+other : (x y : ℕ) → (x ≡ y → ⊥) → (x == y) ≡ false
+other x y ne = grind (arith, ne)
+
+no_interval : (i : Iface) (h : Hello) → (h.hello_interval ≡ i.settings.hello → ⊥) → agrees i h ≡ false
+no_interval i h ne = rw (other h.hello_interval i.settings.hello ne) refl
+
+no_dead : (i : Iface) (h : Hello) (b : Bool) → (h.hello_interval == i.settings.hello) ≡ b → (h.dead_interval ≡ i.settings.dead → ⊥) → agrees i h ≡ false
+no_dead i h true is ne = rw (is, other h.dead_interval i.settings.dead ne) refl
+no_dead i h false is ne = rw is refl
+
 refuses_by_hello : (e d : LinkEnd) → (e.hello ≡ d.hello → ⊥) → RefusesHellos e d
-refuses_by_hello e d ne i j h of_i of_j fields agrees = ne (sym of_i.hello ∙ sym agrees.interval ∙ fields.interval ∙ of_j.hello)
+refuses_by_hello e d ne i j h of_i of_j fields = no_interval i h (λ same. ne (sym of_i.hello ∙ sym same ∙ fields.interval ∙ of_j.hello))
 
 refuses_by_dead : (e d : LinkEnd) → (e.dead ≡ d.dead → ⊥) → RefusesHellos e d
-refuses_by_dead e d ne i j h of_i of_j fields agrees = ne (sym of_i.dead ∙ sym agrees.dead ∙ fields.dead ∙ of_j.dead)
+refuses_by_dead e d ne i j h of_i of_j fields = no_dead i h (h.hello_interval == i.settings.hello) refl (λ same. ne (sym of_i.dead ∙ sym same ∙ fields.dead ∙ of_j.dead))
 
 pub told_refuse : (ends : List LinkEnd) (f : Finding) → Contains (found_in ends) f → IsOfHellos f.fault → RefusesHellos f.here f.other × RefusesHellos f.other f.here
 told_refuse ends f told (inl is) =
@@ -127,6 +141,12 @@ as_first ends e d q at on first none =
       one_by d.dead e.dead (λ ne. none (record { fault = fault.Dead; other = d; here = e }) (held_told ends _ (record { here = at; other = at_e; wrong = ne })) (inr refl) on),
     )
 
+equal : (x : ℕ) → (x == x) ≡ true
+equal x = grind arith
+
+agreeing : (i : Iface) (h : Hello) → h.hello_interval ≡ i.settings.hello → h.dead_interval ≡ i.settings.dead → h.options ≡ router_options → h.mask ≡ i.settings.mask → agrees i h ≡ true
+agreeing i h interval dead options mask = rw (interval, dead, options, mask, equal i.settings.hello, equal i.settings.dead, equal i.settings.mask) refl
+
 pub others_take : (ends : List LinkEnd) (d e : LinkEnd) → Contains ends d → Contains ends e → network_key d.address ≡ network_key e.address → NoneTold ends (network_key e.address) → TakesHellos d e
 others_take ends d e at_d at_e on none i j h of_i of_j fields =
     let q = network_key e.address in
@@ -134,9 +154,5 @@ others_take ends d e at_d at_e on none i j h of_i of_j fields =
     let of_d = as_first ends d first q at_d on is none in
     let of_e = as_first ends e first q at_e refl is none in
     let bits : d.address.length ≡ e.address.length = ap (λ (k : ℕ × ℕ). k.0) on in
-    record {
-      interval = fields.interval ∙ of_j.hello ∙ sym of_e.0 ∙ of_d.0 ∙ sym of_i.hello;
-      dead = fields.dead ∙ of_j.dead ∙ sym of_e.1 ∙ of_d.1 ∙ sym of_i.dead;
-      e_bit = rw fields.options refl;
-      mask = inl (fields.mask ∙ of_j.mask ∙ ap mask_of (sym bits) ∙ sym of_i.mask);
-    }
+    agreeing i h (fields.interval ∙ of_j.hello ∙ sym of_e.0 ∙ of_d.0 ∙ sym of_i.hello) (fields.dead ∙ of_j.dead ∙ sym of_e.1 ∙ of_d.1 ∙ sym of_i.dead)
+    fields.options (fields.mask ∙ of_j.mask ∙ ap mask_of (sym bits) ∙ sym of_i.mask)

@@ -1,5 +1,6 @@
 pub mod Steps
 mod Members
+mod Words
 mod FindingLemmas
 mod Order
 mod WireLemmas

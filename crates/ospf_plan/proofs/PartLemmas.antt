@@ -18,7 +18,8 @@ use Rattle.ospf_plan.specs.Joins.{IsJoined, back, forth, itself}
 use Rattle.ospf_plan.specs.Parts.{AreFindings, AreReached, IsWay, LinkKey, apart, apart_in, cross, first_linked, first_of_all, is_apart, join_at, joins_of, link_cmp, link_of, same_link, stay}
 use Rattle.ospf_plan.specs.Wires.{wire_faults_in, wires_of}
 use Rattle.ospf_plan.specs.Unheard.{unheard_in}
-use Rattle.ospf_plan.specs.Laws.{FindingHolds, HoldsApart, HoldsOfWire, HoldsUnheard, IsAhead, IsRisingBy}
+use Rattle.ospf_plan.specs.Laws.{FindingHolds, HoldsApart, HoldsOfWire, HoldsUnheard, IsAhead}
+use Rattle.ospf_plan.proofs.Words.{RisesBy}
 use Rattle.ospf_plan.proofs.Members.{finds, head_in, later_in, some_from, some_to}
 use Rattle.ospf_plan.proofs.FindingLemmas.{held_told, none_is_some, told_holds}
 use Rattle.ospf_plan.proofs.Order.{ends_rise, rising_some}
@@ -252,7 +253,7 @@ tells_exactly configs fs f are =
       ])),
     )
 
-pub parts_rise : (configs : List Config) (reached : ℕ → Bool) → IsRisingBy (λ (f g : Finding). IsAhead f.here g.here) (apart_in reached (ends_of configs))
+pub parts_rise : (configs : List Config) (reached : ℕ → Bool) → RisesBy (λ (f g : Finding). IsAhead f.here g.here) (apart_in reached (ends_of configs))
 parts_rise configs reached =
     let ends = ends_of configs in
     rising_some IsAhead (λ (f g : Finding). IsAhead f.here g.here) (apart reached (first_of_all ends)) ends (ends_rise configs)

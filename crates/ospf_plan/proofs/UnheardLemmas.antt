@@ -10,7 +10,8 @@ use Rattle.ospf_plan.specs.declared.unheard.Near.{Near}
 use Rattle.ospf_plan.specs.Ends.{ends_of, first_at_port, network_key}
 use Rattle.ospf_plan.specs.Wires.{is_beside, is_wired, wires_of}
 use Rattle.ospf_plan.specs.Unheard.{IsNearOf, are_silent, is_ahead, is_outward, is_plugged, members_in, near_in, to_hear, unheard, unheard_in}
-use Rattle.ospf_plan.specs.Laws.{HoldsUnheard, IsAhead, IsRisingBy, IsUnheard}
+use Rattle.ospf_plan.specs.Laws.{HoldsUnheard, IsAhead, IsUnheard}
+use Rattle.ospf_plan.proofs.Words.{RisesBy}
 use Rattle.ospf_plan.proofs.Members.{filter_from, filter_to, found_from, some_from, some_to}
 use Rattle.ospf_plan.proofs.FindingLemmas.{none_is_some}
 use Rattle.ospf_plan.proofs.Order.{ends_rise, finds_first, rising_filter, rising_some}
@@ -120,11 +121,11 @@ module _ (o : LinkEnd → Bool) (some : List LinkEnd) (wired : ℕ × ℕ × ℕ
   near_to d e at hearing beside =
       filter_to (λ x. is_beside x e) (if o e then filter (λ x. not (o x)) some else some) d (flag_to d e (o e) refl at hearing) beside
 
-  flag_rises : IsRisingBy IsAhead some → (b : Bool) → IsRisingBy IsAhead (if b then filter (λ x. not (o x)) some else some)
+  flag_rises : RisesBy IsAhead some → (b : Bool) → RisesBy IsAhead (if b then filter (λ x. not (o x)) some else some)
   flag_rises up true = rising_filter IsAhead (λ x. not (o x)) some up
   flag_rises up false = up
 
-  near_rises : IsRisingBy IsAhead some → (e : LinkEnd) → IsRisingBy IsAhead (near e)
+  near_rises : RisesBy IsAhead some → (e : LinkEnd) → RisesBy IsAhead (near e)
   near_rises up e = rising_filter IsAhead (λ x. is_beside x e) (if o e then filter (λ x. not (o x)) some else some) (flag_rises up (o e))
 
   -- ---- a finding
@@ -165,7 +166,7 @@ module _ (configs : List Config) where
   abbrev wired : ℕ × ℕ × ℕ → Bool
   wired = is_wired (wires_of configs)
 
-  rises : IsRisingBy IsAhead some
+  rises : RisesBy IsAhead some
   rises = rising_filter IsAhead (is_plugged (first_at_port ends)) ends (ends_rise configs)
 
   -- what is found at an interface, where there is one that it does not hear
@@ -228,7 +229,7 @@ module _ (configs : List Config) where
       let is : made y f.here ≡ f = ap (λ z. made z f.here) same ∙ ap (λ x. record { fault = x; other = f.other; here = f.here }) (sym h.fault) in
       subst (Contains (unheard_in ends (wires_of configs))) is (told_with y f.here (among_them f.other f.here u) finds (found_ahead y f.other f.here order u.ahead))
 
-  pub unheard_rises : IsRisingBy (λ (f g : Finding). IsAhead f.here g.here) (unheard_in ends (wires_of configs))
+  pub unheard_rises : RisesBy (λ (f g : Finding). IsAhead f.here g.here) (unheard_in ends (wires_of configs))
   unheard_rises =
       rising_some IsAhead (λ (f g : Finding). IsAhead f.here g.here) (unheard (to_hear out some) wired) some rises
       (λ d e f g ahead is_f is_g.

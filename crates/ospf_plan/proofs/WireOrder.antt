@@ -12,7 +12,8 @@ use Rattle.ospf_plan.specs.declared.fault.AreaFault.TheVariants as fault
 use Rattle.ospf_plan.specs.declared.finding.Finding.{Finding}
 use Rattle.ospf_plan.specs.Ends.{link_end_of, ends_of, first_at_port}
 use Rattle.ospf_plan.specs.Wires.{fault_behind, fault_between, is_wired, wire_fault, wire_faults_in, wires_at, wires_from, wires_of}
-use Rattle.ospf_plan.specs.Laws.{IsAhead, IsNotBehind, IsRisingBy}
+use Rattle.ospf_plan.specs.Laws.{IsAhead, IsNotBehind}
+use Rattle.ospf_plan.proofs.Words.{RisesBy}
 use Rattle.ospf_plan.proofs.Members.{flat_from}
 use Rattle.ospf_plan.proofs.FindingLemmas.{none_is_some}
 use Rattle.ospf_plan.proofs.Order.{map_from, rising_flat, rising_numbers, rising_some}
@@ -24,7 +25,7 @@ IsWireNotBehind w v = IsAhead w.end v.end ⊎ (w.end ≡ v.end)
 abbrev wire_to : LinkEnd → Port → PeerWire
 wire_to e p = record { end = e; peer = p.number }
 
-one_end : (e : LinkEnd) (ps : List Port) → IsRisingBy IsWireNotBehind (map (wire_to e) ps)
+one_end : (e : LinkEnd) (ps : List Port) → RisesBy IsWireNotBehind (map (wire_to e) ps)
 one_end e [] = tt
 one_end e (p ∷ ps) = ((λ v at. let (q, among, is) = map_from (wire_to e) ps v at in inr (ap (λ (w : PeerWire). w.end) is)), one_end e ps)
 
@@ -36,14 +37,14 @@ file_from f w at =
     let (i, among, here) = flat_from (λ (i : ℕ × Interface). wires_from (link_end_of f i) i.1) (enumerate_from 0 f.1.interfaces.items) w at in
     ap (λ (e : LinkEnd). e.file) (end_from (link_end_of f i) i.1 w here)
 
-wires_rise_at : (f : ℕ × Config) → IsRisingBy IsWireNotBehind (wires_at f)
+wires_rise_at : (f : ℕ × Config) → RisesBy IsWireNotBehind (wires_at f)
 wires_rise_at f =
     rising_flat (λ (a b : ℕ × Interface). a.0 < b.0) IsWireNotBehind (λ (i : ℕ × Interface). wires_from (link_end_of f i) i.1) (enumerate_from 0 f.1.interfaces.items)
     (rising_numbers 0 f.1.interfaces.items)
     (λ i. one_end (link_end_of f i) i.1.peers.items)
     (λ i j w v lt here there. inl (subst (λ e. IsAhead w.end e) (end_from (link_end_of f j) j.1 v there) (subst (λ e. IsAhead e (link_end_of f j)) (end_from (link_end_of f i) i.1 w here) (inr (refl, lt)))))
 
-wires_rise : (configs : List Config) → IsRisingBy IsWireNotBehind (wires_of configs)
+wires_rise : (configs : List Config) → RisesBy IsWireNotBehind (wires_of configs)
 wires_rise configs =
     rising_flat (λ (a b : ℕ × Config). a.0 < b.0) IsWireNotBehind wires_at (enumerate_from 0 configs) (rising_numbers 0 configs) wires_rise_at
     (λ f g w v lt here there. inl (inl (subst (λ n. w.end.file < n) (file_from g v there) (subst (λ n. n < g.0) (file_from f w here) lt))))
@@ -56,7 +57,7 @@ behind_here : (wires : List PeerWire) (w : PeerWire) (f : Finding) (o : Option L
 behind_here wires w f None is = ap (λ (g : Finding). g.here) (same_Some (record { fault = fault.Nowhere w.peer; other = w.end; here = w.end }) f is)
 behind_here wires w f (Some d) is = made_here f d w.end (fault_between (is_wired wires) d w.end) is
 
-pub wire_faults_rise : (configs : List Config) → IsRisingBy IsNotBehind (wire_faults_in (ends_of configs) (wires_of configs))
+pub wire_faults_rise : (configs : List Config) → RisesBy IsNotBehind (wire_faults_in (ends_of configs) (wires_of configs))
 wire_faults_rise configs =
     let ends = ends_of configs in
     let wires = wires_of configs in

@@ -1,8 +1,9 @@
 -- Laws of findings.
-use Rattle.std.specs.Prelude.{◌≡◌, ◌↔◌, ◌⊎◌, ◌&&◌, ◌<◌, ⊤, ℕ, Bool, true, false, List, [], ◌∷◌, Contains, None, Some}
+use Rattle.std.specs.Prelude.{◌≡◌, ◌↔◌, ◌⊎◌, ◌&&◌, ◌<◌, ℕ, Bool, true, false, List, Contains, None, Some}
 use Rattle.ospf_base.specs.Masks.{mask_of}
+use Rattle.ospf_base.specs.Rising.{IsRisingBy}
 use Rattle.ospf_packet.specs.declared.body.Hello.{Hello}
-use Rattle.ospf_iface.specs.Hello.{Agrees, AreFieldsOf}
+use Rattle.ospf_iface.specs.Hello.{AreFieldsOf, agrees}
 use Rattle.ospf_iface.specs.declared.machine.Iface.{Iface}
 use Rattle.ospf_plan.specs.declared.ends.LinkEnd.{LinkEnd}
 use Rattle.ospf_plan.specs.declared.fault.AreaFault.{AreaFault}
@@ -92,11 +93,6 @@ TellsEachUnheard =
 
 -- ---- the order in which it is told
 
--- each member is in the relation with each later one
-abbrev pub IsRisingBy : {X : Type 0} → (X → X → Type 0) → List X → Type 0
-IsRisingBy R [] = ⊤
-IsRisingBy {X} R (x ∷ xs) = ((y : X) → Contains xs y → R x y) × IsRisingBy R xs
-
 -- the number of a fault, as its name has it
 abbrev pub area_fault_number : AreaFault → ℕ
 area_fault_number fault.SameRouter = 1
@@ -169,12 +165,14 @@ IsOfHellos f = (f ≡ fault.Hello) ⊎ (f ≡ fault.Dead)
 -- (RFC 2328, sections 9.5 and 10.5)
 abbrev pub RefusesHellos : LinkEnd → LinkEnd → Type 0
 RefusesHellos e d =
-    (i j : Iface) (h : Hello) → IsIfaceOf e i → IsIfaceOf d j → AreFieldsOf j h → Agrees i h → ⊥
+    (i j : Iface) (h : Hello) → IsIfaceOf e i → IsIfaceOf d j → AreFieldsOf j h
+    → agrees i h ≡ false
 
 -- it agrees with each
 abbrev pub TakesHellos : LinkEnd → LinkEnd → Type 0
 TakesHellos e d =
-    (i j : Iface) (h : Hello) → IsIfaceOf e i → IsIfaceOf d j → AreFieldsOf j h → Agrees i h
+    (i j : Iface) (h : Hello) → IsIfaceOf e i → IsIfaceOf d j → AreFieldsOf j h
+    → agrees i h ≡ true
 
 -- of two interfaces of which a fault of Hellos is told, each refuses the other's
 abbrev pub ToldRefuse : Type 0

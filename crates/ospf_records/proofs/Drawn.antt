@@ -13,7 +13,8 @@ use Rattle.ospf_base.specs.Keys.{Precedes, ls_type}
 use Rattle.ospf_base.specs.declared.ids.Kind.TheVariants as kind
 use Rattle.ospf_base.specs.declared.ids.LsaKey.{LsaKey}
 use Rattle.ospf_base.specs.declared.ids.RouterId.{RouterId}
-use Rattle.ospf_lsa.specs.Listing.{HasKey, IsListing, IsNetworkOf, IsOfNetwork, IsRising}
+use Rattle.ospf_lsa.specs.Listing.{HasKey, IsListing, IsNetworkOf, IsOfNetwork}
+use Rattle.ospf_lsa.proofs.Words.{IsRising}
 use Rattle.ospf_lsa.specs.Link.{LinkEntry, entry_bytes}
 use Rattle.ospf_lsa.specs.Lsa.{HasLinks, IsNetworkLsa, IsRouterLsa, attached_of, key_of, kind_of, links_of, type_of}
 use Rattle.ospf_lsa.specs.declared.fault.LsaFault.TheVariants as fault

@@ -8,7 +8,8 @@ use Rattle.ospf_graph.proofs.CandidateLemmas.{same_or_other, vertex_eq-refl, ver
 use Rattle.ospf_graph.proofs.ListLemmas.{more_members}
 use Rattle.ospf_graph.specs.Search.{vertex_eq}
 use Rattle.ospf_graph.specs.declared.graph.Vertex.{Vertex}
-use Rattle.ospf_router.specs.Ends.{AddsEnds, HoldsEndsAt, HoldsPrefixes, LeavesEnds, ReplacesEnds}
+use Rattle.ospf_graph.specs.Adds.{Adds}
+use Rattle.ospf_router.specs.Ends.{HoldsEndsAt, HoldsPrefixes, LeavesEnds, ReplacesEnds}
 use Rattle.ospf_router.specs.Growing.{HasEndOf}
 use Rattle.ospf_spf.proofs.TurnLemmas.{filter_from, filter_to}
 
@@ -36,7 +37,7 @@ module _ (v : Vertex) (at old : List End) where
     only = λ e m. (m, elim (same_or_other e.vertex v) [ inl here ↦ inr (among e (holds e m here)) | inr other ↦ inl other ]);
   }
 
-  pub replaced : (mid new : List End) → LeavesEnds v at old mid → AddsEnds at mid new → ReplacesEnds v at old new
+  pub replaced : (mid new : List End) → LeavesEnds v at old mid → Adds (Contains at) mid new → ReplacesEnds v at old new
   replaced mid new leaves adds e = (
     λ m. elim ((adds e).0 m) [
       | inl left ↦ (let l = leaves.only e left in elim l.1 [ inl other ↦ inl (l.0, other) | inr there ↦ inr there ])
@@ -45,11 +46,11 @@ module _ (v : Vertex) (at old : List End) where
     λ m. elim m [ inl was ↦ (adds e).1 (inl (leaves.kept e was.0 was.1)) | inr came ↦ (adds e).1 (inr came) ],
   )
 
-pub adds_none : (ends : List End) → AddsEnds [] ends ends
+pub adds_none : (ends : List End) → Adds (Contains []) ends ends
 adds_none ends e = (λ m. inl m, λ m. elim m [ inl there ↦ there | inr none ↦ absurd (let low = none.1 in omega arith) ])
 
-pub adds_more : (more : List End) (i : ℕ) (x : End) (old mid new : List End) → i < length more → AddsEnds (take i more) old mid
-    → ((e : End) → Contains new e ↔ (Contains mid e ⊎ (get_or more i x ≡ e))) → AddsEnds (take (i + 1) more) old new
+pub adds_more : (more : List End) (i : ℕ) (x : End) (old mid new : List End) → i < length more → Adds (Contains (take i more)) old mid
+    → ((e : End) → Contains new e ↔ (Contains mid e ⊎ (get_or more i x ≡ e))) → Adds (Contains (take (i + 1) more)) old new
 adds_more more i x old mid new lt first last e = (
   λ m. elim ((last e).0 m) [
     | inl before ↦ elim ((first e).0 before) [ inl o ↦ inl o | inr n ↦ inr ((more_members more i x lt e).1 (inl n)) ]

@@ -10,7 +10,9 @@ use Rattle.ospf_step.proofs.StateFacts.{Contains-filter, Contains-map, Contains-
 use Rattle.ospf_lsa.specs.Listing as listing
 use Rattle.ospf_lsa.specs.Listing.{IsListing, IsPut}
 use Rattle.ospf_lsa.specs.Lsa.{key_of}
-use Rattle.ospf_lsdb.specs.Database.{Entry, Held, IsDatabase, AreKeysRising, entries, entry_of, held_of, is_fresh, key_at, key_in, listed, lsa_of}
+use Rattle.ospf_lsdb.specs.Database.{Entry, Held, IsDatabase, entries, entry_of, held_of, is_fresh, key_at, key_in, listed, lsa_of}
+use Rattle.ospf_lsa.proofs.Words.{IsRising}
+use Rattle.ospf_lsdb.proofs.Words.{AreKeysRising}
 use Rattle.ospf_lsdb.specs.Places.{AllAfter}
 use Rattle.ospf_lsdb.proofs.EntryLemmas.{key_of-contents}
 use Rattle.ospf_lsdb.proofs.MapLemmas.{after-none, bool_cases}
@@ -209,7 +211,7 @@ unfolding helds_of
 after_as k [] after = tt
 after_as k (l ∷ ls) after = (subst (λ (q : LsaKey). Precedes k q) (sym (key_as l)) after.0, after_as k ls after.1)
 
-rising_as : (lsas : List (List ℕ)) → listing.IsRising lsas → AreKeysRising (helds_of lsas)
+rising_as : (lsas : List (List ℕ)) → IsRising lsas → AreKeysRising (helds_of lsas)
 unfolding helds_of
 rising_as [] rises = tt
 rising_as (l ∷ ls) rises = (subst (λ (q : LsaKey). AllAfter q (helds_of ls)) (sym (key_as l)) (after_as (key_of l) ls rises.0), rising_as ls rises.1)
@@ -221,7 +223,7 @@ later_key k (l ∷ ls) lsa all (zero, within, is) = subst (λ (x : List ℕ). Pr
 later_key k (l ∷ ls) lsa all (suc n, within, is) = later_key k ls lsa all.1 (n, omega arith, is)
 
 -- what is held at the key of an LSA that is listed
-held_there : (lsas : List (List ℕ)) (lsa : List ℕ) → listing.IsRising lsas → Contains lsas lsa → (g : Held) × (held_of (helds_of lsas) (key_of lsa) ≡ Some g) × (g.entry.contents ≡ contents lsa)
+held_there : (lsas : List (List ℕ)) (lsa : List ℕ) → IsRising lsas → Contains lsas lsa → (g : Held) × (held_of (helds_of lsas) (key_of lsa) ≡ Some g) × (g.entry.contents ≡ contents lsa)
 unfolding helds_of held_as
 held_there [] lsa rises (n, within, is) = absurd (omega arith)
 held_there (l ∷ ls) lsa rises (zero, within, is) =

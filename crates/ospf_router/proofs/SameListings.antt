@@ -6,7 +6,8 @@ use Rattle.ospf_base.specs.Keys.{Precedes}
 use Rattle.ospf_base.specs.Sums.{contents}
 use Rattle.ospf_base.specs.declared.ids.LsaKey.{LsaKey}
 use Rattle.ospf_lsa.specs.Header.{HeaderFits}
-use Rattle.ospf_lsa.specs.Listing.{IsListable, IsListing, IsRising}
+use Rattle.ospf_lsa.specs.Listing.{IsListable, IsListing}
+use Rattle.ospf_lsa.proofs.Words.{IsRising}
 use Rattle.ospf_lsa.specs.Lsa.{key_of, with_age}
 use Rattle.ospf_lsa.specs.declared.fault.LsaFault.TheVariants as fault
 use Rattle.ospf_lsa.specs.declared.header.LsaHeader.{LsaHeader}

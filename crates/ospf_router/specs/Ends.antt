@@ -18,10 +18,6 @@ pub record LeavesEnds (v : Vertex) (at old new : List End) : Type 0 where
   pub kept : (e : End) → Contains old e → e.vertex ≢ v → Contains new e
   pub only : (e : End) → Contains new e → Contains old e × ((e.vertex ≢ v) ⊎ Contains at e)
 
--- some ends come
-abbrev pub AddsEnds : List End → List End → List End → Type 0
-AddsEnds more old new = (e : End) → Contains new e ↔ (Contains old e ⊎ Contains more e)
-
 -- all of the one list are in the other
 abbrev pub HoldsPrefixes : List Prefix → List Prefix → Type 0
 HoldsPrefixes old new = (p : Prefix) → Contains old p → Contains new p

@@ -67,7 +67,7 @@ impl Router {
     /// A router that starts with this configuration: all its links are down, and its database is
     /// empty. The numbers of its own LSAs begin above the floor (RFC 2328, section 12.1.6);
     /// `0x80000000` as an `i32` means none. `dd_start` is the DD sequence number that the first
-    /// adjacency begins with (section 10.8).
+    /// adjacency begins with (section 10.3).
     ///
     /// `StartFault::Floor` where the floor is the greatest number, else
     /// `StartFault::Memory` where memory runs out.
@@ -152,7 +152,7 @@ impl Router {
     }
 
     /// The LSAs that the routing table was last made of, if it was made of any: those that the
-    /// router lists (section 14), at the ages that they had then. No memory is taken.
+    /// router lists (section 14), each at an age that it had before. No memory is taken.
     pub fn kept_listing(&self) -> Option<&Listing>
         ensures same { IfSome result (λ l. map contents l.now
             ≡ map contents (listing_of self.now.area)) }

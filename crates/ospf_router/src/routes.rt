@@ -67,8 +67,8 @@ impl KeptRoutes {
         &self.table
     }
 
-    /// The listing that the routes were made of, if any was; its ages are those of
-    /// that time. No memory is taken.
+    /// The listing that the routes were made of, if any was; its ages are of the time at which each
+    /// LSA was taken into it. No memory is taken.
     pub fn listing(&self) -> Option<&Listing>
         ensures some { IfSome result (λ l. l.now ≡ self.now.listing) }
         ensures none { result ≡ None → self.now.listing ≡ [] }

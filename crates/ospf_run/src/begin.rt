@@ -15,7 +15,7 @@ use ospf_udp::put;
 use std::alloc::{AllocError, Global};
 use std::sync::Wait;
 
-// The first DD sequence number of each router (RFC 2328, section 10.8).
+// The first DD sequence number of each router (RFC 2328, section 10.3).
 const DD_START: u32 = 1;
 
 /// Starts a router for each configuration, over the wire at its place. The floor of their

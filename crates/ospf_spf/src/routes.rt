@@ -21,7 +21,7 @@ ghost use Rattle.std.specs.List.Sorted.{IsNonDecreasingBy};
 use ospf_base::Prefix;
 use ospf_edges::End;
 use ospf_graph::{
-    Hops, NextHop, Route, Settled, ShortestPaths, Start, Vertex, VertexStart, distance_at, is_same,
+    Hops, NextHop, Route, Settled, ShortestPaths, Start, Vertex, VertexStart, distance_at,
     starts_at,
 };
 use ospf_incremental::Paths;
@@ -29,6 +29,9 @@ use std::alloc::{AllocError, Global};
 
 // Up to twice as many hops are gathered before doubles are looked for.
 const FEW_HOPS: usize = 16;
+
+// Room in the order for the prefixes of one address, whose lengths are 0 to 32.
+const LENGTHS: u64 = 64;
 
 /// An end of a prefix that the shortest paths reach, at this cost from the root.
 #[derive(Clone, Copy, Debug, PartialEq, Eq)]
@@ -134,7 +137,7 @@ fn sort_reaches(reaches: &mut Vec<Reach>)
 pub fn prefix_order(prefix: Prefix) -> u64
     ensures { result ≡ prefix_code prefix }
 {
-    prefix.address.0 as u64 * 64 + prefix.length as u64
+    prefix.address.0 as u64 * LENGTHS + prefix.length as u64
 }
 
 // The routes to all prefixes that are reached, in order.
@@ -257,10 +260,7 @@ fn lesser(best: Option<u64>, cost: u64) -> u64
     ensures { MatchOption best (result ≡ cost)
         (λ b. ((result ≡ b) × (b ≤ cost)) ⊎ ((result ≡ cost) × (cost ≤ b))) }
 {
-    match best {
-        Some(b) => { if b <= cost { b } else { cost } }
-        None => cost,
-    }
+    best.map_or(cost, |b| b.min(cost))
 }
 
 // The hops of a prefix at its least cost.
@@ -345,10 +345,7 @@ fn larger(largest: Option<u32>, id: u32) -> u32
     ensures { MatchOption largest (result ≡ id)
         (λ n. ((result ≡ n) × (id ≤ n)) ⊎ ((result ≡ id) × (n ≤ id))) }
 {
-    match largest {
-        Some(n) => { if id <= n { n } else { id } }
-        None => id,
-    }
+    largest.map_or(id, |n| n.max(id))
 }
 
 // Whether this is an end of the prefix at this cost, and a router or the network.
@@ -378,22 +375,8 @@ fn add_hops_at(
     requires { AreStartsInOrder starts.now }
     ensures { OnOk result (GathersHops (HasHop starts.now vertex) hops.old.items hops.new.items) }
 {
-    add_hops(starts_at(starts, vertex), vertex, hops)?;
-    Ok(())
-}
-
-// Gathers the hops of all starts of a vertex.
-fn add_hops(
-    starts: &[VertexStart],
-    vertex: Vertex,
-    hops: &mut Vec<NextHop>,
-) -> Result<(), AllocError>
-    ensures { OnOk result (GathersHops (HasHop starts.now vertex) hops.old.items hops.new.items) }
-{
-    for begun in starts {
-        if is_same(begun.vertex, vertex) {
-            hops.push(hop_from(begun.start))?;
-        }
+    for begun in starts_at(starts, vertex) {
+        hops.push(hop_from(begun.start))?;
     }
     Ok(())
 }

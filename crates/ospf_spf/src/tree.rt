@@ -50,7 +50,7 @@ impl Tree {
         ensures graph { IfOk result (λ tree. map graph_part (advertisements_of listing.now)
             ≡ tree.graph) }
         ensures looks { IfOk result (λ tree. tree.looks
-            ≤ 2 * link_count (advertisements_of listing.now) + 2) }
+            ≤ 2 * link_count (advertisements_of listing.now) + 1) }
     {
         let items = items_in(alloc, listing)?;
         let edges = edges_of(alloc, listing)?;

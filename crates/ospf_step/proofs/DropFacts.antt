@@ -17,7 +17,8 @@ use Rattle.ospf_adjacency.specs.Adjacency.{is_broadcast}
 use Rattle.ospf_area.specs.Sending.{own_of}
 use Rattle.ospf_area.specs.State.{AreaValue, LinkValue}
 use Rattle.ospf_area.specs.Posting.{local_of}
-use Rattle.ospf_step.specs.Receipt.{agrees, drop_by_body, drop_of_hello, drop_of_new, drop_of_packet, is_destination, is_elsewhere, is_foreign, sender_in}
+use Rattle.ospf_iface.specs.Hello.{agrees}
+use Rattle.ospf_step.specs.Receipt.{drop_by_body, drop_of_hello, drop_of_new, drop_of_packet, is_destination, is_elsewhere, is_foreign, sender_in}
 use Rattle.ospf_step.specs.Senders.{CanBeTaken, NotDroppedIsTaken}
 use Rattle.ospf_step.specs.declared.dropped.Dropped.{Dropped}
 use Rattle.ospf_step.specs.declared.dropped.Dropped.TheVariants as dropped

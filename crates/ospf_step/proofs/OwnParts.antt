@@ -6,6 +6,7 @@ use Rattle.std.specs.Ordering.{int_eq}
 use Rattle.std.specs.List.{AllByRecursion, Contains}
 use Rattle.std.proofs.lemmas.Bool.{cases_Bool, cond-true, cond-false}
 use Rattle.std.proofs.lemmas.Option.{none-some, same_Some}
+use Rattle.ospf_base.specs.Rising.{IsRisingBy}
 use Rattle.ospf_base.specs.Constants.{max_age}
 use Rattle.ospf_base.specs.Keys.{Precedes, same_key}
 use Rattle.ospf_base.specs.declared.ids.LsaKey.{LsaKey}
@@ -14,7 +15,6 @@ use Rattle.ospf_flood.specs.Rules.{max_sequence_number}
 use Rattle.ospf_lsa.specs.Header.{header_of}
 use Rattle.ospf_lsa.specs.Lsa.{key_of}
 use Rattle.ospf_lsdb.specs.Database.{Entry, Held, Installs, IsDatabase, entry_from, expired, held_of, lsa_of}
-use Rattle.ospf_lsdb.specs.Timers.{KeysRise}
 use Rattle.ospf_lsdb.proofs.EntryLemmas.{key-entry_from}
 use Rattle.ospf_area.specs.Flooding.{flooded_links, flooding_updates, goes_anywhere}
 use Rattle.ospf_area.specs.Numbers.{counts, is_own}
@@ -282,7 +282,7 @@ module _ (s0 : AreaValue) (is : IsDatabase s0.database) (key : LsaKey) (keys : L
           let next : number ≡ kept_number s (wanted_key w) +ℤ pos 1 = tells.next ∙ ap (λ n. n +ℤ pos 1) (sym here.kept ∙ ap (kept_number s) (sym is_key)) in
           one_more s mid t out mid_out out' (issue_puts w number s mid out mid_out x (own ∙ sym router) next (read_mid mid t mid_out out' on read)) on
 
-steps : (s0 : AreaValue) → IsDatabase s0.database → (keys : List LsaKey) → KeysRise keys → Steps s0 keys
+steps : (s0 : AreaValue) → IsDatabase s0.database → (keys : List LsaKey) → IsRisingBy Precedes keys → Steps s0 keys
 steps s0 is [] rises = λ s t out out' router same acts read. (
   0,
   subst (λ t. PutsOut (λ o. Times 0 OwnStep s o t) out out') (sym acts.state) (subst (λ o. PutsOut (λ o. Times 0 OwnStep s o s) out o) (sym acts.outputs) (own_none s out)),

@@ -6,7 +6,8 @@ use Rattle.std.specs.Option.{option_map}
 use Rattle.std.proofs.lemmas.Bool.{false≢true, cases_Bool, cond-true, cond-false}
 use Rattle.ospf_base.specs.declared.ids.LsaKey.{LsaKey}
 use Rattle.ospf_lsdb.specs.Database as lsdb
-use Rattle.ospf_lsdb.specs.Database.{Entry, Held, IsDatabase, AreKeysRising, held_of, key_at, removed, entries, instance_at}
+use Rattle.ospf_lsdb.specs.Database.{Entry, Held, IsDatabase, held_of, key_at, removed, entries, instance_at}
+use Rattle.ospf_lsdb.proofs.Words.{AreKeysRising}
 use Rattle.ospf_lsdb.proofs.MapLemmas.{after-none}
 use Rattle.ospf_base.specs.Keys.{same_key}
 use Rattle.ospf_base.proofs.SameKeys.{same_key-eq}

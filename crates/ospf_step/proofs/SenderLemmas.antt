@@ -15,7 +15,8 @@ use Rattle.ospf_packet.specs.declared.body.Description.{Description}
 use Rattle.ospf_adjacency.specs.Adjacency.{is_broadcast}
 use Rattle.ospf_adjacency.specs.Descriptions.{dd_dropped}
 use Rattle.ospf_iface.specs.Machine.{is_down}
-use Rattle.ospf_step.specs.Receipt.{agrees, drop_below_exchange, drop_by_body, drop_of_description, drop_of_hello, is_destination, is_elsewhere, is_foreign, sender_in}
+use Rattle.ospf_iface.specs.Hello.{agrees}
+use Rattle.ospf_step.specs.Receipt.{drop_below_exchange, drop_by_body, drop_of_description, drop_of_hello, is_destination, is_elsewhere, is_foreign, sender_in}
 use Rattle.ospf_step.specs.Senders.{CanBeTaken, IsExchanging, NotDroppedIsTaken, SendersAreNeighbours}
 use Rattle.ospf_step.specs.declared.dropped.Dropped.{Dropped}
 use Rattle.ospf_step.specs.declared.dropped.Dropped.TheVariants as dropped

@@ -1,10 +1,10 @@
 -- Which datagrams are dropped, and why (RFC 2328, sections 8.2, 10.5 to 10.7, 13 and 13.7).
 use Rattle.std.specs.Prelude.{◌==◌, ◌&&◌, ◌||◌, not, nat_lt, Bool, List, Option, None, Some, length, is_some, bit_and, if◌then◌else◌}
 use Rattle.ospf_base.specs.Addresses.{all_d_routers, all_spf_routers}
-use Rattle.ospf_base.specs.Constants.{router_options}
 use Rattle.ospf_base.specs.declared.ids.Addr.{Addr}
 use Rattle.ospf_base.specs.declared.ids.AreaId.{AreaId}
 use Rattle.ospf_base.specs.declared.ids.RouterId.{RouterId}
+use Rattle.ospf_iface.specs.Hello.{agrees}
 use Rattle.ospf_iface.specs.Machine.{is_down, is_dr_or_backup}
 use Rattle.ospf_iface.specs.declared.machine.Iface.{Iface}
 use Rattle.ospf_neighbour.specs.Machine.{is_exchanging}
@@ -13,7 +13,6 @@ use Rattle.ospf_neighbour.specs.Neighbours.{at_address, max_neighbours, neighbou
 use Rattle.ospf_packet.specs.Meaning.{BodyMeaning, Meaning, hello, description, request, update, acknowledgment}
 use Rattle.ospf_lsa.specs.declared.header.LsaHeader.{LsaHeader}
 use Rattle.ospf_packet.specs.declared.body.Description.{Description}
-use Rattle.ospf_packet.specs.declared.body.Hello.{Hello}
 use Rattle.ospf_exchange.specs.declared.rule.Local.{Local}
 use Rattle.ospf_adjacency.specs.Adjacency.{is_broadcast}
 use Rattle.ospf_adjacency.specs.Descriptions.{dd_dropped}
@@ -76,14 +75,6 @@ drop_below_exchange q (Some n) =
     if not (n.router.0 == q.0) then Some dropped.WrongRouter
     else if is_exchanging n.state then None
     else Some dropped.State
-
--- a Hello agrees in HelloInterval, RouterDeadInterval and the E bit, and on
--- broadcast links in the mask (10.5)
-abbrev pub agrees : Iface → Hello → Bool
-agrees i h =
-    (h.hello_interval == i.settings.hello) && (h.dead_interval == i.settings.dead)
-    && (bit_and h.options router_options == router_options)
-    && ((h.mask == i.settings.mask) || not (is_broadcast i))
 
 -- why a packet is dropped by what its body says, and by its sender, which may be no neighbour
 abbrev pub drop_by_body : Local → BodyMeaning → Iface → List NeighbourValue → RouterId

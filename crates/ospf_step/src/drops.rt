@@ -5,7 +5,8 @@ ghost use Rattle.std.specs.Option.{option_copied};
 ghost use Rattle.ospf_neighbour.specs.Neighbours.{at_address, neighbour_of};
 ghost use Rattle.ospf_packet.specs.PacketOf.{packet_of};
 ghost use Rattle.ospf_packet.specs.Said.{body_said, said};
-ghost use Rattle.ospf_step.specs.Receipt.{agrees, is_destination, is_foreign, is_elsewhere, sender_in, drop_of_new, drop_of_hello, drop_of_description, drop_below_exchange, drop_by_body, drop_of_packet, drop_of};
+ghost use Rattle.ospf_iface.specs.Hello.{agrees};
+ghost use Rattle.ospf_step.specs.Receipt.{is_destination, is_foreign, is_elsewhere, sender_in, drop_of_new, drop_of_hello, drop_of_description, drop_below_exchange, drop_by_body, drop_of_packet, drop_of};
 
 use crate::dropped::Dropped;
 use ospf_adjacency::{is_broadcast, is_dropped};

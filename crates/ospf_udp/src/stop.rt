@@ -1,8 +1,8 @@
 //! Why the routers of files do not run to their end.
 
-ghost use Rattle.std.specs.Prelude.{◌≡◌, IfErr, IfOk, OnErr, OnOk, string_bytes};
+ghost use Rattle.std.specs.Prelude.{◌≡◌, ◌⊎◌, IfErr, IfOk, OnErr, OnOk, string_bytes};
 ghost use Rattle.std.specs.Io.KnownBytes.{Appends};
-ghost use Rattle.ospf_files.specs.Streams.{IsBegun, IsErrorCut};
+ghost use Rattle.ospf_files.specs.Streams.{IsBegun, IsErrorCut, with_error};
 ghost use Rattle.ospf_udp.specs.Obstacles.{line_about, no_socket_line, obstacle_line, obstacle_status};
 
 use crate::fault::NoSocket;
@@ -95,10 +95,15 @@ pub fn tell_obstacle<E: Write>(
     err: &mut E,
     streams: &mut FailedStreams,
 ) -> Result<(), Failure>
+    // The line is written, and no stream has failed by it.
+    ensures same { OnOk result (streams.new ≡ streams.old) }
     ensures told { OnOk result
         (Appends (E.contents err.old) (E.contents err.new) (obstacle_line obstacle.entry)) }
+    // Else a beginning of it stands there, and standard error has failed, or memory ran out.
     ensures begun { OnErr result
         (IsBegun (E.contents err.old) (E.contents err.new) (obstacle_line obstacle.entry)) }
+    ensures failed { OnErr result ((streams.new ≡ streams.old)
+        ⊎ (streams.new ≡ with_error streams.old)) }
     ensures cut { IfErr result (IsErrorCut streams.new) }
 {
     let line = line_of(alloc, obstacle)?;

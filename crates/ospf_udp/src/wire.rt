@@ -47,8 +47,9 @@ impl<C: Clock + Drop> UdpWire<C> {
     /// come, or ticks without a last one where there is no number; and the end before that, where
     /// it is told by the ending, if there is one.
     ///
-    /// `NoPort` where an interface has no port, `Socket` where a socket could not be made, and
-    /// `Memory` where memory ran out; for the first interface at which one of them holds.
+    /// `Socket` without a port where the system cannot watch sockets; else, of the interfaces in
+    /// their order, the first that has no port (`NoPort`), or for whose port no socket was made
+    /// (`Socket`); `Memory` where memory ran out.
     pub fn open<N: Net>(
         net: &N,
         alloc: Global,

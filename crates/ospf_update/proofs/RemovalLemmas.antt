@@ -4,7 +4,8 @@ use Rattle.ospf_base.specs.declared.ids.LsaKey.{LsaKey}
 use Rattle.std.specs.List.{AllByRecursion}
 use Rattle.ospf_base.proofs.SameKeys.{same_key-apart, same_key-eq, same_key-refl}
 use Rattle.ospf_base.specs.Keys.{Precedes, same_key}
-use Rattle.ospf_lsdb.specs.Database.{AreKeysRising, Held, IsDatabase, entries, held_of, is_expired, is_some_and, key_at, removed}
+use Rattle.ospf_lsdb.specs.Database.{Held, IsDatabase, entries, held_of, is_expired, is_some_and, key_at, removed}
+use Rattle.ospf_lsdb.proofs.Words.{AreKeysRising}
 use Rattle.ospf_lsdb.specs.Moments.{among}
 use Rattle.ospf_area.specs.Outputs.{OutputsValue}
 use Rattle.ospf_update.specs.Removal.{RemovesOne, is_leaving, leaving}

@@ -17,7 +17,7 @@ use std::cmp::Ordering;
 
 /// Acknowledgments of headers go out, in order of key, as many in each as fit.
 ///
-/// `AllocError` where memory runs out.
+/// `AllocError` where memory runs out; then the router is to be stopped.
 pub fn send_acks(
     headers: &[LsaHeader],
     settings: LinkSettings,

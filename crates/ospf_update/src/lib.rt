@@ -16,6 +16,6 @@ pub use crate::laws::{
     copies_stay, numbers_are_kept, removed_entries, stored_entry, stored_neighbours,
     stored_numbers, stored_reaches, stored_stays, updates_bring_short,
 };
-pub use crate::meeting::{on_header, on_lsa, restart, rule_met, store};
+pub use crate::meeting::{on_header, on_lsa, rule_met, store};
 pub use crate::removal::{remove, some_awaits};
 pub use crate::updates::on_update;

@@ -97,7 +97,7 @@ pub fn rule_met(area: &Area, from: Origin, lsa: &LsaView) -> Option<LsaRule>
 /// begins anew (RFC 2328, section 13, step 6, and section 10.3).
 ///
 /// `AllocError` where memory runs out; then the router is to be stopped.
-pub fn restart(
+pub(crate) fn restart(
     area: &mut Area,
     from: Origin,
     out: &mut Outputs,

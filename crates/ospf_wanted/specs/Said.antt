@@ -30,8 +30,7 @@ router_link_bytes stub_router a n =
 unfoldable pub links_bytes : Bool → LinkValue → List ℕ
 links_bytes stub_router a = flat_map link_bytes (links_of_link stub_router a)
 
--- the bytes of the ID of a fully adjacent neighbour that stands before a router, and of one
--- that stands behind it (12.4.2)
+-- the bytes of a neighbour that a network-LSA names before the router itself, if it does (12.4.2)
 unfoldable pub lower_bytes : RouterId → NeighbourValue → List ℕ
 lower_bytes router n = if is_full_before router n then router_bytes n.router else []
 

@@ -89,8 +89,7 @@ links_of_link stub_router a =
 
 -- ---- network-LSAs
 
--- the fully adjacent neighbours whose IDs stand before this one, and
--- those whose IDs stand behind it
+-- the neighbour is Full, and its Router ID is less than the router's own
 abbrev pub is_full_before : RouterId → NeighbourValue → Bool
 is_full_before router n = is_full n && nat_lt n.router.0 router.0
 

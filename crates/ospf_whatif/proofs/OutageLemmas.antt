@@ -92,7 +92,7 @@ outage_is f A o of edges ends =
     let same : without f A ≡ left_of_area A o = ap (λ (g : AreaFailure). without g A) (sym of) in
     let edges : AreLost (IsEdge A) (IsEdge (left_of_area A o)) o.edges.items = subst (λ (l : List Advertisement). AreLost (IsEdge A) (IsEdge l) o.edges.items) same edges in
     let ends : AreLost (StandsIn A) (StandsIn (left_of_area A o)) o.ends.items = subst (λ (l : List Advertisement). AreLost (StandsIn A) (StandsIn l) o.ends.items) same ends in
-    record { edges_gone = edges.within; edges_or = edges.all; ends_gone = ends.within; ends_or = ends.all }
+    record { edges = edges; ends = ends }
 
 -- the tree over the edges of an area
 pub tree_over : (A : List Advertisement) (root : RouterId) (k : KeptTree) → k.root ≡ Router root → IsEdgesOf A k.edges → IsKeptTree k
@@ -121,8 +121,8 @@ module _ (A : List Advertisement) (o : Outage) (is : IsOutage A o) where
           let e : End = record { prefix = p; vertex = v; cost = k } in (
             (λ m.
                 let w = missing.within e m in
-                elim (is.ends_or e ((graph.ends_are e).0 (part_in e w.0))) [ inl gone ↦ absurd (w.1 gone) | inr left ↦ left ]),
-            (λ left. elim (missing.all e (part_all e ((graph.ends_are e).1 (end_from p v k left)) refl)) [ inl there ↦ there | inr gone ↦ absurd ((is.ends_gone e gone).1 left) ]),
+                elim (is.ends.all e ((graph.ends_are e).0 (part_in e w.0))) [ inl gone ↦ absurd (w.1 gone) | inr left ↦ left ]),
+            (λ left. elim (missing.all e (part_all e ((graph.ends_are e).1 (end_from p v k left)) refl)) [ inl there ↦ there | inr gone ↦ absurd ((is.ends.within e gone).1 left) ]),
           )
 
       pub told_here : (r : Bool) → IsTrue r ↔ IsToldBy B ends p → IsTrue r ↔ IsAdvertised B p
@@ -139,8 +139,8 @@ module _ (A : List Advertisement) (o : Outage) (is : IsOutage A o) where
     module _ (n : ℕ) (part : List Edge) (part_in : (e : Edge) → Contains part e → Contains area.edges.items e) (same : HaveSameFrom (Network n) area.edges.items part) where
       pub live_here : (r : Bool) → IsTrue r ↔ HasOtherFrom part o.edges.items (Network n) → IsTrue r ↔ IsLive B (Network n)
       live_here r both = (
-        (λ t. let h = both.0 t in elim (is.edges_or h.0 ((graph.edges_are h.0).0 (part_in h.0 h.1))) [ inl gone ↦ absurd (h.3 gone) | inr left ↦ (h.0, left, h.2) ]),
-        (λ h. both.1 (h.0, from_all (Network n) area.edges.items part same h.0 ((graph.edges_are h.0).1 (edge_from h.0 h.1)) h.2, h.2, (λ gone. (is.edges_gone h.0 gone).1 h.1))),
+        (λ t. let h = both.0 t in elim (is.edges.all h.0 ((graph.edges_are h.0).0 (part_in h.0 h.1))) [ inl gone ↦ absurd (h.3 gone) | inr left ↦ (h.0, left, h.2) ]),
+        (λ h. both.1 (h.0, from_all (Network n) area.edges.items part same h.0 ((graph.edges_are h.0).1 (edge_from h.0 h.1)) h.2, h.2, (λ gone. (is.edges.within h.0 gone).1 h.1))),
       )
 
   -- ---- trees
@@ -149,7 +149,7 @@ module _ (A : List Advertisement) (o : Outage) (is : IsOutage A o) where
   pub tree_unused : (root : Vertex) (k : KeptTree) → IsTree (IsEdge A) root (AtIn k.settled) (StartsIn k.starts)
       → ((e : Edge) → Contains o.edges.items e → IsOffLeastPaths (AtIn k.settled) e) → IsTree (IsEdge B) root (AtIn k.settled) (StartsIn k.starts)
   tree_unused root k tree unused =
-      trees_stay o.failure A root k.settled k.starts tree (λ e there. elim (is.edges_or e there) [ inl gone ↦ inr (unused e gone) | inr left ↦ inl left ])
+      trees_stay o.failure A root k.settled k.starts tree (λ e there. elim (is.edges.all e there) [ inl gone ↦ inr (unused e gone) | inr left ↦ inl left ])
 
   -- of the paths that are left without the edges
   pub tree_left : (root : RouterId) (before after : KeptTree) → IsEdgesOf A before.edges → TakesEdges o.edges.items before.edges after.edges → after.root ≡ Router root → IsKeptTree after
@@ -157,8 +157,8 @@ module _ (A : List Advertisement) (o : Outage) (is : IsOutage A o) where
   tree_left root before after edges_are takes root_is tree =
       tree_over B root after root_is
       (λ e. (
-        (λ m. let t = (takes e).0 m in elim (is.edges_or e ((edges_are e).0 t.0)) [ inl gone ↦ absurd (t.1 gone) | inr left ↦ left ]),
-        (λ left. (takes e).1 ((edges_are e).1 (edge_from e left), (λ gone. (is.edges_gone e gone).1 left))),
+        (λ m. let t = (takes e).0 m in elim (is.edges.all e ((edges_are e).0 t.0)) [ inl gone ↦ absurd (t.1 gone) | inr left ↦ left ]),
+        (λ left. (takes e).1 ((edges_are e).1 (edge_from e left), (λ gone. (is.edges.within e gone).1 left))),
       ))
       tree
 
@@ -169,7 +169,7 @@ module _ (A : List Advertisement) (o : Outage) (is : IsOutage A o) where
     kept_here = record {
       to = λ w d k at there. (
         (over.same.distance w d (λ m. free (inr (w, k, m, there)))).0 at,
-        elim (is.ends_or (record { prefix = p; vertex = w; cost = k }) there) [
+        elim (is.ends.all (record { prefix = p; vertex = w; cost = k }) there) [
           | inl gone ↦ absurd (free (inl (record { prefix = p; vertex = w; cost = k }, gone, refl)))
           | inr left ↦ left
         ],

@@ -20,7 +20,8 @@ use Rattle.ospf_graph.proofs.ListLemmas.{member_of_map, member_to_map, more_memb
 use Rattle.ospf_edges.specs.Listed.{advertisement_of, advertisements_of}
 use Rattle.ospf_edges.specs.declared.end.End.{End}
 use Rattle.std.proofs.lemmas.List.{get_or_default}
-use Rattle.ospf_edges.specs.Given.{Adds, AreEndsAt, IsEdgesOf}
+use Rattle.ospf_graph.specs.Adds.{Adds}
+use Rattle.ospf_edges.specs.Given.{AreEndsAt, IsEdgesOf}
 use Rattle.ospf_edges.proofs.AddsLemmas.{adds_next}
 use Rattle.ospf_whatif.specs.Single.{AttachmentGiven, EdgeGiven, GivenBy, HasEndFor, IsFailure, IsLongestOf, IsLongestSuch, IsOn, IsPairOf, IsShared, IsSharedIn, IsWire, IsWireAt, LinksGiven, NetworkGiven, RouterGiven, WireGiven}
 use Rattle.ospf_whatif.specs.declared.failure.AreaFailure.{AreaFailure}

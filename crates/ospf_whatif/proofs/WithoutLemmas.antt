@@ -11,7 +11,7 @@ use Rattle.ospf_base.specs.Bytes.{number_at}
 use Rattle.ospf_lsa.specs.Header.{header_of}
 use Rattle.ospf_lsa.specs.Lsa.{IsLsa, IsRouterLsa, IsNetworkLsa, key_of, kind_of, links_of}
 use Rattle.ospf_lsa.specs.Link.{LinkEntry, entries_in, plain}
-use Rattle.ospf_lsa.specs.Listing as listings
+use Rattle.ospf_lsa.proofs.Words.{IsRising}
 use Rattle.ospf_lsa.specs.declared.fault.LsaFault.TheVariants as fault
 use Rattle.ospf_lsa.proofs.ListingLemmas.{AllBefore, before_it}
 use Rattle.ospf_lsa.specs.Value.{IsMade, IsUnmade, RouterNeeds, router_value, LsaValue, router_body}
@@ -20,7 +20,7 @@ use Rattle.ospf_graph.specs.Advertisements.{Advertisement, network_lsa, router_l
 use Rattle.ospf_edges.specs.Listed.{advertisement_of}
 use Rattle.ospf_graph.proofs.ListLemmas.{member_of_map, member_to_map}
 use Rattle.ospf_edges.proofs.ListedLemmas.{router_of, network_of}
-use Rattle.ospf_whatif.specs.Failure.{HasLarge, IsLarge, IsLeftLsa, left_of_lsa, kept_after, kept_links, takes, without, without_all}
+use Rattle.ospf_whatif.specs.Failure.{HasLarge, HasLeftLarge, IsLarge, IsLeftLarge, IsLeftLsa, left_of_lsa, kept_after, kept_links, takes, without, without_all}
 use Rattle.ospf_whatif.specs.declared.failure.AreaFailure.{AreaFailure}
 
 pub kept_links-append : (f : AreaFailure) (r : RouterId) (xs ys : List Link) → kept_links f r (xs ++ ys) ≡ kept_links f r xs ++ kept_links f r ys
@@ -107,12 +107,12 @@ keyed_before key (x ∷ xs) (y ∷ ys) same below =
 
 module _ (lsas : List (List ℕ)) (i : ℕ) (x : List ℕ) (within : i < length lsas) (is : x ≡ get_or lsas i x) where
   -- what stands in front of it, by keys
-  pub keys_before : listings.IsRising lsas → (left : List (List ℕ)) (new : List ℕ) → map key_of left ≡ map key_of (take i lsas) → key_of new ≡ key_of x
+  pub keys_before : IsRising lsas → (left : List (List ℕ)) (new : List ℕ) → map key_of left ≡ map key_of (take i lsas) → key_of new ≡ key_of x
       → AllBefore (key_of new) left
   keys_before rises left new same key =
       let split : take i lsas ++ x ∷ drop (i + 1) lsas ≡ lsas =
       ap (λ t. take i lsas ++ t) (ap (λ (l : List ℕ). l ∷ drop (i + 1) lsas) is ∙ sym (drop_more lsas i x within)) ∙ take-append-drop i lsas in
-      let below : AllBefore (key_of x) (take i lsas) = before_it (take i lsas) x (drop (i + 1) lsas) (subst (λ l. listings.IsRising l) (sym split) rises) in
+      let below : AllBefore (key_of x) (take i lsas) = before_it (take i lsas) x (drop (i + 1) lsas) (subst (λ l. IsRising l) (sym split) rises) in
       keyed_before (key_of new) left (take i lsas) same (subst (λ k. AllBefore k (take i lsas)) (sym key) below)
 
   next : take (i + 1) lsas ≡ take i lsas ++ x ∷ []
@@ -170,23 +170,32 @@ kept_after_few (f ∷ fs) r links =
     let first : length (kept_links f r links) ≤ length links = kept_length (λ (l : Link). not (takes f r l)) links in
     omega arith
 
--- a router-LSA that keeps too many has too many
-pub large_before : (f : AreaFailure) (r : RouterId) (number : ℤ) (links : List Link) (lsa : List ℕ) → IsRouterLsa lsa → links ≡ kept_links f r (links_of lsa)
-    → IsUnmade (RouterNeeds number links) fault.Length → IsLarge (advertisement_of lsa)
-large_before f r number links lsa is are (inl memory) = let e : fault.Length ≡ fault.Memory = memory.0 in cc
-large_before f r number links lsa is are (inr first) =
-    let more : 1361 < length links = go first.broken in
-    let all : length links ≤ length (links_of lsa) = subst (λ (l : List Link). length l ≤ length (links_of lsa)) (sym are) (kept_length (λ l. not (takes f r l)) (links_of lsa)) in
-    let large : 1361 < length (links_of lsa) = omega arith in
-    subst IsLarge (sym (router_of lsa is)) large
+-- a router-LSA that is made anew of too many links
+pub large_left : (f : AreaFailure) (r : RouterId) (number : ℤ) (links : List Link) (lsa : List ℕ) → IsRouterLsa lsa → r ≡ (key_of lsa).router → links ≡ kept_links f r (links_of lsa)
+    → (kept_links f r (links_of lsa) ≡ links_of lsa → ⊥) → IsUnmade (RouterNeeds number links) fault.Length → IsLeftLarge f (advertisement_of lsa)
+large_left f r number links lsa is same are differs (inl memory) = let e : fault.Length ≡ fault.Memory = memory.0 in cc
+large_left f r number links lsa is same are differs (inr first) =
+    let of : kept_links f r (links_of lsa) ≡ kept_links f (key_of lsa).router (links_of lsa) = ap (λ (q : RouterId). kept_links f q (links_of lsa)) same in
+    subst (IsLeftLarge f) (sym (router_of lsa is)) ((λ e. differs (of ∙ e)), subst (λ (l : List Link). 1361 < length l) (are ∙ of) (go first.broken))
   where
     go : (24 + 12 * length links ≤ 16356 → ⊥) → 1361 < length links
     go long = omega (arith, long)
 
 -- one of a listing
-pub large_in : (items listing : List (List ℕ)) (lsa : List ℕ) → items ≡ listing → Contains items lsa → IsLarge (advertisement_of lsa) → HasLarge (map advertisement_of listing)
-large_in items listing lsa same here large =
+pub large_in : (f : AreaFailure) (items listing : List (List ℕ)) (lsa : List ℕ) → items ≡ listing → Contains items lsa → IsLeftLarge f (advertisement_of lsa) → HasLeftLarge f (map advertisement_of listing)
+large_in f items listing lsa same here large =
     (advertisement_of lsa, member_to_map advertisement_of listing lsa (subst (λ (l : List (List ℕ)). Contains l lsa) same here), large)
+
+-- what is too large then is too large before
+left_is_large : (f : AreaFailure) (advert : Advertisement) → IsLeftLarge f advert → IsLarge advert
+left_is_large f (router_lsa router links) large =
+    let kept : length (kept_links f router links) ≤ length links = kept_length (λ (l : Link). not (takes f router l)) links in
+    let more = large.1 in
+    omega (arith, kept, more)
+left_is_large f (network_lsa n router mask attached) large = absurd large
+
+pub has_large : (f : AreaFailure) (adverts : List Advertisement) → HasLeftLarge f adverts → HasLarge adverts
+has_large f adverts large = (large.0, large.1, left_is_large f large.0 large.2)
 
 -- ---- a router has no more links than before
 

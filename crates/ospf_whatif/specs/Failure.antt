@@ -113,3 +113,13 @@ IsLarge (network_lsa n router mask attached) = ⊥
 -- some LSA of the listing is too large
 abbrev pub HasLarge : List Advertisement → Type 0
 HasLarge adverts = (advert : Advertisement) × Contains adverts advert × IsLarge advert
+
+-- after the failure it is made anew, and would be too large
+abbrev pub IsLeftLarge : failure.AreaFailure → Advertisement → Type 0
+IsLeftLarge f (router_lsa router links) =
+    (kept_links f router links ≢ links) × (1361 < length (kept_links f router links))
+IsLeftLarge f (network_lsa n router mask attached) = ⊥
+
+-- some LSA of the listing would be too large after the failure
+abbrev pub HasLeftLarge : failure.AreaFailure → List Advertisement → Type 0
+HasLeftLarge f adverts = (advert : Advertisement) × Contains adverts advert × IsLeftLarge f advert

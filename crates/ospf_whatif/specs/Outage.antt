@@ -57,14 +57,8 @@ StandsIn adverts e = IsEnd adverts e.prefix e.vertex e.cost
 
 -- its edges and its ends are those of the area that its failure does not leave
 pub record IsOutage (adverts : List Advertisement) (outage : Outage) : Type 0 where
-  pub edges_gone : (e : Edge) → Contains outage.edges.items e
-      → IsEdge adverts e × (IsEdge (left_of_area adverts outage) e → ⊥)
-  pub edges_or : (e : Edge) → IsEdge adverts e
-      → Contains outage.edges.items e ⊎ IsEdge (left_of_area adverts outage) e
-  pub ends_gone : (e : End) → Contains outage.ends.items e
-      → StandsIn adverts e × (StandsIn (left_of_area adverts outage) e → ⊥)
-  pub ends_or : (e : End) → StandsIn adverts e
-      → Contains outage.ends.items e ⊎ StandsIn (left_of_area adverts outage) e
+  pub edges : AreLost (IsEdge adverts) (IsEdge (left_of_area adverts outage)) outage.edges.items
+  pub ends : AreLost (StandsIn adverts) (StandsIn (left_of_area adverts outage)) outage.ends.items
 
 -- ---- a root
 

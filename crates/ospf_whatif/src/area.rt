@@ -7,7 +7,7 @@ ghost use Rattle.ospf_lsa.specs.Header.{header_of};
 ghost use Rattle.ospf_lsa.specs.Lsa.{key_of, IsRouterLsa};
 ghost use Rattle.ospf_lsa.specs.Listing.{IsListable};
 ghost use Rattle.ospf_edges.specs.Listed.{advertisement_of, advertisements_of};
-ghost use Rattle.ospf_whatif.specs.Failure.{HasLarge, IsLarge, IsLeftLsa, left_of_lsa, kept_links, takes, without, without_all};
+ghost use Rattle.ospf_whatif.specs.Failure.{HasLarge, HasLeftLarge, IsLeftLarge, IsLeftLsa, left_of_lsa, kept_links, takes, without, without_all};
 
 use crate::failure::AreaFailure;
 use ospf_base::{Kind, RouterId};
@@ -63,7 +63,8 @@ pub fn without(
     ensures left { IfOk result (λ left. advertisements_of left
         ≡ without failure.now (advertisements_of listing.now)) }
     ensures bytes { IfOk result (AllZip (IsLeftLsa (failure.now ∷ [])) listing.now) }
-    ensures large { result ≡ Err WithoutFault.Links → HasLarge (advertisements_of listing.now) }
+    ensures large { result ≡ Err WithoutFault.Links →
+        HasLeftLarge failure.now (advertisements_of listing.now) }
 {
     let mut left = Listing::new(alloc);
     for lsa in listing.lsas() {
@@ -120,8 +121,9 @@ fn lsa_without(alloc: Global, failure: &AreaFailure, lsa: &LsaView) -> Result<Ls
     ensures bytes { IfOk result (IsLeftLsa (failure.now ∷ []) lsa.now) }
     ensures key { IfOk result (λ left. key_of left ≡ key_of lsa.now) }
     ensures young { IfOk result (λ left. (header_of left).age < max_age) }
-    // It can be too long only where it has more links than one of the largest size.
-    ensures large { result ≡ Err LsaFault.Length → IsLarge (advertisement_of lsa.now) }
+    // It is too long only where it is made anew of more links than one of the largest size has.
+    ensures large { result ≡ Err LsaFault.Length →
+        IsLeftLarge failure.now (advertisement_of lsa.now) }
 {
     match lsa.kind() {
         Kind::Router => router_without(alloc, failure, lsa),
@@ -139,8 +141,9 @@ fn router_without(alloc: Global, failure: &AreaFailure, lsa: &LsaView) -> Result
     ensures bytes { IfOk result (IsLeftLsa (failure.now ∷ []) lsa.now) }
     ensures key { IfOk result (λ left. key_of left ≡ key_of lsa.now) }
     ensures young { IfOk result (λ left. (header_of left).age < max_age) }
-    // It can be too long only where it has more links than one of the largest size.
-    ensures large { result ≡ Err LsaFault.Length → IsLarge (advertisement_of lsa.now) }
+    // It is too long only where it is made anew of more links than one of the largest size has.
+    ensures large { result ≡ Err LsaFault.Length →
+        IsLeftLarge failure.now (advertisement_of lsa.now) }
 {
     let router = lsa.key().router;
     if keeps_all(failure, router, lsa.links()) {

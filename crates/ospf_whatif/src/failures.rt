@@ -4,7 +4,8 @@ ghost use Rattle.std.specs.Prelude.{◌≡◌, ◌↔◌, ◌<◌, [], IsTrue, I
 ghost use Rattle.ospf_base.specs.Prefixes.{Holds};
 ghost use Rattle.ospf_graph.specs.Search.{AreEdgesInOrder};
 ghost use Rattle.ospf_graph.specs.declared.graph.Vertex.TheVariants.{Router};
-ghost use Rattle.ospf_edges.specs.Given.{Adds, IsEdgesOf};
+ghost use Rattle.ospf_graph.specs.Adds.{Adds};
+ghost use Rattle.ospf_edges.specs.Given.{IsEdgesOf};
 ghost use Rattle.ospf_edges.specs.Listed.{advertisement_of, advertisements_of};
 ghost use Rattle.ospf_whatif.specs.Single.{AreFailures, AttachmentGiven, EdgeGiven, GivenBy, HasEndFor, IsFailureBefore, IsLongestOf, IsPairOf, IsShared, IsSharedFar, IsSharedIn, IsWireAt, LeadsBack, LinksGiven, NetworkGiven, RouterGiven, WireGiven};
 ghost use Rattle.ospf_whatif.specs.declared.failure.AreaFailure.{AreaFailure};

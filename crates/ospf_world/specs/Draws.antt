@@ -33,7 +33,7 @@ drawn_delivery words r links datagrams =
     option_and_then (λ l. option_map (λ d. Deliver d r l) (chosen_of words.number datagrams))
     (chosen_of words.link links)
 
--- a link that comes up, and one that goes down, where there is one
+-- one of the router's links, drawn, comes up
 unfoldable pub drawn_link_up : Words → RouterId → (links : ℕ) → Option WorldEvent
 drawn_link_up words r links = option_map (λ l. LinkUp r l) (chosen_of words.link links)
 

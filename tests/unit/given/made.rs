@@ -1,6 +1,6 @@
 //! Router-LSAs, their links and keys, and numbers that are drawn.
 
-use ospf_base::{Age, Kind, LsaKey, RouterId};
+use ospf_base::{Age, Kind, LsaKey, RouterId, lsa_sum};
 use ospf_lsa::{Link, LinkKind, Lsa, LsaHeader};
 use std::alloc::Global;
 use std::test::Fail;
@@ -32,6 +32,41 @@ pub(crate) fn to(router: RouterId, address: u32, metric: u16) -> Link {
 /// The type 3 link of a prefix.
 pub(crate) fn stub(address: u32, mask: u32, metric: u16) -> Link {
     link(LinkKind::Stub, address, mask, metric)
+}
+
+// The number of a kind of link in a router-LSA.
+fn kind_number(kind: LinkKind) -> u8 {
+    match kind {
+        LinkKind::PointToPoint => 1,
+        LinkKind::Transit => 2,
+        LinkKind::Stub => 3,
+        LinkKind::Virtual => 4,
+    }
+}
+
+/// The bytes of a router-LSA of these links, which may be more than one has that is made.
+pub(crate) fn router_bytes(alloc: Global, id: RouterId, links: &[Link]) -> Result<Vec<u8>, Fail> {
+    let count = links.len() as u16;
+    let size = 24 + 12 * count;
+    let mut bytes = Vec::new(alloc);
+    bytes.extend_from_slice(&[0, 0, 2, 1])?;
+    bytes.extend_from_slice(&id.0.to_be_bytes())?;
+    bytes.extend_from_slice(&id.0.to_be_bytes())?;
+    bytes.extend_from_slice(&FIRST_NUMBER.to_be_bytes())?;
+    bytes.extend_from_slice(&[0, 0])?;
+    bytes.extend_from_slice(&size.to_be_bytes())?;
+    bytes.extend_from_slice(&[0, 0])?;
+    bytes.extend_from_slice(&count.to_be_bytes())?;
+    for link in links {
+        bytes.extend_from_slice(&link.id.to_be_bytes())?;
+        bytes.extend_from_slice(&link.link_data.to_be_bytes())?;
+        bytes.extend_from_slice(&[kind_number(link.kind), 0])?;
+        bytes.extend_from_slice(&link.metric.to_be_bytes())?;
+    }
+    let sum = lsa_sum(&bytes).to_be_bytes();
+    bytes[16] = sum[0];
+    bytes[17] = sum[1];
+    Ok(bytes)
 }
 
 /// The links of a router at this address on the link between 1.1.1.1 and 2.2.2.2: to the other, and of the prefix.

@@ -1,9 +1,9 @@
 //! What failures of small areas change, as it is printed.
 
 use super::failing::Failing;
-use super::made::{FIRST, FIRST_NUMBER, SECOND, THIRD, link, stub, to};
+use super::made::{FIRST, FIRST_NUMBER, SECOND, THIRD, link, router_bytes, stub, to};
 use super::program::Nobody;
-use ospf_base::{Addr, RouterId, lsa_sum};
+use ospf_base::{Addr, RouterId};
 use ospf_failures::{FailuresForm, FailuresJob, FailuresStatus, Progress, failures_text};
 use ospf_files::Status;
 use ospf_lsa::{Link, LinkKind, Listing, Lsa};
@@ -324,26 +324,13 @@ fn line_that_is_no_lsa_is_refused(rt: HostRuntime) -> Result<(), Fail> {
     )
 }
 
-// The router-LSA of a router with so many stubs, each of another host.
-fn router_of_stubs(alloc: Global, id: RouterId, stubs: u16) -> Result<Vec<u8>, Fail> {
-    let size = 24 + 12 * stubs;
-    let mut bytes = Vec::new(alloc);
-    bytes.extend_from_slice(&[0, 0, 2, 1])?;
-    bytes.extend_from_slice(&id.0.to_be_bytes())?;
-    bytes.extend_from_slice(&id.0.to_be_bytes())?;
-    bytes.extend_from_slice(&FIRST_NUMBER.to_be_bytes())?;
-    bytes.extend_from_slice(&[0, 0])?;
-    bytes.extend_from_slice(&size.to_be_bytes())?;
-    bytes.extend_from_slice(&[0, 0])?;
-    bytes.extend_from_slice(&stubs.to_be_bytes())?;
-    for stub in 0..stubs {
-        bytes.extend_from_slice(&(0xac10_0000 + u32::from(stub)).to_be_bytes())?;
-        bytes.extend_from_slice(&[255, 255, 255, 255, 3, 0, 0, 1])?;
+// The bytes of the router-LSA of a router with so many stubs, each of another host.
+fn router_of_stubs(alloc: Global, id: RouterId, stubs: u32) -> Result<Vec<u8>, Fail> {
+    let mut links = Vec::new(alloc);
+    for number in 0..stubs {
+        links.push(stub(0xac10_0000 + number, 0xffff_ffff, 1))?;
     }
-    let sum = lsa_sum(&bytes).to_be_bytes();
-    bytes[16] = sum[0];
-    bytes[17] = sum[1];
-    Ok(bytes)
+    router_bytes(alloc, id, &links)
 }
 
 #[test]

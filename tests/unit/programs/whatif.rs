@@ -1,12 +1,13 @@
 //! What failures do to the tables of a small area.
 
-use super::made::{FIRST, FIRST_NUMBER, SECOND, THIRD, stub, to};
+use super::made::{FIRST, FIRST_NUMBER, SECOND, THIRD, router_bytes, stub, to};
 use ospf_base::{Addr, Prefix, RouterId};
 use ospf_graph::{NextHop, Route};
-use ospf_lsa::{Link, Listing, Lsa};
+use ospf_lsa::{Link, Listing, Lsa, LsaView};
 use ospf_spf::RouteTable;
 use ospf_whatif::{
-    AreaFailure, AreaGraph, KeptRoot, Loss, Outage, RouteChange, single_failures, without,
+    AreaFailure, AreaGraph, KeptRoot, Loss, Outage, RouteChange, WithoutFault, single_failures,
+    without,
 };
 use std::alloc::Global;
 use std::test::Fail;
@@ -151,5 +152,41 @@ fn two_failures_one_after_the_other(rt: HostRuntime) -> Result<(), Fail> {
     let table = RouteTable::of(alloc, &left, FIRST)?;
     assert!(rt; table.routes().len() == 1);
     assert!(rt; is_to(&table.routes()[0], 0x0a00_0000, 0xff00_0000, 100)?);
+    Ok(())
+}
+
+// An area of 1.1.1.1 and 2.2.2.2, of which the second has so many links: the two to the first, and
+// stubs, each of another host.
+fn with_many_links(alloc: Global, count: u32) -> Result<Listing, Fail> {
+    let first = [to(SECOND, 0x0a00_0001, 10), subnet(0x0a00_0001)];
+    let mut links = Vec::new(alloc);
+    links.push(to(FIRST, 0x0a00_0002, 10))?;
+    links.push(subnet(0x0a00_0002))?;
+    for number in 0..count - 2 {
+        links.push(stub(0xac10_0000 + number, 0xffff_ffff, 1))?;
+    }
+    let second = router_bytes(alloc, SECOND, &links)?;
+    let mut listing = Listing::new(alloc);
+    listing.add(Lsa::router(alloc, FIRST, FIRST_NUMBER, &first)?)?;
+    listing.add(Lsa::copy(alloc, &LsaView::read(&second)?)?)?;
+    Ok(listing)
+}
+
+#[test]
+fn links_are_too_many_only_where_they_are_told_again(rt: HostRuntime) -> Result<(), Fail> {
+    let alloc = rt.alloc();
+    let gone = link(FIRST, SECOND, 0x0a00_0000)?;
+    // 1,361 links are left: the most that a router-LSA has that is made.
+    let most = with_many_links(alloc, 1363)?;
+    let left = without(alloc, &most, &gone)?;
+    let links = left.lsas()[1].view().links().count();
+    assert!(rt; links == 1361);
+    // One more.
+    let many = with_many_links(alloc, 1364)?;
+    assert!(rt; without(alloc, &many, &gone).err() == Some(WithoutFault::Links));
+    // A router-LSA that keeps all of them stays, byte for byte.
+    let elsewhere = link(FIRST, THIRD, 0x0a00_0004)?;
+    let same = without(alloc, &many, &elsewhere)?;
+    assert!(rt; same.lsas()[1].view().as_bytes() == many.lsas()[1].view().as_bytes());
     Ok(())
 }

@@ -1,7 +1,7 @@
 use Rattle.std.proofs.Common.{◌∙◌, ap, sym, List}
 use Rattle.std.specs.List.{list_any}
 use Rattle.std.proofs.lemmas.List.{take_all}
-use Rattle.ospf_lsdb.proofs.TimerLemmas.{KeysRise-ordered}
+use Rattle.ospf_lsdb.proofs.TimerLemmas.{rising_from-sorted}
 use Rattle.ospf_neighbour.specs.declared.neighbour.Listed.{Listed}
 use Rattle.ospf_adjacency.proofs.DueLemmas.{is_due_of, due_are, due_more, due_same}
 use Rattle.ospf_adjacency.proofs.repeating.due_keys.Goals as goal
@@ -24,6 +24,6 @@ loop-listed-preserved c = elim c.if-goes_again.branch [
 pub returns : goal.returns
 returns c = due_are c.args.retransmit c.args.tick c.args.database.now c.args.neighbour.now c.loop-listed.keys.keys
     c.entries-entries.ensures.database.rising
-    (KeysRise-ordered c.loop-listed.keys.keys c.loop-listed.invariant.ordered)
+    (rising_from-sorted c.loop-listed.keys.keys c.loop-listed.invariant.ordered)
     (λ q. c.loop-listed.invariant.whole q
     ∙ ap (λ (ls : List Listed). list_any (is_due_of c.args.retransmit c.args.tick c.args.database.now q) ls) (take_all c.loop-listed.listed-index c.retransmission-listed-items.result.now c.loop-listed-test.false ∙ c.retransmission-listed-items.ensures))

@@ -1,16 +1,16 @@
-use Rattle.std.proofs.Common.{◌++◌, ◌∷◌, [], Option, ℕ, ap, sym, subst, append_assoc, ◌∙◌}
+use Rattle.std.proofs.Common.{◌++◌, ◌∷◌, [], Some, ℕ, ap, sym, subst, append_assoc, ◌∙◌}
 use Rattle.ospf_edges.specs.Listed.{advertisements_of}
 use Rattle.ospf_edges.specs.Costs.{IsLeastOf, Leads}
 use Rattle.ospf_edges.proofs.LinkLists.{least_more}
 use Rattle.ospf_edges.proofs.cost.least_of.Goals as goal
 
-pub loop-link-preserved : goal.loop-link-preserved
-loop-link-preserved c =
+pub loop-link-preserved-then-leads : goal.loop-link-preserved-then-leads
+loop-link-preserved-then-leads c =
     let P = Leads (advertisements_of c.args.listing.now) c.args.router c.args.hop.now in
+    let seen = c.loop-link.yielded in
+    let link = c.in-Some.link in
     record {
-      walked =
-          c.loop-link.invariant.walked ∙ ap (λ t. c.loop-link.yielded ++ t) c.in-Some.ensures.steps
-          ∙ sym (append_assoc c.loop-link.yielded (c.in-Some.link ∷ []) c.next.new.self);
-      least = subst (λ (o : Option ℕ). IsLeastOf P (c.loop-link.yielded ++ c.in-Some.link ∷ []) o) (sym c.with_link-least.ensures)
-          (least_more P c.loop-link.yielded c.in-Some.link c.loop-link.least c.leads-leads_there.result c.leads-leads_there.ensures c.loop-link.invariant.least);
+      walked = c.loop-link.invariant.walked ∙ ap (λ t. seen ++ t) c.in-Some.ensures.steps ∙ sym (append_assoc seen (link ∷ []) c.next.new.self);
+      least = subst (λ (n : ℕ). IsLeastOf P (seen ++ link ∷ []) (Some n)) (sym c.lesser.ensures)
+          (least_more P seen link c.loop-link.least (c.leads.ensures.0 c.if-leads.true) c.loop-link.invariant.least);
     }

@@ -3,7 +3,8 @@ use Rattle.ospf_base.specs.Bytes.{number_at}
 use Rattle.ospf_base.specs.declared.ids.LsaKey.{LsaKey}
 use Rattle.ospf_base.specs.declared.ids.RouterId.{RouterId}
 use Rattle.ospf_lsa.specs.Lsa.{IsRouterLsa, IsNetworkLsa, links_of, attached_of, network_mask_of}
-use Rattle.ospf_edges.specs.Given.{Adds, AttachedGives, EdgesOf}
+use Rattle.ospf_graph.specs.Adds.{Adds}
+use Rattle.ospf_edges.specs.Given.{AttachedGives, EdgesOf}
 use Rattle.ospf_edges.proofs.AddsLemmas.{GivenBy}
 use Rattle.ospf_edges.proofs.GivenLemmas.{as_router, as_network, members_add, no_members}
 use Rattle.ospf_edges.proofs.edges.add_edges.Goals as goal

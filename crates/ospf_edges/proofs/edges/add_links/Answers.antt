@@ -1,7 +1,8 @@
 use Rattle.std.proofs.Common.{◌≡◌, ◌++◌, ◌∷◌, List, [], sym, ap, subst, ◌∙◌, append_assoc, length, length-append, arith}
 use Rattle.std.proofs.lemmas.List.{append-nil}
 use Rattle.ospf_lsa.specs.declared.link.Link.{Link}
-use Rattle.ospf_edges.specs.Given.{Adds, LinkGives}
+use Rattle.ospf_graph.specs.Adds.{Adds}
+use Rattle.ospf_edges.specs.Given.{LinkGives}
 use Rattle.ospf_edges.proofs.AddsLemmas.{GivenBy, adds_more, adds_start}
 use Rattle.ospf_edges.proofs.edges.add_links.Goals as goal
 

@@ -1,5 +1,6 @@
 use Rattle.std.proofs.Common.{◌≡◌, ◌+◌, ◌++◌, ◌≤◌, length}
-use Rattle.ospf_edges.specs.Given.{Adds, AttachedGives}
+use Rattle.ospf_graph.specs.Adds.{Adds}
+use Rattle.ospf_edges.specs.Given.{AttachedGives}
 use Rattle.ospf_edges.proofs.AddsLemmas.{GivenBy}
 use Rattle.ospf_edges.proofs.edges.add_members.Given as goal
 

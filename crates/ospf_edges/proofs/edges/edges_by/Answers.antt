@@ -2,7 +2,8 @@ use Rattle.std.proofs.Common.{◌≡◌, ◌≤◌, ℕ, List, length, map, take
 use Rattle.std.proofs.lemmas.List.{take_all}
 use Rattle.ospf_graph.specs.Advertisements.{Advertisement}
 use Rattle.ospf_edges.specs.Listed.{advertisement_of, advertisements_of}
-use Rattle.ospf_edges.specs.Given.{Adds, EdgesOf, link_count}
+use Rattle.ospf_graph.specs.Adds.{Adds}
+use Rattle.ospf_edges.specs.Given.{EdgesOf, link_count}
 use Rattle.ospf_edges.specs.Given.{IsEdgesOf}
 use Rattle.ospf_edges.proofs.FitLemmas.{edges_fit}
 use Rattle.ospf_edges.proofs.AddsLemmas.{GivenBy, adds_next, adds_start}

@@ -1,6 +1,7 @@
 use Rattle.std.proofs.Common.{◌≤◌, length, map, take}
 use Rattle.ospf_edges.specs.Listed.{advertisement_of, advertisements_of}
-use Rattle.ospf_edges.specs.Given.{Adds, EdgesOf, link_count}
+use Rattle.ospf_graph.specs.Adds.{Adds}
+use Rattle.ospf_edges.specs.Given.{EdgesOf, link_count}
 use Rattle.ospf_edges.proofs.AddsLemmas.{GivenBy}
 use Rattle.ospf_edges.proofs.edges.edges_by.Given as goal
 

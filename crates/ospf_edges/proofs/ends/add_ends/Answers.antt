@@ -3,7 +3,8 @@ use Rattle.ospf_base.specs.Bytes.{number_at}
 use Rattle.ospf_base.specs.declared.ids.LsaKey.{LsaKey}
 use Rattle.ospf_lsa.specs.Lsa.{IsRouterLsa, IsNetworkLsa, links_of, attached_of, network_mask_of}
 use Rattle.ospf_edges.specs.Listed.{advertisements_of}
-use Rattle.ospf_edges.specs.Given.{Adds, NetworkGives, EndsOf}
+use Rattle.ospf_graph.specs.Adds.{Adds}
+use Rattle.ospf_edges.specs.Given.{NetworkGives, EndsOf}
 use Rattle.ospf_edges.proofs.GivenLemmas.{as_router, as_network, network_adds, no_network}
 use Rattle.ospf_edges.proofs.ends.add_ends.Goals as goal
 

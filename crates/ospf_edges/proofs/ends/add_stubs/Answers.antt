@@ -1,7 +1,8 @@
 use Rattle.std.proofs.Common.{◌≡◌, ◌++◌, ◌∷◌, List, [], sym, ap, subst, ◌∙◌, append_assoc}
 use Rattle.std.proofs.lemmas.List.{append-nil}
 use Rattle.ospf_lsa.specs.declared.link.Link.{Link}
-use Rattle.ospf_edges.specs.Given.{Adds, StubGives}
+use Rattle.ospf_graph.specs.Adds.{Adds}
+use Rattle.ospf_edges.specs.Given.{StubGives}
 use Rattle.ospf_edges.proofs.AddsLemmas.{GivenBy, adds_more, adds_start}
 use Rattle.ospf_edges.proofs.ends.add_stubs.Goals as goal
 

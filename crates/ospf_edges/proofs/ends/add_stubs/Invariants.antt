@@ -1,5 +1,6 @@
 use Rattle.std.proofs.Common.{◌≡◌, ◌++◌}
-use Rattle.ospf_edges.specs.Given.{Adds, StubGives}
+use Rattle.ospf_graph.specs.Adds.{Adds}
+use Rattle.ospf_edges.specs.Given.{StubGives}
 use Rattle.ospf_edges.proofs.AddsLemmas.{GivenBy}
 use Rattle.ospf_edges.proofs.ends.add_stubs.Given as goal
 

@@ -1,7 +1,8 @@
 use Rattle.std.proofs.Common.{◌≡◌, ◌≤◌, ℕ, List, length, take, subst, ◌∙◌, arith}
 use Rattle.std.proofs.lemmas.List.{take_all}
 use Rattle.ospf_edges.specs.Listed.{advertisement_of, advertisements_of}
-use Rattle.ospf_edges.specs.Given.{Adds, EndsOf}
+use Rattle.ospf_graph.specs.Adds.{Adds}
+use Rattle.ospf_edges.specs.Given.{EndsOf}
 use Rattle.ospf_edges.proofs.AddsLemmas.{GivenBy, adds_next, adds_start}
 use Rattle.ospf_edges.proofs.GivenLemmas.{ends_are}
 use Rattle.ospf_edges.proofs.ends.ends_of.Goals as goal

@@ -1,6 +1,7 @@
 use Rattle.std.proofs.Common.{take}
 use Rattle.ospf_edges.specs.Listed.{advertisement_of, advertisements_of}
-use Rattle.ospf_edges.specs.Given.{Adds, EndsOf}
+use Rattle.ospf_graph.specs.Adds.{Adds}
+use Rattle.ospf_edges.specs.Given.{EndsOf}
 use Rattle.ospf_edges.proofs.AddsLemmas.{GivenBy}
 use Rattle.ospf_edges.proofs.ends.ends_of.Given as goal
 

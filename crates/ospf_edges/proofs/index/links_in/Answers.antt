@@ -2,7 +2,7 @@ use Rattle.std.proofs.Common.{◌≡◌, ◌≤◌, ℕ, List, length, take, sub
 use Rattle.std.proofs.lemmas.List.{take_all}
 use Rattle.ospf_edges.specs.Index.{LinksOf}
 use Rattle.ospf_edges.specs.Listed.{advertisement_of}
-use Rattle.ospf_edges.specs.Given.{Adds}
+use Rattle.ospf_graph.specs.Adds.{Adds}
 use Rattle.ospf_edges.proofs.AddsLemmas.{GivenBy, adds_next, adds_start}
 use Rattle.ospf_edges.proofs.IndexLemmas.{links_are}
 use Rattle.ospf_edges.proofs.index.links_in.Goals as goal

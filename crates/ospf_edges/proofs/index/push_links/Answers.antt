@@ -2,7 +2,7 @@ use Rattle.std.proofs.Common.{◌≡◌, ◌++◌, ◌∷◌, List, [], sym, ap,
 use Rattle.std.proofs.lemmas.List.{append-nil}
 use Rattle.ospf_lsa.specs.declared.link.Link.{Link}
 use Rattle.ospf_edges.specs.Index.{LinkNames}
-use Rattle.ospf_edges.specs.Given.{Adds}
+use Rattle.ospf_graph.specs.Adds.{Adds}
 use Rattle.ospf_edges.proofs.AddsLemmas.{GivenBy, adds_more, adds_start}
 use Rattle.ospf_edges.proofs.index.push_links.Goals as goal
 

@@ -5,7 +5,7 @@ use Rattle.ospf_base.specs.declared.ids.RouterId.{RouterId}
 use Rattle.ospf_lsa.specs.Lsa.{IsNetworkLsa, IsRouterLsa, attached_of, network_mask_of}
 use Rattle.ospf_edges.specs.Index.{MembersOf, NamedOn}
 use Rattle.ospf_edges.specs.Listed.{advertisements_of}
-use Rattle.ospf_edges.specs.Given.{Adds}
+use Rattle.ospf_graph.specs.Adds.{Adds}
 use Rattle.ospf_edges.proofs.AddsLemmas.{GivenBy}
 use Rattle.ospf_edges.proofs.IndexLemmas.{named_add, no_members_of, none_named}
 use Rattle.ospf_edges.proofs.GivenLemmas.{as_network}

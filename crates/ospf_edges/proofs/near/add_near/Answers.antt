@@ -1,7 +1,7 @@
 use Rattle.std.proofs.Common.{OnOk, sym, subst}
 use Rattle.ospf_graph.specs.declared.graph.Vertex.{Vertex}
 use Rattle.ospf_graph.specs.declared.graph.Vertex.TheVariants.{Router, Network}
-use Rattle.ospf_edges.specs.Given.{Adds}
+use Rattle.ospf_graph.specs.Adds.{Adds}
 use Rattle.ospf_edges.specs.Listed.{advertisements_of}
 use Rattle.ospf_edges.specs.Near.{EdgesNear, NearLinks, NearMembers}
 use Rattle.ospf_edges.proofs.NearLemmas.{on_ok, router_near, network_near, network_not_near}

@@ -2,7 +2,7 @@ use Rattle.std.proofs.Common.{◌≡◌, ◌++◌, ◌∷◌, List, [], sym, ap,
 use Rattle.std.proofs.lemmas.List.{append-nil}
 use Rattle.ospf_base.specs.declared.ids.RouterId.{RouterId}
 use Rattle.ospf_edges.specs.Listed.{advertisements_of}
-use Rattle.ospf_edges.specs.Given.{Adds}
+use Rattle.ospf_graph.specs.Adds.{Adds}
 use Rattle.ospf_edges.specs.Near.{NearMember}
 use Rattle.ospf_edges.proofs.AddsLemmas.{GivenBy, adds_more, adds_start}
 use Rattle.ospf_edges.proofs.near.add_near_members.Goals as goal

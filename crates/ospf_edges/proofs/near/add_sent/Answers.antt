@@ -1,4 +1,4 @@
-use Rattle.ospf_edges.specs.Given.{Adds}
+use Rattle.ospf_graph.specs.Adds.{Adds}
 use Rattle.ospf_edges.specs.Listed.{advertisements_of}
 use Rattle.ospf_edges.specs.Near.{LinksSend, SendsEdge}
 use Rattle.ospf_edges.proofs.NearLemmas.{on_ok, sends_as}

@@ -1,6 +1,6 @@
 use Rattle.std.proofs.Common.{List, subst}
 use Rattle.ospf_graph.specs.declared.graph.Edge.{Edge}
-use Rattle.ospf_edges.specs.Given.{Adds}
+use Rattle.ospf_graph.specs.Adds.{Adds}
 use Rattle.ospf_edges.specs.Listed.{advertisements_of}
 use Rattle.ospf_edges.specs.Near.{AreEdgesAt, EdgesNear}
 use Rattle.ospf_edges.proofs.FitLemmas.{some_fit}

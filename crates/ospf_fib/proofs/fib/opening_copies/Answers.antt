@@ -4,7 +4,7 @@ use Rattle.left_right.specs.Sides.{view}
 use Rattle.ospf_index.specs.Known.{Known, Table}
 use Rattle.ospf_spf.specs.declared.changes.Change.{Change}
 use Rattle.ospf_fib.specs.Rule.{IsKnownBook}
-use Rattle.ospf_fib.specs.Versions.{after_of, edited_by, shown_tables}
+use Rattle.ospf_fib.specs.Versions.{added_unless, edited_by}
 use Rattle.ospf_fib.specs.Writing.{IsListShown, common_of, shown_end}
 use Rattle.ospf_fib.specs.declared.rule.Knows.{Knows}
 use Rattle.ospf_fib.specs.declared.shown.Common.{Common}
@@ -19,7 +19,7 @@ ok_holds (Ok x) P e h = h
 ok_holds (Err x) P e h = absurd cc
 
 -- the list that a live table ends is the one that is known
-live_list : (b : Bool) (table : Table) (known : Known) → b ≡ true → record { fib = known.fib; tables = shown_tables b table known.tables } ≡ known
+live_list : (b : Bool) (table : Table) (known : Known) → b ≡ true → record { fib = known.fib; tables = added_unless b table known.tables } ≡ known
 live_list true table known e = refl
 live_list false table known e = absurd cc
 
@@ -28,7 +28,7 @@ common table list = record { table = table; list = list }
 
 -- the opening leaves no route and the list as it is
 opened : (b : Bool) (was : Table) (changes : List Change) (known : Known) → b ≡ true
-    → common (edited_by b was changes) (record { fib = known.fib; tables = after_of b (edited_by b was changes) known.tables }) ≡ common [] known
+    → common (edited_by b was changes) (record { fib = known.fib; tables = added_unless b (edited_by b was changes) known.tables }) ≡ common [] known
 opened true was changes known e = refl
 opened false was changes known e = absurd cc
 

@@ -47,7 +47,7 @@ loop-candidate-preserved c =
 pub returns-clause-tree : goal.returns-clause-tree
 returns-clause-tree c =
     tree_same c.args.edges.now c.args.root c.loop-candidate.reached.items c.tidy_all.new.reached.items c.tidy_all.ensures.settled c.tidy_all.ensures.starts
-    (state_tree c.args.edges.now c.requires.fit c.args.root _ _ _ _ c.loop-candidate.invariant.state c.in_default.ensures.none)
+    (state_tree c.args.edges.now c.requires.fit c.args.root _ _ _ _ c.loop-candidate.invariant.state c.in_default.ensures.none.0)
 
 pub returns-clause-near : goal.returns-clause-near
 returns-clause-near c = rw c.tidy_all.ensures.settled (state_near c.args.edges.now c.args.root _ _ _ _ c.loop-candidate.invariant.state)

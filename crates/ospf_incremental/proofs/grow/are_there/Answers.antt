@@ -10,7 +10,7 @@ pub loop-start-preserved : goal.loop-start-preserved
 loop-start-preserved c =
     rw (take_more c.args.starts.now c.loop-start.start-index Here c.loop-start-test.true)
     (All-push (λ x. Contains c.args.there.now (extend x c.args.edge.to c.args.edge.link_data)) _ _ c.loop-start.invariant
-    (subst (λ y. Contains c.args.there.now y) c.extended.ensures (c.has_start.ensures c.if-not-has_start.false)))
+    (subst (λ y. Contains c.args.there.now y) c.extended.ensures (c.has_start.ensures.0 c.if-not-has_start.false)))
 
 pub returns : goal.returns
 returns c h =

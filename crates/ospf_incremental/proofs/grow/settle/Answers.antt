@@ -1,5 +1,6 @@
 use Rattle.ospf_incremental.specs.Growth.{IsAt, HasEdge, HasStart}
 use Rattle.std.specs.List.{Contains}
+use Rattle.ospf_incremental.proofs.ChangedLemmas.{extends_holds, extends_none, extends_then}
 use Rattle.ospf_incremental.proofs.GrowthLemmas.{settled}
 use Rattle.ospf_incremental.proofs.GrowthSteps.{left_in, none_waits, spares_same, spares_then, taken_out, was_in}
 use Rattle.ospf_incremental.proofs.grow.settle.Goals as goal
@@ -7,7 +8,7 @@ use Rattle.ospf_incremental.proofs.grow.settle.Goals as goal
 pub returns-in_default-clause-settles : goal.returns-in_default-clause-settles
 returns-in_default-clause-settles c h all root g =
     settled (Contains all) (Contains c.args.edges.now) root (IsAt c.loop.found.reached.items) (HasStart c.loop.found.reached.items) (HasEdge c.loop.waits.list) (c.loop.invariant.grows all root g)
-    (none_waits c.loop.waits.list c.in_default.ensures.none)
+    (none_waits c.loop.waits.list c.in_default.ensures.none.0)
 
 pub loop-preserved : goal.loop-preserved
 loop-preserved c =
@@ -20,8 +21,8 @@ loop-preserved c =
       near = c.in_ok-take_edge.ensures.near;
       places = c.in_ok-take_edge.ensures.places;
       spares = spares_then c.loop.changed.items c.take_edge.new.changed.items c.args.found.now.reached.items c.loop.found.reached.items c.take_edge.new.found.reached.items
-          c.in_ok-take_edge.ensures.changed c.loop.invariant.spares c.in_ok-take_edge.ensures.spares;
-      changed = λ v m. c.in_ok-take_edge.ensures.changed v (c.loop.invariant.changed v m);
+          (extends_holds _ _ c.in_ok-take_edge.ensures.changed) c.loop.invariant.spares c.in_ok-take_edge.ensures.spares;
+      changed = extends_then _ _ _ c.loop.invariant.changed c.in_ok-take_edge.ensures.changed;
     }
 
 pub loop-init : goal.loop-init
@@ -31,13 +32,16 @@ loop-init c =
       near = c.requires.near;
       places = c.requires.places;
       spares = spares_same c.args.changed.now.items c.args.found.now.reached.items;
-      changed = λ v m. m;
+      changed = extends_none _;
     }
 
 pub returns-then-not-branch-clause-spares : goal.returns-then-not-branch-clause-spares
 returns-then-not-branch-clause-spares c =
     spares_then c.loop.changed.items c.take_edge.new.changed.items c.args.found.now.reached.items c.loop.found.reached.items c.take_edge.new.found.reached.items
-    c.in_ok-take_edge.ensures.changed c.loop.invariant.spares c.in_ok-take_edge.ensures.spares
+    (extends_holds _ _ c.in_ok-take_edge.ensures.changed) c.loop.invariant.spares c.in_ok-take_edge.ensures.spares
 
 pub returns-then-not-branch-clause-changed : goal.returns-then-not-branch-clause-changed
-returns-then-not-branch-clause-changed c v m = c.in_ok-take_edge.ensures.changed v (c.loop.invariant.changed v m)
+returns-then-not-branch-clause-changed c = extends_then _ _ _ c.loop.invariant.changed c.in_ok-take_edge.ensures.changed
+
+pub returns-in_err-take_edge-clause-changed : goal.returns-in_err-take_edge-clause-changed
+returns-in_err-take_edge-clause-changed c = extends_then _ _ _ c.loop.invariant.changed c.in_err-take_edge.ensures.changed

@@ -2,7 +2,7 @@ use Rattle.std.specs.Prelude.{List}
 use Rattle.std.specs.List.{Contains}
 use Rattle.ospf_graph.specs.declared.graph.Edge.{Edge}
 use Rattle.ospf_graph.specs.declared.graph.Vertex.{Vertex}
-use Rattle.ospf_incremental.specs.Growth.{AreNear, HasEdge, HasPlaces, HasStart, HoldsAll, IsAt, IsGrowing, SparesIn}
+use Rattle.ospf_incremental.specs.Growth.{AreNear, Extends, HasEdge, HasPlaces, HasStart, IsAt, IsGrowing, SparesIn}
 use Rattle.ospf_incremental.proofs.grow.settle.Given as goal
 
 abbrev pub invariant-loop : goal.invariant-loop
@@ -14,5 +14,5 @@ invariant-loop l =
       near : AreNear l.found.reached.items;
       places : HasPlaces l.found;
       spares : SparesIn l.changed.items l.initial.found l.found;
-      changed : HoldsAll l.initial.changed.items l.changed.items;
+      changed : Extends l.initial.changed.items l.changed.items;
     }

@@ -1,12 +1,9 @@
-use Rattle.std.proofs.Common.{inl, inr, ◌∙◌}
-use Rattle.std.proofs.lemmas.List.{get_or_default}
-use Rattle.ospf_graph.proofs.ListLemmas.{more_members}
-use Rattle.ospf_incremental.proofs.ShrinkSteps.{false_true}
+use Rattle.std.proofs.lemmas.List.Elements.{contains_decides, Decides-contains}
+use Rattle.ospf_graph.proofs.SameEdges.{edges_decide}
+use Rattle.ospf_graph.specs.contracts.graph.EdgePartialEq.TheImpl.{eq-value}
 use Rattle.ospf_incremental.proofs.shrink.has_edge.Goals as goal
 
-pub loop-one-preserved : goal.loop-one-preserved
-loop-one-preserved c h =
-    elim ((more_members c.args.edges.now c.loop-one.one-index c.args.edge c.loop-one-test.true c.args.edge).0 h) [
-      | inl before ↦ c.loop-one.invariant before
-      | inr same ↦ false_true c.is_same_edge.result c.if-is_same_edge.false (c.is_same_edge.ensures.1 (get_or_default c.args.edges.now c.loop-one.one-index _ c.args.edge c.loop-one-test.true ∙ same))
-    ]
+pub returns : goal.returns
+returns c =
+    Decides-contains c.args.edges.now c.args.edge c.contains.result
+    (contains_decides eq-value.it edges_decide c.args.edges.now c.args.edge c.contains.result c.contains.ensures.cases)

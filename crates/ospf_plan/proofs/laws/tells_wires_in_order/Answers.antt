@@ -1,5 +1,9 @@
 use Rattle.ospf_plan.proofs.WireOrder.{wire_faults_rise}
+use Rattle.ospf_plan.proofs.Words.{is_rising}
+use Rattle.ospf_plan.specs.Ends.{ends_of}
+use Rattle.ospf_plan.specs.Wires.{wire_faults_in, wires_of}
+use Rattle.ospf_plan.specs.Laws.{IsNotBehind}
 use Rattle.ospf_plan.proofs.laws.tells_wires_in_order.Goals as goal
 
 pub returns : goal.returns
-returns c = wire_faults_rise
+returns c = λ configs. is_rising IsNotBehind (wire_faults_in (ends_of configs) (wires_of configs)) (wire_faults_rise configs)

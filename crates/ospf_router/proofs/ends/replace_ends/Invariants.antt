@@ -1,5 +1,6 @@
 use Rattle.std.proofs.Common.{take}
-use Rattle.ospf_router.specs.Ends.{AddsEnds}
+use Rattle.std.specs.List.{Contains}
+use Rattle.ospf_graph.specs.Adds.{Adds}
 use Rattle.ospf_spf.specs.Spared.{AreEndsInOrder}
 use Rattle.ospf_router.proofs.ends.replace_ends.Given as goal
 
@@ -7,5 +8,5 @@ abbrev pub invariant-loop-end : goal.invariant-loop-end
 invariant-loop-end l =
     record {
       in_order : AreEndsInOrder l.ends.items;
-      members : AddsEnds (take l.end-index l.at) l.initial.ends.items l.ends.items;
+      members : Adds (Contains (take l.end-index l.at)) l.initial.ends.items l.ends.items;
     }

@@ -1,7 +1,8 @@
-use Rattle.std.proofs.Common.{ap, ◌∙◌}
+use Rattle.std.proofs.Common.{◌≡◌, ap, subst, sym, ◌∙◌}
 use Rattle.ospf_base.specs.declared.ids.LsaKey.{LsaKey}
 use Rattle.ospf_whatif.specs.Failure.{kept_links}
-use Rattle.ospf_whatif.proofs.WithoutLemmas.{IfOk-map, err_at, large_before, made_kept, made_key}
+use Rattle.ospf_whatif.proofs.OutageLemmas.{false_true}
+use Rattle.ospf_whatif.proofs.WithoutLemmas.{IfOk-map, err_at, large_left, made_kept, made_key}
 use Rattle.ospf_whatif.proofs.area.router_without.Goals as goal
 
 pub returns-in-Ok-clause-advertisement : goal.returns-in-Ok-clause-advertisement
@@ -19,6 +20,9 @@ returns-in-Ok-clause-key c =
 
 pub returns-in-Ok-clause-large : goal.returns-in-Ok-clause-large
 returns-in-Ok-clause-large c = λ is.
-    large_before c.args.failure.now c.key.result.router _ c.deref.result.now c.args.lsa.now c.requires.router
+    large_left c.args.failure.now c.key.result.router _ c.deref.result.now c.args.lsa.now c.requires.router
+    (ap (λ (k : LsaKey). k.router) c.key.ensures)
     (c.deref.ensures.value ∙ c.in-Ok.ensures ∙ ap (λ ls. kept_links c.args.failure.now c.key.result.router ls) c.links-2.ensures)
+    (λ same. false_true c.keeps_all.result c.if-keeps_all.false
+    (c.keeps_all.ensures.1 (subst (λ ls. kept_links c.args.failure.now c.key.result.router ls ≡ ls) (sym c.links.ensures) same)))
     (err_at c.router.result _ _ c.router.ensures.fault is)

@@ -3,9 +3,9 @@ use Rattle.std.specs.List.{AllZip, Contains}
 use Rattle.std.proofs.lemmas.List.{take_all}
 use Rattle.std.proofs.lemmas.List.Elements.{all_zip_more}
 use Rattle.ospf_lsa.specs.Lsa.{key_of}
-use Rattle.ospf_lsa.specs.Listing.{IsRising}
+use Rattle.ospf_lsa.proofs.Words.{IsRising}
 use Rattle.ospf_edges.specs.Listed.{advertisement_of, advertisements_of}
-use Rattle.ospf_whatif.specs.Failure.{IsLarge, IsLeftLsa, left_of_lsa, without}
+use Rattle.ospf_whatif.specs.Failure.{IsLeftLarge, IsLeftLsa, left_of_lsa, without}
 use Rattle.ospf_whatif.proofs.WithoutLemmas.{keys_before, keys_next, large_in, told_next}
 use Rattle.ospf_whatif.proofs.area.without.Goals as goal
 
@@ -59,5 +59,5 @@ unfolding advertisements_of
 returns-in_err-kept-clause-large c = λ is.
     let items = c.lsas-lsa-items.result.now in
     let here : Contains items c.lsa-item.result = (c.loop-lsa.lsa-index, c.loop-lsa-test.true, sym c.lsa-item.is) in
-    large_in items c.args.listing.now c.lsa-item.result c.lsas-lsa-items.ensures.lsas here
-    (subst (λ (l : List ℕ). IsLarge (advertisement_of l)) c.view.ensures.same (c.in_err-kept.ensures.large (search rules)))
+    large_in c.args.failure.now items c.args.listing.now c.lsa-item.result c.lsas-lsa-items.ensures.lsas here
+    (subst (λ (l : List ℕ). IsLeftLarge c.args.failure.now (advertisement_of l)) c.view.ensures.same (c.in_err-kept.ensures.large (search rules)))

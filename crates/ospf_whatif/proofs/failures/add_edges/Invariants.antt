@@ -1,5 +1,5 @@
 use Rattle.std.proofs.Common.{take}
-use Rattle.ospf_edges.specs.Given.{Adds}
+use Rattle.ospf_graph.specs.Adds.{Adds}
 use Rattle.ospf_whatif.specs.Single.{GivenBy, EdgeGiven}
 use Rattle.ospf_whatif.proofs.failures.add_edges.Given as goal
 

@@ -1,6 +1,6 @@
 use Rattle.std.proofs.Common.{◌≤◌, length, subst, ◌∙◌, arith}
 use Rattle.std.proofs.lemmas.List.{take_all}
-use Rattle.ospf_edges.specs.Given.{Adds}
+use Rattle.ospf_graph.specs.Adds.{Adds}
 use Rattle.ospf_edges.proofs.AddsLemmas.{adds_next, adds_start}
 use Rattle.ospf_whatif.specs.Single.{GivenBy, RouterGiven}
 use Rattle.ospf_edges.specs.Listed.{advertisement_of}

@@ -1,5 +1,5 @@
 use Rattle.std.proofs.Common.{take}
-use Rattle.ospf_edges.specs.Given.{Adds}
+use Rattle.ospf_graph.specs.Adds.{Adds}
 use Rattle.ospf_whatif.specs.Single.{GivenBy, RouterGiven}
 use Rattle.ospf_edges.specs.Listed.{advertisement_of}
 use Rattle.ospf_whatif.proofs.failures.add_routers.Given as goal

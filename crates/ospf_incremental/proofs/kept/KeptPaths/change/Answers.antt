@@ -1,4 +1,5 @@
 use Rattle.std.proofs.Common.{◌≡◌, length, nat_eq}
+use Rattle.ospf_incremental.proofs.ChangedLemmas.{extends_holds}
 use Rattle.ospf_incremental.proofs.KeptShrink.{changes_both, changes_more, empty_of, same_both}
 use Rattle.ospf_incremental.proofs.kept.KeptPaths.change.Goals as goal
 
@@ -13,5 +14,5 @@ returns-clause-edges c =
 
 pub returns-clause-same : goal.returns-clause-same
 returns-clause-same c =
-    same_both c.shrink.new.changed.items c.grow-2.new.changed.items c.args.self c.in_ok-left.left c.in_ok-paths-2.paths c.in_ok-paths-2.ensures.changed
+    same_both c.shrink.new.changed.items c.grow-2.new.changed.items c.args.self c.in_ok-left.left c.in_ok-paths-2.paths (extends_holds _ _ c.in_ok-paths-2.ensures.changed)
     c.in_ok-left.ensures.same c.in_ok-paths-2.ensures.same

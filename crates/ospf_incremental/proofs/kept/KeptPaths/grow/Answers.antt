@@ -1,9 +1,11 @@
 use Rattle.std.proofs.Common.{ap, inl, subst, sym, ◌∙◌}
-use Rattle.std.proofs.lemmas.List.Elements.{Contains-append_left}
 use Rattle.ospf_incremental.specs.Growth.{OffersIn}
-use Rattle.ospf_incremental.specs.Kept.{AddsEdges, IsKeptTree, IsSameBut}
+use Rattle.std.specs.List.{Contains}
+use Rattle.ospf_graph.specs.Adds.{Adds}
+use Rattle.ospf_incremental.specs.Kept.{IsKeptTree, IsSameBut}
 use Rattle.ospf_graph.specs.Reached.{settled_of, starts_of}
 use Rattle.ospf_graph.specs.Search.{AtIn}
+use Rattle.ospf_incremental.proofs.ChangedLemmas.{extends_then}
 use Rattle.ospf_incremental.proofs.KeptGrowth.{fit_more, reached_named, same_anew, same_spared, tree_grown}
 use Rattle.ospf_incremental.proofs.kept.KeptPaths.grow.Goals as goal
 
@@ -23,7 +25,7 @@ invariant_of-result c =
 
 pub returns-then-branch-clause-edges : goal.returns-then-branch-clause-edges
 returns-then-branch-clause-edges c =
-    subst (λ l. AddsEdges c.args.more.now l c.insert_all.new.edges.items) (ap (λ v. v.edges) c.self.view_is) c.in_ok-insert_all.ensures.members
+    subst (λ l. Adds (Contains c.args.more.now) l c.insert_all.new.edges.items) (ap (λ v. v.edges) c.self.view_is) c.in_ok-insert_all.ensures.members
 
 pub returns-then-branch-clause-tree : goal.returns-then-branch-clause-tree
 returns-then-branch-clause-tree c =
@@ -45,20 +47,19 @@ anew-requires-clause-fit c = fit_more c.args.more.now c.self.inside.edges.items 
 
 pub returns-clause-edges : goal.returns-clause-edges
 returns-clause-edges c =
-    subst (λ l. AddsEdges c.args.more.now c.args.self.edges l) (sym c.in_ok-paths.ensures.edges)
-    (subst (λ l. AddsEdges c.args.more.now l c.insert_all.new.edges.items) (ap (λ v. v.edges) c.self.view_is) c.in_ok-insert_all.ensures.members)
+    subst (λ l. Adds (Contains c.args.more.now) c.args.self.edges l) (sym c.in_ok-paths.ensures.edges)
+    (subst (λ l. Adds (Contains c.args.more.now) l c.insert_all.new.edges.items) (ap (λ v. v.edges) c.self.view_is) c.in_ok-insert_all.ensures.members)
 
 pub returns-clause-same : goal.returns-clause-same
 returns-clause-same c =
     let rs = c.paths.inside.found.reached.items in
-    let edges = subst (λ l. AddsEdges c.args.more.now c.args.self.edges l) (sym c.in_ok-paths.ensures.edges)
-    (subst (λ l. AddsEdges c.args.more.now l c.insert_all.new.edges.items) (ap (λ v. v.edges) c.self.view_is) c.in_ok-insert_all.ensures.members) in
+    let edges = subst (λ l. Adds (Contains c.args.more.now) c.args.self.edges l) (sym c.in_ok-paths.ensures.edges)
+    (subst (λ l. Adds (Contains c.args.more.now) l c.insert_all.new.edges.items) (ap (λ v. v.edges) c.self.view_is) c.in_ok-insert_all.ensures.members) in
     same_anew c.push_vertices.new.vertices.items c.args.self c.in_ok-paths.paths (subst (λ k. IsKeptTree k) c.self.view_is c.self.invariant.tree) c.in_ok-paths.ensures.tree
     (c.in_ok-paths.ensures.root ∙ ap (λ k. k.root) c.self.view_is) (λ e m. (edges e).1 (inl m))
     (λ v d other at.
     let at' = subst (λ l. AtIn l v d) (sym (ap (λ k. k.settled) c.paths.view_is)) at in
-    other (rw (c.in_ok-push_vertices.ensures, c.deref-2.ensures.value) (reached_named rs c.settle.new.changed.items v d at')))
+    other (rw (c.in_ok-push_vertices.ensures.all, c.deref-2.ensures.value) (reached_named rs c.settle.new.changed.items v d at')))
 
 pub returns-clause-changed : goal.returns-clause-changed
-returns-clause-changed c v m =
-    rw c.in_ok-push_vertices.ensures (Contains-append_left c.settle.new.changed.items _ v (c.in_ok-settle.ensures.changed v m))
+returns-clause-changed c = extends_then _ _ _ c.in_ok-settle.ensures.changed c.in_ok-push_vertices.ensures.behind

@@ -6,6 +6,7 @@ use Rattle.ospf_incremental.specs.Kept.{IsKeptTree, IsSameBut}
 use Rattle.ospf_graph.specs.Reached.{settled_of, starts_of}
 use Rattle.ospf_graph.specs.Search.{AreEdgesInOrder, AtIn}
 use Rattle.ospf_incremental.specs.Shrinking.{LeadsTo, LeavesIn, OpensIn, TakesEdges}
+use Rattle.ospf_incremental.proofs.ChangedLemmas.{extends_holds, extends_then}
 use Rattle.ospf_incremental.proofs.KeptGrowth.{reached_named, same_less}
 use Rattle.ospf_incremental.proofs.KeptShrink.{fit_less, near_left, none_missed, same_shrunk, tree_shrunk}
 use Rattle.ospf_incremental.proofs.kept.KeptPaths.shrink.Goals as goal
@@ -30,7 +31,7 @@ returns-then-not-is_closed-clause-same c =
     (c.in_ok-paths.ensures.root ∙ ap (λ k. k.root) c.self.view_is) (λ e m. ((edges e).0 m).0)
     (λ v d other at.
     let at' = subst (λ l. AtIn l v d) (sym (ap (λ k. k.settled) c.self.view_is)) at in
-    other (rw (c.in_ok-push_vertices.ensures, c.deref-then-not-is_closed.ensures.value) (reached_named c.self.inside.found.reached.items c.args.changed.now.items v d at')))
+    other (rw (c.in_ok-push_vertices.ensures.all, c.deref-then-not-is_closed.ensures.value) (reached_named c.self.inside.found.reached.items c.args.changed.now.items v d at')))
 
 pub offer_to-requires-clause-near : goal.offer_to-requires-clause-near
 offer_to-requires-clause-near c =
@@ -102,7 +103,7 @@ returns-then-branch-clause-same c =
     subst (λ k. IsSameBut c.settle.new.changed.items k (record { root = c.self.inside.root; edges = c.in_ok-edges.edges.items; settled = settled_of rs; starts = starts_of rs })) c.self.view_is
     (same_shrunk c.args.less.now c.self.inside.edges.items c.in_ok-edges.edges.items c.self.inside.root c.self.inside.found c.deref-5.result.now c.leave.new.found.reached.items
     c.self.invariant.tree takes c.in_ok-leave.ensures.left rs c.settle.new.changed.items c.in_ok-settle.ensures.spares
-    (λ v d m at. c.in_ok-settle.ensures.changed v (c.in_ok-leave.ensures.gone v m)))
+    (λ v d m at. extends_holds _ _ c.in_ok-settle.ensures.changed v (c.in_ok-leave.ensures.gone v m)))
 
 pub anew-requires-2-clause-fit : goal.anew-requires-2-clause-fit
 anew-requires-2-clause-fit c =
@@ -124,10 +125,10 @@ returns-clause-same c =
     let at' = subst (λ l. AtIn l v d) (sym (ap (λ k. k.settled) c.self.view_is)) at in
     none_missed c.args.less.now c.self.inside.edges.items c.in_ok-edges.edges.items c.self.inside.root c.self.inside.found c.deref-5.result.now c.leave.new.found.reached.items
     c.self.invariant.tree takes c.in_ok-leave.ensures.left c.settle.new.found.reached.items c.settle.new.changed.items c.in_ok-settle.ensures.spares
-    (λ v d m at. c.in_ok-settle.ensures.changed v (c.in_ok-leave.ensures.gone v m)) v d
-    (λ m. other (rw (c.in_ok-push_vertices-2.ensures, c.deref-9.ensures.value) m))
-    (λ m. other (rw c.in_ok-push_vertices-2.ensures (Contains-append_left c.settle.new.changed.items _ v m))) at')
+    (λ v d m at. extends_holds _ _ c.in_ok-settle.ensures.changed v (c.in_ok-leave.ensures.gone v m)) v d
+    (λ m. other (rw (c.in_ok-push_vertices-2.ensures.all, c.deref-9.ensures.value) m))
+    (λ m. other (rw c.in_ok-push_vertices-2.ensures.all (Contains-append_left c.settle.new.changed.items _ v m))) at')
 
 pub returns-clause-changed : goal.returns-clause-changed
-returns-clause-changed c v m =
-    rw c.in_ok-push_vertices-2.ensures (Contains-append_left c.settle.new.changed.items _ v (c.in_ok-settle.ensures.changed v (c.in_ok-leave.ensures.changed v m)))
+returns-clause-changed c =
+    extends_then _ _ _ (extends_then _ _ _ c.in_ok-leave.ensures.changed c.in_ok-settle.ensures.changed) c.in_ok-push_vertices-2.ensures.behind

@@ -89,4 +89,4 @@ returns-clause-same c =
     let t = subst (λ k. IsKeptTree (left_kept k less true gone own)) (sym c.self.view_is) (returns-clause-tree c) in
     subst (λ k. IsSameBut changed k (left_kept k less true gone own)) c.self.view_is
     (same_anew_left root edges less found own gone changed c.self.invariant.tree t
-    (λ v d other at. other (rw (c.in_ok-push_vertices.ensures, c.deref-4.ensures.value) (reached_named found c.args.changed.now.items v d at))))
+    (λ v d other at. other (rw (c.in_ok-push_vertices.ensures.all, c.deref-4.ensures.value) (reached_named found c.args.changed.now.items v d at))))

@@ -9,7 +9,7 @@ compare_exchange-requires c =
     let is_counter = c.requires in
     let offer = c.plain-offer.ensures in
     let inv = c.self.invariant in
-    let book = ap (λ k. k.fib) c.self.view_is in (
+    let book = ap (λ w. w.known.fib) c.self.view_is in (
       ap (λ w. w.tracked) is_counter,
       book ∙ sym (ap (λ w. w.book) is_counter),
       inv.3 ∙ book ∙ sym (ap (λ w. w.book) is_counter),
@@ -27,4 +27,4 @@ pub returns-clause-opened : goal.returns-clause-opened
 returns-clause-opened c =
     let log : c.compare_exchange.new.seen.log ≡ c.self.inside.seen.log ++ Opened ∷ [] = c.compare_exchange.ensures.7 ∙ rw (c.plain-offer.ensures.1) refl in
     let r = after_opened c.self.inside.seen.log c.compare_exchange.new.seen.log c.self.inside.count c.self.inside.events log c.self.invariant.0 c.self.invariant.1 in
-    rw (r.3, c.compare_exchange.ensures.0) c.self.view_is
+    rw (r.3, c.compare_exchange.ensures.0) (ap (λ w. w.known) c.self.view_is)

@@ -1,4 +1,4 @@
-use Rattle.std.proofs.Common.{◌≡◌, ◌≤◌, ap, subst, sym, ◌∙◌, Option, None, Some, option_map, List, ℕ}
+use Rattle.std.proofs.Common.{◌≡◌, ap, subst, sym, ◌∙◌, Option, None, Some, option_map, List}
 use Rattle.ospf_lsdb.specs.Database.{Entry, Held, entry_of, IsDatabase}
 use Rattle.ospf_lsdb.specs.declared.dated.Stored.{Stored}
 use Rattle.ospf_lsdb.specs.Timers.{held_at, stored_of}
@@ -16,19 +16,17 @@ returns-in_err-stored-clause-entry c =
 pub returns-in_err-stored-clause-database : goal.returns-in_err-stored-clause-database
 returns-in_err-stored-clause-database c = subst (λ (d : List Held). IsDatabase d) c.self.view_is (IsDatabase-stored c.self.inside.clock c.self.inside.entries.entries c.self.inside.due c.self.invariant.kept)
 
-pub new-requires : goal.new-requires
-new-requires c =
+pub at-requires : goal.at-requires
+at-requires c =
     let some : stored_of c.self.inside.entries.entries c.args.key.now ≡ Some c.in_ok-stored.stored.now = sym (stored_of-get c.self.inside.entries c.args.key.now) ∙ sym c.in_ok-stored.ensures.value in
-    let young = (stored_one c.self.inside.clock c.self.inside.entries.entries c.self.invariant.kept.stored c.args.key.now c.in_ok-stored.stored.now some).1 in
-    subst (λ (n : ℕ). n ≤ 3600) (sym c.age-age.ensures) young
+    (stored_one c.self.inside.clock c.self.inside.entries.entries c.self.invariant.kept.stored c.args.key.now c.in_ok-stored.stored.now some).1
 
 pub returns-clause-entry : goal.returns-clause-entry
 returns-clause-entry c =
     let s = c.in_ok-stored.stored.now in
     let some : stored_of c.self.inside.entries.entries c.args.key.now ≡ Some s = sym (stored_of-get c.self.inside.entries c.args.key.now) ∙ sym c.in_ok-stored.ensures.value in
     let held = held_of-stored c.self.inside.clock c.self.inside.due c.self.inside.entries.entries c.self.invariant.kept.stored c.args.key.now in
-    ap (λ (e : Entry). Some e) c.new.ensures
-    ∙ ap (λ (n : ℕ). Some (record { age = n; contents = s.lsa; tick = s.tick; by_flooding = s.by_flooding })) c.age-age.ensures
+    ap (λ (e : Entry). Some e) c.at.ensures
     ∙ sym (ap (λ (o : Option Held). option_map (λ h. h.entry) o) (held ∙ ap (λ (o : Option Stored). option_map (λ s. held_at c.self.inside.clock c.self.inside.due (c.args.key.now, s)) o) some))
     ∙ ap (λ (db : List Held). entry_of db c.args.key.now) c.self.view_is
 

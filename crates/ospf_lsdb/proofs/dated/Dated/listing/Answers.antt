@@ -1,4 +1,4 @@
-use Rattle.std.proofs.Common.{◌≡◌, ◌≤◌, ◌++◌, ◌∷◌, [], ℕ, List, map, ap, subst, sym, ◌∙◌, append_assoc}
+use Rattle.std.proofs.Common.{◌≡◌, ◌++◌, ◌∷◌, [], ℕ, List, map, ap, subst, sym, ◌∙◌, append_assoc}
 use Rattle.std.proofs.lemmas.List.{append-nil}
 use Rattle.std.specs.List.{AllByRecursion}
 use Rattle.std.specs.Map.{values_of}
@@ -10,23 +10,17 @@ use Rattle.ospf_lsdb.specs.declared.dated.Stored.{Stored}
 use Rattle.ospf_lsdb.proofs.TimerLemmas.{rising_stored}
 use Rattle.ospf_lsdb.proofs.ListingLemmas.{bare, age_among, bare_last, bare_more, bare_all}
 use Rattle.ospf_lsdb.proofs.dated.Dated.listing.Goals as goal
-use Rattle.ospf_lsdb.proofs.dated.Dated.listing.Goals.{In-Some, After-new-entry}
+use Rattle.ospf_lsdb.proofs.dated.Dated.listing.Goals.{In-Some}
 
 walked : (c : In-Some) → values_of c.self.inside.entries.entries ≡ c.loop-stored.invariant.done ++ c.in-Some.stored.now ∷ c.next.new.self
 walked c = c.loop-stored.invariant.walked ∙ ap (λ (t : List Stored). c.loop-stored.invariant.done ++ t) c.in-Some.ensures.steps
 
-entry : (c : After-new-entry) → c.new-entry.result ≡ (bare c.self.inside.clock c.in-Some.stored.now).entry
-entry c =
-    let s = c.in-Some.stored.now in
-    c.new-entry.ensures ∙ ap (λ (n : ℕ). record { age = n; contents = s.lsa; tick = s.tick; by_flooding = s.by_flooding }) c.age-age.ensures
-
 pub loop-stored-init : goal.loop-stored-init
 loop-stored-init c = record { done = []; walked = sym (c.into_iter-stored-iterator.ensures.into_iter_gives ∙ c.values-stored-items.ensures.rest); listing = c.new-listing.ensures }
 
-pub new-entry-requires : goal.new-entry-requires
-new-entry-requires c =
-    subst (λ (n : ℕ). n ≤ 3600) (sym c.age-age.ensures)
-    (age_among c.self.inside.clock c.self.inside.entries.entries c.self.invariant.kept.stored c.loop-stored.invariant.done c.in-Some.stored.now c.next.new.self (walked (goal.at.new-entry-requires c).In-Some))
+pub at-entry-requires : goal.at-entry-requires
+at-entry-requires c =
+    age_among c.self.inside.clock c.self.inside.entries.entries c.self.invariant.kept.stored c.loop-stored.invariant.done c.in-Some.stored.now c.next.new.self (walked (goal.at.at-entry-requires c).In-Some)
 
 pub add_fresh-requires : goal.add_fresh-requires
 add_fresh-requires c =
@@ -34,7 +28,7 @@ add_fresh-requires c =
     let s = c.in-Some.stored.now in
     let clock = c.self.inside.clock in
     let es = c.self.inside.entries.entries in
-    let key : key_at (bare clock s) ≡ key_in c.new-entry.result.contents = ap (λ (e : Entry). key_in e.contents) (sym (entry (goal.at.add_fresh-requires c).After-new-entry)) in
+    let key : key_at (bare clock s) ≡ key_in c.at-entry.result.contents = ap (λ (e : Entry). key_in e.contents) (sym c.at-entry.ensures) in
     record {
       last = subst (λ (k : LsaKey). AllByRecursion (λ lsa. Precedes (key_of lsa) k) c.loop-stored.listing) key
           (subst (λ (ls : List (List ℕ)). AllByRecursion (λ lsa. Precedes (key_of lsa) (key_at (bare clock s))) ls) (sym c.loop-stored.invariant.listing)
@@ -50,8 +44,8 @@ loop-stored-preserved c =
       done = done ++ s ∷ [];
       walked = walked (goal.at.loop-stored-preserved c).In-Some ∙ sym (append_assoc done (s ∷ []) c.next.new.self);
       listing = c.in_ok-add_fresh.ensures.ok
-          ∙ ap (λ (ls : List (List ℕ)). ls ++ listed_of c.new-entry.result) c.loop-stored.invariant.listing
-          ∙ ap (λ (e : Entry). listed (map (bare clock) done) ++ listed_of e) (entry (goal.at.loop-stored-preserved c).After-new-entry)
+          ∙ ap (λ (ls : List (List ℕ)). ls ++ listed_of c.at-entry.result) c.loop-stored.invariant.listing
+          ∙ ap (λ (e : Entry). listed (map (bare clock) done) ++ listed_of e) c.at-entry.ensures
           ∙ sym (bare_more clock done s);
     }
 

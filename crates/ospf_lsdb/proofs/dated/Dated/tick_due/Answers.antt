@@ -4,7 +4,7 @@ use Rattle.ospf_base.specs.declared.ids.LsaKey.{LsaKey}
 use Rattle.ospf_lsdb.specs.Database.{Held, Ages}
 use Rattle.ospf_lsdb.specs.Moments.{IsIdleUntil, is_due_at, keys_at, among}
 use Rattle.ospf_lsdb.specs.Timers.{AreKeptEntries, held_at, stored_of, timer_stopped}
-use Rattle.ospf_lsdb.proofs.TickLemmas.{then_at, Forgets, Looks, ordered-KeysRise, ticks_kept, ticks_ages, ticks_looks}
+use Rattle.ospf_lsdb.proofs.TickLemmas.{then_at, Forgets, Looks, sorted_from-rising, ticks_kept, ticks_ages, ticks_looks}
 use Rattle.ospf_lsdb.proofs.RingLemmas.{ahead-of}
 use Rattle.ospf_lsdb.proofs.IdleLemmas.{idle_moment}
 use Rattle.ospf_lsdb.proofs.dated.Dated.tick_due.Goals as goal
@@ -26,7 +26,7 @@ invariant_of-self c =
     record { kept = kept c; quiet = idle_moment (then_at c.self.inside.clock) c.idle_from.result _ c.forget-2.new.self (omega (arith, so_far)) (subst (λ (n : ℕ). IsIdleUntil n c.idle_from.result c.forget-2.new.self) (omega arith) c.idle_from.ensures.idle) }
 
 pub look_at_all-requires-clause-ordered : goal.look_at_all-requires-clause-ordered
-look_at_all-requires-clause-ordered c = ordered-KeysRise (keys_of c.self.inside.entries.entries) c.self.invariant.kept.rising
+look_at_all-requires-clause-ordered c = sorted_from-rising (keys_of c.self.inside.entries.entries) c.self.invariant.kept.rising
 
 pub returns-clause-ages : goal.returns-clause-ages
 returns-clause-ages c = λ k.

@@ -1,12 +1,11 @@
-use Rattle.std.proofs.Common.{◌∙◌, [], ◌∷◌, ◌++◌, not, ap, sym}
+use Rattle.std.proofs.Common.{◌∙◌, [], ◌∷◌, ◌++◌, ap, sym}
 use Rattle.std.proofs.lemmas.Bool.{false≢true}
 use Rattle.ospf_neighbour.specs.Lists.{without_key}
-use Rattle.ospf_neighbour.proofs.Words.{is_of_key}
 use Rattle.ospf_neighbour.specs.Machine.{is_exchanging}
 use Rattle.ospf_neighbour.specs.Neighbour.{NeighbourValue}
 use Rattle.ospf_neighbour.specs.OneAKey.{IsAloneOfKeys}
 use Rattle.ospf_neighbour.specs.declared.neighbour.Listed.{Listed}
-use Rattle.ospf_neighbour.proofs.LawLemmas.{alone_kept, alone_push, apart}
+use Rattle.ospf_neighbour.proofs.LawLemmas.{alone_put}
 use Rattle.ospf_neighbour.proofs.ListLemmas.{by_result}
 use Rattle.ospf_neighbour.proofs.neighbour.Neighbour.relist.Goals as goal
 
@@ -23,5 +22,5 @@ invariant_of-self c =
       asked_within = c.self.invariant.asked_within;
       asks_once = c.self.invariant.asks_once;
       alone_of_keys = by_result IsAloneOfKeys c.put.result (without_key key old ++ entry ∷ []) old c.put.new.self c.put.ensures.ok c.put.ensures.err
-          (alone_push (without_key key old) entry (alone_kept (λ l. not (is_of_key key l)) old c.self.invariant.alone_of_keys) (apart key old)) c.self.invariant.alone_of_keys;
+          (alone_put old entry c.self.invariant.alone_of_keys) c.self.invariant.alone_of_keys;
     }

@@ -1,28 +1,53 @@
-use Rattle.std.proofs.Common.{◌≡◌, ◌∙◌, ◌++◌, ◌∷◌, [], List, ap, sym, subst}
+use Rattle.std.proofs.Common.{◌≡◌, ◌∙◌, ◌++◌, ◌∷◌, [], List, None, Some, ap, sym, subst}
 use Rattle.std.specs.HashSet.{contains}
-use Rattle.ospf_neighbour.specs.Lists.{TellsListedKeys, is_key_listed, key_eq, without_key}
+use Rattle.std.specs.List.{position}
+use Rattle.ospf_neighbour.specs.Lists.{TellsListedKeys, key_eq, without_key}
+use Rattle.ospf_neighbour.specs.OneAKey.{IsAloneOfKeys}
 use Rattle.ospf_neighbour.specs.declared.neighbour.Listed.{Listed}
-use Rattle.ospf_neighbour.proofs.KeyLemmas.{AreKeysOf-push, AreKeysOf-put, no_key_leaves}
-use Rattle.ospf_neighbour.proofs.ListLemmas.{by_result}
+use Rattle.ospf_neighbour.proofs.KeyLemmas.{AreKeysOf-push, AreKeysOf-put, key_listed}
+use Rattle.ospf_neighbour.proofs.LawLemmas.{alone_put}
+use Rattle.ospf_neighbour.proofs.OneLemmas.{key_leaves, no_key_place_leaves}
+use Rattle.ospf_neighbour.proofs.Words.{is_of_key}
 use Rattle.ospf_neighbour.proofs.retransmissions.Retransmissions.put.Goals as goal
 
-pub invariant_of-self : goal.invariant_of-self
-invariant_of-self c = λ keyed.
-    let has = contains key_eq c.self.inside.keys in
+pub invariant_of-self-in-Some : goal.invariant_of-self-in-Some
+invariant_of-self-in-Some c =
+    let e = c.args.entry in
+    let key = e.instance.key in
     let old = c.self.inside.entries.items in
-    let listed : is_key_listed c.args.entry.instance.key old ≡ _ = ap (is_key_listed c.args.entry.instance.key) c.self.view_is ∙ sym c.is_key_listed.ensures ∙ c.if-is_key_listed.true in
-    by_result (TellsListedKeys has) c.put.result (without_key c.args.entry.instance.key old ++ c.args.entry ∷ []) old c.put.new.all.items c.put.ensures.ok c.put.ensures.err
-    (AreKeysOf-put has c.args.entry old listed (c.self.invariant keyed)) (c.self.invariant keyed)
+    let has = contains key_eq c.self.inside.keys in
+    let found : position (is_of_key key) old ≡ Some c.in-Some.at = ap (position (is_of_key key)) c.self.view_is ∙ sym c.key_place.ensures ∙ c.in-Some.is in
+    let items : c.push.new.self.items ≡ without_key key old ++ e ∷ [] =
+    c.in_ok-push.ensures.items ∙ ap (λ (ls : List Listed). ls ++ e ∷ []) (c.remove.ensures.items ∙ key_leaves key old c.in-Some.at c.remove.result c.self.invariant.1 found) in (
+      λ keyed. subst (TellsListedKeys has) (sym items) (AreKeysOf-put has e old (key_listed key old c.in-Some.at c.remove.result found) (c.self.invariant.0 keyed)),
+      subst IsAloneOfKeys (sym items) (alone_put old e c.self.invariant.1),
+    )
+
+pub returns-in-Some-clause-ok : goal.returns-in-Some-clause-ok
+returns-in-Some-clause-ok c =
+    let e = c.args.entry in
+    let key = e.instance.key in
+    let old = c.self.inside.entries.items in
+    let found : position (is_of_key key) old ≡ Some c.in-Some.at = ap (position (is_of_key key)) c.self.view_is ∙ sym c.key_place.ensures ∙ c.in-Some.is in
+    c.in_ok-push.ensures.items
+    ∙ ap (λ (ls : List Listed). ls ++ e ∷ [])
+    (c.remove.ensures.items ∙ key_leaves key old c.in-Some.at c.remove.result c.self.invariant.1 found ∙ ap (without_key key) c.self.view_is)
 
 pub invariant_of-self-2 : goal.invariant_of-self-2
-invariant_of-self-2 c = λ keyed.
+invariant_of-self-2 c =
+    let e = c.args.entry in
+    let key = e.instance.key in
     let old = c.self.inside.entries.items in
-    let items : c.push.new.self.items ≡ old ++ c.args.entry ∷ [] = c.in_ok-push.ensures.items ∙ ap (λ (ls : List Listed). ls ++ c.args.entry ∷ []) c.reserve.ensures.items in
-    subst (TellsListedKeys (contains key_eq c.insert.new.self)) (sym items)
-    (AreKeysOf-push (contains key_eq c.self.inside.keys) (contains key_eq c.insert.new.self) c.args.entry old (c.self.invariant keyed) c.in_ok-insert.ensures.updates.0)
+    let none : position (is_of_key key) old ≡ None = ap (position (is_of_key key)) c.self.view_is ∙ sym c.key_place.ensures ∙ c.in_default.is in
+    let items : c.push-2.new.self.items ≡ old ++ e ∷ [] = c.in_ok-push-2.ensures.items ∙ ap (λ (ls : List Listed). ls ++ e ∷ []) c.reserve.ensures.items in (
+      λ keyed. subst (TellsListedKeys (contains key_eq c.insert.new.self)) (sym items)
+          (AreKeysOf-push (contains key_eq c.self.inside.keys) (contains key_eq c.insert.new.self) e old (c.self.invariant.0 keyed) c.in_ok-insert.ensures.updates.0),
+      subst IsAloneOfKeys (sym (items ∙ ap (λ (ls : List Listed). ls ++ e ∷ []) (no_key_place_leaves key old none))) (alone_put old e c.self.invariant.1),
+    )
 
 pub returns-clause-ok : goal.returns-clause-ok
 returns-clause-ok c =
-    c.in_ok-push.ensures.items
-    ∙ ap (λ (ls : List Listed). ls ++ c.args.entry ∷ [])
-    (c.reserve.ensures.items ∙ c.self.view_is ∙ no_key_leaves c.args.entry.instance.key c.args.self.now (sym c.is_key_listed.ensures ∙ c.if-is_key_listed.false))
+    let e = c.args.entry in
+    c.in_ok-push-2.ensures.items
+    ∙ ap (λ (ls : List Listed). ls ++ e ∷ [])
+    (c.reserve.ensures.items ∙ c.self.view_is ∙ no_key_place_leaves e.instance.key c.args.self.now (sym c.key_place.ensures ∙ c.in_default.is))

@@ -1,7 +1,7 @@
 use Rattle.std.proofs.Common.{take}
 use Rattle.ospf_graph.specs.Search.{AreEdgesInOrder}
 use Rattle.ospf_incremental.specs.Shrinking.{TakesEdges}
-use Rattle.ospf_incremental.proofs.shrink.left_of.Given as goal
+use Rattle.ospf_incremental.proofs.shrink.left_of_sorted.Given as goal
 
 abbrev pub invariant-loop-edge : goal.invariant-loop-edge
 invariant-loop-edge l =
