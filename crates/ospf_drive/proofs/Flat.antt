@@ -132,6 +132,7 @@ stands_still {a} {m} {b} {told} x e = record {
   published = ap (λ k. k.tables) e.known ∙ x.tables;
   ends = record {
     event = e.event;
+    is_taken = λ s at. e.taken s (ap (λ r. r.area) x.router ∙ at);
     no_end = no_end_then x e.arrival e.event e.is_event;
     events = events_then x e.arrival e.event e.is_event;
     router = e.router ∙ ap (λ r. stopped r) x.router;

@@ -2,6 +2,8 @@
 use Rattle.std.specs.Prelude.{◌≡◌, ◌+◌, ◌<◌, ◌++◌, ℕ, List, [], ◌∷◌, true, Option, None, Some, Result, Ok, Err, take, length}
 use Rattle.ospf_index.specs.Known.{Known, Table}
 use Rattle.ospf_area.specs.Outputs.{SentValue}
+use Rattle.ospf_area.specs.State.{AreaValue}
+use Rattle.ospf_step.specs.Drops.{dropped_by}
 use Rattle.ospf_step.specs.Step.{Event}
 use Rattle.ospf_router.specs.Routers.{stopped}
 use Rattle.ospf_router.specs.Steps.{Steps}
@@ -65,11 +67,13 @@ pub record FailsToSend (a b : Moment) : Type 0 where
   pub failed : b.failed ≡ a.failed + 1
   pub known : b.known ≡ a.known
 
--- an arrival was an event at which the router stopped
+-- an arrival was an event at which the router stopped, which is none that is dropped: that takes no
+-- memory
 pub record Stops (a b : Moment) : Type 0 where
   pub arrival : Heard
   pub event : Event
   pub is_event : event_of a.router.links arrival ≡ Some event
+  pub taken : (s : AreaValue) → a.router.area ≡ Some s → dropped_by event s ≡ None
   pub router : b.router ≡ stopped a.router
   pub traffic : TrafficGoes a (arrival ∷ []) [] b
   pub failed : b.failed ≡ a.failed

@@ -1,6 +1,8 @@
 -- A whole call of a driver: the arrivals that it took, and one list of steps.
-use Rattle.std.specs.Prelude.{◌≡◌, ◌+◌, ◌<◌, ◌++◌, ℕ, List, [], ◌∷◌, true, Option, Result, Ok, Err, take, length}
+use Rattle.std.specs.Prelude.{◌≡◌, ◌+◌, ◌<◌, ◌++◌, ℕ, List, [], ◌∷◌, true, Option, None, Some, Result, Ok, Err, take, length}
 use Rattle.ospf_area.specs.Outputs.{SentValue}
+use Rattle.ospf_area.specs.State.{AreaValue}
+use Rattle.ospf_step.specs.Drops.{dropped_by}
 use Rattle.ospf_step.specs.Step.{Event}
 use Rattle.ospf_index.specs.Known.{Known, Table}
 use Rattle.ospf_router.specs.Routers.{stopped}
@@ -62,10 +64,12 @@ pub record EndsUnsent (a b : Moment) (taken : List Heard) (steps : List Done) (o
   pub published : tables ≡ tables_published before
   pub failed : b.failed ≡ a.failed + 1
 
--- the router stopped at the event that came after the steps
+-- the router stopped at the event that came after the steps, which is none that is dropped
 pub record EndsStopped (a b : Moment) (taken : List Heard) (steps : List Done)
     (out : List SentValue) (tables : List Table) : Type 0 where
   pub event : Event
+  pub is_taken : (s : AreaValue) → (left_by a.router steps).area ≡ Some s
+      → dropped_by event s ≡ None
   pub no_end : HasNoEnd taken
   pub events : events_done steps ++ event ∷ [] ≡ events_of a.router.links taken
   pub router : b.router ≡ stopped (left_by a.router steps)

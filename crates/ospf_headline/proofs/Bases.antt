@@ -126,7 +126,7 @@ module _ (is_dropped : Event → AreaValue → Bool) (start : World) (past : Lis
 
 Bases-kept : (is_dropped : Event → AreaValue → Bool) (start : World) (past : List WorldEvent) (event : WorldEvent) (w w' : World) → Facts w → Bases is_dropped start past w → Happens is_dropped event w w' → NoneLargest w'.issued → Bases is_dropped start (past ++ event ∷ []) w'
 Bases-kept is_dropped start past event w w' facts b (result, Comes.Refused why is told same) none = Bases-same is_dropped start past event w w' b (result, Comes.Refused why is told same) same
-Bases-kept is_dropped start past event w w' facts b (result, Comes.NotDone ok told same) none = Bases-same is_dropped start past event w w' b (result, Comes.NotDone ok told same) same
+Bases-kept is_dropped start past event w w' facts b (result, Comes.NotDone ok told wants same) none = Bases-same is_dropped start past event w w' b (result, Comes.NotDone ok told wants same) same
 Bases-kept is_dropped start past event w w' facts b (result, Comes.Starts ok told r dd floor x is stopped becomes s logs) none =
     Bases-same_logs is_dropped start past event w w' b (result, comes) r (Some x) becomes logs (λ y e. subst (λ y. HasBegun is_dropped start (past ++ event ∷ []) w' r y.first × ((key : LsaKey) → run_of y key ≡ y.first)) (same_Some x y e) (begun, λ key. run_of-started x key s.later))
   where
@@ -136,7 +136,7 @@ Bases-kept is_dropped start past event w w' facts b (result, Comes.Starts ok tol
     begun : HasBegun is_dropped start (past ++ event ∷ []) w' r x.first
     begun = begins_now is_dropped start past event w w' b (result, comes) r dd x (is ∙ ap (λ run. Start r dd run.base) (sym s.first)) (subst (λ result. Comes is_dropped event w result w') told comes) becomes.becomes
 Bases-kept is_dropped start past event w w' facts b (result, Comes.Stops ok told r is becomes logs) none = Bases-same_logs is_dropped start past event w w' b (result, Comes.Stops ok told r is becomes logs) r None becomes logs (λ y e. absurd (none-some y e))
-Bases-kept is_dropped start past event w w' facts b (result, Comes.MemoryStops ok told r e by becomes logs) none = Bases-same_logs is_dropped start past event w w' b (result, Comes.MemoryStops ok told r e by becomes logs) r None becomes logs (λ y e. absurd (none-some y e))
+Bases-kept is_dropped start past event w w' facts b (result, Comes.MemoryStops ok told r e x by runs taken becomes logs) none = Bases-same_logs is_dropped start past event w w' b (result, Comes.MemoryStops ok told r e x by runs taken becomes logs) r None becomes logs (λ y e. absurd (none-some y e))
 Bases-kept is_dropped start past event w w' facts b (result, Comes.Stepped ok told r e x x' out by step) none = Bases-stepped is_dropped start past event w w' b (result, Comes.Stepped ok told r e x x' out by step) r e x x' out facts step (was_sent_by w event r e by) none
 
 NoneLargest-before : (w w' : World) → LogGrows w w' → NoneLargest w'.issued → NoneLargest w.issued

@@ -115,10 +115,10 @@ FactsOf-started w r floor x s = record {
 -- every world event keeps the facts
 pub Facts-kept : {is_dropped : Event → AreaValue → Bool} (event : WorldEvent) (w w' : World) → Facts w → Happens is_dropped event w w' → Facts w'
 Facts-kept event w w' facts (result, Comes.Refused why is told same) = subst (λ w. Facts w) (sym same) facts
-Facts-kept event w w' facts (result, Comes.NotDone ok told same) = subst (λ w. Facts w) (sym same) facts
+Facts-kept event w w' facts (result, Comes.NotDone ok told wants same) = subst (λ w. Facts w) (sym same) facts
 Facts-kept event w w' facts (result, Comes.Starts ok told r dd floor x is none b s logs) = Facts-same_logs w w' r (Some x) facts b logs (λ y e. subst (λ z. FactsOf w r z) (same_Some x y e) (FactsOf-started w r floor x s))
 Facts-kept event w w' facts (result, Comes.Stops ok told r is b logs) = Facts-same_logs w w' r None facts b logs (λ y e. absurd (none-some y e))
-Facts-kept event w w' facts (result, Comes.MemoryStops ok told r e by b logs) = Facts-same_logs w w' r None facts b logs (λ y e. absurd (none-some y e))
+Facts-kept event w w' facts (result, Comes.MemoryStops ok told r e y by runs taken b logs) = Facts-same_logs w w' r None facts b logs (λ y e. absurd (none-some y e))
 Facts-kept event w w' facts (result, Comes.Stepped ok told r e x x' out by step) = Facts-stepped w w' r e x x' out facts step (was_sent_by w event r e by)
 
 pub Facts-run : (is_dropped : Event → AreaValue → Bool) (events : List WorldEvent) (w w' : World) → Facts w → RunsEvents is_dropped events w w' → Facts w'
@@ -166,10 +166,10 @@ pub record LogGrows (w w' : World) : Type 0 where
 
 pub LogGrows-event : {is_dropped : Event → AreaValue → Bool} (event : WorldEvent) (w w' : World) → Happens is_dropped event w w' → LogGrows w w'
 LogGrows-event event w w' (result, Comes.Refused why is told same) = record { more = []; grows = ap (λ w. w.issued) same ∙ sym (append-nil w.issued) }
-LogGrows-event event w w' (result, Comes.NotDone ok told same) = record { more = []; grows = ap (λ w. w.issued) same ∙ sym (append-nil w.issued) }
+LogGrows-event event w w' (result, Comes.NotDone ok told wants same) = record { more = []; grows = ap (λ w. w.issued) same ∙ sym (append-nil w.issued) }
 LogGrows-event event w w' (result, Comes.Starts ok told r dd floor x is none b s logs) = record { more = []; grows = logs.issued ∙ sym (append-nil w.issued) }
 LogGrows-event event w w' (result, Comes.Stops ok told r is b logs) = record { more = []; grows = logs.issued ∙ sym (append-nil w.issued) }
-LogGrows-event event w w' (result, Comes.MemoryStops ok told r e by b logs) = record { more = []; grows = logs.issued ∙ sym (append-nil w.issued) }
+LogGrows-event event w w' (result, Comes.MemoryStops ok told r e y by runs taken b logs) = record { more = []; grows = logs.issued ∙ sym (append-nil w.issued) }
 LogGrows-event event w w' (result, Comes.Stepped ok told r e x x' out by step) = record { more = _; grows = step.logs.issued }
 
 pub LogGrows-run : (is_dropped : Event → AreaValue → Bool) (events : List WorldEvent) (w w' : World) → RunsEvents is_dropped events w w' → LogGrows w w'
@@ -273,7 +273,7 @@ none_of w event r none f is = none-some (r, f) (sym none ∙ is)
 
 pub sound : {is_dropped : Event → AreaValue → Bool} (event : WorldEvent) (w w' : World) → Facts w → Happens is_dropped event w w' → IsSoundAcknowledgement event w w'
 sound event w w' facts (result, Comes.Refused why is told same) r x x' at at' = SoundFor.NothingDone same
-sound event w w' facts (result, Comes.NotDone ok told same) r x x' at at' = SoundFor.NothingDone same
+sound event w w' facts (result, Comes.NotDone ok told wants same) r x x' at at' = SoundFor.NothingDone same
 sound event w w' facts (result, Comes.Starts ok told q dd floor y is none b s logs) r x x' at at' = go (which_router w w' q (Some y) r x' b at')
   where
     go : IsThat w q (Some y) r x' → SoundFor event w w' r x x'
@@ -284,7 +284,7 @@ sound event w w' facts (result, Comes.Stops ok told q is b logs) r x x' at at' =
     go : IsThat w q None r x' → SoundFor event w w' r x x'
     go (IsThat.TheOne e o) = absurd (none-some x' o)
     go (IsThat.Another n o) = SoundFor.OfAnother (none_of w event r (ap (stepped_by w) is)) (same_Some x' x (sym o ∙ at))
-sound event w w' facts (result, Comes.MemoryStops ok told q e by b logs) r x x' at at' = go (which_router w w' q None r x' b at')
+sound event w w' facts (result, Comes.MemoryStops ok told q e y by runs taken b logs) r x x' at at' = go (which_router w w' q None r x' b at')
   where
     go : IsThat w q None r x' → SoundFor event w w' r x x'
     go (IsThat.TheOne same o) = absurd (none-some x' o)

@@ -1,17 +1,19 @@
 -- Numbering runs, and what a step and its logs come to together.
-use Rattle.std.proofs.Common.{◌≡◌, List, Option, None, Some, length, find, refl, sym, ap, subst, ◌∙◌, cond}
+use Rattle.std.proofs.Common.{◌≡◌, ◌≢◌, append-nil, true, false, is_some, Result, Ok, Err, OnErr, List, Option, None, Some, length, find, refl, sym, ap, subst, ◌∙◌, cond}
 use Rattle.ospf_base.specs.Keys.{same_key}
 use Rattle.ospf_base.specs.declared.ids.LsaKey.{LsaKey}
 use Rattle.ospf_base.specs.declared.ids.RouterId.{RouterId}
-use Rattle.ospf_area.specs.Outputs.{OutputsValue}
+use Rattle.ospf_area.specs.Outputs.{OutputsValue, no_outputs}
 use Rattle.ospf_area.specs.State.{AreaValue}
 use Rattle.ospf_edges.specs.Listed.{advertisements_of}
 use Rattle.ospf_graph.specs.Routes.{IsTable}
 use Rattle.ospf_headline.specs.World.{HasItsTable, Running, RunsGoOn, run_of}
 use Rattle.ospf_headline.specs.declared.logs.Run.{Run}
 use Rattle.ospf_step.specs.Counts.{with_dropped}
+use Rattle.ospf_step.specs.Drops.{dropped_by}
 use Rattle.ospf_step.specs.Step.{Event}
 use Rattle.ospf_step.specs.declared.counts.DropCounts.{DropCounts}
+use Rattle.ospf_step.specs.declared.dropped.Dropped.{Dropped}
 use Rattle.ospf_lsdb.specs.Database.{listed}
 use Rattle.ospf_lsdb.specs.Moments.{among}
 use Rattle.ospf_router.specs.Routers.{RouterValue}
@@ -75,3 +77,36 @@ goes e r r' first later drops drops' t s count = record {
   later = refl;
   drops = count;
 }
+
+-- a step that puts nothing out is settled as it is
+pub settles_nothing : (r : RouterId) (v : RunningValue) (out : OutputsValue) (logs : LogsValue) → out ≡ no_outputs → SettlesLogs r v out logs v logs
+settles_nothing r v out logs is = subst (λ (o : OutputsValue). SettlesLogs r v o logs v logs) (sym is) (record {
+  router = refl;
+  first = refl;
+  takes = record { datagrams = sym (append-nil logs.datagrams); issued = sym (append-nil logs.issued); held = sym (append-nil logs.held) };
+  again = λ first key. refl;
+  drops = refl;
+})
+
+-- an event that is dropped puts nothing out
+pub silent : (e : Event) (r r' : RouterValue) (t : Step) → Steps e r t r' → t.dropped ≢ None → t.out ≡ no_outputs
+silent e r r' t s dropped = s.lawful.steps.silent dropped
+
+same_area : (a b : AreaValue) → Some a ≡ Some b → a ≡ b
+same_area a b is = cc is
+
+-- one that is not may want memory
+pub needs : (e : Event) (r r' : RouterValue) (t : Step) → Steps e r t r' → t.dropped ≡ None → (s : AreaValue) → r.area ≡ Some s → dropped_by e s ≡ None
+needs e r r' t taken none s is = subst (λ (a : AreaValue). dropped_by e a ≡ None) (same_area taken.area s (sym taken.runs ∙ is)) (sym taken.lawful.steps.cause ∙ none)
+
+pub not_none : (d : Option Dropped) → is_some d ≡ true → d ≢ None
+not_none d some none = let h : false ≡ true = sym (ap is_some none) ∙ some in cc
+
+pub none_from : (d : Option Dropped) → is_some d ≡ false → d ≡ None
+none_from None is = refl
+none_from (Some d) is = absurd (cc is)
+
+-- what holds holds of an error
+pub on_err_of : {T E : Type 0} (r : Result T E) (P : Type 0) → P → OnErr r P
+on_err_of (Ok x) P p = tt
+on_err_of (Err e) P p = p

@@ -16,7 +16,7 @@ use Rattle.ospf_headline.specs.declared.logs.Datagram.{Datagram}
 use Rattle.ospf_headline.specs.declared.logs.Issued.{Issued}
 use Rattle.ospf_step.specs.Step.{Event}
 use Rattle.ospf_headline.specs.Logs.{LogsValue}
-use Rattle.ospf_headline.specs.Running.{Begins, RunningValue, delivery, running_of, runs_in}
+use Rattle.ospf_headline.specs.Running.{NeedsMemory, Begins, RunningValue, delivery, running_of, runs_in}
 use Rattle.ospf_headline.specs.Slots.{DeliversOn, Feeds, FeedsOn, IsSlot, SlotSteps, SlotTakes, SlotValue, StartsSlot, StopsSlot, fed_by, member_of, refused_by, slot_of, with_running}
 
 -- what is at a place that is read, where there is something
@@ -31,16 +31,16 @@ at_place {A = A} P xs k d is p = go (slice_get xs k) refl
 
 -- memory ran out while the router of a slot was stepped, and it runs no more
 pub stops_short : (e : Event) (config : Config) (o ended : Option RunningValue) (v : RunningValue) (logs logs' : LogsValue) (result : Result (Unit {0}) WorldFault) →
-    o ≡ Some v → IsSlot o → logs' ≡ logs → ended ≡ None → result ≡ Err (fault.Memory true) → Feeds e (slot_of config o) logs result (slot_of config ended) logs'
-stops_short e config o ended v logs logs' result is slot same none err =
+    o ≡ Some v → IsSlot o → NeedsMemory e v → logs' ≡ logs → ended ≡ None → result ≡ Err (fault.Memory true) → Feeds e (slot_of config o) logs result (slot_of config ended) logs'
+stops_short e config o ended v logs logs' result is slot needs same none err =
     let (area, lives) = subst IsSlot is slot in
-    Feeds.MemoryStops (runs_in v area) (ap (option_and_then running_of) is ∙ ap (option_map (runs_in v)) lives) err (ap (slot_of config) none) same
+    Feeds.MemoryStops (runs_in v area) (ap (option_and_then running_of) is ∙ ap (option_map (runs_in v)) lives) (needs area lives) err (ap (slot_of config) none) same
 
 -- with a datagram that may have been sent
 pub stops_short_with : (l : ℕ) (sent : Option Datagram) (config : Config) (o ended : Option RunningValue) (v : RunningValue) (logs logs' : LogsValue) (result : Result (Unit {0}) WorldFault) →
-    o ≡ Some v → IsSlot o → logs' ≡ logs → ended ≡ None → result ≡ Err (fault.Memory true) → IfSome sent (λ g. Feeds (delivery l g) (slot_of config o) logs result (slot_of config ended) logs')
-stops_short_with l None config o ended v logs logs' result is slot same none err = tt
-stops_short_with l (Some g) config o ended v logs logs' result is slot same none err = stops_short (delivery l g) config o ended v logs logs' result is slot same none err
+    o ≡ Some v → IsSlot o → IfSome sent (λ g. NeedsMemory (delivery l g) v) → logs' ≡ logs → ended ≡ None → result ≡ Err (fault.Memory true) → IfSome sent (λ g. Feeds (delivery l g) (slot_of config o) logs result (slot_of config ended) logs')
+stops_short_with l None config o ended v logs logs' result is slot needs same none err = tt
+stops_short_with l (Some g) config o ended v logs logs' result is slot needs same none err = stops_short (delivery l g) config o ended v logs logs' result is slot needs same none err
 
 -- the datagram of a place was sent
 pub delivers : (l place : ℕ) (s after : SlotValue) (logs logs' : LogsValue) (result : Result (Unit {0}) WorldFault) → nat_lt l (vec_len s.config.interfaces) ≡ true → place < length logs.datagrams →
@@ -94,7 +94,13 @@ pub steps_fed : (event : WorldEvent) (e : Event) (s after : SlotValue) (logs log
     refused_by logs.datagrams event (member_of s) ≡ world.unless_stopped (member_of s) → fed_by logs.datagrams event ≡ Some e → Feeds e s logs result after logs' → SlotSteps event s logs result after logs'
 steps_fed event e s after logs logs' result refused fed (Feeds.NotRunning none is same same_logs) = SlotSteps.Refused fault.NotRunning (refused ∙ ap unless_stopped none) is same same_logs
 steps_fed event e s after logs logs' result refused fed (Feeds.Goes ok goes) = SlotSteps.Taken (refused ∙ ap unless_stopped goes.was) (SlotTakes.Stepped e fed ok goes)
-steps_fed event e s after logs logs' result refused fed (Feeds.MemoryStops x was err is same) = SlotSteps.Taken (refused ∙ ap unless_stopped was) (SlotTakes.MemoryStops e fed err is same)
+steps_fed event e s after logs logs' result refused fed (Feeds.MemoryStops x was needs err is same) = SlotSteps.Taken (refused ∙ ap unless_stopped was) (SlotTakes.MemoryStops x e was fed needs err is same)
+
+-- memory is not wanting before it is begun
+pub begins_a_tick : (e : Event) (s after : SlotValue) (logs logs' : LogsValue) (result : Result (Unit {0}) WorldFault) → Feeds e s logs result after logs' → result ≡ Err (fault.Memory false) → ⊥
+begins_a_tick e s after logs logs' result (Feeds.NotRunning none is same same_logs) wants = let h = sym is ∙ wants in cc
+begins_a_tick e s after logs logs' result (Feeds.Goes ok goes) wants = let h = sym ok ∙ wants in cc
+begins_a_tick e s after logs logs' result (Feeds.MemoryStops x was needs err is same) wants = let h = sym err ∙ wants in cc
 
 -- one that is refused where there is no such link as well
 pub steps_fed_on : (event : WorldEvent) (l : ℕ) (e : Event) (s after : SlotValue) (logs logs' : LogsValue) (result : Result (Unit {0}) WorldFault) →
@@ -116,7 +122,7 @@ steps_delivered r place l s after logs logs' result (DeliversOn.Delivers has g a
 pub steps_started : (r : RouterId) (dd : ℕ) (floor : ℤ) (s after : SlotValue) (logs : LogsValue) (result : Result (Unit {0}) WorldFault) → StartsSlot logs.issued dd floor s result after → SlotSteps (Start r dd floor) s logs result after logs
 steps_started r dd floor s after logs result (StartsSlot.IsRunning x runs is same) = SlotSteps.Refused fault.Running (ap (unless_running floor) runs) is same refl
 steps_started r dd floor s after logs result (StartsSlot.AtFloor none at is same) = SlotSteps.Refused fault.Floor (ap (unless_running floor) none ∙ ap (λ (z : ℤ). cond (int_eq z max_sequence_number) (Some fault.Floor) None) at) is same refl
-steps_started r dd floor s after logs result (StartsSlot.NotDone none above is same) = SlotSteps.Taken (ap (unless_running floor) none ∙ ap (λ (b : Bool). cond b (Some fault.Floor) None) above) (SlotTakes.NotDone is same refl)
+steps_started r dd floor s after logs result (StartsSlot.NotDone none above is same) = SlotSteps.Taken (ap (unless_running floor) none ∙ ap (λ (b : Bool). cond b (Some fault.Floor) None) above) (SlotTakes.NotDone tt is same refl)
 steps_started r dd floor s after logs result (StartsSlot.Begins none above x ok is started) = SlotSteps.Taken (ap (unless_running floor) none ∙ ap (λ (b : Bool). cond b (Some fault.Floor) None) above) (SlotTakes.Starts r dd floor x refl ok none is started refl)
 
 pub steps_stopped : (r : RouterId) (s after : SlotValue) (logs : LogsValue) (result : Result (Unit {0}) WorldFault) → StopsSlot s result after → SlotSteps (Stop r) s logs result after logs

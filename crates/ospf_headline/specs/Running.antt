@@ -1,5 +1,5 @@
 -- A running router in a world, and its numbering runs.
-use Rattle.std.specs.Prelude.{◌≡◌, ℕ, ℤ, List, [], Option, Some, length, option_map}
+use Rattle.std.specs.Prelude.{◌≡◌, ℕ, ℤ, List, [], Option, None, Some, length, option_map}
 use Rattle.ospf_area.specs.Outputs.{OutputsValue}
 use Rattle.ospf_area.specs.State.{AreaValue}
 use Rattle.ospf_base.specs.declared.ids.LsaKey.{LsaKey}
@@ -10,6 +10,7 @@ use Rattle.ospf_headline.specs.declared.logs.Datagram.{Datagram}
 use Rattle.ospf_headline.specs.declared.logs.Issued.{Issued}
 use Rattle.ospf_headline.specs.declared.logs.Run.{Run}
 use Rattle.ospf_step.specs.Counts.{with_dropped, none_dropped_on}
+use Rattle.ospf_step.specs.Drops.{dropped_by}
 use Rattle.ospf_step.specs.Step.{Event}
 use Rattle.ospf_step.specs.declared.counts.DropCounts.{DropCounts}
 use Rattle.ospf_step.specs.declared.dropped.Dropped.{Dropped}
@@ -94,6 +95,10 @@ pub record Fed (r : RouterId) (e : Event) (before : RunningValue) (logs : LogsVa
   pub takes : LogsTake logs logs' r before.first before.later out
   pub runs : RunsGoOn logs'.issued out.ended (runs_in before area) (runs_in after next)
   pub drops : after.drops ≡ with_dropped e dropped before.drops
+
+-- memory may run out in its step: the event is none that is dropped, which takes none
+abbrev pub NeedsMemory : Event → RunningValue → Type 0
+NeedsMemory e v = (s : AreaValue) → v.router.area ≡ Some s → dropped_by e s ≡ None
 
 -- what a datagram that was sent steps a router with
 abbrev pub delivery : ℕ → Datagram → Event

@@ -6,7 +6,7 @@ use Rattle.ospf_base.specs.declared.ids.RouterId.{RouterId}
 use Rattle.ospf_config.specs.declared.config.Config.{Config}
 use Rattle.ospf_flood.specs.Rules.{max_sequence_number}
 use Rattle.ospf_headline.specs.World as world
-use Rattle.ospf_headline.specs.World.{HasItsTable, Member, Running, RunsGoOn}
+use Rattle.ospf_headline.specs.World.{HasItsTable, Member, Running, RunsGoOn, WantsRoom}
 use Rattle.ospf_headline.specs.declared.logs.Datagram.{Datagram}
 use Rattle.ospf_headline.specs.declared.logs.Issued.{Issued}
 use Rattle.ospf_headline.specs.declared.event.WorldEvent.{WorldEvent}
@@ -14,6 +14,7 @@ use Rattle.ospf_headline.specs.declared.event.WorldFault.{WorldFault}
 use Rattle.ospf_headline.specs.declared.event.WorldEvent.TheVariants.{Start, Stop, Tick, LinkUp, LinkDown, Deliver}
 use Rattle.ospf_headline.specs.declared.event.WorldFault.TheVariants as fault
 use Rattle.ospf_step.specs.Counts.{with_dropped, none_dropped_on}
+use Rattle.ospf_step.specs.Drops.{dropped_by}
 use Rattle.ospf_step.specs.Step.{Event}
 use Rattle.ospf_step.specs.declared.counts.DropCounts.{DropCounts}
 use Rattle.ospf_step.specs.declared.dropped.Dropped.{Dropped}
@@ -104,16 +105,17 @@ pub record SlotGoesOn (e : Event) (before : SlotValue) (logs : LogsValue) (after
   pub takes : LogsTake logs logs' before.config.router_id x.first x.later out
   pub runs : RunsGoOn logs'.issued out.ended x x'
 
--- the slot's router, if it runs, is stepped with the event: it goes on, or memory ran out,
--- it is stopped, and no log grows
+-- the slot's router, if it runs, is stepped with the event: it goes on; or memory ran out, which it
+-- does at no event that is dropped, it is stopped, and no log grows
 pub data Feeds (e : Event) (before : SlotValue) (logs : LogsValue)
     (result : Result (Unit {0}) WorldFault) (after : SlotValue) (logs' : LogsValue) : Type 0 where
   NotRunning : before.running ≡ None → result ≡ Err fault.NotRunning → after ≡ before → logs' ≡ logs
       → Feeds e before logs result after logs'
   Goes : result ≡ Ok tt → SlotGoesOn e before logs after logs'
       → Feeds e before logs result after logs'
-  MemoryStops : (x : Running) → before.running ≡ Some x → result ≡ Err (fault.Memory true)
-      → after ≡ with_running before None [] → logs' ≡ logs → Feeds e before logs result after logs'
+  MemoryStops : (x : Running) → before.running ≡ Some x → dropped_by e x.state ≡ None
+      → result ≡ Err (fault.Memory true) → after ≡ with_running before None [] → logs' ≡ logs
+      → Feeds e before logs result after logs'
 
 -- the same on a link, if the router has it
 pub data FeedsOn (l : ℕ) (e : Event) (before : SlotValue) (logs : LogsValue)
@@ -159,14 +161,15 @@ pub data StopsSlot (before : SlotValue) (result : Result (Unit {0}) WorldFault) 
   Ends : (x : Running) → before.running ≡ Some x → result ≡ Ok tt
       → after ≡ with_running before None [] → StopsSlot before result after
 
--- what an event that is not refused comes to: memory is wanting, before anything is done or so that
--- the router stops; or the router starts exactly as it is configured, stops, or takes the exact
--- step of what the event feeds it
+-- what an event that is not refused comes to: memory is wanting, before anything is done or, at an
+-- event that is not dropped, so that the router stops; or the router starts exactly as it is
+-- configured, stops, or takes the exact step of what the event feeds it
 pub data SlotTakes (event : WorldEvent) (before : SlotValue) (logs : LogsValue)
     (result : Result (Unit {0}) WorldFault) (after : SlotValue) (logs' : LogsValue) : Type 0 where
-  NotDone : result ≡ Err (fault.Memory false) → after ≡ before → logs' ≡ logs
+  NotDone : WantsRoom event → result ≡ Err (fault.Memory false) → after ≡ before → logs' ≡ logs
       → SlotTakes event before logs result after logs'
-  MemoryStops : (e : Event) → fed_by logs.datagrams event ≡ Some e
+  MemoryStops : (x : Running) (e : Event) → before.running ≡ Some x
+      → fed_by logs.datagrams event ≡ Some e → dropped_by e x.state ≡ None
       → result ≡ Err (fault.Memory true) → after ≡ with_running before None [] → logs' ≡ logs
       → SlotTakes event before logs result after logs'
   Starts : (r : RouterId) (dd_start : ℕ) (floor : ℤ) (x : Running) → event ≡ Start r dd_start floor

@@ -1,5 +1,5 @@
 -- Many routers: what runs, what was ever sent and issued, and what may happen.
-use Rattle.std.specs.Prelude.{◌≡◌, ◌≢◌, ◌++◌, ◌==◌, ℕ, ℤ, List, [], ◌∷◌, Option, None, Some, map, length, find, slice_get, option_map, option_and_then, is_some, nat_lt, Bool, true, false, Result, Ok, Err, if◌then◌else◌}
+use Rattle.std.specs.Prelude.{◌≡◌, ◌≢◌, ◌++◌, ◌==◌, ℕ, ℤ, List, [], ◌∷◌, Option, None, Some, map, length, find, slice_get, option_map, option_and_then, is_some, nat_lt, Bool, true, false, Result, Ok, Err, ⊤, if◌then◌else◌}
 use Rattle.std.specs.Ordering.{int_eq}
 use Rattle.ospf_base.specs.declared.ids.Instance.{Instance}
 use Rattle.ospf_base.specs.declared.ids.LsaKey.{LsaKey}
@@ -185,17 +185,26 @@ pub record StepsRouter (is_dropped : Event → AreaValue → Bool) (before after
   pub logs : LogsGrow before after r x out
   pub runs : RunsGoOn after.issued out.ended x x'
 
+-- an event at which memory may be wanting before anything is done: a start, and a tick, where it is
+-- logged
+abbrev pub WantsRoom : WorldEvent → Type 0
+WantsRoom (Start r dd floor) = ⊤
+WantsRoom (TickOf r) = ⊤
+WantsRoom _ = ⊥
+
 -- what a world event comes to, and what is answered: it is refused, with the first fault that
--- holds, exactly where one does; or memory is wanting, before anything is done (`Memory false`) or
--- so that the router stops (`Memory true`); or the router starts, stops, or takes a step
+-- holds, exactly where one does; or memory is wanting, before anything is done (`Memory false`) or,
+-- at an event that is not dropped, so that the router stops (`Memory true`); or the router starts,
+-- stops, or takes a step
 pub data Comes (is_dropped : Event → AreaValue → Bool) (event : WorldEvent) (before : World)
     (result : Result (Unit {0}) WorldFault) (after : World) : Type 0 where
   Refused : (f : WorldFault) → refusal before event ≡ Some f → result ≡ Err f → after ≡ before
       → Comes is_dropped event before result after
-  NotDone : refusal before event ≡ None → result ≡ Err (fault.Memory false) → after ≡ before
-      → Comes is_dropped event before result after
+  NotDone : refusal before event ≡ None → result ≡ Err (fault.Memory false) → WantsRoom event
+      → after ≡ before → Comes is_dropped event before result after
   MemoryStops : refusal before event ≡ None → result ≡ Err (fault.Memory true)
-      → (r : RouterId) (e : Event) → stepped_by before event ≡ Some (r, e)
+      → (r : RouterId) (e : Event) (x : Running) → stepped_by before event ≡ Some (r, e)
+      → router_at before r ≡ Some x → is_dropped e x.state ≡ false
       → RouterBecomes before after r None → SameLogs before after
       → Comes is_dropped event before result after
   Starts : refusal before event ≡ None → result ≡ Ok tt

@@ -3,7 +3,7 @@
 ghost use Rattle.std.specs.Prelude.{◌≡◌, ◌≢◌, ◌<◌, ◌↔◌, IfErr, IfOk, IfSome, OnErr, OnOk, length, slice_get};
 ghost use Rattle.ospf_flood.specs.Rules.{max_sequence_number};
 ghost use Rattle.ospf_router.specs.declared.fault.StartFault.TheVariants as fault;
-ghost use Rattle.ospf_headline.specs.Running.{Begins, Fed, SettlesLogs, delivery};
+ghost use Rattle.ospf_headline.specs.Running.{Begins, Fed, NeedsMemory, SettlesLogs, delivery};
 ghost use Rattle.ospf_router.specs.Steps.{happening};
 
 use crate::drops::RouterDrops;
@@ -85,7 +85,8 @@ impl RunningRouter {
 
     /// A step of the router, by which the logs grow.
     ///
-    /// `Stopped` where memory runs out: then no log has grown.
+    /// `Stopped` where memory runs out, which it does at no event that is dropped: then no log has
+    /// grown.
     pub(crate) fn feed(
         &mut self,
         event: Event<'_>,
@@ -96,10 +97,15 @@ impl RunningRouter {
         ensures fed { OnOk result (Fed router (happening event.entry) self.old logs.old self.new
             logs.new) }
         ensures none { OnErr result (logs.new ≡ logs.old) }
+        ensures memory { OnErr result (NeedsMemory (happening event.entry) self.old) }
     {
         let link = event.comes_on();
         let Step { out, dropped, .. } = self.router.step(event, alloc)?;
         self.drops.count(link, dropped);
+        if dropped.is_some() {
+            // Nothing is put out by it.
+            return Ok(());
+        }
         self.settle(out, logs, router)
     }
 
@@ -118,6 +124,8 @@ impl RunningRouter {
         ensures fed { OnOk result (IfSome (slice_get logs.old.datagrams place)
             (λ g. Fed router (delivery link g) self.old logs.old self.new logs.new)) }
         ensures none { OnErr result (logs.new ≡ logs.old) }
+        ensures memory { OnErr result (IfSome (slice_get logs.old.datagrams place)
+            (λ g. NeedsMemory (delivery link g) self.old)) }
     {
         let event = arrival(&logs.datagrams()[place], link);
         let link = event.comes_on();
@@ -127,6 +135,10 @@ impl RunningRouter {
             ..
         } = self.router.step(event, alloc)?;
         self.drops.count(link, dropped);
+        if dropped.is_some() {
+            // Nothing is put out by it.
+            return Ok(());
+        }
         self.settle(outputs, logs, router)
     }
 

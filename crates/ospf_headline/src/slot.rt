@@ -1,6 +1,8 @@
 //! A router's place in a world.
 
-ghost use Rattle.std.specs.Prelude.{◌≡◌, ◌<◌, [], None, Some, Ok, Err, IfSome, is_some, length, slice_get, true};
+ghost use Rattle.std.specs.Prelude.{◌≡◌, ◌<◌, [], None, Some, Ok, Err, IfSome, false, is_some, length, slice_get, true};
+ghost use Rattle.ospf_base.specs.declared.ids.RouterId.{RouterId};
+ghost use Rattle.ospf_headline.specs.declared.event.WorldEvent.TheVariants.{Tick};
 ghost use Rattle.ospf_headline.specs.declared.event.WorldFault.TheVariants as fault;
 ghost use Rattle.ospf_headline.specs.Running.{delivery};
 ghost use Rattle.ospf_headline.specs.Slots.{DeliversOn, Feeds, FeedsOn, IsLent, SlotSteps, StartsSlot, StopsSlot};
@@ -81,15 +83,19 @@ impl Slot {
     /// What an event at this router comes to; the logs grow by what the router puts out.
     ///
     /// The first fault that holds, of `NoLink`, `NoDatagram`, `Running` and `NotRunning`, and
-    /// `Floor`: then nothing is changed. `Memory` where memory runs out: a router that had begun
-    /// the step is stopped, and no log has grown.
+    /// `Floor`: then nothing is changed. `Memory` where memory runs out, which it does at a start
+    /// and at an event that is not dropped: a router that had begun the step is stopped, and no log
+    /// has grown.
     pub fn step(
         &mut self,
         event: &WorldEvent,
         logs: &mut Logs,
         alloc: Global,
     ) -> Result<(), WorldFault>
-        ensures { SlotSteps event.now self.old logs.old result self.new logs.new }
+        ensures steps { SlotSteps event.now self.old logs.old result self.new logs.new }
+        // Before anything is done memory is wanting at a start alone.
+        ensures begun { (r : RouterId) → event.now ≡ Tick r →
+            result ≡ Err (fault.Memory false) → ⊥ }
     {
         match event {
             WorldEvent::Start {

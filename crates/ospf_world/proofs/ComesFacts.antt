@@ -1,5 +1,5 @@
 -- What an event comes to at a slot, it comes to in the world.
-use Rattle.std.proofs.Common.{◌≡◌, ◌++◌, ℕ, List, [], ◌∷◌, Option, None, Some, map, find, refl, sym, ap, subst, ◌∙◌, slice_get, set, slice_set, option_and_then, option_map, length, Result, Ok, Err, eqb-true, ◌⊎◌, inl, inr, ◌<◌, ◌≤◌, get_or, arith}
+use Rattle.std.proofs.Common.{◌≡◌, ◌++◌, ℕ, List, [], ◌∷◌, Option, None, Some, map, find, refl, sym, ap, subst, ◌∙◌, slice_get, set, slice_set, option_and_then, option_map, length, Result, Ok, Err, eqb-true, ◌⊎◌, inl, inr, ◌<◌, ◌≤◌, get_or, arith, is_some}
 use Rattle.std.proofs.lemmas.List.{append-nil}
 use Rattle.std.proofs.lemmas.Option.{slice_get_cases}
 use Rattle.ospf_base.specs.declared.ids.RouterId.{RouterId}
@@ -31,8 +31,8 @@ use Rattle.ospf_world.proofs.WorldFacts.{becomes, configs_set, id_is, member-is,
 -- the configuration of a slot never changes
 pub config_kept : (event : WorldEvent) (s s' : SlotValue) (logs logs' : LogsValue) (result : Result (Unit {0}) WorldFault) → SlotSteps event s logs result s' logs' → s'.config ≡ s.config
 config_kept event s s' logs logs' result (SlotSteps.Refused f refused is after same) = ap config_of after
-config_kept event s s' logs logs' result (SlotSteps.Taken none (SlotTakes.NotDone err after same)) = ap config_of after
-config_kept event s s' logs logs' result (SlotSteps.Taken none (SlotTakes.MemoryStops e fed err after same)) = ap config_of after
+config_kept event s s' logs logs' result (SlotSteps.Taken none (SlotTakes.NotDone wants err after same)) = ap config_of after
+config_kept event s s' logs logs' result (SlotSteps.Taken none (SlotTakes.MemoryStops x e runs fed needs err after same)) = ap config_of after
 config_kept event s s' logs logs' result (SlotSteps.Taken none (SlotTakes.Starts r dd floor x is ok stopped after started same)) = ap config_of after
 config_kept event s s' logs logs' result (SlotSteps.Taken none (SlotTakes.Stops r is ok after same)) = ap config_of after
 config_kept event s s' logs logs' result (SlotSteps.Taken none (SlotTakes.Stepped e fed ok goes)) = ap config_of goes.is
@@ -109,8 +109,8 @@ comes event w w' k s s' result at get slots steps = by steps
 
     by : SlotSteps event s w.logs result s' w'.logs → Comes is_dropped event (world_of w) result (world_of w')
     by (SlotSteps.Refused f why is after same) = Comes.Refused f (refused ∙ why) is (unchanged after same)
-    by (SlotSteps.Taken none (SlotTakes.NotDone err after same)) = Comes.NotDone (refused ∙ none) err (unchanged after same)
-    by (SlotSteps.Taken none (SlotTakes.MemoryStops e fed err after same)) = Comes.MemoryStops (refused ∙ none) err (router_in event) e (steps_with (world_of w) event e fed) (now None _ after) (same_logs w w' same)
+    by (SlotSteps.Taken none (SlotTakes.NotDone wants err after same)) = Comes.NotDone (refused ∙ none) err wants (unchanged after same)
+    by (SlotSteps.Taken none (SlotTakes.MemoryStops x e runs fed needs err after same)) = Comes.MemoryStops (refused ∙ none) err (router_in event) e x (steps_with (world_of w) event e fed) (was ∙ runs) (ap is_some needs) (now None _ after) (same_logs w w' same)
     by (SlotSteps.Taken none (SlotTakes.Starts r dd floor x is ok stopped after starts same)) = Comes.Starts (refused ∙ none) ok r dd floor x is (subst (λ r. router_at (world_of w) r ≡ None) (ap router_in is) (was ∙ stopped)) (subst (λ r. RouterBecomes (world_of w) (world_of w') r (Some x)) (ap router_in is) (now (Some x) _ after)) (subst (λ r. IsRunningStarted w.logs.issued r floor x) (id ∙ ap router_in is) starts.begins) (same_logs w w' same)
     by (SlotSteps.Taken none (SlotTakes.Stops r is ok after same)) = Comes.Stops (refused ∙ none) ok r is (subst (λ r. RouterBecomes (world_of w) (world_of w') r None) (ap router_in is) (now None _ after)) (same_logs w w' same)
     by (SlotSteps.Taken none (SlotTakes.Stepped e fed ok g)) = goes e (refused ∙ none) fed ok g

@@ -61,8 +61,9 @@ impl World {
     /// The first fault that holds: `NoRouter`, `NoLink`, `NoDatagram`, `Running` for the start
     /// of a running router, `NotRunning` for any other event of one that does not run, and
     /// `Floor` for a start where no number is above the floor; then nothing is changed.
-    /// `Memory` where memory runs out: nothing is changed, or else, where `stopped`, the router
-    /// is stopped and no log has grown.
+    /// `Memory` where memory runs out: before a start or a tick, and nothing is changed; or else,
+    /// where `stopped`, at an event that the router does not drop, and it is stopped and no log has
+    /// grown.
     pub fn step(&mut self, event: WorldEvent, alloc: Global) -> Result<(), WorldFault>
         // What happens, and what stays.
         ensures does { Does event self.old result self.new }

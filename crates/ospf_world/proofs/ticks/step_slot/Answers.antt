@@ -1,19 +1,20 @@
-use Rattle.std.proofs.Common.{◌≡◌, ◌∷◌, [], Ok, false, length, take, refl, ap, ◌∙◌, arith}
+use Rattle.std.proofs.Common.{◌≡◌, ◌∷◌, [], Ok, false, length, take, refl, ap, subst, sym, ◌∙◌, arith}
 use Rattle.std.specs.Result.{is_ok}
 use Rattle.std.proofs.lemmas.List.{take_at}
 use Rattle.ospf_headline.specs.declared.event.WorldFault.TheVariants as fault
 use Rattle.ospf_headline.specs.Slots.{SlotSteps, SlotTakes}
+use Rattle.ospf_headline.specs.World.{WantsRoom}
 use Rattle.ospf_world.proofs.ComesFacts.{none_more}
 use Rattle.ospf_world.proofs.TickFacts.{no_tick, not_pushed, pushed, tick_runs, tick_taken}
 use Rattle.ospf_world.proofs.ticks.step_slot.Goals as goal
 
 pub returns-in_default-clause-ticks : goal.returns-in_default-clause-ticks
 returns-in_default-clause-ticks c =
-    no_tick c.args.event.now c.args.slot.now c.step.new.self c.args.logs.now c.step.new.logs c.step.result _ c.args.ticks.now.items c.step.ensures c.in_default.ensures.none
+    no_tick c.args.event.now c.args.slot.now c.step.new.self c.args.logs.now c.step.new.logs c.step.result _ c.args.ticks.now.items c.step.ensures.steps c.in_default.ensures.none
 
 pub returns-then-is_err-clause-steps : goal.returns-then-is_err-clause-steps
 returns-then-is_err-clause-steps c =
-    SlotSteps.Taken (tick_runs c.args.event.now c.args.slot.now c.args.logs.now.datagrams c.in-Some.tick.router c.in-Some.ensures.some.0 c.in-Some.ensures.some.2) (SlotTakes.NotDone refl refl refl)
+    SlotSteps.Taken (tick_runs c.args.event.now c.args.slot.now c.args.logs.now.datagrams c.in-Some.tick.router c.in-Some.ensures.some.0 c.in-Some.ensures.some.2) (SlotTakes.NotDone (subst WantsRoom (sym c.in-Some.ensures.some.0) tt) refl refl refl)
 
 pub returns-then-is_err-clause-ticks : goal.returns-then-is_err-clause-ticks
 returns-then-is_err-clause-ticks c =
