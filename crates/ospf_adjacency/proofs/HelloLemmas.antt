@@ -1,17 +1,16 @@
 -- A Hello of a neighbour that was known, and of a new one.
-use Rattle.std.proofs.Common.{refl, ◌≡◌, ◌≢◌, ◌<◌, ◌≤◌, ◌∷◌, zero, suc, true, get_or, nat_lt, inl, inr, ℕ, Bool, false, List, [], Some, length, set, insert, sym, ap, ◌∙◌, slice_get, unwrap_or, arith, rules}
+use Rattle.std.proofs.Common.{◌≡◌, ◌≢◌, ℕ, Bool, false, List, Some, set, insert, sym, ap, ◌∙◌, slice_get, unwrap_or, arith, rules}
 use Rattle.std.proofs.lemmas.Grind.{common_steps}
-use Rattle.std.proofs.lemmas.Bool.Decides.{leb_tells}
 use Rattle.ospf_base.specs.declared.ids.Addr.{Addr}
 use Rattle.ospf_base.specs.declared.ids.RouterId.{RouterId}
 use Rattle.ospf_iface.specs.declared.machine.Iface.{Iface}
 use Rattle.ospf_neighbour.specs.Neighbour.{NeighbourValue, new_neighbour}
-use Rattle.ospf_neighbour.specs.Neighbours.{AreNeighboursRising, IsNeighbourPlace}
+use Rattle.ospf_neighbour.specs.Neighbours.{AreNeighboursRising, place_for}
 use Rattle.ospf_packet.specs.declared.body.Hello.{Hello}
 use Rattle.ospf_exchange.specs.declared.rule.Local.{Local}
 use Rattle.ospf_area.specs.Turns.{Turn, turn}
 use Rattle.ospf_area.specs.Posting.{PostValue}
-use Rattle.ospf_adjacency.specs.Heard.{Neighbourhood, neighbourhood, turn_of, put_back, hello_on, hello_turn, elects_by_hello, place_for, put, sender_of}
+use Rattle.ospf_adjacency.specs.Heard.{Neighbourhood, neighbourhood, turn_of, put_back, hello_on, hello_turn, elects_by_hello, put, sender_of}
 use Rattle.ospf_adjacency.proofs.PutLemmas.{found, not_found, put_found, put_new}
 
 -- a Hello makes no other neighbour of one
@@ -66,24 +65,3 @@ hello_new i local q source h named ns p p' k e m elects rises at other e_is is d
     ap (λ (l : List NeighbourValue). neighbourhood l elects p') there_is
     ∙ by_turn i local h named x e t elects is due
     ∙ ap (λ (n : NeighbourValue). hello_by i local h named n x) (sym sender)
-
-pub place_within : (ns : List NeighbourValue) (q : ℕ) → place_for ns q ≤ length ns
-place_within [] q = omega arith
-place_within (m ∷ ms) q = elim (leb_tells (suc m.router.0) q) [
-  | inl lower ↦ (rw lower.0 (let more = place_within ms q in omega (arith, more)))
-  | inr higher ↦ (rw higher.0 (omega arith))
-]
-
--- a binary search finds the place
-pub place_is : (ns : List NeighbourValue) (q at : ℕ) → at ≤ length ns → ((k : ℕ) (d : NeighbourValue) → k < at → (get_or ns k d).router.0 < q)
-    → ((k : ℕ) (d : NeighbourValue) → at ≤ k → k < length ns → q ≤ (get_or ns k d).router.0) → at ≡ place_for ns q
-place_is [] q at within below above = omega (arith, within)
-place_is (m ∷ ms) q zero within below above =
-    let not_lower : nat_lt m.router.0 q ≡ false = let high = above zero m (omega arith) (omega arith) in grind arith in
-    rw not_lower refl
-place_is (m ∷ ms) q (suc at) within below above =
-    let lower : nat_lt m.router.0 q ≡ true = let low = below zero m (omega arith) in grind arith in
-    rw lower (ap suc (place_is ms q at (omega (arith, within)) (λ k d lt. below (suc k) d (omega (arith, lt))) (λ k d le lt. above (suc k) d (omega (arith, le)) (omega (arith, lt)))))
-
-pub place_searched : (ns : List NeighbourValue) (q at : ℕ) → IsNeighbourPlace ns q at → at ≡ place_for ns q
-place_searched ns q at p = place_is ns q at p.within (λ k d lt. p.before k d (omega arith) lt) (λ k d le lt. p.from k d le lt)

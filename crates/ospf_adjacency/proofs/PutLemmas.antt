@@ -4,8 +4,8 @@ use Rattle.std.specs.List.{AllByRecursion}
 use Rattle.std.proofs.lemmas.Bool.Decides.{leb_tells}
 use Rattle.ospf_base.specs.declared.ids.RouterId.{RouterId}
 use Rattle.ospf_neighbour.specs.Neighbour.{NeighbourValue}
-use Rattle.ospf_neighbour.specs.Neighbours.{AreNeighboursRising, neighbour_of}
-use Rattle.ospf_adjacency.specs.Heard.{place_for, put}
+use Rattle.ospf_neighbour.specs.Neighbours.{AreNeighboursRising, neighbour_of, place_for}
+use Rattle.ospf_adjacency.specs.Heard.{put}
 
 -- at the place of q stands its neighbour
 pub found : (ns : List NeighbourValue) (q : RouterId) (e : NeighbourValue) → slice_get ns (place_for ns q.0) ≡ Some e → e.router.0 ≡ q.0 → neighbour_of ns q ≡ Some e

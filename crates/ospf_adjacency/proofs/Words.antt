@@ -1,13 +1,8 @@
 -- Parts of definitions of specs/ by names of their own, for the proofs.
-use Rattle.std.specs.Prelude.{ℕ, Option, None, Some, if◌then◌else◌, ◌-◌, List, ◌∷◌, map, filter, ◌&&◌, Bool, []}
+use Rattle.std.specs.Prelude.{ℕ, Option, None, Some, ◌-◌, List, ◌∷◌, map, filter, ◌&&◌, Bool, []}
 use Rattle.ospf_lsdb.specs.Database.{Entry, instance_at, lsa_of}
 use Rattle.ospf_neighbour.specs.Lists.{resent}
 use Rattle.ospf_neighbour.specs.Neighbour.{NeighbourValue}
-use Rattle.ospf_base.specs.Addresses.{nowhere}
-use Rattle.ospf_base.specs.Constants.{router_options}
-use Rattle.ospf_iface.specs.declared.machine.Iface.{Iface}
-use Rattle.ospf_packet.specs.declared.body.Hello.{Hello}
-use Rattle.ospf_adjacency.specs.Adjacency.{is_broadcast}
 use Rattle.ospf_area.specs.Sending.{sent_lsa}
 use Rattle.ospf_iface.specs.declared.candidate.Candidate.{Candidate}
 use Rattle.ospf_neighbour.specs.Machine.{is_two_way}
@@ -23,18 +18,6 @@ resent_copy o tick n = elim o [
   | None ↦ n
   | Some e ↦ resent (instance_at e) tick n
 ]
-
--- the fields of the Hello that an interface sends: the DR and the Backup are 0.0.0.0 where the link has two ends (9.5)
-abbrev pub own_hello : Iface → Hello
-own_hello i = record {
-  mask = i.settings.mask;
-  hello_interval = i.settings.hello;
-  options = router_options;
-  priority = i.settings.priority;
-  dead_interval = i.settings.dead;
-  designated = (if is_broadcast i then i.dr else nowhere);
-  backup = (if is_broadcast i then i.backup else nowhere);
-}
 
 abbrev pub inactivity_ticked : NeighbourValue → NeighbourValue
 inactivity_ticked n = record n { inactivity = n.inactivity - 1 }

@@ -1,6 +1,6 @@
 -- Hellos that come, and what they make of a neighbour and of its link's election
 -- (RFC 2328, sections 9.2 and 10.5).
-use Rattle.std.specs.Prelude.{◌==◌, ◌&&◌, ◌||◌, not, nat_lt, ℕ, List, [], ◌∷◌, Bool, true, false, unwrap_or, suc, if◌then◌else◌}
+use Rattle.std.specs.Prelude.{◌==◌, ◌&&◌, ◌||◌, not, nat_lt, ℕ, List, [], ◌∷◌, Bool, true, false, unwrap_or, if◌then◌else◌}
 use Rattle.std.specs.List.{list_any}
 use Rattle.ospf_base.specs.Addresses.{nowhere}
 use Rattle.ospf_base.specs.declared.ids.Addr.{Addr}
@@ -98,11 +98,6 @@ abbrev pub elects_by_change : IfaceState → NeighbourValue → NeighbourValue �
 elects_by_change s n m = is_settled s && differs (is_two_way n.state) (is_two_way m.state)
 
 -- ---- the neighbours of the link
-
--- where a neighbour of a Router ID stands, or is put in, among neighbours in rising Router ID
-abbrev pub place_for : List NeighbourValue → ℕ → ℕ
-place_for [] q = 0
-place_for (m ∷ ms) q = if nat_lt m.router.0 q then suc (place_for ms q) else 0
 
 -- the neighbours with one put in: in place of that of its Router ID, or between those of
 -- lower and those of higher Router ID

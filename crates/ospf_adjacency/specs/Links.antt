@@ -2,34 +2,25 @@
 -- 2328, sections 9.3, 9.5 and 10.3).
 use Rattle.std.specs.Prelude.{◌==◌, ◌&&◌, ◌||◌, ◌-◌, not, nat_le, List, Bool, map, filter, if◌then◌else◌}
 use Rattle.std.specs.List.{list_any}
-use Rattle.ospf_base.specs.Addresses.{all_spf_routers, nowhere}
-use Rattle.ospf_base.specs.Constants.{router_options}
+use Rattle.ospf_base.specs.Addresses.{all_spf_routers}
 use Rattle.ospf_iface.specs.declared.machine.Iface.{Iface}
+use Rattle.ospf_iface.specs.Hello.{own_hello}
 use Rattle.ospf_iface.specs.Machine.{is_down, started, iface_stopped}
 use Rattle.ospf_neighbour.specs.Machine.{is_two_way}
 use Rattle.ospf_neighbour.specs.Neighbour.{NeighbourValue}
 use Rattle.ospf_packet.specs.Meaning.{hello}
-use Rattle.ospf_adjacency.specs.Adjacency.{is_broadcast}
 use Rattle.ospf_area.specs.Packets.{Parcel}
 use Rattle.ospf_adjacency.specs.Heard.{is_waiting, is_settled}
 
 -- ---- Hellos that go out
 
--- the Hello that a link sends to all: it names the link's neighbours. The DR and the Backup are
--- 0.0.0.0 where the link has two ends (9.5)
+-- the Hello that a link sends to all: it names the link's neighbours (9.5)
 abbrev pub hello_parcel : Iface → List NeighbourValue → Parcel
-hello_parcel i ns = record {
-  destination = all_spf_routers;
-  body = hello (record {
-    mask = i.settings.mask;
-    hello_interval = i.settings.hello;
-    options = router_options;
-    priority = i.settings.priority;
-    dead_interval = i.settings.dead;
-    designated = (if is_broadcast i then i.dr else nowhere);
-    backup = (if is_broadcast i then i.backup else nowhere);
-  }) (map (λ n. n.router) ns);
-}
+hello_parcel i ns =
+    record {
+      destination = all_spf_routers;
+      body = hello (own_hello i) (map (λ n. n.router) ns);
+    }
 
 -- a Hello is due: the link is up, and HelloInterval is over (9.5)
 abbrev pub is_hello_due : Iface → Bool
@@ -63,10 +54,6 @@ abbrev pub timed : List NeighbourValue → List NeighbourValue
 timed ns =
     map (λ (n : NeighbourValue). record n { inactivity = n.inactivity - 1 })
     (filter (λ n. not (is_inactive n)) ns)
-
--- the wait timer, a tick later
-abbrev pub wait_ticked : Iface → Iface
-wait_ticked i = record i { wait = i.wait - 1 }
 
 -- by the timers an election is due: the wait timer fires, or a neighbour in 2-Way or above
 -- is removed (9.2, WaitTimer; 9.3)

@@ -6,13 +6,13 @@ ghost use Rattle.ospf_neighbour.specs.Neighbours.{AreNeighboursRising};
 ghost use Rattle.ospf_area.specs.Turns.{turn};
 ghost use Rattle.std.specs.Prelude.{if◌then◌else◌};
 ghost use Rattle.ospf_adjacency.specs.Adjacency.{wants_adjacency};
-ghost use Rattle.ospf_adjacency.specs.Heard.{names, heard, naming_event, hello_turn, bearing_of, is_neighbor_change, is_backup_seen, is_settled, is_waiting, elects_by_hello, place_for, neighbourhood, hello_on};
+ghost use Rattle.ospf_adjacency.specs.Heard.{names, heard, naming_event, hello_turn, bearing_of, is_neighbor_change, is_backup_seen, is_settled, is_waiting, elects_by_hello, neighbourhood, hello_on};
 
 use crate::adjacency::{is_broadcast, take_event, wants_adjacency};
 use ospf_area::{OnLink, Post};
 use ospf_base::{Addr, RouterId};
 use ospf_iface::{Iface, IfaceState};
-use ospf_neighbour::{Declared, NbrEvent, Neighbour};
+use ospf_neighbour::{Declared, NbrEvent, Neighbour, place_for};
 use ospf_packet::{Hello, Neighbours};
 use std::alloc::AllocError;
 
@@ -28,15 +28,10 @@ pub(crate) struct ElectionView {
 
 /// Whether a Hello names a router among the neighbours that its sender
 /// has heard. No memory is taken.
-pub fn is_named(neighbours: Neighbours<'_>, router: RouterId) -> bool
+pub fn is_named(mut neighbours: Neighbours<'_>, router: RouterId) -> bool
     ensures { result ≡ names neighbours.entry router }
 {
-    for named in neighbours {
-        if named.0 == router.0 {
-            return true;
-        }
-    }
-    false
+    neighbours.any(|named| named.0 == router.0)
 }
 
 /// Whether an election comes about by NeighborChange: in DR Other, Backup
@@ -48,14 +43,6 @@ pub fn is_settled(state: IfaceState) -> bool
         state,
         IfaceState::DrOther | IfaceState::Backup | IfaceState::Dr
     )
-}
-
-/// Where a neighbour of a Router ID stands, or is put in, among neighbours in rising Router ID.
-pub fn place_for(all: &[Neighbour], router: RouterId) -> usize
-    requires { AreNeighboursRising all.now }
-    ensures { result ≡ place_for all.now router.0 }
-{
-    all.partition_point(|n| n.router().0 < router.0)
 }
 
 /// Whether the neighbour at a place has this Router ID.

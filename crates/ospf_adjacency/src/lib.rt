@@ -26,7 +26,7 @@ pub use crate::adjacency::{is_broadcast, take_event, wants_adjacency};
 pub use crate::answering::take_request;
 pub use crate::descriptions::{is_dropped, take_description};
 pub use crate::elections::elect_on;
-pub use crate::heard::{hello_on, is_at, is_named, is_settled, place_for};
+pub use crate::heard::{hello_on, is_at, is_named, is_settled};
 pub use crate::hello_laws::{
     adj_ok_goes, elections_come_about, hello_goes, neighbours_stay_of_link, puts_one, timers_go,
 };

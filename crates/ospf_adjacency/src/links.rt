@@ -1,11 +1,10 @@
 //! Links that go up and down, and their timers.
 
-ghost use Rattle.std.specs.Prelude.{◌≡◌, ◌&&◌, [], true, false, map, filter, not, ◌-◌};
+ghost use Rattle.std.specs.Prelude.{◌≡◌, ◌&&◌, [], true, false, not, ◌-◌};
 ghost use Rattle.std.specs.List.{list_any};
 ghost use Rattle.ospf_neighbour.specs.Machine.{is_two_way};
-ghost use Rattle.ospf_neighbour.specs.Neighbour.{NeighbourValue};
 ghost use Rattle.ospf_iface.specs.Machine.{is_down};
-ghost use Rattle.ospf_adjacency.specs.Links.{is_inactive, timed, up, down, wait_ticked, elects_by_timers};
+ghost use Rattle.ospf_adjacency.specs.Links.{is_inactive, timed, up, down, elects_by_timers};
 
 use crate::heard::{is_settled, is_waiting};
 use ospf_iface::{Iface, IfaceEvent};
@@ -45,15 +44,14 @@ pub fn go_down(iface: &mut Iface, neighbours: &mut Vec<Neighbour>) -> bool
 pub fn tick_neighbours(neighbours: &mut Vec<Neighbour>)
     ensures { neighbours.new.items ≡ timed neighbours.old.items }
 {
-    remove_inactive(neighbours);
-    count(neighbours);
+    neighbours.retain_mut(lasts);
 }
 
 /// A tick of a link's timers (RFC 2328, sections 9.3 and 10.3). Answers whether an election is
 /// due by it. No memory is taken.
 pub fn tick_timers(iface: &mut Iface, neighbours: &mut Vec<Neighbour>) -> bool
     ensures elects { result ≡ elects_by_timers iface.old neighbours.old.items }
-    ensures iface { iface.new ≡ wait_ticked iface.old }
+    ensures iface { iface.new ≡ record iface.old { wait = iface.old.wait - 1 } }
     ensures neighbours { neighbours.new.items ≡ timed neighbours.old.items }
 {
     let state = iface.state;
@@ -63,11 +61,13 @@ pub fn tick_timers(iface: &mut Iface, neighbours: &mut Vec<Neighbour>) -> bool
     (is_waiting(state) && over) || lost
 }
 
-// The inactive neighbours are removed.
-fn remove_inactive(neighbours: &mut Vec<Neighbour>)
-    ensures { neighbours.new.items ≡ filter (λ n. not (is_inactive n)) neighbours.old.items }
+// The inactivity timer of a neighbour counts. Whether it does not fire.
+fn lasts(neighbour: &mut Neighbour) -> bool
+    ensures lasts { result ≡ not (is_inactive neighbour.old) }
+    ensures ticked { neighbour.new
+        ≡ record neighbour.old { inactivity = neighbour.old.inactivity - 1 } }
 {
-    neighbours.retain(|n| !is_inactive(n));
+    !neighbour.inactivity_tick()
 }
 
 // Whether the inactivity timer of a neighbour fires at the next tick.
@@ -75,16 +75,6 @@ fn is_inactive(neighbour: &Neighbour) -> bool
     ensures { result ≡ is_inactive neighbour.now }
 {
     neighbour.inactivity() == 1
-}
-
-// The inactivity timers count.
-fn count(neighbours: &mut [Neighbour])
-    ensures { neighbours.new
-        ≡ map (λ (n : NeighbourValue). record n { inactivity = n.inactivity - 1 }) neighbours.old }
-{
-    for neighbour in neighbours.iter_mut() {
-        let _ = neighbour.inactivity_tick();
-    }
 }
 
 // Whether some neighbour in 2-Way or above is removed at the next tick.

@@ -7,7 +7,9 @@ use std::alloc::{AllocError, Global};
 
 impl Iface {
     ghost use Rattle.std.specs.Prelude.{◌≡◌, IfOk};
-    ghost use Rattle.ospf_iface.specs.Hello.{AreFieldsOf, IsHelloOf, agrees};
+    ghost use Rattle.ospf_packet.specs.Meaning.{hello};
+    ghost use Rattle.ospf_packet.specs.Said.{body_meant};
+    ghost use Rattle.ospf_iface.specs.Hello.{agrees, own_hello};
 
     /// Whether a Hello agrees with the interface (section 10.5): in HelloInterval,
     /// RouterDeadInterval and the E bit, and on a broadcast link in the mask. No memory is taken.
@@ -25,7 +27,8 @@ impl Iface {
     ///
     /// `AllocError` where memory runs out.
     pub fn hello(&self, alloc: Global, neighbours: &[RouterId]) -> Result<BodyValue, AllocError>
-        ensures { IfOk result (IsHelloOf self.now neighbours.now) }
+        ensures { IfOk result
+            (λ body. body_meant body ≡ hello (own_hello self.now) neighbours.now) }
     {
         let neighbours = Vec::from_slice(alloc, neighbours)?;
         Ok(BodyValue::Hello(self.hello_fields(), neighbours))
@@ -33,7 +36,7 @@ impl Iface {
 
     // The fields of the Hello that the interface sends.
     fn hello_fields(&self) -> Hello
-        ensures { AreFieldsOf self.now result }
+        ensures { result ≡ own_hello self.now }
     {
         let (designated, backup) = if self.settings.is_point_to_point() {
             (Addr::NOWHERE, Addr::NOWHERE)

@@ -12,13 +12,13 @@ use Rattle.ospf_adjacency.proofs.StayLemmas.{adjusted_rises}
 use Rattle.std.proofs.Common.{if◌then◌else◌, true, false}
 use Rattle.ospf_iface.specs.declared.machine.Iface.{Iface}
 use Rattle.ospf_neighbour.specs.Neighbour.{NeighbourValue}
-use Rattle.ospf_neighbour.specs.Neighbours.{AreNeighbours, AreNeighboursRising, neighbour_of}
+use Rattle.ospf_neighbour.specs.Neighbours.{AreNeighbours, AreNeighboursRising, neighbour_of, place_for}
 use Rattle.ospf_packet.specs.declared.body.Hello.{Hello}
 use Rattle.ospf_exchange.specs.declared.rule.Local.{Local}
-use Rattle.ospf_adjacency.specs.Heard.{Neighbourhood, hello_on, hello_turn, turn_of, sender_of, place_for, put}
+use Rattle.ospf_adjacency.specs.Heard.{Neighbourhood, hello_on, hello_turn, turn_of, sender_of, put}
 use Rattle.ospf_adjacency.specs.Links.{timed, is_inactive}
 use Rattle.ospf_adjacency.proofs.GoLemmas.{bool_cases, heard_router}
-use Rattle.ospf_adjacency.proofs.HelloLemmas.{place_within}
+use Rattle.ospf_neighbour.proofs.NeighbourLemmas.{place_within}
 use Rattle.ospf_adjacency.proofs.PutLemmas.{not_found, put_found, put_new}
 use Rattle.ospf_adjacency.proofs.StayLemmas.{put_rises, timed_rises}
 

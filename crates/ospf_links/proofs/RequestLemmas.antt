@@ -4,12 +4,12 @@ use Rattle.ospf_base.specs.declared.ids.RouterId.{RouterId}
 use Rattle.ospf_iface.specs.declared.machine.Iface.{Iface}
 use Rattle.ospf_lsdb.specs.Database.{Held}
 use Rattle.ospf_neighbour.specs.Neighbour.{NeighbourValue}
-use Rattle.ospf_neighbour.specs.Neighbours.{AreNeighbours, neighbour_of}
+use Rattle.ospf_neighbour.specs.Neighbours.{AreNeighbours, neighbour_of, place_for}
 use Rattle.ospf_packet.specs.declared.entry.RequestEntry.{RequestEntry}
 use Rattle.ospf_exchange.specs.declared.rule.Local.{Local}
 use Rattle.ospf_area.specs.Turns.{Turn, turn}
 use Rattle.ospf_area.specs.Posting.{PostValue}
-use Rattle.ospf_adjacency.specs.Heard.{Neighbourhood, neighbourhood, place_for, put_back, turn_of}
+use Rattle.ospf_adjacency.specs.Heard.{Neighbourhood, neighbourhood, put_back, turn_of}
 use Rattle.ospf_adjacency.proofs.StayLemmas.{put_rises}
 use Rattle.ospf_adjacency.specs.Answers.{answer_turn}
 use Rattle.ospf_adjacency.proofs.QuietLemmas.{answers_are_quiet}

@@ -5,7 +5,7 @@ use Rattle.ospf_iface.specs.declared.machine.Iface.{Iface}
 use Rattle.ospf_lsa.specs.declared.header.LsaHeader.{LsaHeader}
 use Rattle.ospf_lsdb.specs.Database.{Held}
 use Rattle.ospf_neighbour.specs.Neighbour.{NeighbourValue}
-use Rattle.ospf_neighbour.specs.Neighbours.{AreNeighboursRising, AreNeighbours, neighbour_of}
+use Rattle.ospf_neighbour.specs.Neighbours.{AreNeighboursRising, AreNeighbours, neighbour_of, place_for}
 use Rattle.ospf_packet.specs.declared.body.Description.{Description}
 use Rattle.ospf_packet.specs.declared.body.Hello.{Hello}
 use Rattle.ospf_packet.specs.declared.entry.RequestEntry.{RequestEntry}
@@ -14,7 +14,7 @@ use Rattle.ospf_adjacency.specs.Descriptions.{description_turn}
 use Rattle.ospf_area.specs.Turns.{Turn, turn}
 use Rattle.ospf_area.specs.Posting.{PostValue, local_of, posted_all}
 use Rattle.ospf_adjacency.proofs.SameLemmas.{description_keeps_router}
-use Rattle.ospf_adjacency.specs.Heard.{Neighbourhood, neighbourhood, turn_of, put_back, elects_by_change, hello_on, place_for, put}
+use Rattle.ospf_adjacency.specs.Heard.{Neighbourhood, neighbourhood, turn_of, put_back, elects_by_change, hello_on, put}
 use Rattle.std.proofs.Common.{Option, inl, inr}
 use Rattle.std.proofs.lemmas.Option.{slice_get_past, slice_get_read}
 use Rattle.std.proofs.Common.{get_or}

@@ -1,6 +1,6 @@
 -- What each part of a step makes of one link, and what goes out of it (RFC 2328, sections
 -- 9.3, 9.5, 10.2, 10.5 and 10.6).
-use Rattle.std.specs.Prelude.{◌||◌, ℕ, Bool, false, List, [], Option, None, Some, if◌then◌else◌}
+use Rattle.std.specs.Prelude.{◌||◌, ◌-◌, ℕ, Bool, false, List, [], Option, None, Some, if◌then◌else◌}
 use Rattle.ospf_base.specs.declared.ids.LsaKey.{LsaKey}
 use Rattle.ospf_base.specs.declared.ids.RouterId.{RouterId}
 use Rattle.ospf_iface.specs.declared.machine.Iface.{Iface}
@@ -19,7 +19,7 @@ use Rattle.ospf_adjacency.specs.Descriptions.{description_turn}
 use Rattle.ospf_area.specs.Packets.{Parcel, parcel_if}
 use Rattle.ospf_adjacency.specs.Heard.{Neighbourhood, elects_by_change, hello_on, neighbourhood, put_back, turn_of}
 use Rattle.ospf_iface.specs.Machine.{is_down}
-use Rattle.ospf_adjacency.specs.Links.{down, elects_by_timers, hello_parcel, hello_ticked, is_hello_due, timed, up, wait_ticked}
+use Rattle.ospf_adjacency.specs.Links.{down, elects_by_timers, hello_parcel, hello_ticked, is_hello_due, timed, up}
 use Rattle.ospf_adjacency.specs.Answers.{answer_turn, answered_keys}
 use Rattle.ospf_area.specs.Posting.{PostValue, local_of, posted_all}
 
@@ -129,7 +129,7 @@ link_down link =
 -- the timers of a link, a tick later (9.3, 10.3)
 abbrev pub link_timed : LinkValue → LinkValue
 link_timed link = record link {
-  iface = wait_ticked link.iface;
+  iface = record link.iface { wait = link.iface.wait - 1 };
   neighbours = timed link.neighbours;
   elects = link.elects || elects_by_timers link.iface link.neighbours;
 }

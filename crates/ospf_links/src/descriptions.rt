@@ -10,10 +10,10 @@ ghost use Rattle.ospf_links.specs.Parts.{description_comes, description_on, desc
 ghost use Rattle.ospf_links.specs.Works.{WorksOn};
 
 use crate::link::{iface_of, is_due, put_back, take_out};
-use ospf_adjacency::{is_at, is_settled, place_for, take_description as describe_to};
+use ospf_adjacency::{is_at, is_settled, take_description as describe_to};
 use ospf_area::{Area, AreaLink, OnLink, Origin, Outputs, Own, Post, own_of};
 use ospf_lsdb::Lsdb;
-use ospf_neighbour::Neighbour;
+use ospf_neighbour::{Neighbour, place_for};
 use ospf_packet::{Description, Headers};
 use std::alloc::{AllocError, Global};
 

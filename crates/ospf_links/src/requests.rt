@@ -14,11 +14,11 @@ ghost use Rattle.ospf_links.specs.Works.{WorksOn};
 
 use crate::link::{iface_of, is_due, put_back, take_out};
 use crate::marks::mark_all;
-use ospf_adjacency::{is_at, place_for, take_request as answer_to};
+use ospf_adjacency::{is_at, take_request as answer_to};
 use ospf_area::{Area, AreaLink, OnLink, Origin, Outputs, Own, Post, own_of};
 use ospf_base::LsaKey;
 use ospf_lsdb::Lsdb;
-use ospf_neighbour::Neighbour;
+use ospf_neighbour::{Neighbour, place_for};
 use ospf_packet::Requests;
 use std::alloc::{AllocError, Global};
 use std::collections::BTreeSet;

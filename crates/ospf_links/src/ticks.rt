@@ -1,9 +1,9 @@
 //! The timers of links, and the Hellos that are due.
 
-ghost use Rattle.std.specs.Prelude.{◌≡◌, ◌||◌, OnOk, map};
+ghost use Rattle.std.specs.Prelude.{◌≡◌, ◌||◌, ◌-◌, OnOk, map};
 ghost use Rattle.ospf_area.specs.Places.{flat_from};
 ghost use Rattle.ospf_area.specs.Sending.{and_sends};
-ghost use Rattle.ospf_adjacency.specs.Links.{elects_by_timers, timed, wait_ticked};
+ghost use Rattle.ospf_adjacency.specs.Links.{elects_by_timers, timed};
 ghost use Rattle.ospf_links.specs.Parts.{hello_out, hello_sent, link_timed};
 
 use crate::link::{put_back, take_out};
@@ -53,7 +53,8 @@ fn link_timers(link: &mut AreaLink, alloc: Global)
 // The timers of an interface and of neighbours that were taken out.
 fn count(link: &mut AreaLink, all: &mut Vec<Neighbour>) -> bool
     ensures due { result ≡ link.old.elects || elects_by_timers link.old.iface all.old.items }
-    ensures link { link.new ≡ record link.old { iface = wait_ticked link.old.iface } }
+    ensures link { link.new
+        ≡ record link.old { iface = record link.old.iface { wait = link.old.iface.wait - 1 } } }
     ensures neighbours { all.new.items ≡ timed all.old.items }
 {
     let elects = tick_timers(&mut link.iface, all);

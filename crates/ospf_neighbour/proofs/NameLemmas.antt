@@ -9,8 +9,8 @@ use Rattle.std.proofs.lemmas.List.Quantifiers.{position-Some}
 use Rattle.std.proofs.lemmas.Map.Views.{any-filter_same}
 use Rattle.ospf_base.specs.declared.ids.LsaKey.{LsaKey}
 use Rattle.ospf_lsa.specs.declared.header.LsaHeader.{LsaHeader}
-use Rattle.ospf_neighbour.specs.Lists.{is_header_of, request_of, request_put, requests_without, unrequested, AreNamesOf, is_named, is_requested, name_eq, name_of, name_of_key}
-use Rattle.ospf_neighbour.proofs.Words.{is_of_other}
+use Rattle.ospf_neighbour.specs.Lists.{is_header_of, request_of, request_put, requests_without, unrequested, AreNamesOf, is_named, name_eq, name_of, name_of_key}
+use Rattle.ospf_neighbour.proofs.Words.{is_of_other, is_requested}
 use Rattle.ospf_neighbour.specs.Neighbour.{NeighbourValue}
 use Rattle.ospf_neighbour.specs.OneAKey.{is_of_one_lsa}
 use Rattle.ospf_neighbour.specs.declared.requests.LsaName.{LsaName}

@@ -3,7 +3,7 @@
 ghost use Rattle.std.specs.Prelude.{◌≡◌, ◌↔◌, [], OnOk, OnErr, Err, IfNone, length, map};
 ghost use Rattle.std.specs.Option.{option_copied};
 ghost use Rattle.ospf_neighbour.specs.Lists.{key_unlisted};
-ghost use Rattle.ospf_neighbour.specs.Neighbours.{AreNeighbours, HasNeighbour, IsAdded, IsNeighbourPlace, AreNeighboursRising, at_address, max_neighbours, neighbour_of, neighbour_place, some_lists, some_loading, without_router};
+ghost use Rattle.ospf_neighbour.specs.Neighbours.{AreNeighbours, HasNeighbour, IsAdded, AreNeighboursRising, at_address, max_neighbours, neighbour_of, neighbour_place, place_for, some_lists, some_loading, without_router};
 ghost use Rattle.ospf_neighbour.specs.declared.neighbours.NeighbourFault.TheVariants as fault;
 
 use crate::neighbour::Neighbour;
@@ -94,7 +94,7 @@ impl Neighbours {
     pub fn position(&self, router: RouterId) -> Option<usize>
         ensures { result ≡ neighbour_place self.now router }
     {
-        let at = place_of(&self.all, router);
+        let at = place_for(&self.all, router);
         if at < self.all.len() && self.all[at].router().0 == router.0 {
             Some(at)
         } else {
@@ -170,12 +170,20 @@ impl Neighbours {
         if self.all.len() >= MAX_NEIGHBOURS {
             return Err(NeighbourFault::Full);
         }
-        let at = place_of(&self.all, neighbour.router());
+        let at = place_for(&self.all, neighbour.router());
         if self.all.insert(at, neighbour).is_err() {
             return Err(NeighbourFault::Memory);
         }
         Ok(())
     }
+}
+
+/// Where a neighbour of a Router ID stands, or is put in, among neighbours in rising Router ID.
+pub fn place_for(all: &[Neighbour], router: RouterId) -> usize
+    requires { AreNeighboursRising all.now }
+    ensures { result ≡ place_for all.now router.0 }
+{
+    all.partition_point(|n| n.router().0 < router.0)
 }
 
 // Takes all instances of a key off the retransmission lists of these neighbours.
@@ -185,12 +193,4 @@ fn unlist_key_of(key: &LsaKey, all: &mut [Neighbour])
     for neighbour in all.iter_mut() {
         neighbour.unlist_key(key);
     }
-}
-
-// The place of the first neighbour that has no lower Router ID, or the end.
-fn place_of(all: &[Neighbour], router: RouterId) -> usize
-    requires { AreNeighboursRising all.now }
-    ensures { IsNeighbourPlace all.now router.0 result }
-{
-    all.partition_point(|n| n.router().0 < router.0)
 }

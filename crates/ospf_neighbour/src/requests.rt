@@ -46,7 +46,8 @@ impl Model for Requests {
 
 impl Requests {
     ghost use Rattle.std.specs.Prelude.{◌≡◌, [], OnOk, OnErr, position};
-    ghost use Rattle.ospf_neighbour.specs.Lists.{is_header_of, is_requested, request_of, requests_put, requests_without};
+    ghost use Rattle.std.specs.List.{list_any};
+    ghost use Rattle.ospf_neighbour.specs.Lists.{is_header_of, request_of, requests_put, requests_without};
     ghost use Rattle.ospf_neighbour.specs.Neighbour.{is_empty};
 
     // An empty list.
@@ -75,7 +76,7 @@ impl Requests {
 
     // Whether an entry of a key is on the list.
     pub(crate) fn is_requested(&self, key: &LsaKey) -> bool
-        ensures { result ≡ is_requested key.now self.now }
+        ensures { result ≡ list_any (is_header_of key.now) self.now }
     {
         // Mostly nothing is requested: then the names, which lie elsewhere, are not looked at.
         if self.entries.is_empty() {

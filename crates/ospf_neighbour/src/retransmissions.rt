@@ -1,32 +1,33 @@
-//! A retransmission list and the keys of its entries, by which most look-ups need not go over it.
+//! A retransmission list and its instances by key, by which most look-ups need not go over it.
 
-ghost use Rattle.std.specs.Prelude.{◌≡◌, ◌||◌, OnOk};
-ghost use Rattle.std.specs.HashSet.{contains};
-ghost use Rattle.ospf_neighbour.specs.Lists.{is_key_listed, key_eq};
+ghost use Rattle.std.specs.Prelude.{◌≡◌, OnOk};
+ghost use Rattle.std.specs.HashMap.{get};
+ghost use Rattle.ospf_neighbour.specs.Lists.{TellsInstances, key_eq};
+ghost use Rattle.ospf_neighbour.specs.OneAKey.{IsAloneOfKeys};
 
 use crate::lists;
 use crate::neighbour::Listed;
 use ospf_base::{Instance, LsaKey};
 use std::alloc::{AllocError, Global};
-use std::collections::HashSet;
+use std::collections::HashMap;
 use std::marker::Model;
 
-// Entries, one a key, in the order in which they were put. The list is long, and a key
-// that is looked for is mostly not on it.
+// Entries, one a key, in the order in which they were put. The list is long, and what
+// is looked for is mostly not on it.
 #[derive(Drop)]
 pub(crate) struct Retransmissions {
     entries: Vec<Listed>,
-    keys: HashSet<LsaKey>,
-    // Whether `keys` are those of the entries. Where there was no memory for
-    // them, the entries are gone over.
+    instances: HashMap<LsaKey, Instance>,
+    // Whether `instances` are those of the entries. Where there was no memory
+    // for them, the entries are gone over.
     is_keyed: bool,
 }
 
 impl Model for Retransmissions {
     ghost use Rattle.std.specs.Prelude.{◌≡◌, List, true};
-    ghost use Rattle.std.specs.HashSet.{contains};
+    ghost use Rattle.std.specs.HashMap.{get};
     ghost use Rattle.ospf_neighbour.specs.declared.neighbour.Listed.{Listed};
-    ghost use Rattle.ospf_neighbour.specs.Lists.{TellsListedKeys, key_eq};
+    ghost use Rattle.ospf_neighbour.specs.Lists.{TellsInstances, key_eq};
     ghost use Rattle.ospf_neighbour.specs.OneAKey.{IsAloneOfKeys};
 
     ghost Value = { List Listed };
@@ -34,7 +35,7 @@ impl Model for Retransmissions {
     ghost view = { λ r. r.entries.items };
 
     ghost invariant = { λ r. (r.is_keyed ≡ true
-        → TellsListedKeys (contains key_eq r.keys) r.entries.items)
+        → TellsInstances (get key_eq r.instances) r.entries.items)
         × IsAloneOfKeys r.entries.items };
 }
 
@@ -50,7 +51,7 @@ impl Retransmissions {
     {
         Retransmissions {
             entries: Vec::new(alloc),
-            keys: HashSet::new(alloc),
+            instances: HashMap::new(alloc),
             is_keyed: true,
         }
     }
@@ -66,12 +67,12 @@ impl Retransmissions {
     pub(crate) fn is_key_listed(&self, key: &LsaKey) -> bool
         ensures { result ≡ is_key_listed key.now self.now }
     {
-        // Where nothing is listed, the keys, which lie elsewhere, are not looked at.
+        // Where nothing is listed, the instances, which lie elsewhere, are not looked at.
         if self.entries.is_empty() {
             return false;
         }
         if self.is_keyed {
-            self.keys.contains(key)
+            self.instances.contains_key(key)
         } else {
             lists::is_key_listed(key, &self.entries)
         }
@@ -81,14 +82,24 @@ impl Retransmissions {
     pub(crate) fn is_listed(&self, instance: &Instance) -> bool
         ensures { result ≡ is_listed instance.now self.now }
     {
-        self.is_key_listed(&instance.key) && lists::is_listed(instance, &self.entries)
+        if self.entries.is_empty() {
+            return false;
+        }
+        if self.is_keyed {
+            match self.instances.get(&instance.key) {
+                Some(kept) => kept.is_same(instance),
+                None => false,
+            }
+        } else {
+            lists::is_listed(instance, &self.entries)
+        }
     }
 
     // The place of an instance on the list.
     fn place_of(&self, instance: &Instance) -> Option<usize>
         ensures { result ≡ position (is_of_instance instance.now) self.now }
     {
-        if self.is_key_listed(&instance.key) {
+        if self.is_listed(instance) {
             lists::place_of(instance, &self.entries)
         } else {
             None
@@ -113,7 +124,7 @@ impl Retransmissions {
         if let Some(at) = self.place_of(instance) {
             // It is the only one of its key.
             self.entries.remove(at);
-            self.keys.remove(&instance.key);
+            self.instances.remove(&instance.key);
         }
     }
 
@@ -124,7 +135,7 @@ impl Retransmissions {
         if let Some(at) = self.key_place(key) {
             // It is the only one of the key.
             self.entries.remove(at);
-            self.keys.remove(key);
+            self.instances.remove(key);
         }
     }
 
@@ -137,13 +148,16 @@ impl Retransmissions {
         ensures err { OnErr result (self.new ≡ self.old) }
     {
         if let Some(at) = self.key_place(&entry.instance.key) {
-            // It is the only one of the key, and leaves room.
+            // It is the only one of the key, and leaves room: no memory is wanted.
+            if self.is_keyed {
+                self.instances.insert(entry.instance.key, entry.instance)?;
+            }
             self.entries.remove(at);
             self.entries.push(entry)?;
             return Ok(());
         }
         self.entries.reserve(1)?;
-        self.keys.insert(entry.instance.key)?;
+        self.instances.insert(entry.instance.key, entry.instance)?;
         self.entries.push(entry)?;
         Ok(())
     }
@@ -160,13 +174,12 @@ impl Retransmissions {
     }
 
     // Puts other entries in place of all. No memory is wanted: where there is
-    // none, their keys are not kept.
+    // none, their instances are not kept by key.
     pub(crate) fn replace(&mut self, entries: Vec<Listed>)
         requires { IsAloneOfKeys entries.items }
         ensures { self.new ≡ entries.items }
     {
-        self.keys.clear();
-        self.is_keyed = add_keys(&entries, &mut self.keys).is_ok();
+        self.is_keyed = keep_instances(&entries, &mut self.instances).is_ok();
         self.entries = entries;
     }
 
@@ -175,18 +188,22 @@ impl Retransmissions {
         ensures { self.new ≡ [] }
     {
         self.entries.clear();
-        self.keys.clear();
+        self.instances.clear();
         self.is_keyed = true;
     }
 }
 
-// Adds the keys of entries. `AllocError` where memory runs out.
-fn add_keys(entries: &[Listed], keys: &mut HashSet<LsaKey>) -> Result<(), AllocError>
-    ensures { OnOk result ((q : LsaKey) → contains key_eq keys.new q
-        ≡ (contains key_eq keys.old q || is_key_listed q entries.now)) }
+// Keeps the instances of these entries alone. `AllocError` where memory runs out.
+fn keep_instances(
+    entries: &[Listed],
+    instances: &mut HashMap<LsaKey, Instance>,
+) -> Result<(), AllocError>
+    requires { IsAloneOfKeys entries.now }
+    ensures { OnOk result (TellsInstances (get key_eq instances.new) entries.now) }
 {
+    instances.clear();
     for listed in entries {
-        keys.insert(listed.instance.key)?;
+        instances.insert(listed.instance.key, listed.instance)?;
     }
     Ok(())
 }

@@ -1,9 +1,7 @@
 -- Nothing is due of any key, where nothing is due of those that are wanted and those that are numbered.
-use Rattle.std.proofs.Common.{◌≡◌, ◌&&◌, ◌||◌, Bool, true, false, not, List, [], ◌∷◌, is_some, Option, None, Some, refl, sym, ap, ◌∙◌, subst, if◌then◌else◌}
-use Rattle.std.specs.List.{AllByRecursion, flat_map, list_all, list_any}
-use Rattle.std.specs.Option.{option_or}
+use Rattle.std.proofs.Common.{◌≡◌, ◌&&◌, ◌||◌, ◌++◌, Bool, true, false, not, List, [], ◌∷◌, is_some, Option, None, Some, refl, sym, ap, ◌∙◌, subst, if◌then◌else◌}
+use Rattle.std.specs.List.{AllByRecursion, list_all, list_any}
 use Rattle.std.proofs.lemmas.Bool.{false≢true}
-use Rattle.std.proofs.lemmas.List.Folds.{find-append, list_all-append}
 use Rattle.std.proofs.lemmas.Option.{none-some, same_Some}
 use Rattle.ospf_base.specs.Keys.{same_key}
 use Rattle.ospf_base.proofs.SameKeys.{same_key-eq}
@@ -20,11 +18,11 @@ use Rattle.ospf_originate.specs.Numbers.{waits}
 use Rattle.ospf_originate.specs.Sound.{AreApart, AreNumbered}
 use Rattle.ospf_lsdb.specs.Moments.{among}
 use Rattle.ospf_originate.specs.Steps.{OwnLsas, action_of, wants}
-use Rattle.ospf_wanted.specs.Wanted.{WantedValue, is_dr_of, network_of, networks_at, wanted_lsas, wanted_key, wanted_of}
+use Rattle.ospf_wanted.specs.Wanted.{WantedValue, is_dr_of, network_of, wanted_lsas, wanted_key, wanted_of}
 use Rattle.ospf_originate.specs.declared.action.OwnAction.{OwnAction}
 use Rattle.ospf_originate.specs.declared.action.OwnAction.TheVariants.{Leave, Flush, Issue}
 use Rattle.ospf_originate.proofs.DueLemmas.{left_alone}
-use Rattle.ospf_wanted.proofs.WantedLemmas.{networks_is, one_if, wanted_alone}
+use Rattle.ospf_wanted.proofs.WantedLemmas.{networks, networks-step, one_if, wanted_alone}
 
 -- ---- one key
 
@@ -54,47 +52,27 @@ wanted_left_is s w key copy due result of_key of_copy of_due is =
     ∙ ap (λ (o : Option Entry). is_left (wanted_action w o false waiting kept)) of_copy
     ∙ ap (λ (k : LsaKey). is_left (wanted_action w (database_entry s k) false (waits s.tick s.numbering k) (kept_number s k))) of_key
 
-all_if : (p : WantedValue → Bool) (b : Bool) (w : WantedValue) → list_all p (one_if b w) ≡ (not b || p w)
-unfolding one_if
-all_if p true w = and_true (p w)
-  where
-    and_true : (t : Bool) → (t && true) ≡ t
-    and_true true = refl
-    and_true false = refl
-all_if p false w = refl
-
--- the network-LSA of a link
-pub network_left_is : (s : AreaValue) (l : LinkValue) → network_left s l ≡ (not (is_dr_of l) || wanted_left s (network_of s.router l))
-network_left_is s l = ap (λ (ws : List WantedValue). list_all (wanted_left s) ws) (networks_is s.router l) ∙ all_if (wanted_left s) (is_dr_of l) (network_of s.router l)
-
-some_if : (key : LsaKey) (b : Bool) (w : WantedValue) → is_some (wanted_of (one_if b w) key) ≡ (b && same_key (wanted_key w) key)
-unfolding one_if
-some_if key true w = by_test (same_key (wanted_key w) key)
-  where
-    by_test : (t : Bool) → is_some (if t then Some w else None) ≡ t
-    by_test true = refl
-    by_test false = refl
-some_if key false w = refl
-
-pub network_wanted : (router : RouterId) (l : LinkValue) (key : LsaKey) → is_some (wanted_of (networks_at router l) key) ≡ (is_dr_of l && same_key (wanted_key (network_of router l)) key)
-network_wanted router l key = ap (λ (ws : List WantedValue). is_some (wanted_of ws key)) (networks_is router l) ∙ some_if key (is_dr_of l) (network_of router l)
-
 -- ---- what is wanted of a key
-
-or_some : (a b : Option WantedValue) → is_some (option_or a b) ≡ (is_some a || is_some b)
-or_some None b = refl
-or_some (Some w) b = refl
 
 first_or : (t : Bool) (w : WantedValue) (o : Option WantedValue) → is_some (if t then Some w else o) ≡ (t || is_some o)
 first_or true w o = refl
 first_or false w o = refl
 
-some_network_wanted : (router : RouterId) (links : List LinkValue) (key : LsaKey) → is_some (wanted_of (flat_map (networks_at router) links) key) ≡ list_any (λ l. is_some (wanted_of (networks_at router l) key)) links
+-- the key is that of the network-LSA of a link, and this is wanted
+abbrev pub is_network : RouterId → LsaKey → LinkValue → Bool
+is_network router key l = is_dr_of l && same_key (wanted_key (network_of router l)) key
+
+some_if : (key : LsaKey) (b : Bool) (w : WantedValue) (ws : List WantedValue) → is_some (wanted_of (one_if b w ++ ws) key) ≡ (b && same_key (wanted_key w) key) || is_some (wanted_of ws key)
+unfolding one_if
+some_if key true w ws = first_or (same_key (wanted_key w) key) w (wanted_of ws key)
+some_if key false w ws = refl
+
+some_network_wanted : (router : RouterId) (links : List LinkValue) (key : LsaKey) → is_some (wanted_of (networks router links) key) ≡ list_any (is_network router key) links
 some_network_wanted router [] key = refl
 some_network_wanted router (l ∷ ls) key =
-    ap (λ (o : Option WantedValue). is_some o) (find-append (λ w. same_key (wanted_key w) key) (networks_at router l) (flat_map (networks_at router) ls))
-    ∙ or_some (wanted_of (networks_at router l) key) (wanted_of (flat_map (networks_at router) ls) key)
-    ∙ ap (λ (b : Bool). is_some (wanted_of (networks_at router l) key) || b) (some_network_wanted router ls key)
+    ap (λ (ws : List WantedValue). is_some (wanted_of ws key)) (networks-step router l ls)
+    ∙ some_if key (is_dr_of l) (network_of router l) (networks router ls)
+    ∙ ap (λ (b : Bool). is_network router key l || b) (some_network_wanted router ls key)
 
 or_true : (a b : Bool) → a ≡ true → a ≡ (a || b)
 or_true true b is = refl
@@ -104,20 +82,20 @@ or_false : (a b : Bool) → a ≡ false → b ≡ (a || b)
 or_false false b is = refl
 or_false true b is = absurd (false≢true (sym is))
 
-is_wanted_is : (s : AreaValue) (key : LsaKey) → (same_key (wanted_key (own_router s)) key || list_any (λ l. is_some (wanted_of (networks_at s.router l) key)) s.links) ≡ is_some (wanted_of (wants s) key)
+is_wanted_is : (s : AreaValue) (key : LsaKey) → (same_key (wanted_key (own_router s)) key || list_any (is_network s.router key) s.links) ≡ is_some (wanted_of (wants s) key)
 unfolding wanted_lsas
 is_wanted_is s key =
     ap (λ (b : Bool). same_key (wanted_key (own_router s)) key || b) (sym (some_network_wanted s.router s.links key))
-    ∙ sym (first_or (same_key (wanted_key (own_router s)) key) (own_router s) (wanted_of (flat_map (networks_at s.router) s.links) key))
+    ∙ sym (first_or (same_key (wanted_key (own_router s)) key) (own_router s) (wanted_of (networks s.router s.links) key))
 
 -- found at the router-LSA, or else among the network-LSAs
 pub wanted_first : (s : AreaValue) (key : LsaKey) (first : Bool) → first ≡ same_key (wanted_key (own_router s)) key → first ≡ true → first ≡ is_some (wanted_of (wants s) key)
 wanted_first s key first is one =
-    or_true first (list_any (λ l. is_some (wanted_of (networks_at s.router l) key)) s.links) one
-    ∙ ap (λ (b : Bool). b || list_any (λ l. is_some (wanted_of (networks_at s.router l) key)) s.links) is ∙ is_wanted_is s key
+    or_true first (list_any (is_network s.router key) s.links) one
+    ∙ ap (λ (b : Bool). b || list_any (is_network s.router key) s.links) is ∙ is_wanted_is s key
 
 pub wanted_later : (s : AreaValue) (key : LsaKey) (first later : Bool) → first ≡ same_key (wanted_key (own_router s)) key → first ≡ false
-    → later ≡ list_any (λ l. is_some (wanted_of (networks_at s.router l) key)) s.links → later ≡ is_some (wanted_of (wants s) key)
+    → later ≡ list_any (is_network s.router key) s.links → later ≡ is_some (wanted_of (wants s) key)
 wanted_later s key first later is never of_links =
     or_false first later never ∙ ap (λ (b : Bool). b || later) is ∙ ap (λ (b : Bool). same_key (wanted_key (own_router s)) key || b) of_links ∙ is_wanted_is s key
 
@@ -134,10 +112,16 @@ both_true : (a b : Bool) → (a && b) ≡ true → (a ≡ true) × (b ≡ true)
 both_true true b is = (refl, is)
 both_true false b is = absurd (false≢true is)
 
-all_networks_left : (p : WantedValue → Bool) (router : RouterId) (links : List LinkValue) → list_all p (flat_map (networks_at router) links) ≡ list_all (λ l. list_all p (networks_at router l)) links
+left_of : (p : WantedValue → Bool) (b : Bool) (w : WantedValue) (ws : List WantedValue) → list_all p (one_if b w ++ ws) ≡ (not b || p w) && list_all p ws
+unfolding one_if
+left_of p true w ws = refl
+left_of p false w ws = refl
+
+all_networks_left : (p : WantedValue → Bool) (router : RouterId) (links : List LinkValue) → list_all p (networks router links) ≡ list_all (λ l. not (is_dr_of l) || p (network_of router l)) links
 all_networks_left p router [] = refl
 all_networks_left p router (l ∷ ls) =
-    list_all-append p (networks_at router l) (flat_map (networks_at router) ls) ∙ ap (λ (b : Bool). list_all p (networks_at router l) && b) (all_networks_left p router ls)
+    ap (list_all p) (networks-step router l ls) ∙ left_of p (is_dr_of l) (network_of router l) (networks router ls)
+    ∙ ap (λ (b : Bool). (not (is_dr_of l) || p (network_of router l)) && b) (all_networks_left p router ls)
 
 all_wanted : (s : AreaValue) → list_all (wanted_left s) (wants s) ≡ (wanted_left s (own_router s) && list_all (network_left s) s.links)
 unfolding wanted_lsas

@@ -1,5 +1,5 @@
 -- States in which nothing is due of the router's own LSAs (RFC 2328, sections 12.4, 13.4 and 14.1).
-use Rattle.std.specs.Prelude.{◌≡◌, ◌&&◌, ◌||◌, Bool, true, false, List, [], ◌∷◌, is_some}
+use Rattle.std.specs.Prelude.{◌≡◌, ◌&&◌, ◌||◌, Bool, true, false, not, List, [], ◌∷◌, is_some}
 use Rattle.std.specs.List.{flat_map, list_all}
 use Rattle.ospf_base.specs.declared.ids.LsaKey.{LsaKey}
 use Rattle.ospf_area.specs.Numbers.{is_own}
@@ -7,7 +7,7 @@ use Rattle.ospf_area.specs.State.{AreaValue, LinkValue, database_entry, kept_num
 use Rattle.ospf_originate.specs.Actions.{unwanted_action, wanted_action}
 use Rattle.ospf_originate.specs.Numbers.{waits}
 use Rattle.ospf_originate.specs.Steps.{action_of, wants}
-use Rattle.ospf_wanted.specs.Wanted.{WantedValue, links_of_link, networks_at, wanted_key, wanted_of}
+use Rattle.ospf_wanted.specs.Wanted.{WantedValue, is_dr_of, links_of_link, network_of, wanted_key, wanted_of}
 use Rattle.ospf_wanted.specs.Wanted.WantedValue.{RouterLsa}
 use Rattle.ospf_originate.specs.declared.action.OwnAction.{OwnAction}
 use Rattle.ospf_originate.specs.declared.action.OwnAction.TheVariants.{Leave, Flush, Issue}
@@ -46,7 +46,7 @@ own_router s = RouterLsa s.router (flat_map (links_of_link s.stub_router) s.link
 
 -- nothing is due of the network-LSA of a link, if one is wanted
 abbrev pub network_left : AreaValue → LinkValue → Bool
-network_left s a = list_all (wanted_left s) (networks_at s.router a)
+network_left s a = not (is_dr_of a) || wanted_left s (network_of s.router a)
 
 -- none was heard
 unfoldable pub none_heard : List LsaKey → Bool

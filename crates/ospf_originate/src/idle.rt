@@ -1,7 +1,8 @@
 //! Whether anything is due of the router's own LSAs, found without building any of them.
 
-ghost use Rattle.std.specs.Prelude.{◌≡◌, ◌||◌, ◌↔◌, IsTrue, [], is_some, not, option_copied};
+ghost use Rattle.std.specs.Prelude.{◌≡◌, ◌&&◌, ◌||◌, ◌↔◌, IsTrue, [], is_some, not, option_copied};
 ghost use Rattle.std.specs.List.{list_all, list_any};
+ghost use Rattle.ospf_base.specs.Keys.{same_key};
 ghost use Rattle.ospf_base.specs.declared.ids.LsaKey.{LsaKey};
 ghost use Rattle.ospf_area.specs.State.{kept_number};
 ghost use Rattle.ospf_originate.specs.Actions.{is_due, next_action};
@@ -9,7 +10,7 @@ ghost use Rattle.ospf_originate.specs.Idle.{IsIdle, is_left, is_quiet, key_left,
 ghost use Rattle.ospf_originate.specs.Numbers.{waits};
 ghost use Rattle.ospf_originate.specs.Sound.{IsSound};
 ghost use Rattle.ospf_originate.specs.Steps.{wants};
-ghost use Rattle.ospf_wanted.specs.Wanted.{networks_at, network_of, wanted_key, wanted_of};
+ghost use Rattle.ospf_wanted.specs.Wanted.{is_dr_of, network_of, wanted_key, wanted_of};
 ghost use Rattle.ospf_wanted.specs.Wanted.WantedValue.{RouterLsa};
 
 use crate::action::{OwnAction, is_fresh, next_action};
@@ -102,7 +103,6 @@ fn networks_are_left(area: &Area, links: &[AreaLink]) -> bool
 }
 
 // Whether nothing is due of the network-LSA of a link, if one is wanted.
-#[tactic(auto, using(crate::proofs::IdleLemmas::network_left_is))]
 fn network_is_left(area: &Area, link: &AreaLink) -> bool
     ensures { result ≡ network_left area.now link.now }
 {
@@ -170,16 +170,17 @@ fn is_wanted(area: &Area, key: &LsaKey) -> bool
 
 // Whether a key is that of the network-LSA of one of these links.
 fn some_network(router: RouterId, links: &[AreaLink], key: &LsaKey) -> bool
-    ensures { result ≡ list_any (λ link. is_some (wanted_of (networks_at router link) key.now))
+    ensures { result ≡ list_any
+        (λ link. is_dr_of link && same_key (wanted_key (network_of router link)) key.now)
         links.now }
 {
     links.iter().any(|link| wants_network(router, link, key))
 }
 
 // Whether a key is that of a link's network-LSA, and this is wanted.
-#[tactic(auto, using(crate::proofs::IdleLemmas::network_wanted))]
 fn wants_network(router: RouterId, link: &AreaLink, key: &LsaKey) -> bool
-    ensures { result ≡ is_some (wanted_of (networks_at router link.now) key.now) }
+    ensures { result ≡ (is_dr_of link.now
+        && same_key (wanted_key (network_of router link.now)) key.now) }
 {
     is_dr_of(link) && network_key(router, link).is_same(key)
 }

@@ -4,7 +4,7 @@ use Rattle.std.proofs.lemmas.Option.{same_Some}
 use Rattle.std.specs.List.{Contains}
 use Rattle.ospf_base.specs.Constants.{router_options}
 use Rattle.ospf_base.specs.Masks.{mask_of}
-use Rattle.ospf_iface.specs.Hello.{agrees}
+use Rattle.ospf_iface.specs.Hello.{agrees, own_hello}
 use Rattle.ospf_iface.specs.declared.machine.Iface.{Iface}
 use Rattle.ospf_packet.specs.declared.body.Hello.{Hello}
 use Rattle.ospf_plan.specs.declared.ends.LinkEnd.{LinkEnd}
@@ -115,10 +115,10 @@ no_dead i h true is ne = rw (is, other h.dead_interval i.settings.dead ne) refl
 no_dead i h false is ne = rw is refl
 
 refuses_by_hello : (e d : LinkEnd) → (e.hello ≡ d.hello → ⊥) → RefusesHellos e d
-refuses_by_hello e d ne i j h of_i of_j fields = no_interval i h (λ same. ne (sym of_i.hello ∙ sym same ∙ fields.interval ∙ of_j.hello))
+refuses_by_hello e d ne i j of_i of_j = no_interval i (own_hello j) (λ same. ne (sym of_i.hello ∙ sym same ∙ of_j.hello))
 
 refuses_by_dead : (e d : LinkEnd) → (e.dead ≡ d.dead → ⊥) → RefusesHellos e d
-refuses_by_dead e d ne i j h of_i of_j fields = no_dead i h (h.hello_interval == i.settings.hello) refl (λ same. ne (sym of_i.dead ∙ sym same ∙ fields.dead ∙ of_j.dead))
+refuses_by_dead e d ne i j of_i of_j = no_dead i (own_hello j) (j.settings.hello == i.settings.hello) refl (λ same. ne (sym of_i.dead ∙ sym same ∙ of_j.dead))
 
 pub told_refuse : (ends : List LinkEnd) (f : Finding) → Contains (found_in ends) f → IsOfHellos f.fault → RefusesHellos f.here f.other × RefusesHellos f.other f.here
 told_refuse ends f told (inl is) =
@@ -148,11 +148,11 @@ agreeing : (i : Iface) (h : Hello) → h.hello_interval ≡ i.settings.hello →
 agreeing i h interval dead options mask = rw (interval, dead, options, mask, equal i.settings.hello, equal i.settings.dead, equal i.settings.mask) refl
 
 pub others_take : (ends : List LinkEnd) (d e : LinkEnd) → Contains ends d → Contains ends e → network_key d.address ≡ network_key e.address → NoneTold ends (network_key e.address) → TakesHellos d e
-others_take ends d e at_d at_e on none i j h of_i of_j fields =
+others_take ends d e at_d at_e on none i j of_i of_j =
     let q = network_key e.address in
     let (first, is) = finds (λ x. same_network (network_key x.address) q) ends e at_e (itself q) in
     let of_d = as_first ends d first q at_d on is none in
     let of_e = as_first ends e first q at_e refl is none in
     let bits : d.address.length ≡ e.address.length = ap (λ (k : ℕ × ℕ). k.0) on in
-    agreeing i h (fields.interval ∙ of_j.hello ∙ sym of_e.0 ∙ of_d.0 ∙ sym of_i.hello) (fields.dead ∙ of_j.dead ∙ sym of_e.1 ∙ of_d.1 ∙ sym of_i.dead)
-    fields.options (fields.mask ∙ of_j.mask ∙ ap mask_of (sym bits) ∙ sym of_i.mask)
+    agreeing i (own_hello j) (of_j.hello ∙ sym of_e.0 ∙ of_d.0 ∙ sym of_i.hello) (of_j.dead ∙ sym of_e.1 ∙ of_d.1 ∙ sym of_i.dead)
+    refl (of_j.mask ∙ ap mask_of (sym bits) ∙ sym of_i.mask)

@@ -2,8 +2,7 @@
 use Rattle.std.specs.Prelude.{◌≡◌, ◌↔◌, ◌⊎◌, ◌&&◌, ◌<◌, ℕ, Bool, true, false, List, Contains, None, Some}
 use Rattle.ospf_base.specs.Masks.{mask_of}
 use Rattle.ospf_base.specs.Rising.{IsRisingBy}
-use Rattle.ospf_packet.specs.declared.body.Hello.{Hello}
-use Rattle.ospf_iface.specs.Hello.{AreFieldsOf, agrees}
+use Rattle.ospf_iface.specs.Hello.{agrees, own_hello}
 use Rattle.ospf_iface.specs.declared.machine.Iface.{Iface}
 use Rattle.ospf_plan.specs.declared.ends.LinkEnd.{LinkEnd}
 use Rattle.ospf_plan.specs.declared.fault.AreaFault.{AreaFault}
@@ -161,18 +160,16 @@ pub record IsIfaceOf (e : LinkEnd) (i : Iface) : Type 0 where
 abbrev pub IsOfHellos : AreaFault → Type 0
 IsOfHellos f = (f ≡ fault.Hello) ⊎ (f ≡ fault.Dead)
 
--- the interface does not agree with any Hello that the other sends
+-- the interface does not agree with a Hello that the other sends
 -- (RFC 2328, sections 9.5 and 10.5)
 abbrev pub RefusesHellos : LinkEnd → LinkEnd → Type 0
 RefusesHellos e d =
-    (i j : Iface) (h : Hello) → IsIfaceOf e i → IsIfaceOf d j → AreFieldsOf j h
-    → agrees i h ≡ false
+    (i j : Iface) → IsIfaceOf e i → IsIfaceOf d j → agrees i (own_hello j) ≡ false
 
 -- it agrees with each
 abbrev pub TakesHellos : LinkEnd → LinkEnd → Type 0
 TakesHellos e d =
-    (i j : Iface) (h : Hello) → IsIfaceOf e i → IsIfaceOf d j → AreFieldsOf j h
-    → agrees i h ≡ true
+    (i j : Iface) → IsIfaceOf e i → IsIfaceOf d j → agrees i (own_hello j) ≡ true
 
 -- of two interfaces of which a fault of Hellos is told, each refuses the other's
 abbrev pub ToldRefuse : Type 0

@@ -1,5 +1,5 @@
 -- Wanted LSAs are the router's own, each alone of its key.
-use Rattle.std.proofs.Common.{◌≡◌, ◌≢◌, ◌++◌, Bool, true, false, List, [], ◌∷◌, Some, inl, inr, refl, sym, ap, subst, if◌then◌else◌}
+use Rattle.std.proofs.Common.{◌≡◌, ◌≢◌, ◌++◌, Bool, true, false, List, [], ◌∷◌, Some, cond, filter, map, inl, inr, refl, sym, ap, subst, if◌then◌else◌}
 use Rattle.std.specs.List.{AllByRecursion, flat_map}
 use Rattle.ospf_base.specs.declared.ids.Kind.TheVariants.{Router, Network}
 use Rattle.ospf_base.specs.declared.ids.LsaKey.{LsaKey}
@@ -9,16 +9,24 @@ use Rattle.ospf_base.specs.Keys.{same_key}
 use Rattle.ospf_base.proofs.SameKeys.{same_key-eq, same_key-refl}
 use Rattle.ospf_area.specs.State.{LinkValue}
 use Rattle.ospf_wanted.specs.SetUp.{AreApart}
-use Rattle.ospf_wanted.specs.Wanted.{WantedValue, is_dr_of, links_of_link, network_of, networks_at, wanted_lsas, wanted_key, wanted_of}
+use Rattle.ospf_wanted.specs.Wanted.{WantedValue, is_dr_of, links_of_link, network_of, wanted_lsas, wanted_key, wanted_of}
 use Rattle.ospf_wanted.specs.Wanted.WantedValue.{RouterLsa}
 
 -- what a link gives, if anything
 unfoldable pub one_if : Bool → WantedValue → List WantedValue
 one_if b w = if b then w ∷ [] else []
 
-pub networks_is : (router : RouterId) (l : LinkValue) → networks_at router l ≡ one_if (is_dr_of l) (network_of router l)
-unfolding networks_at one_if network_of
-networks_is router l = refl
+-- the network-LSAs of links
+abbrev pub networks : RouterId → List LinkValue → List WantedValue
+networks router links = map (network_of router) (filter is_dr_of links)
+
+one_more : (b : Bool) (router : RouterId) (l : LinkValue) (ls : List LinkValue) → map (network_of router) (cond b (l ∷ ls) ls) ≡ one_if b (network_of router l) ++ map (network_of router) ls
+unfolding one_if
+one_more true router l ls = refl
+one_more false router l ls = refl
+
+pub networks-step : (router : RouterId) (l : LinkValue) (ls : List LinkValue) → networks router (l ∷ ls) ≡ one_if (is_dr_of l) (network_of router l) ++ networks router ls
+networks-step router l ls = one_more (is_dr_of l) router l (filter is_dr_of ls)
 
 all_with : {X : Type 0} → (P Q R : X → Type 0) (xs : List X) → ((x : X) → P x → Q x → R x) → AllByRecursion P xs → AllByRecursion Q xs → AllByRecursion R xs
 all_with P Q R [] both p q = tt
@@ -30,11 +38,11 @@ all_if P true w ws here rest = (here, rest)
 all_if P false w ws here rest = rest
 
 -- what holds of the network-LSA of each link
-pub all_networks : (P : WantedValue → Type 0) (router : RouterId) (links : List LinkValue) → AllByRecursion (λ l. P (network_of router l)) links → AllByRecursion P (flat_map (networks_at router) links)
+pub all_networks : (P : WantedValue → Type 0) (router : RouterId) (links : List LinkValue) → AllByRecursion (λ l. P (network_of router l)) links → AllByRecursion P (networks router links)
 all_networks P router [] all = tt
 all_networks P router (l ∷ ls) all =
-    subst (λ (n : List WantedValue). AllByRecursion P (n ++ flat_map (networks_at router) ls)) (sym (networks_is router l))
-    (all_if P (is_dr_of l) (network_of router l) (flat_map (networks_at router) ls) all.0 (all_networks P router ls all.1))
+    subst (AllByRecursion P) (sym (networks-step router l ls))
+    (all_if P (is_dr_of l) (network_of router l) (networks router ls) all.0 (all_networks P router ls all.1))
 
 pub every : {X : Type 0} → (P : X → Type 0) → ((x : X) → P x) → (xs : List X) → AllByRecursion P xs
 every P is [] = tt
@@ -87,11 +95,11 @@ alone_if true w ws found apart = alone_in_front w ws found apart
 alone_if false w ws found apart = found
 
 networks_alone : (router : RouterId) (links : List LinkValue) → AreApart links
-    → AllByRecursion (λ v. wanted_of (flat_map (networks_at router) links) (wanted_key v) ≡ Some v) (flat_map (networks_at router) links)
+    → AllByRecursion (λ v. wanted_of (networks router links) (wanted_key v) ≡ Some v) (networks router links)
 networks_alone router [] apart = tt
 networks_alone router (l ∷ ls) apart =
-    let rest = flat_map (networks_at router) ls in
-    subst (λ (n : List WantedValue). AllByRecursion (λ v. wanted_of (n ++ rest) (wanted_key v) ≡ Some v) (n ++ rest)) (sym (networks_is router l))
+    let rest = networks router ls in
+    subst (λ (n : List WantedValue). AllByRecursion (λ v. wanted_of n (wanted_key v) ≡ Some v) n) (sym (networks-step router l ls))
     (alone_if (is_dr_of l) (network_of router l) rest (networks_alone router ls apart.1)
     (all_networks (λ v. same_key (wanted_key (network_of router l)) (wanted_key v) ≡ false) router ls
     (map_all (λ o. o.iface.settings.address.0 ≢ l.iface.settings.address.0) (λ o. same_key (wanted_key (network_of router l)) (wanted_key (network_of router o)) ≡ false) (other_address router l) ls apart.0)))
@@ -100,6 +108,6 @@ pub wanted_alone : (stub_router : Bool) (router : RouterId) (links : List LinkVa
     → AllByRecursion (λ v. wanted_of (wanted_lsas stub_router router links) (wanted_key v) ≡ Some v) (wanted_lsas stub_router router links)
 unfolding wanted_lsas
 wanted_alone stub_router router links apart =
-    alone_in_front (RouterLsa router (flat_map (links_of_link stub_router) links)) (flat_map (networks_at router) links) (networks_alone router links apart)
+    alone_in_front (RouterLsa router (flat_map (links_of_link stub_router) links)) (networks router links) (networks_alone router links apart)
     (all_networks (λ v. same_key (wanted_key (RouterLsa router (flat_map (links_of_link stub_router) links))) (wanted_key v) ≡ false) router links
     (every (λ l. same_key (wanted_key (RouterLsa router (flat_map (links_of_link stub_router) links))) (wanted_key (network_of router l)) ≡ false) (other_kind stub_router router links) links))

@@ -104,14 +104,6 @@ attached_routers router ns =
     ++ (router ∷ map (λ n. n.router) (filter (is_full_behind router) ns))
 
 -- the network-LSA of a link, which its Designated Router wants (12.4.2)
-unfoldable pub networks_at : RouterId → LinkValue → List WantedValue
-networks_at router a =
-    if is_dr_of a
-    then NetworkLsa a.iface.settings.address.0 router a.iface.settings.mask
-    (attached_routers router a.neighbours) ∷ []
-    else []
-
--- that network-LSA, wanted or not
 unfoldable pub network_of : RouterId → LinkValue → WantedValue
 network_of router a =
     NetworkLsa a.iface.settings.address.0 router a.iface.settings.mask
@@ -119,12 +111,12 @@ network_of router a =
 
 -- ---- all of them
 
--- a router wants its router-LSA, and the network-LSAs of its links, which
--- are in configuration order (12.4)
+-- a router wants its router-LSA, and the network-LSAs of those links of which it is the
+-- Designated Router, which are in configuration order (12.4)
 unfoldable pub wanted_lsas : Bool → RouterId → List LinkValue → List WantedValue
 wanted_lsas stub_router router links =
     RouterLsa router (flat_map (links_of_link stub_router) links)
-    ∷ flat_map (networks_at router) links
+    ∷ map (network_of router) (filter is_dr_of links)
 
 -- what names a wanted LSA (12.1)
 abbrev pub wanted_key : WantedValue → LsaKey

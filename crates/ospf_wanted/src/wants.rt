@@ -1,9 +1,9 @@
 //! The LSAs of its own that a router wants.
 
-ghost use Rattle.std.specs.Prelude.{◌≡◌, ◌++◌, IfOk, OnOk, map, filter, ◌&&◌, ◌==◌, if◌then◌else◌};
+ghost use Rattle.std.specs.Prelude.{◌≡◌, ◌++◌, ◌∷◌, [], IfOk, OnOk, map, filter, ◌&&◌, ◌==◌, if◌then◌else◌};
 ghost use Rattle.std.specs.List.{list_any, flat_map};
 ghost use Rattle.ospf_neighbour.specs.Neighbour.{NeighbourValue};
-ghost use Rattle.ospf_wanted.specs.Wanted.{is_full, is_dr_of, is_transit, through_metric, router_link, network_link, subnet_link, links_of_link, is_full_before, is_full_behind, attached_routers, networks_at, wanted_lsas, wanted_key};
+ghost use Rattle.ospf_wanted.specs.Wanted.{is_full, is_dr_of, is_transit, through_metric, router_link, network_link, subnet_link, links_of_link, is_full_before, is_full_behind, attached_routers, network_of, wanted_lsas, wanted_key};
 ghost use Rattle.ospf_wanted.specs.Own.{wanted_value};
 
 use ospf_area::AreaLink;
@@ -189,7 +189,7 @@ fn router_links(
 }
 
 // Puts the network-LSA of a link at the end, where it is wanted.
-#[tactic(auto, unfolding(crate::specs::Wanted::networks_at))]
+#[tactic(auto, unfolding(crate::specs::Wanted::network_of))]
 fn push_network(
     out: &mut Vec<OwnLsa>,
     router: RouterId,
@@ -197,7 +197,7 @@ fn push_network(
     alloc: Global,
 ) -> Result<(), AllocError>
     ensures { OnOk result (map wanted_value out.new.items ≡ map wanted_value out.old.items
-        ++ networks_at router link.now) }
+        ++ map (network_of router) (filter is_dr_of (link.now ∷ []))) }
 {
     if is_dr_of(link) {
         let routers = attached_routers(router, link.neighbours.all(), alloc)?;

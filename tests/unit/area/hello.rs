@@ -3,13 +3,13 @@
 use super::made::require;
 use super::wired::{LOCAL, OWN, count, iface};
 use ospf_adjacency::{
-    go_down, go_up, hello_on, is_at, is_named, is_settled, place_for, send_due_hello, send_hello,
+    go_down, go_up, hello_on, is_at, is_named, is_settled, send_due_hello, send_hello,
     tick_neighbours, tick_timers,
 };
 use ospf_area::{OnLink, Outputs, Own, Post};
 use ospf_base::{ALL_SPF_ROUTERS, Addr, AreaId, InterfaceKind, RouterId};
 use ospf_iface::{Iface, IfaceState};
-use ospf_neighbour::{NbrEvent, Neighbour, NeighbourState};
+use ospf_neighbour::{NbrEvent, Neighbour, NeighbourState, place_for};
 use ospf_packet::{Body, BodyValue, Hello, Packet, PacketValue, write_packet};
 use std::alloc::Global;
 use std::test::Fail;

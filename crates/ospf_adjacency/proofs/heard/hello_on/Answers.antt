@@ -1,8 +1,10 @@
 use Rattle.std.proofs.Common.{◌≡◌, ◌≤◌, ◌∙◌, List, Some, ap, sym, refl, length, arith, slice_get}
 use Rattle.std.proofs.lemmas.Option.{get_or_from_slice_get}
 use Rattle.ospf_neighbour.specs.Neighbour.{NeighbourValue}
-use Rattle.ospf_adjacency.specs.Heard.{neighbourhood, place_for}
-use Rattle.ospf_adjacency.proofs.HelloLemmas.{hello_found, hello_new, place_within}
+use Rattle.ospf_neighbour.specs.Neighbours.{place_for}
+use Rattle.ospf_neighbour.proofs.NeighbourLemmas.{place_within}
+use Rattle.ospf_adjacency.specs.Heard.{neighbourhood}
+use Rattle.ospf_adjacency.proofs.HelloLemmas.{hello_found, hello_new}
 use Rattle.ospf_adjacency.proofs.heard.hello_on.Goals as goal
 
 pub insert-requires : goal.insert-requires

@@ -1,8 +1,8 @@
 use Rattle.std.proofs.Common.{◌≡◌, ◌∙◌, List, Option, None, Some, IsTrue, Bool, true, false, ap, sym, slice_get}
 use Rattle.std.proofs.lemmas.Option.{get_or_from_slice_get}
 use Rattle.ospf_neighbour.specs.Neighbour.{NeighbourValue}
-use Rattle.ospf_neighbour.specs.Neighbours.{neighbour_of}
-use Rattle.ospf_adjacency.specs.Heard.{neighbourhood, place_for}
+use Rattle.ospf_neighbour.specs.Neighbours.{neighbour_of, place_for}
+use Rattle.ospf_adjacency.specs.Heard.{neighbourhood}
 use Rattle.ospf_area.specs.Turns.{Turn, turn}
 use Rattle.ospf_links.proofs.Words.{description_by}
 use Rattle.ospf_links.proofs.WorkLemmas.{described_found, described_router, is_none}

@@ -1,8 +1,8 @@
 use Rattle.std.proofs.Common.{◌≡◌, ◌∙◌, List, Option, None, Some, IsTrue, Bool, true, false, ap, sym, slice_get}
 use Rattle.std.proofs.lemmas.Option.{get_or_from_slice_get}
 use Rattle.ospf_neighbour.specs.Neighbour.{NeighbourValue}
-use Rattle.ospf_neighbour.specs.Neighbours.{neighbour_of}
-use Rattle.ospf_adjacency.specs.Heard.{neighbourhood, place_for}
+use Rattle.ospf_neighbour.specs.Neighbours.{neighbour_of, place_for}
+use Rattle.ospf_adjacency.specs.Heard.{neighbourhood}
 use Rattle.ospf_links.proofs.Words.{request_by, answered_by}
 use Rattle.ospf_links.proofs.RequestLemmas.{requested_found}
 use Rattle.ospf_links.proofs.WorkLemmas.{is_found, is_none}

@@ -1,6 +1,7 @@
 use Rattle.std.proofs.Common.{◌∙◌, ap}
 use Rattle.std.specs.HashSet.{contains}
-use Rattle.ospf_neighbour.specs.Lists.{is_requested, name_eq, name_of_key}
+use Rattle.ospf_neighbour.specs.Lists.{name_eq, name_of_key}
+use Rattle.ospf_neighbour.proofs.Words.{is_requested}
 use Rattle.ospf_neighbour.proofs.NameLemmas.{any_key}
 use Rattle.ospf_neighbour.proofs.requests.Requests.is_requested.Goals as goal
 

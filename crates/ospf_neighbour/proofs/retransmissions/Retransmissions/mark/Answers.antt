@@ -1,10 +1,10 @@
 use Rattle.std.proofs.Common.{◌≡◌, ◌∙◌, Some, ap, sym, subst, map, set}
-use Rattle.std.specs.HashSet.{contains}
+use Rattle.std.specs.HashMap.{get}
 use Rattle.std.specs.List.{position}
-use Rattle.ospf_neighbour.specs.Lists.{TellsListedKeys, is_of_instance, key_eq, sent_again}
+use Rattle.ospf_neighbour.specs.Lists.{TellsInstances, is_of_instance, key_eq, sent_again}
 use Rattle.ospf_neighbour.specs.OneAKey.{IsAloneOfKeys}
 use Rattle.ospf_neighbour.specs.declared.neighbour.Listed.{Listed}
-use Rattle.ospf_neighbour.proofs.KeyLemmas.{AreKeysOf-sent}
+use Rattle.ospf_neighbour.proofs.KeyLemmas.{TellsInstances-sent}
 use Rattle.ospf_neighbour.proofs.LawLemmas.{alone_sent}
 use Rattle.ospf_neighbour.proofs.OneLemmas.{no_place_sent, place_sent}
 use Rattle.ospf_neighbour.proofs.retransmissions.Retransmissions.mark.Goals as goal
@@ -22,8 +22,8 @@ pub invariant_of-self : goal.invariant_of-self
 invariant_of-self c =
     let i = c.args.instance.now in
     let old = c.self.inside.entries.items in
-    let has = contains key_eq c.self.inside.keys in (
-      λ keyed. subst (TellsListedKeys has) (sym (marked c)) (AreKeysOf-sent has i c.args.tick old (c.self.invariant.0 keyed)),
+    let tells = get key_eq c.self.inside.instances in (
+      λ keyed. subst (TellsInstances tells) (sym (marked c)) (TellsInstances-sent tells i c.args.tick old (c.self.invariant.0 keyed)),
       subst IsAloneOfKeys (sym (marked c)) (alone_sent i c.args.tick old c.self.invariant.1),
     )
 
