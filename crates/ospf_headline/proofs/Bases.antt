@@ -12,7 +12,8 @@ use Rattle.ospf_step.specs.Step.{Event, heard_in}
 use Rattle.ospf_step.proofs.StateFacts.{same_contents, slice_get-append_left}
 use Rattle.ospf_step.proofs.StepAccounts.{StepLaws-accounts}
 use Rattle.ospf_area.specs.State.{AreaValue}
-use Rattle.ospf_headline.specs.World.{Comes, World, WorldEvent, Issued, Run, Running, router_at, run_of, StepsRouter, RouterBecomes, SameLogs, IsNewWorld, Happens, RunsEvents}
+use Rattle.ospf_headline.specs.World.{Comes, World, WorldEvent, Issued, Run, Running, router_at, StepsRouter, RouterBecomes, SameLogs, IsNewWorld, Happens, RunsEvents}
+use Rattle.ospf_headline.specs.Logs.{run_of}
 use Rattle.ospf_headline.specs.declared.event.WorldEvent.TheVariants.{Start}
 use Rattle.ospf_headline.specs.Sound.{IssuedAt, HasBegun, NoneLargest, BasesAreFloors}
 use Rattle.ospf_headline.proofs.Facts.{Facts}
@@ -23,7 +24,7 @@ use Rattle.ospf_headline.proofs.RunFacts.{Facts-new, Facts-kept, Runs-append, wa
 record Bases (is_dropped : Event → AreaValue → Bool) (start : World) (past : List WorldEvent) (w : World) : Type 0 where
   leads : RunsEvents is_dropped past start w
   running : (r : RouterId) (x : Running) → router_at w r ≡ Some x → HasBegun is_dropped start past w r x.first
-  only_first : (r : RouterId) (x : Running) (key : LsaKey) → router_at w r ≡ Some x → run_of x key ≡ x.first
+  only_first : (r : RouterId) (x : Running) (key : LsaKey) → router_at w r ≡ Some x → run_of x.first x.later key ≡ x.first
   issued : BasesAreFloors is_dropped start past w
 
 module _ (is_dropped : Event → AreaValue → Bool) (start : World) (past : List WorldEvent) (event : WorldEvent) (w w' : World) (b : Bases is_dropped start past w) (happens : Happens is_dropped event w w') where
@@ -76,7 +77,7 @@ module _ (is_dropped : Event → AreaValue → Bool) (start : World) (past : Lis
   }
 
   -- where no log grows and router r becomes o, only o is to be looked at
-  Bases-same_logs : (r : RouterId) (o : Option Running) → RouterBecomes w w' r o → SameLogs w w' → ((x : Running) → o ≡ Some x → Begun r x.first × ((key : LsaKey) → run_of x key ≡ x.first)) → Bases is_dropped start (past ++ event ∷ []) w'
+  Bases-same_logs : (r : RouterId) (o : Option Running) → RouterBecomes w w' r o → SameLogs w w' → ((x : Running) → o ≡ Some x → Begun r x.first × ((key : LsaKey) → run_of x.first x.later key ≡ x.first)) → Bases is_dropped start (past ++ event ∷ []) w'
   Bases-same_logs r o becomes logs of = record {
     leads = further past start b.leads;
     running = λ q y at. run q y (which_router w w' r o q y becomes at);
@@ -88,7 +89,7 @@ module _ (is_dropped : Event → AreaValue → Bool) (start : World) (past : Lis
       run q y (IsThat.TheOne e is) = subst (λ q. Begun q y.first) (sym e) (of y is).0
       run q y (IsThat.Another n at) = begun_before q y.first (b.running q y at)
 
-      only : (q : RouterId) (y : Running) (key : LsaKey) → IsThat w r o q y → run_of y key ≡ y.first
+      only : (q : RouterId) (y : Running) (key : LsaKey) → IsThat w r o q y → run_of y.first y.later key ≡ y.first
       only q y key (IsThat.TheOne e is) = (of y is).1 key
       only q y key (IsThat.Another n at) = b.only_first q y key at
 
@@ -107,18 +108,18 @@ module _ (is_dropped : Event → AreaValue → Bool) (start : World) (past : Lis
           absurd (none was.place was.entry was.at (ap (λ i. i.number) (same_contents was.entry.lsa largest.lsa was.is) ∙ largest.number))
       goes_on key (inr does) = does
 
-      same_first : (key : LsaKey) → run_of x' key ≡ x'.first
+      same_first : (key : LsaKey) → run_of x'.first x'.later key ≡ x'.first
       same_first key = run_goes_on w w' r e x x' out facts step sent key (goes_on key (cases_Bool (among out.ended key))) ∙ (b.only_first r x key step.was ∙ sym step.runs.first)
 
       run : (q : RouterId) (y : Running) → IsThat w r (Some x') q y → Begun q y.first
       run q y (IsThat.TheOne same is) = subst (λ y. Begun q y.first) (same_Some x' y is) (subst (λ run. Begun q run) (sym step.runs.first) (subst (λ q. Begun q x.first) (sym same) (begun_before r x.first (b.running r x step.was))))
       run q y (IsThat.Another n at) = begun_before q y.first (b.running q y at)
 
-      only : (q : RouterId) (y : Running) (key : LsaKey) → IsThat w r (Some x') q y → run_of y key ≡ y.first
-      only q y key (IsThat.TheOne same is) = subst (λ y. run_of y key ≡ y.first) (same_Some x' y is) (same_first key)
+      only : (q : RouterId) (y : Running) (key : LsaKey) → IsThat w r (Some x') q y → run_of y.first y.later key ≡ y.first
+      only q y key (IsThat.TheOne same is) = subst (λ y. run_of y.first y.later key ≡ y.first) (same_Some x' y is) (same_first key)
       only q y key (IsThat.Another n at) = b.only_first q y key at
 
-      by : (k : ℕ) (entry : Issued) → IssuedAt w.issued k entry ⊎ ((m : ℕ) × (k ≡ length w.issued + m) × (slice_get out.issued m ≡ Some entry.lsa) × (entry.run ≡ run_of x (key_of entry.lsa))) → HasBegun is_dropped start past w (key_of entry.lsa).router entry.run
+      by : (k : ℕ) (entry : Issued) → IssuedAt w.issued k entry ⊎ ((m : ℕ) × (k ≡ length w.issued + m) × (slice_get out.issued m ≡ Some entry.lsa) × (entry.run ≡ run_of x.first x.later (key_of entry.lsa))) → HasBegun is_dropped start past w (key_of entry.lsa).router entry.run
       by k entry (inl old) = b.issued k entry old
       by k entry (inr new) =
           subst (λ run. HasBegun is_dropped start past w (key_of entry.lsa).router run) (sym (new.3 ∙ b.only_first r x (key_of entry.lsa) step.was))
@@ -128,7 +129,7 @@ Bases-kept : (is_dropped : Event → AreaValue → Bool) (start : World) (past :
 Bases-kept is_dropped start past event w w' facts b (result, Comes.Refused why is told same) none = Bases-same is_dropped start past event w w' b (result, Comes.Refused why is told same) same
 Bases-kept is_dropped start past event w w' facts b (result, Comes.NotDone ok told wants same) none = Bases-same is_dropped start past event w w' b (result, Comes.NotDone ok told wants same) same
 Bases-kept is_dropped start past event w w' facts b (result, Comes.Starts ok told r dd floor x is stopped becomes s logs) none =
-    Bases-same_logs is_dropped start past event w w' b (result, comes) r (Some x) becomes logs (λ y e. subst (λ y. HasBegun is_dropped start (past ++ event ∷ []) w' r y.first × ((key : LsaKey) → run_of y key ≡ y.first)) (same_Some x y e) (begun, λ key. run_of-started x key s.later))
+    Bases-same_logs is_dropped start past event w w' b (result, comes) r (Some x) becomes logs (λ y e. subst (λ y. HasBegun is_dropped start (past ++ event ∷ []) w' r y.first × ((key : LsaKey) → run_of y.first y.later key ≡ y.first)) (same_Some x y e) (begun, λ key. run_of-started x key s.later))
   where
     comes : Comes is_dropped event w result w'
     comes = Comes.Starts ok told r dd floor x is stopped becomes s logs

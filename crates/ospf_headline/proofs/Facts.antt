@@ -10,7 +10,8 @@ use Rattle.ospf_area.specs.State.{kept_number}
 use Rattle.ospf_step.specs.Headers.{Lists}
 use Rattle.ospf_step.specs.Packets.{lsas_of, headers_in_body}
 use Rattle.ospf_step.specs.Words.{CanName, HasCopy, Asks, IsSoundState}
-use Rattle.ospf_headline.specs.World.{World, Issued, Datagram, Running, router_at, run_of, HasItsTable}
+use Rattle.ospf_headline.specs.World.{World, Issued, Datagram, Running, router_at, HasItsTable}
+use Rattle.ospf_headline.specs.Logs.{run_of}
 use Rattle.ospf_headline.specs.Sound.{IssuedAt, WasIssued, number_in}
 
 -- f was issued after e, at place i, and of its key: with a larger number of the same run, or in a run begun since
@@ -20,8 +21,8 @@ pub data IsAfter (i : ℕ) (e f : Issued) : Type 0 where
 
 -- what the running router x has issued of its own key, at place i: in the present run up to the kept number, or before it
 pub data IsKnownTo (x : Running) (i : ℕ) (e : Issued) : Type 0 where
-  InRun : e.run ≡ run_of x (key_of e.lsa) → number_in e ≤ℤ kept_number x.state (key_of e.lsa) → IsKnownTo x i e
-  BeforeRun : i < (run_of x (key_of e.lsa)).name → IsKnownTo x i e
+  InRun : e.run ≡ run_of x.first x.later (key_of e.lsa) → number_in e ≤ℤ kept_number x.state (key_of e.lsa) → IsKnownTo x i e
+  BeforeRun : i < (run_of x.first x.later (key_of e.lsa)).name → IsKnownTo x i e
 
 -- the facts that every world event keeps
 pub record Facts (w : World) : Type 0 where
@@ -33,8 +34,8 @@ pub record Facts (w : World) : Type 0 where
   pub run_begun : (i : ℕ) (e : Issued) → IssuedAt w.issued i e → e.run.name ≤ i
   pub above_base : (i : ℕ) (e : Issued) → IssuedAt w.issued i e → e.run.base <ℤ number_in e
   pub known : (r : RouterId) (x : Running) (i : ℕ) (e : Issued) → router_at w r ≡ Some x → IssuedAt w.issued i e → (key_of e.lsa).router ≡ r → IsKnownTo x i e
-  pub begun : (r : RouterId) (x : Running) (key : LsaKey) → router_at w r ≡ Some x → (run_of x key).name ≤ length w.issued
-  pub kept_above : (r : RouterId) (x : Running) (key : LsaKey) → router_at w r ≡ Some x → (run_of x key).base ≤ℤ kept_number x.state key
+  pub begun : (r : RouterId) (x : Running) (key : LsaKey) → router_at w r ≡ Some x → (run_of x.first x.later key).name ≤ length w.issued
+  pub kept_above : (r : RouterId) (x : Running) (key : LsaKey) → router_at w r ≡ Some x → (run_of x.first x.later key).base ≤ℤ kept_number x.state key
   -- each instance that a router can name, names in a packet or is asked for is in held
   pub router : (r : RouterId) (x : Running) → router_at w r ≡ Some x → x.state.router ≡ r
   pub names : (r : RouterId) (x : Running) (i : Instance) → router_at w r ≡ Some x → CanName x.state i → Contains w.held (record { router = r; instance = i })

@@ -24,7 +24,8 @@ use Rattle.ospf_step.specs.Accounts.{Accounts, HasContents, Hears, IsAcknowledge
 use Rattle.ospf_step.specs.Step.{Event, heard_in}
 use Rattle.ospf_step.proofs.StateFacts.{same_router, Contains-nil, slice_get-append_right, Contains-map_cases, Contains-map, slice_get-append_cases, slice_get-append_left, slice_get-map_cases, Contains-from_slice_get, slice_get-from_Contains}
 use Rattle.ospf_step.proofs.StepAccounts.{StepLaws-accounts, StepLaws-sound}
-use Rattle.ospf_headline.specs.World.{World, Issued, Datagram, Holding, Running, router_at, run_of, StepsRouter, RouterBecomes, HasItsTable}
+use Rattle.ospf_headline.specs.World.{World, Issued, Datagram, Holding, Running, router_at, StepsRouter, RouterBecomes, HasItsTable}
+use Rattle.ospf_headline.specs.Logs.{run_of}
 use Rattle.ospf_headline.specs.Sound.{WasIssued, IssuedAt, number_in}
 use Rattle.ospf_headline.proofs.Facts.{Facts, IsAfter, IsKnownTo}
 
@@ -74,7 +75,7 @@ module _ {is_dropped : Event → AreaValue → Bool} (w w' : World) (r : RouterI
   laws = StepLaws-accounts _ event x.state out x'.state (facts.sound r x step.was) step.laws
 
   new_issued : List Issued
-  new_issued = map (λ lsa. record { lsa = lsa; run = run_of x (key_of lsa) }) out.issued
+  new_issued = map (λ lsa. record { lsa = lsa; run = run_of x.first x.later (key_of lsa) }) out.issued
 
   pub was_issued : (content : List ℕ) → WasIssued w.issued content → WasIssued w'.issued content
   was_issued content was =
@@ -86,11 +87,11 @@ module _ {is_dropped : Event → AreaValue → Bool} (w w' : World) (r : RouterI
       let (g, sent, reads) = was_sent received h in
       was_issued content (subst (λ k. WasIssued w.issued k) e (facts.updates g received.packet lsa sent reads c))
   has_issued content (HasContents.Issued lsa c e) =
-      let (k, at) = slice_get-from_Contains _ _ (Contains-map (λ lsa. record { lsa = lsa; run = run_of x (key_of lsa) }) out.issued lsa c) in
+      let (k, at) = slice_get-from_Contains _ _ (Contains-map (λ lsa. record { lsa = lsa; run = run_of x.first x.later (key_of lsa) }) out.issued lsa c) in
       record {
         place = length w.issued + k;
-        entry = record { lsa = lsa; run = run_of x (key_of lsa) };
-        at = subst (λ issued. IssuedAt issued (length w.issued + k) (record { lsa = lsa; run = run_of x (key_of lsa) })) (sym step.logs.issued) (slice_get-append_right w.issued _ k _ at);
+        entry = record { lsa = lsa; run = run_of x.first x.later (key_of lsa) };
+        at = subst (λ issued. IssuedAt issued (length w.issued + k) (record { lsa = lsa; run = run_of x.first x.later (key_of lsa) })) (sym step.logs.issued) (slice_get-append_right w.issued _ k _ at);
         is = e;
       }
 
@@ -201,15 +202,15 @@ module _ {is_dropped : Event → AreaValue → Bool} (w w' : World) (r : RouterI
       go (IsThat.Another _ o) = facts.tables q y o
 
   -- an entry of the log after the step was there before, or is one of the LSAs issued now, in the run of its key
-  pub entry_cases : (k : ℕ) (e : Issued) → IssuedAt w'.issued k e → IssuedAt w.issued k e ⊎ ((m : ℕ) × (k ≡ length w.issued + m) × (slice_get out.issued m ≡ Some e.lsa) × (e.run ≡ run_of x (key_of e.lsa)))
+  pub entry_cases : (k : ℕ) (e : Issued) → IssuedAt w'.issued k e → IssuedAt w.issued k e ⊎ ((m : ℕ) × (k ≡ length w.issued + m) × (slice_get out.issued m ≡ Some e.lsa) × (e.run ≡ run_of x.first x.later (key_of e.lsa)))
   entry_cases k e at =
       elim (slice_get-append_cases w.issued _ k e (subst (λ issued. IssuedAt issued k e) step.logs.issued at))
-      [ inl old ↦ inl old | inr new ↦ inr (made new.0 new.1 (slice_get-map_cases (λ lsa. record { lsa = lsa; run = run_of x (key_of lsa) }) out.issued new.0 e new.2)) ]
+      [ inl old ↦ inl old | inr new ↦ inr (made new.0 new.1 (slice_get-map_cases (λ lsa. record { lsa = lsa; run = run_of x.first x.later (key_of lsa) }) out.issued new.0 e new.2)) ]
     where
-      made : (m : ℕ) → k ≡ length w.issued + m → (lsa : List ℕ) × (slice_get out.issued m ≡ Some lsa) × (◌≡◌ {A = Issued} (record { lsa = lsa; run = run_of x (key_of lsa) }) e) → (m : ℕ) × (k ≡ length w.issued + m) × (slice_get out.issued m ≡ Some e.lsa) × (e.run ≡ run_of x (key_of e.lsa))
+      made : (m : ℕ) → k ≡ length w.issued + m → (lsa : List ℕ) × (slice_get out.issued m ≡ Some lsa) × (◌≡◌ {A = Issued} (record { lsa = lsa; run = run_of x.first x.later (key_of lsa) }) e) → (m : ℕ) × (k ≡ length w.issued + m) × (slice_get out.issued m ≡ Some e.lsa) × (e.run ≡ run_of x.first x.later (key_of e.lsa))
       made m place (lsa, there, is) =
           let same : lsa ≡ e.lsa = ap (λ e. e.lsa) is in
-          (m, place, there ∙ ap Some same, sym (ap (λ e. e.run) is) ∙ ap (λ lsa. run_of x (key_of lsa)) same)
+          (m, place, there ∙ ap Some same, sym (ap (λ e. e.run) is) ∙ ap (λ lsa. run_of x.first x.later (key_of lsa)) same)
 
   pub new_is_own : (m : ℕ) (lsa : List ℕ) → slice_get out.issued m ≡ Some lsa → (key_of lsa).router ≡ r
   new_is_own m lsa at = laws.numbers.own lsa (Contains-from_slice_get out.issued m lsa at) ∙ own_router
@@ -220,15 +221,15 @@ module _ {is_dropped : Event → AreaValue → Bool} (w w' : World) (r : RouterI
   pub after_kept : (i j : ℕ) (e f : Issued) → IssuedAt w'.issued i e → IssuedAt w'.issued j f → i < j → key_of e.lsa ≡ key_of f.lsa → IsAfter i e f
   after_kept i j e f ate atf lt same = go (entry_cases i e ate) (entry_cases j f atf)
     where
-      old_new : (m : ℕ) → slice_get out.issued m ≡ Some f.lsa → f.run ≡ run_of x (key_of f.lsa) → IsKnownTo x i e → IsAfter i e f
+      old_new : (m : ℕ) → slice_get out.issued m ≡ Some f.lsa → f.run ≡ run_of x.first x.later (key_of f.lsa) → IsKnownTo x i e → IsAfter i e f
       old_new m at is (IsKnownTo.InRun run kept) =
           let above : kept_number x.state (key_of f.lsa) <ℤ number_in f = new_is_above m f.lsa at in
           let upto : number_in e ≤ℤ kept_number x.state (key_of f.lsa) = subst (λ key. number_in e ≤ℤ kept_number x.state key) same kept in
-          IsAfter.SameRun (run ∙ (ap (run_of x) same ∙ sym is)) (omega (arith, ints))
+          IsAfter.SameRun (run ∙ (ap (run_of x.first x.later) same ∙ sym is)) (omega (arith, ints))
       old_new m at is (IsKnownTo.BeforeRun before) =
-          IsAfter.LaterRun (subst (λ run. i < run.name) (ap (run_of x) same ∙ sym is) before)
+          IsAfter.LaterRun (subst (λ run. i < run.name) (ap (run_of x.first x.later) same ∙ sym is) before)
 
-      go : IssuedAt w.issued i e ⊎ ((m : ℕ) × (i ≡ length w.issued + m) × (slice_get out.issued m ≡ Some e.lsa) × (e.run ≡ run_of x (key_of e.lsa))) → IssuedAt w.issued j f ⊎ ((m : ℕ) × (j ≡ length w.issued + m) × (slice_get out.issued m ≡ Some f.lsa) × (f.run ≡ run_of x (key_of f.lsa))) → IsAfter i e f
+      go : IssuedAt w.issued i e ⊎ ((m : ℕ) × (i ≡ length w.issued + m) × (slice_get out.issued m ≡ Some e.lsa) × (e.run ≡ run_of x.first x.later (key_of e.lsa))) → IssuedAt w.issued j f ⊎ ((m : ℕ) × (j ≡ length w.issued + m) × (slice_get out.issued m ≡ Some f.lsa) × (f.run ≡ run_of x.first x.later (key_of f.lsa))) → IsAfter i e f
       go (inl olde) (inl oldf) = facts.after i j e f olde oldf lt same
       go (inr newe) (inl oldf) = absurd (let within : j < length w.issued = slice_get_within w.issued j f oldf in let place : i ≡ length w.issued + newe.0 = newe.1 in omega arith)
       go (inl olde) (inr newf) = old_new newf.0 newf.2 newf.3 (facts.known r x i e step.was olde (ap (λ key. key.router) same ∙ new_is_own newf.0 f.lsa newf.2))
@@ -238,14 +239,14 @@ module _ {is_dropped : Event → AreaValue → Bool} (w w' : World) (r : RouterI
           let is_e = get_or_from_slice_get out.issued newe.0 e.lsa e.lsa newe.2 in
           let is_f = get_or_from_slice_get out.issued newf.0 f.lsa e.lsa newf.2 in
           let rises = laws.numbers.rising newe.0 newf.0 e.lsa in_order inside in
-          IsAfter.SameRun (newe.3 ∙ (ap (run_of x) same ∙ sym newf.3))
+          IsAfter.SameRun (newe.3 ∙ (ap (run_of x.first x.later) same ∙ sym newf.3))
           (subst (λ b. key_of e.lsa ≡ key_of b → number_in e <ℤ (instance_of b).number) is_f
           (subst (λ a. key_of a ≡ key_of (get_or out.issued newf.0 e.lsa) → (instance_of a).number <ℤ (instance_of (get_or out.issued newf.0 e.lsa)).number) is_e rises) same)
 
   pub run_begun_kept : (k : ℕ) (e : Issued) → IssuedAt w'.issued k e → e.run.name ≤ k
   run_begun_kept k e at = go (entry_cases k e at)
     where
-      go : IssuedAt w.issued k e ⊎ ((m : ℕ) × (k ≡ length w.issued + m) × (slice_get out.issued m ≡ Some e.lsa) × (e.run ≡ run_of x (key_of e.lsa))) → e.run.name ≤ k
+      go : IssuedAt w.issued k e ⊎ ((m : ℕ) × (k ≡ length w.issued + m) × (slice_get out.issued m ≡ Some e.lsa) × (e.run ≡ run_of x.first x.later (key_of e.lsa))) → e.run.name ≤ k
       go (inl old) = facts.run_begun k e old
       go (inr new) =
           let begun : e.run.name ≤ length w.issued = subst (λ run. run.name ≤ length w.issued) (sym new.3) (facts.begun r x (key_of e.lsa) step.was) in
@@ -254,7 +255,7 @@ module _ {is_dropped : Event → AreaValue → Bool} (w w' : World) (r : RouterI
   pub above_base_kept : (k : ℕ) (e : Issued) → IssuedAt w'.issued k e → e.run.base <ℤ number_in e
   above_base_kept k e at = go (entry_cases k e at)
     where
-      go : IssuedAt w.issued k e ⊎ ((m : ℕ) × (k ≡ length w.issued + m) × (slice_get out.issued m ≡ Some e.lsa) × (e.run ≡ run_of x (key_of e.lsa))) → e.run.base <ℤ number_in e
+      go : IssuedAt w.issued k e ⊎ ((m : ℕ) × (k ≡ length w.issued + m) × (slice_get out.issued m ≡ Some e.lsa) × (e.run ≡ run_of x.first x.later (key_of e.lsa))) → e.run.base <ℤ number_in e
       go (inl old) = facts.above_base k e old
       go (inr new) =
           let above : kept_number x.state (key_of e.lsa) <ℤ number_in e = new_is_above new.0 e.lsa new.2 in
@@ -265,10 +266,10 @@ module _ {is_dropped : Event → AreaValue → Bool} (w w' : World) (r : RouterI
   length_more = rw step.logs.issued (omega (arith, length-append {A = Issued}))
 
   -- the run of a key goes on, or begins now
-  pub run_goes_on : (key : LsaKey) → among out.ended key ≡ false → run_of x' key ≡ run_of x key
+  pub run_goes_on : (key : LsaKey) → among out.ended key ≡ false → run_of x'.first x'.later key ≡ run_of x.first x.later key
   run_goes_on key goes_on = step.runs.runs key ∙ cond-false (among out.ended key) _ _ goes_on
 
-  pub run_begins : (key : LsaKey) → among out.ended key ≡ true → run_of x' key ≡ record { name = length w'.issued; base = lowest_number }
+  pub run_begins : (key : LsaKey) → among out.ended key ≡ true → run_of x'.first x'.later key ≡ record { name = length w'.issued; base = lowest_number }
   run_begins key ends = step.runs.runs key ∙ cond-true (among out.ended key) _ _ ends
 
   pub known_now : (k : ℕ) (e : Issued) → IssuedAt w'.issued k e → (key_of e.lsa).router ≡ r → IsKnownTo x' k e
@@ -280,7 +281,7 @@ module _ {is_dropped : Event → AreaValue → Bool} (w w' : World) (r : RouterI
           IsKnownTo.InRun (run ∙ sym (run_goes_on (key_of e.lsa) goes_on)) (omega (arith, ints))
       old goes_on (IsKnownTo.BeforeRun before) = IsKnownTo.BeforeRun (subst (λ run. k < run.name) (sym (run_goes_on (key_of e.lsa) goes_on)) before)
 
-      by_place : among out.ended (key_of e.lsa) ≡ false → IssuedAt w.issued k e ⊎ ((m : ℕ) × (k ≡ length w.issued + m) × (slice_get out.issued m ≡ Some e.lsa) × (e.run ≡ run_of x (key_of e.lsa))) → IsKnownTo x' k e
+      by_place : among out.ended (key_of e.lsa) ≡ false → IssuedAt w.issued k e ⊎ ((m : ℕ) × (k ≡ length w.issued + m) × (slice_get out.issued m ≡ Some e.lsa) × (e.run ≡ run_of x.first x.later (key_of e.lsa))) → IsKnownTo x' k e
       by_place goes_on (inl there) = old goes_on (facts.known r x k e step.was there own)
       by_place goes_on (inr new) = IsKnownTo.InRun (new.3 ∙ sym (run_goes_on (key_of e.lsa) goes_on)) (laws.numbers.known e.lsa (Contains-from_slice_get out.issued new.0 e.lsa new.2) goes_on)
 
@@ -291,7 +292,7 @@ module _ {is_dropped : Event → AreaValue → Bool} (w w' : World) (r : RouterI
   pub known_kept : (q : RouterId) (y : Running) (k : ℕ) (e : Issued) → router_at w' q ≡ Some y → IssuedAt w'.issued k e → (key_of e.lsa).router ≡ q → IsKnownTo y k e
   known_kept q y k e at there own = go (which_router w w' r (Some x') q y step.changes at)
     where
-      other : q ≢ r → router_at w q ≡ Some y → IssuedAt w.issued k e ⊎ ((m : ℕ) × (k ≡ length w.issued + m) × (slice_get out.issued m ≡ Some e.lsa) × (e.run ≡ run_of x (key_of e.lsa))) → IsKnownTo y k e
+      other : q ≢ r → router_at w q ≡ Some y → IssuedAt w.issued k e ⊎ ((m : ℕ) × (k ≡ length w.issued + m) × (slice_get out.issued m ≡ Some e.lsa) × (e.run ≡ run_of x.first x.later (key_of e.lsa))) → IsKnownTo y k e
       other n o (inl old) = facts.known q y k e o old own
       other n o (inr new) = absurd (n (sym own ∙ new_is_own new.0 e.lsa new.2))
 
@@ -299,29 +300,29 @@ module _ {is_dropped : Event → AreaValue → Bool} (w w' : World) (r : RouterI
       go (IsThat.TheOne e' o) = subst (λ z. IsKnownTo z k e) (same_Some x' y o) (known_now k e there (own ∙ e'))
       go (IsThat.Another n o) = other n o (entry_cases k e there)
 
-  pub begun_kept : (q : RouterId) (y : Running) (key : LsaKey) → router_at w' q ≡ Some y → (run_of y key).name ≤ length w'.issued
+  pub begun_kept : (q : RouterId) (y : Running) (key : LsaKey) → router_at w' q ≡ Some y → (run_of y.first y.later key).name ≤ length w'.issued
   begun_kept q y key at = go (which_router w w' r (Some x') q y step.changes at)
     where
-      now : (among out.ended key ≡ true) ⊎ (among out.ended key ≡ false) → (run_of x' key).name ≤ length w'.issued
+      now : (among out.ended key ≡ true) ⊎ (among out.ended key ≡ false) → (run_of x'.first x'.later key).name ≤ length w'.issued
       now (inl ends) = subst (λ run. run.name ≤ length w'.issued) (sym (run_begins key ends)) (omega arith)
-      now (inr goes_on) = subst (λ run. run.name ≤ length w'.issued) (sym (run_goes_on key goes_on)) (let b : (run_of x key).name ≤ length w.issued = facts.begun r x key step.was in omega (arith, length_more))
+      now (inr goes_on) = subst (λ run. run.name ≤ length w'.issued) (sym (run_goes_on key goes_on)) (let b : (run_of x.first x.later key).name ≤ length w.issued = facts.begun r x key step.was in omega (arith, length_more))
 
-      go : IsThat w r (Some x') q y → (run_of y key).name ≤ length w'.issued
-      go (IsThat.TheOne e o) = subst (λ z. (run_of z key).name ≤ length w'.issued) (same_Some x' y o) (now (cases_Bool (among out.ended key)))
-      go (IsThat.Another n o) = let b : (run_of y key).name ≤ length w.issued = facts.begun q y key o in omega (arith, length_more)
+      go : IsThat w r (Some x') q y → (run_of y.first y.later key).name ≤ length w'.issued
+      go (IsThat.TheOne e o) = subst (λ z. (run_of z.first z.later key).name ≤ length w'.issued) (same_Some x' y o) (now (cases_Bool (among out.ended key)))
+      go (IsThat.Another n o) = let b : (run_of y.first y.later key).name ≤ length w.issued = facts.begun q y key o in omega (arith, length_more)
 
-  pub kept_above_kept : (q : RouterId) (y : Running) (key : LsaKey) → router_at w' q ≡ Some y → (run_of y key).base ≤ℤ kept_number y.state key
+  pub kept_above_kept : (q : RouterId) (y : Running) (key : LsaKey) → router_at w' q ≡ Some y → (run_of y.first y.later key).base ≤ℤ kept_number y.state key
   kept_above_kept q y key at = go (which_router w w' r (Some x') q y step.changes at)
     where
-      now : (among out.ended key ≡ true) ⊎ (among out.ended key ≡ false) → (run_of x' key).base ≤ℤ kept_number x'.state key
+      now : (among out.ended key ≡ true) ⊎ (among out.ended key ≡ false) → (run_of x'.first x'.later key).base ≤ℤ kept_number x'.state key
       now (inl ends) = subst (λ run. run.base ≤ℤ kept_number x'.state key) (sym (run_begins key ends)) (let same : kept_number x'.state key ≡ lowest_number = laws.numbers.again key ends in subst (λ n. lowest_number ≤ℤ n) (sym same) (omega (arith, ints)))
       now (inr goes_on) =
-          let base : (run_of x key).base ≤ℤ kept_number x.state key = facts.kept_above r x key step.was in
+          let base : (run_of x.first x.later key).base ≤ℤ kept_number x.state key = facts.kept_above r x key step.was in
           let more : kept_number x.state key ≤ℤ kept_number x'.state key = laws.numbers.kept key goes_on in
           subst (λ run. run.base ≤ℤ kept_number x'.state key) (sym (run_goes_on key goes_on)) (omega (arith, ints))
 
-      go : IsThat w r (Some x') q y → (run_of y key).base ≤ℤ kept_number y.state key
-      go (IsThat.TheOne e o) = subst (λ z. (run_of z key).base ≤ℤ kept_number z.state key) (same_Some x' y o) (now (cases_Bool (among out.ended key)))
+      go : IsThat w r (Some x') q y → (run_of y.first y.later key).base ≤ℤ kept_number y.state key
+      go (IsThat.TheOne e o) = subst (λ z. (run_of z.first z.later key).base ≤ℤ kept_number z.state key) (same_Some x' y o) (now (cases_Bool (among out.ended key)))
       go (IsThat.Another n o) = facts.kept_above q y key o
 
   pub Facts-stepped : Facts w'

@@ -7,6 +7,7 @@ pub mod WalkFacts
 pub mod Pigeons
 pub mod ChosenWalks
 pub mod Witness
+pub mod LaterRuns
 pub mod RunLemmas
 pub mod StartFacts
 pub mod RunningFacts

@@ -24,7 +24,8 @@ use Rattle.ospf_step.specs.Step.{Event, heard_in}
 use Rattle.ospf_step.proofs.StateFacts.{same_contents, Contains-nil, Contains-from_slice_get}
 use Rattle.ospf_step.proofs.StepAccounts.{StepLaws-accounts}
 use Rattle.ospf_step.specs.Step.Event.{Tick, LinkUp, LinkDown}
-use Rattle.ospf_headline.specs.World.{Comes, World, WorldEvent, Issued, Datagram, Running, router_at, run_of, StepsRouter, RouterBecomes, SameLogs, IsRunningStarted, IsNewWorld, Happens, RunsEvents, stepped_by, HasItsTable}
+use Rattle.ospf_headline.specs.World.{Comes, World, WorldEvent, Issued, Datagram, Running, router_at, StepsRouter, RouterBecomes, SameLogs, IsRunningStarted, IsNewWorld, Happens, RunsEvents, stepped_by, HasItsTable}
+use Rattle.ospf_headline.specs.Logs.{run_of}
 use Rattle.ospf_headline.specs.declared.event.WorldEvent.TheVariants.{Start, Stop, Tick as TickOf, LinkUp as LinkUpOf, LinkDown as LinkDownOf, Deliver}
 use Rattle.ospf_headline.specs.Sound.{WasIssued, HeldAnywhere, IssuedAgain, AgreeUnlessIssuedAgain, NoCollision, BasesAreHigh, IssuedAt, number_in, HasToldOf, IsSoundFor, SoundFor, IsSoundAcknowledgement}
 use Rattle.ospf_headline.proofs.Facts.{Facts, IsAfter, IsKnownTo}
@@ -55,8 +56,8 @@ was_sent_by w (Deliver d q l) r e by received h = go (slice_get w.datagrams d) r
 pub record FactsOf (w : World) (r : RouterId) (x : Running) : Type 0 where
   pub database : (lsa : List ℕ) → HasCopy x.state lsa → WasIssued w.issued (contents lsa)
   pub known : (i : ℕ) (e : Issued) → IssuedAt w.issued i e → (key_of e.lsa).router ≡ r → IsKnownTo x i e
-  pub begun : (key : LsaKey) → (run_of x key).name ≤ length w.issued
-  pub kept_above : (key : LsaKey) → (run_of x key).base ≤ℤ kept_number x.state key
+  pub begun : (key : LsaKey) → (run_of x.first x.later key).name ≤ length w.issued
+  pub kept_above : (key : LsaKey) → (run_of x.first x.later key).base ≤ℤ kept_number x.state key
   pub router : x.state.router ≡ r
   pub names : (i : Instance) → CanName x.state i → Contains w.held (record { router = r; instance = i })
   pub asked : (l : ℕ) (q : RouterId) (i : Instance) → Asks x.state l q i → Contains w.held (record { router = q; instance = i })
@@ -72,7 +73,7 @@ Facts-same_logs w w' r o facts b logs of = record {
   run_begun = λ i e at. facts.run_begun i e (subst (λ issued. IssuedAt issued i e) logs.issued at);
   above_base = λ i e at. facts.above_base i e (subst (λ issued. IssuedAt issued i e) logs.issued at);
   known = λ q y i e at there own. (each q y at).known i e (subst (λ issued. IssuedAt issued i e) logs.issued there) own;
-  begun = λ q y key at. subst (λ issued. (run_of y key).name ≤ length issued) (sym logs.issued) ((each q y at).begun key);
+  begun = λ q y key at. subst (λ issued. (run_of y.first y.later key).name ≤ length issued) (sym logs.issued) ((each q y at).begun key);
   kept_above = λ q y key at. (each q y at).kept_above key;
   router = λ q y at. (each q y at).router;
   names = λ q y i at n. subst (λ held. Contains held (record { router = q; instance = i })) (sym logs.held) ((each q y at).names i n);
@@ -92,7 +93,7 @@ Facts-same_logs w w' r o facts b logs of = record {
         by (IsThat.TheOne e is) = subst (λ q. FactsOf w q y) (sym e) (of y is)
         by (IsThat.Another n is) = old q y is
 
-pub run_of-started : (x : Running) (key : LsaKey) → x.later ≡ [] → run_of x key ≡ x.first
+pub run_of-started : (x : Running) (key : LsaKey) → x.later ≡ [] → run_of x.first x.later key ≡ x.first
 unfolding run_of
 run_of-started x key none = rw none refl
 
@@ -109,7 +110,7 @@ FactsOf-started w r floor x s = record {
   tables = s.table;
 }
   where
-    run : (key : LsaKey) → run_of x key ≡ record { name = length w.issued; base = floor }
+    run : (key : LsaKey) → run_of x.first x.later key ≡ record { name = length w.issued; base = floor }
     run key = run_of-started x key s.later ∙ s.first
 
 -- every world event keeps the facts

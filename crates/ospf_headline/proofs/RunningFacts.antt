@@ -1,13 +1,12 @@
 -- Numbering runs, and what a step and its logs come to together.
-use Rattle.std.proofs.Common.{◌≡◌, ◌≢◌, append-nil, true, false, is_some, Result, Ok, Err, OnErr, List, Option, None, Some, length, find, refl, sym, ap, subst, ◌∙◌, cond}
-use Rattle.ospf_base.specs.Keys.{same_key}
+use Rattle.std.proofs.Common.{◌≡◌, ◌≢◌, append-nil, true, false, is_some, Result, Ok, Err, OnErr, List, Option, None, Some, length, refl, sym, ap, subst, ◌∙◌, cond}
 use Rattle.ospf_base.specs.declared.ids.LsaKey.{LsaKey}
 use Rattle.ospf_base.specs.declared.ids.RouterId.{RouterId}
 use Rattle.ospf_area.specs.Outputs.{OutputsValue, no_outputs}
 use Rattle.ospf_area.specs.State.{AreaValue}
 use Rattle.ospf_edges.specs.Listed.{advertisements_of}
 use Rattle.ospf_graph.specs.Routes.{IsTable}
-use Rattle.ospf_headline.specs.World.{HasItsTable, Running, RunsGoOn, run_of}
+use Rattle.ospf_headline.specs.World.{HasItsTable, RunsGoOn}
 use Rattle.ospf_headline.specs.declared.logs.Run.{Run}
 use Rattle.ospf_step.specs.Counts.{with_dropped}
 use Rattle.ospf_step.specs.Drops.{dropped_by}
@@ -19,18 +18,9 @@ use Rattle.ospf_lsdb.specs.Moments.{among}
 use Rattle.ospf_router.specs.Routers.{RouterValue}
 use Rattle.ospf_router.specs.Steps.{Steps}
 use Rattle.ospf_router.specs.declared.router.Step.{Step}
-use Rattle.ospf_headline.specs.Logs.{LogsTake, LogsValue, run_in, run_or}
+use Rattle.ospf_headline.specs.Logs.{LogsTake, LogsValue, run_of}
 use Rattle.ospf_headline.specs.Running.{Fed, TakesStep, RunningValue, SettlesLogs, runs_in}
 use Rattle.ospf_update.specs.Removal.{lowest_number}
-
--- the run of a key, said in two ways
-pub run_of-is : (x : Running) (key : LsaKey) → run_of x key ≡ run_in x.first x.later key
-unfolding run_of
-run_of-is x key = go (find (λ e. same_key e.0 key) x.later)
-  where
-    go : (o : Option (LsaKey × Run)) → elim o [ None ↦ x.first | Some e ↦ e.1 ] ≡ run_or x.first o
-    go None = refl
-    go (Some e) = refl
 
 same_table : (before after : RunningValue) (s : AreaValue) → after.router ≡ before.router → HasItsTable (runs_in before s) → HasItsTable (runs_in after s)
 same_table before after s same has = record {
@@ -42,8 +32,8 @@ same_table before after s same has = record {
 goes_on : (r : RouterId) (e : Event) (before mid after : RunningValue) (out : OutputsValue) (logs logs' : LogsValue) (g : TakesStep e before out mid) → SettlesLogs r mid out logs after logs' → RunsGoOn logs'.issued out.ended (runs_in before g.area) (runs_in after g.next)
 goes_on r e before mid after out logs logs' g s = record {
   first = s.first ∙ g.first;
-  runs = λ key. run_of-is (runs_in after g.next) key ∙ (s.again after.first key ∙ ap (λ z. cond (among out.ended key) (record { name = length logs'.issued; base = lowest_number }) z)
-      (ap (λ f. run_in f mid.later key) (s.first ∙ g.first) ∙ (ap (λ l. run_in before.first l key) g.later ∙ sym (run_of-is (runs_in before g.area) key))));
+  runs = λ key. s.again after.first key ∙ ap (λ z. cond (among out.ended key) (record { name = length logs'.issued; base = lowest_number }) z)
+      (ap (λ f. run_of f mid.later key) (s.first ∙ g.first) ∙ ap (λ l. run_of before.first l key) g.later);
 }
 
 -- a step, and then the logs grow

@@ -1,5 +1,5 @@
 -- The logs of a world, and numbering runs.
-use Rattle.std.specs.Prelude.{◌≡◌, ◌++◌, ℕ, List, Option, None, Some, map, length, find, take, if◌then◌else◌}
+use Rattle.std.specs.Prelude.{◌≡◌, ◌++◌, ℕ, List, None, Some, map, length, find, take, if◌then◌else◌}
 use Rattle.ospf_base.specs.Keys.{same_key}
 use Rattle.ospf_base.specs.declared.ids.Instance.{Instance}
 use Rattle.ospf_base.specs.declared.ids.LsaKey.{LsaKey}
@@ -22,22 +22,18 @@ pub record LogsValue : Type 0 where
 
 -- ---- runs
 
--- the first run, or else a later one
-abbrev pub run_or : Run → Option (LsaKey × Run) → Run
-run_or first None = first
-run_or first (Some e) = e.1
-
--- the run that a key is in: its latest later one, or else the first
-abbrev pub run_in : Run → List (LsaKey × Run) → LsaKey → Run
-run_in first later key = run_or first (find (λ e. same_key e.0 key) later)
+-- the run that a key is in: its later one, or else the first
+unfoldable pub run_of : Run → List (LsaKey × Run) → LsaKey → Run
+run_of first later key =
+    elim (find (λ e. same_key e.0 key) later) [ None ↦ first | Some e ↦ e.1 ]
 
 -- the runs of the keys that ended begin again, named by how many LSAs are issued by now
 abbrev pub BeginAgain : ℕ → List LsaKey → List (LsaKey × Run) → List (LsaKey × Run) → Type 0
 BeginAgain name ended later later' =
     (first : Run) (key : LsaKey)
-    → run_in first later' key
+    → run_of first later' key
     ≡ (if among ended key then record { name = name; base = lowest_number }
-    else run_in first later key)
+    else run_of first later key)
 
 -- ---- what logs grow by
 
@@ -55,7 +51,7 @@ holdings_by r lsa = record { router = r; instance = instance_of lsa }
 
 -- that an LSA was issued, in the run of its key
 abbrev pub issued_in : Run → List (LsaKey × Run) → List ℕ → Issued
-issued_in first later lsa = record { lsa = lsa; run = run_in first later (key_of lsa) }
+issued_in first later lsa = record { lsa = lsa; run = run_of first later (key_of lsa) }
 
 -- the logs grow by exactly these outputs of router r, whose keys are in these runs
 pub record LogsTake (before after : LogsValue) (r : RouterId) (first : Run)

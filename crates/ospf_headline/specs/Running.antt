@@ -19,8 +19,8 @@ use Rattle.ospf_router.specs.Starts.{IsAreaOf}
 use Rattle.ospf_router.specs.Steps.{IsLawful}
 use Rattle.ospf_headline.specs.Logs.{BeginAgain, LogsTake, LogsValue}
 
--- a router, the run of its keys since its start, the later runs of single keys, the latest first,
--- and what it dropped since its start, by links
+-- a router, the run of its keys since its start, the later runs of single keys, and what it dropped
+-- since its start, by links
 pub record RunningValue : Type 0 where
   pub router : RouterValue
   pub first : Run

@@ -10,10 +10,10 @@ use Rattle.ospf_lsdb.specs.Database.{listed, IsDatabase}
 use Rattle.ospf_graph.specs.Routes.{IsTable}
 use Rattle.ospf_graph.specs.declared.route.Route.{Route}
 use Rattle.ospf_edges.specs.Listed.{advertisements_of}
-use Rattle.ospf_base.specs.Keys.{same_key}
 use Rattle.ospf_flood.specs.Rules.{max_sequence_number}
 use Rattle.ospf_area.specs.Outputs.{OutputsValue}
 use Rattle.ospf_area.specs.State.{AreaValue, copy_of, kept_number}
+use Rattle.ospf_headline.specs.Logs.{run_of}
 use Rattle.ospf_step.specs.Words.{CanName, Asks}
 use Rattle.ospf_update.specs.Removal.{lowest_number}
 use Rattle.ospf_lsdb.specs.Moments.{among}
@@ -29,7 +29,7 @@ use Rattle.ospf_headline.specs.declared.event.WorldEvent.TheVariants.{Start, Sto
 use Rattle.ospf_headline.specs.declared.event.WorldFault.TheVariants as fault
 
 -- a running router with its routing table, the run of its keys since its start, and the later runs
--- of single keys, the latest first
+-- of single keys
 pub record Running : Type 0 where
   pub state : AreaValue
   pub table : List Route
@@ -39,10 +39,6 @@ pub record Running : Type 0 where
 -- what the router lists (section 14: the LSAs below MaxAge)
 abbrev pub listing : Running → List (List ℕ)
 listing x = listed x.state.database
-
--- the run that a key is in
-unfoldable pub run_of : Running → LsaKey → Run
-run_of x key = elim (find (λ e. same_key e.0 key) x.later) [ None ↦ x.first | Some e ↦ e.1 ]
 
 -- a router of a world: its Router ID, how many links it has, and how it runs, if it does
 pub record Member : Type 0 where
@@ -159,8 +155,8 @@ pub record LogsGrow (before after : World) (r : RouterId) (x : Running) (out : O
     : Type 0 where
   pub datagrams :
       after.datagrams ≡ before.datagrams ++ map (λ s. record { router = r; sent = s }) out.sent
-  pub issued : after.issued
-      ≡ before.issued ++ map (λ lsa. record { lsa = lsa; run = run_of x (key_of lsa) }) out.issued
+  pub issued : after.issued ≡ before.issued
+      ++ map (λ lsa. record { lsa = lsa; run = run_of x.first x.later (key_of lsa) }) out.issued
   pub held : after.held
       ≡ before.held
       ++ (map (λ i. record { router = r; instance = i }) out.taken
@@ -170,9 +166,9 @@ pub record LogsGrow (before after : World) (r : RouterId) (x : Running) (out : O
 pub record RunsGoOn (issued : List Issued) (ended : List LsaKey) (x x' : Running) : Type 0 where
   pub first : x'.first ≡ x.first
   pub runs : (key : LsaKey)
-      → run_of x' key
+      → run_of x'.first x'.later key
       ≡ (if among ended key then record { name = length issued; base = lowest_number }
-      else run_of x key)
+      else run_of x.first x.later key)
 
 -- router r, running as x, is stepped with the event, puts out `out` and runs on as x'. Which events
 -- routers drop may be anything that depends on the event and the state

@@ -1,11 +1,11 @@
 //! What was ever sent, issued and held.
 
-ghost use Rattle.std.specs.Prelude.{◌≡◌, ◌++◌, IfOk, OnErr, OnOk, find, if◌then◌else◌, length, map, option_copied, take};
+ghost use Rattle.std.specs.Prelude.{◌≡◌, ◌++◌, IfOk, OnErr, OnOk, find, if◌then◌else◌, length, map, option_copied, position, take};
 ghost use Rattle.ospf_base.specs.Keys.{same_key};
 ghost use Rattle.ospf_base.specs.declared.ids.LsaKey.{LsaKey};
 ghost use Rattle.ospf_headline.specs.declared.logs.Run.{Run};
 ghost use Rattle.ospf_lsdb.specs.Moments.{among};
-ghost use Rattle.ospf_headline.specs.Logs.{held_by, holdings_by, issued_in, run_in, sent_as_datagram};
+ghost use Rattle.ospf_headline.specs.Logs.{held_by, holdings_by, issued_in, run_of, sent_as_datagram};
 
 use ospf_area::{Outputs, Sent};
 use ospf_base::{Instance, LsaKey, NO_FLOOR, RouterId};
@@ -179,13 +179,33 @@ impl Logs {
 // The run of each of these keys begins again.
 fn begin_again(later: &mut Vec<(LsaKey, Run)>, ended: &[LsaKey], run: Run) -> Result<(), AllocError>
     ensures { OnOk result ((first : Run) (key : LsaKey) →
-        run_in first later.new.items key
-        ≡ (if among ended.now key then run else run_in first later.old.items key)) }
+        run_of first later.new.items key
+        ≡ (if among ended.now key then run else run_of first later.old.items key)) }
 {
     for key in ended {
-        later.insert(0, (*key, run))?;
+        begin_one(later, *key, run)?;
     }
     Ok(())
+}
+
+// The run of this key begins again, in the place of its later run if it has one.
+fn begin_one(later: &mut Vec<(LsaKey, Run)>, key: LsaKey, run: Run) -> Result<(), AllocError>
+    ensures { OnOk result ((first : Run) (other : LsaKey) →
+        run_of first later.new.items other
+        ≡ (if same_key key other then run else run_of first later.old.items other)) }
+{
+    match later_place(later, &key) {
+        Some(at) => later[at] = (key, run),
+        None => later.push((key, run))?,
+    }
+    Ok(())
+}
+
+// The place of the later run of a key.
+fn later_place(later: &[(LsaKey, Run)], key: &LsaKey) -> Option<usize>
+    ensures { result ≡ position (λ e. same_key e.0 key.now) later.now }
+{
+    later.iter().position(|entry| entry.0.is_same(key))
 }
 
 // The log of holdings grows by the instances that were taken.
@@ -250,9 +270,10 @@ fn log_issued(
     Ok(())
 }
 
-// The run that a key is in: its latest later one, or else the first.
+// The run that a key is in: its later one, or else the first.
+#[tactic(auto, unfolding(crate::specs::Logs::run_of))]
 fn run_of(first: Run, later: &[(LsaKey, Run)], key: &LsaKey) -> Run
-    ensures { result ≡ run_in first later.now key.now }
+    ensures { result ≡ run_of first later.now key.now }
 {
     match later_run(later, key) {
         Some(entry) => entry.1,
@@ -260,7 +281,7 @@ fn run_of(first: Run, later: &[(LsaKey, Run)], key: &LsaKey) -> Run
     }
 }
 
-// The latest later run of a key.
+// The later run of a key.
 fn later_run<'a>(later: &'a [(LsaKey, Run)], key: &LsaKey) -> Option<&'a (LsaKey, Run)>
     ensures { option_copied result ≡ find (λ e. same_key e.0 key.now) later.now }
 {

@@ -16,8 +16,8 @@ use ospf_step::DropCounts;
 use std::alloc::Global;
 use std::marker::Model;
 
-/// A running router, the run of its keys since its start, the later runs of single keys, the latest
-/// first, and what it dropped since its start, by links.
+/// A running router, the run of its keys since its start, the later runs of single keys, and what
+/// it dropped since its start, by links.
 #[derive(Drop)]
 pub(crate) struct RunningRouter {
     router: Router,

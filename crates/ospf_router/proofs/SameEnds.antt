@@ -1,6 +1,8 @@
 -- Ends that are equal.
-use Rattle.std.proofs.Common.{◌≡◌, ◌==◌, ◌&&◌, ap, Decides}
+use Rattle.std.proofs.Common.{◌≡◌, ◌==◌, ◌&&◌, Bool, List, true, refl, ap, Decides}
+use Rattle.std.specs.List.{Contains, IsAnyAnswer}
 use Rattle.std.proofs.lemmas.Bool.Decides.{Decides-and, Decides-eqb, Decides-like}
+use Rattle.std.proofs.lemmas.List.Elements.{contains_decides, Decides-contains}
 use Rattle.ospf_base.proofs.PrefixLaws.{prefix_same}
 use Rattle.ospf_base.specs.contracts.prefix.PrefixPartialEq.TheImpl.{eq-value as prefix-eq}
 use Rattle.ospf_base.specs.declared.ids.RouterId.{RouterId}
@@ -32,3 +34,10 @@ ends_decide e f =
     (λ s. (ap (λ (x : End). x.prefix) s, (ap (λ (x : End). x.vertex) s, ap (λ (x : End). x.cost) s)))
     (Decides-and (prefix-eq.it e.prefix f.prefix) (vertex-eq.it e.vertex f.vertex && (e.cost == f.cost)) (prefix_decides e.prefix f.prefix)
     (Decides-and (vertex-eq.it e.vertex f.vertex) (e.cost == f.cost) (vertex_decides e.vertex f.vertex) (Decides-eqb e.cost f.cost)))
+
+-- what `contains` says of ends
+pub end_in : (ends : List End) (end : End) (r : Bool) → IsAnyAnswer (λ y t. eq-value.it y end ≡ t) ends r → Decides r (Contains ends end)
+end_in ends end r is = Decides-contains ends end r (contains_decides eq-value.it ends_decide ends end r is)
+
+pub end_there : (ends : List End) (end : End) → IsAnyAnswer (λ y t. eq-value.it y end ≡ t) ends true → Contains ends end
+end_there ends end is = (end_in ends end true is).0 refl

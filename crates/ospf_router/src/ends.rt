@@ -8,7 +8,7 @@ ghost use Rattle.ospf_spf.specs.Spared.{AreEndsInOrder};
 
 use ospf_edges::End;
 use ospf_graph::{Vertex, is_same};
-use ospf_spf::{ends_to, is_same_prefix, prefix_order};
+use ospf_spf::{ends_to, prefix_order};
 use std::alloc::{AllocError, Global};
 
 /// Ends in order, once those at a vertex, which were among some, are others. An end that stays is
@@ -59,7 +59,7 @@ fn insert_end(ends: &mut Vec<End>, end: End) -> Result<(), AllocError>
         Contains ends.new.items e ↔ (Contains ends.old.items e ⊎ (end ≡ e))) }
     ensures in_order { OnOk result (AreEndsInOrder ends.new.items) }
 {
-    if has_end(ends_to(ends, end.prefix), end) {
+    if ends_to(ends, end.prefix).contains(&end) {
         return Ok(());
     }
     let order = prefix_order(end.prefix);
@@ -72,29 +72,5 @@ fn insert_end(ends: &mut Vec<End>, end: End) -> Result<(), AllocError>
 fn are_among(some: &[End], others: &[End]) -> bool
     ensures { IsTrue result → (e : End) → Contains some.now e → Contains others.now e }
 {
-    for end in some {
-        if !has_end(others, *end) {
-            return false;
-        }
-    }
-    true
-}
-
-// Whether an end is among these.
-fn has_end(ends: &[End], end: End) -> bool
-    ensures { IsTrue result → Contains ends.now end }
-{
-    for one in ends {
-        if is_same_end(*one, end) {
-            return true;
-        }
-    }
-    false
-}
-
-// Whether two ends are one.
-fn is_same_end(a: End, b: End) -> bool
-    ensures { IsTrue result → a ≡ b }
-{
-    is_same_prefix(a.prefix, b.prefix) && is_same(a.vertex, b.vertex) && a.cost == b.cost
+    some.iter().all(|end| others.contains(end))
 }

@@ -83,15 +83,15 @@ impl KeptRoutes {
     /// than before. Where the database lists the LSAs that it listed the last time, at
     /// whatever ages, no memory is taken.
     ///
-    /// `AllocError` where memory runs out; then the table is as it was.
+    /// `AllocError` where memory runs out; then the table and the listing are as they were.
     pub fn refresh(&mut self, database: &Lsdb, alloc: Global) -> Result<bool, AllocError>
         // The table is that of what the database lists, and it is told whether it is another one.
         ensures table { OnOk result (AreRoutes self.old.router database.now self.new.table) }
         ensures listing { OnOk result (ListsAs database.now self.new.listing) }
         ensures changed { IfOk result (λ b. IsTrue b ↔ (self.new.table ≢ self.old.table)) }
-        // The router stays, and where memory runs out the table too.
+        // The router stays, and where memory runs out all else too.
         ensures router { self.new.router ≡ self.old.router }
-        ensures kept { OnErr result (self.new.table ≡ self.old.table) }
+        ensures kept { OnErr result (self.new ≡ self.old) }
     {
         if self.is_current(database) {
             Ok(false)
@@ -105,7 +105,7 @@ impl KeptRoutes {
     /// as long as no LSA leaves what is listed. Where nothing was taken or issued and
     /// none leaves, no memory is taken.
     ///
-    /// `AllocError` where memory runs out; then some routes may be the new ones.
+    /// `AllocError` where memory runs out; then there are no routes, as at first.
     pub fn follow(
         &mut self,
         out: &Outputs,
@@ -117,16 +117,20 @@ impl KeptRoutes {
         ensures table { OnOk result (AreRoutes self.old.router database.now self.new.table) }
         ensures listing { OnOk result (ListsAs database.now self.new.listing) }
         ensures changed { IfOk result (λ b. IsTrue b ↔ (self.new.table ≢ self.old.table)) }
-        // The router stays.
+        // The router stays, and where memory runs out nothing else.
         ensures router { self.new.router ≡ self.old.router }
+        ensures cleared { OnErr result
+            (self.new ≡ record self.old { table = []; listing = [] }) }
     {
         if self.is_still(out, database) {
             return Ok(false);
         }
-        match self.grow(out, database, alloc)? {
-            Some(changed) => Ok(changed),
-            None => self.refresh(database, alloc),
+        let followed = self.go_on(out, database, alloc);
+        // The table may be half turned then, and the tree is gone.
+        if followed.is_err() {
+            self.clear(alloc);
         }
+        followed
     }
 
     /// No routes, as at first.
@@ -159,6 +163,23 @@ impl KeptRoutes {
             return false;
         };
         brings_none(out) && lists_as_many(database, tree)
+    }
+
+    // Goes on from the tree that is kept, or makes the routes of what the database lists; whether
+    // the table is another one.
+    fn go_on(&mut self, out: &Outputs, database: &Lsdb, alloc: Global) -> Result<bool, AllocError>
+        requires { ListsBut out.now database.now self.old.listing }
+        // The table is that of what the database lists, and it is told whether it is another one.
+        ensures table { OnOk result (AreRoutes self.old.router database.now self.new.table) }
+        ensures listing { OnOk result (ListsAs database.now self.new.listing) }
+        ensures changed { IfOk result (λ b. IsTrue b ↔ (self.new.table ≢ self.old.table)) }
+        // The router stays.
+        ensures router { self.new.router ≡ self.old.router }
+    {
+        match self.grow(out, database, alloc)? {
+            Some(changed) => Ok(changed),
+            None => self.refresh(database, alloc),
+        }
     }
 
     // Goes on from the tree that is kept, as far as LSAs came: whether the table is another one, or
@@ -224,11 +245,10 @@ impl KeptRoutes {
             self.new.table) }
         ensures listing { OnOk result (self.new.listing ≡ tree.listing) }
         ensures changed { IfOk result (λ b. IsTrue b ↔ (self.new.table ≢ self.old.table)) }
-        // The router stays, and where memory runs out the table too.
+        // The router stays, and where memory runs out all else too.
         ensures router { self.new.router ≡ self.old.router }
-        ensures kept { OnErr result (self.new.table ≡ self.old.table) }
+        ensures kept { OnErr result (self.new ≡ self.old) }
     {
-        self.tree = None;
         let table = tree.routes(alloc)?;
         let same = is_same(&self.table, &table, alloc)?;
         self.table = table;
@@ -242,9 +262,9 @@ impl KeptRoutes {
         ensures table { OnOk result (AreRoutes self.old.router database.now self.new.table) }
         ensures listing { OnOk result (self.new.listing ≡ listed database.now) }
         ensures changed { IfOk result (λ b. IsTrue b ↔ (self.new.table ≢ self.old.table)) }
-        // The router stays, and where memory runs out the table too.
+        // The router stays, and where memory runs out all else too.
         ensures router { self.new.router ≡ self.old.router }
-        ensures kept { OnErr result (self.new.table ≡ self.old.table) }
+        ensures kept { OnErr result (self.new ≡ self.old) }
     {
         let listing = database.listing(alloc)?;
         database_is_one(database);

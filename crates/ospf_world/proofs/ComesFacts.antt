@@ -3,7 +3,6 @@ use Rattle.std.proofs.Common.{◌≡◌, ◌++◌, ℕ, List, [], ◌∷◌, Opt
 use Rattle.std.proofs.lemmas.List.{append-nil}
 use Rattle.std.proofs.lemmas.Option.{slice_get_cases}
 use Rattle.ospf_base.specs.declared.ids.RouterId.{RouterId}
-use Rattle.ospf_lsa.specs.Lsa.{key_of}
 use Rattle.ospf_area.specs.Outputs.{OutputsValue}
 use Rattle.ospf_step.specs.Step.{Event}
 use Rattle.ospf_step.specs.declared.counts.DropCounts.{DropCounts}
@@ -14,9 +13,7 @@ use Rattle.ospf_headline.specs.declared.event.WorldEvent.TheVariants.{Start, Sto
 use Rattle.ospf_headline.specs.declared.event.WorldFault.{WorldFault}
 use Rattle.ospf_headline.specs.declared.event.WorldFault.TheVariants as fault
 use Rattle.ospf_headline.specs.declared.logs.Datagram.{Datagram}
-use Rattle.ospf_headline.specs.declared.logs.Issued.{Issued}
 use Rattle.ospf_headline.proofs.RunFacts.{Runs-append}
-use Rattle.ospf_headline.proofs.RunningFacts.{run_of-is}
 use Rattle.ospf_headline.specs.Logs.{LogsTake, LogsValue}
 use Rattle.ospf_headline.specs.Running.{delivery}
 use Rattle.ospf_headline.specs.Slots.{SlotGoesOn, SlotSteps, SlotTakes, SlotValue, fed_by, member_of, refused_by, router_in, with_running}
@@ -70,7 +67,7 @@ same_logs w w' same = record { datagrams = ap (λ (l : LogsValue). l.datagrams) 
 grow : (w w' : WorldValue) (r : RouterId) (x : Running) (out : OutputsValue) → LogsTake w.logs w'.logs r x.first x.later out → LogsGrow (world_of w) (world_of w') r x out
 grow w w' r x out t = record {
   datagrams = t.datagrams;
-  issued = t.issued ∙ ap (λ (f : List ℕ → Issued). w.logs.issued ++ map f out.issued) (λ i lsa. record { lsa = lsa; run = sym (run_of-is x (key_of lsa)) i });
+  issued = t.issued;
   held = t.held;
 }
 

@@ -37,7 +37,7 @@ use Rattle.ospf_step.specs.Steps.{StepsArea}
 use Rattle.ospf_step.specs.Ticks.{TakesTick}
 use Rattle.ospf_update.specs.Acks.{cut}
 use Rattle.ospf_wanted.specs.Made.{says}
-use Rattle.ospf_wanted.specs.Wanted.{links_of_link, networks_at, wanted_lsas}
+use Rattle.ospf_wanted.specs.Wanted.{links_of_link, wanted_lsas}
 use Rattle.ospf_world.proofs.States.{begun, down_link, has_issued, is_lsa, is_made, issuing, issuing_out, linked, linked_out, own_key, own_lsa, stored, stored_lsa, ticked}
 
 -- ---- a tick
@@ -69,7 +69,7 @@ due : List DueAction
 due = record { key = own_key; action = Issue (negsuc 0x7ffffffe) } ∷ []
 
 is_due : IsDue ticked due
-unfolding due action_of own_action wanted_lsas links_of_link networks_at same_key
+unfolding due action_of own_action wanted_lsas links_of_link same_key
 is_due = record {
   keys = own_key ∷ [];
   rising = (tt, tt);
@@ -78,7 +78,7 @@ is_due = record {
 }
 
 acts : ActsInTurn (wants ticked) due ticked no_outputs issuing_out issuing
-unfolding due wanted_lsas links_of_link networks_at same_key
+unfolding due wanted_lsas links_of_link same_key
 acts = (
   issuing,
   issuing_out,
@@ -164,7 +164,7 @@ twice true is = is
 twice false is = refl
 
 none_due : IsDue linked []
-unfolding action_of own_action wanted_lsas links_of_link networks_at same_key entry_from key_in says
+unfolding action_of own_action wanted_lsas links_of_link same_key entry_from key_in says
 none_due = record {
   keys = own_key ∷ [];
   rising = (tt, tt);

@@ -8,12 +8,13 @@ use Rattle.ospf_base.specs.Addresses.{all_spf_routers}
 use Rattle.ospf_base.specs.Keys.{same_key}
 use Rattle.ospf_edges.specs.Listed.{advertisements_of}
 use Rattle.ospf_headline.specs.Runs.{GoesOver, RunsOn}
-use Rattle.ospf_headline.specs.World.{HasItsTable, Running, router_at, run_of}
+use Rattle.ospf_headline.specs.World.{HasItsTable, Running, router_at}
+use Rattle.ospf_headline.specs.Logs.{run_of}
 use Rattle.ospf_headline.specs.declared.logs.Datagram.{Datagram}
 use Rattle.ospf_headline.specs.declared.logs.Run.{Run}
 use Rattle.ospf_headline.specs.declared.event.WorldEvent.TheVariants.{Start, Tick, LinkUp}
 use Rattle.ospf_adjacency.specs.Links.{up}
-use Rattle.ospf_adjacency.proofs.Words.{own_hello}
+use Rattle.ospf_iface.specs.Hello.{own_hello}
 use Rattle.ospf_step.specs.Counts.{none_dropped_on}
 use Rattle.ospf_step.specs.Step.{Event}
 use Rattle.ospf_step.specs.declared.counts.DropCounts.{DropCounts}

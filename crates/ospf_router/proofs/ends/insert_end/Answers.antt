@@ -7,6 +7,7 @@ use Rattle.ospf_spf.specs.Spared.{AreEndsInOrder}
 use Rattle.ospf_spf.specs.Reach.{prefix_code}
 use Rattle.std.specs.List.{Contains}
 use Rattle.ospf_router.proofs.EndLemmas.{adds_there}
+use Rattle.ospf_router.proofs.SameEnds.{end_in}
 use Rattle.ospf_router.proofs.ends.insert_end.Goals as goal
 
 pub returns-clause-in_order : goal.returns-clause-in_order
@@ -27,7 +28,8 @@ returns-clause-in_order c =
 pub returns-clause-members : goal.returns-clause-members
 returns-clause-members c = λ e. rw c.in_ok-insert.ensures.items (inserted c.args.ends.now.items c.partition_point-place.result c.args.end e)
 
-pub returns-then-has_end-clause-members : goal.returns-then-has_end-clause-members
-returns-then-has_end-clause-members c =
-    let there = c.ends_to.ensures.part c.args.end (c.has_end.ensures c.if-has_end.true) in
+pub returns-then-contains-clause-members : goal.returns-then-contains-clause-members
+returns-then-contains-clause-members c =
+    let in_part = (end_in c.ends_to.result.now c.args.end c.contains.result c.contains.ensures.cases).0 c.if-contains.true in
+    let there = c.ends_to.ensures.part c.args.end in_part in
     adds_there c.args.ends.now.items c.args.end (subst (λ (es : List End). Contains es c.args.end) c.deref.ensures.value there)

@@ -1,6 +1,6 @@
 use Rattle.std.proofs.Common.{◌≡◌, ◌≢◌, ◌↔◌, Bool, List, Option, IfNone, IfOk, IsTrue, subst}
 use Rattle.ospf_graph.specs.declared.route.Route.{Route}
-use Rattle.ospf_router.proofs.routes.KeptRoutes.follow.Goals as goal
+use Rattle.ospf_router.proofs.routes.KeptRoutes.go_on.Goals as goal
 
 pub returns-in-None-clause-changed : goal.returns-in-None-clause-changed
 returns-in-None-clause-changed c =
