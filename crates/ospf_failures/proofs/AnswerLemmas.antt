@@ -37,7 +37,7 @@ end_is P false true is = (refl, λ e p. cc)
 end_is P false false is = (refl, λ e p. cc)
 
 pub answer_made : (input : Option (List ℕ)) (job : FailuresJob) (answer : FailuresAnswer) (listing : List (List ℕ)) → IfSome input (λ bytes. Reads bytes [] listing)
-    → (HasLarge (advertisements_of listing) → ⊥) → WarnsOf (root_of job) listing (string_bytes answer.warning)
+    → (names_of job ≢ [] → HasLarge (advertisements_of listing) → ⊥) → WarnsOf (root_of job) listing (string_bytes answer.warning)
     → SaysOf job (advertisements_of listing) (string_bytes answer.said.text) answer.said.end → IfSome input (IsFailuresAnswerOf job answer)
 answer_made input job answer listing reads small warned says =
     map_some input (λ bytes. Reads bytes [] listing) (IsFailuresAnswerOf job answer)
@@ -120,13 +120,14 @@ some_name [] ys x e = cc e
 some_name (y ∷ xs) ys x e = cc e
 
 pub names_refused : (input : Option (List ℕ)) (job : FailuresJob) (listing : List (List ℕ)) (f : Unreported) → IfSome input (λ bytes. Reads bytes [] listing)
-    → (HasLarge (advertisements_of listing) → ⊥) → IsFaultOfNames (IsFirstUnnamed (advertisements_of listing) (names_of job)) f → IsUnreported input job f
+    → (names_of job ≢ [] → HasLarge (advertisements_of listing) → ⊥) → IsFaultOfNames (IsFirstUnnamed (advertisements_of listing) (names_of job)) f → IsUnreported input job f
 names_refused input job listing (fault.Refused text) reads small is = absurd is
-names_refused input job listing (fault.Unnamed text) reads small is = (
-  λ none. some_name is.1.first.before is.1.first.after is.0 (sym is.1.first.names_are ∙ none),
-  map_some input (λ bytes. Reads bytes [] listing) (λ bytes. IsFailuresRefusal job bytes (string_bytes text) status.Words)
-      (λ bytes read. of_name listing is.0 read small is.1 is.2) reads,
-)
+names_refused input job listing (fault.Unnamed text) reads small is =
+    let named : names_of job ≢ [] = λ none. some_name is.1.first.before is.1.first.after is.0 (sym is.1.first.names_are ∙ none) in (
+      named,
+      map_some input (λ bytes. Reads bytes [] listing) (λ bytes. IsFailuresRefusal job bytes (string_bytes text) status.Words)
+          (λ bytes read. of_name listing is.0 read (small named) is.1 is.2) reads,
+    )
 names_refused input job listing (fault.Failure f) reads small is = inl is
 
 -- ---- the end

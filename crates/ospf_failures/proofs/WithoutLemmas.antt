@@ -1,5 +1,5 @@
 -- Parts of an area, by their names.
-use Rattle.std.proofs.Common.{◌≡◌, ◌∙◌, ◌<◌, ℕ, suc, List, ◌∷◌, ◌++◌, String, ap, sym, subst, take, drop, length, get_or}
+use Rattle.std.proofs.Common.{◌≡◌, ◌≢◌, ◌∙◌, ◌<◌, ℕ, suc, List, [], ◌∷◌, ◌++◌, String, ap, refl, sym, subst, take, drop, length, get_or}
 use Rattle.std.specs.List.{AllZip}
 use Rattle.std.specs.declared.alloc.Global.{Global}
 use Rattle.std.proofs.Math.Seq.{drop-cons}
@@ -35,3 +35,9 @@ first_among single names i x failures within is named name here = record {
 pub first_unnamed : (adverts : List Advertisement) (single : List AreaFailure) (names : List (String Global)) → AreFailures adverts single → (name : String Global)
     → IsFirstAmong single names name → IsFirstUnnamed adverts names name
 first_unnamed adverts single names are name first = record { single = single; are_single = are; first = first }
+
+-- where parts are named, there are names
+pub some_named : (single : List AreaFailure) (names : List (String Global)) (failures : List AreaFailure) → AllZip (IsNamedBy single) names failures → failures ≢ [] → names ≢ []
+some_named single [] [] zip some none = some refl
+some_named single [] (f ∷ failures) zip some none = absurd zip
+some_named single (n ∷ names) failures zip some none = cc

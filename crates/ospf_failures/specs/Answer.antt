@@ -93,14 +93,15 @@ pub record IsFirstLarge (listing : List (List ℕ)) (router : RouterId) : Type 0
 abbrev pub large_line : RouterId → List ℕ
 large_line router = number_text router.0 ++ codes ": more than 1361 links\n"
 
--- what is said of an input that is refused, of its first line that is, or else of its first router
--- of too many links; and of words that are refused, of the first name of nothing in the area
+-- what is said of an input that is refused, of its first line that is, or else, where parts are
+-- named, of its first router of too many links; and of words that are refused, of the first name of
+-- nothing in the area
 pub data IsFailuresRefusal (job : FailuresJob) (input : List ℕ) (text : List ℕ)
     : Status → Type 0 where
   of_line : (number : ℕ) (fault : EntryFault) → Refuses input [] number fault
       → text ≡ refusal_line number fault → IsFailuresRefusal job input text status.Refused
   of_router : (listing : List (List ℕ)) (router : RouterId) → Reads input [] listing
-      → IsFirstLarge listing router → text ≡ large_line router
+      → names_of job ≢ [] → IsFirstLarge listing router → text ≡ large_line router
       → IsFailuresRefusal job input text status.Refused
   of_name : (listing : List (List ℕ)) (name : String Global) → Reads input [] listing
       → (HasLarge (advertisements_of listing) → ⊥)
@@ -161,12 +162,13 @@ abbrev pub WarnsOf : Option RouterId → List (List ℕ) → List ℕ → Type 0
 WarnsOf (Some root) listing text = IsWarning listing root text
 WarnsOf None listing text = text ≡ []
 
--- the answer of the area whose LSAs the lines of the input are; and the warning of the root
+-- the answer of the area whose LSAs the lines of the input are, none of whose routers has too many
+-- links where parts are named; and the warning of the root
 pub record IsFailuresAnswer (job : FailuresJob) (end : FailuresStatus) (input text warning : List ℕ)
     : Type 0 where
   pub listing : List (List ℕ)
   pub reads : Reads input [] listing
-  pub small : HasLarge (advertisements_of listing) → ⊥
+  pub small : names_of job ≢ [] → HasLarge (advertisements_of listing) → ⊥
   pub warned : WarnsOf (root_of job) listing warning
   pub says : SaysOf job (advertisements_of listing) text end
 

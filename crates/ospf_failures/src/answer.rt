@@ -76,8 +76,8 @@ pub enum FailuresJob {
 }
 
 impl FailuresJob {
-    ghost use Rattle.std.specs.Prelude.{◌≡◌};
-    ghost use Rattle.ospf_failures.specs.Answer.{root_of};
+    ghost use Rattle.std.specs.Prelude.{◌≡◌, ◌≢◌, ◌↔◌, [], IsTrue};
+    ghost use Rattle.ospf_failures.specs.Answer.{names_of, root_of};
 
     // The router that is asked of, if it is one.
     fn root(&self) -> Option<RouterId>
@@ -87,6 +87,17 @@ impl FailuresJob {
             FailuresJob::Root { root, .. } => Some(*root),
             FailuresJob::All { .. } => None,
             FailuresJob::Without { root, .. } => Some(*root),
+        }
+    }
+
+    // Whether parts are named that are to be left out.
+    fn has_names(&self) -> bool
+        ensures { IsTrue result ↔ (names_of self.now ≢ []) }
+    {
+        match self {
+            FailuresJob::Root { .. } => false,
+            FailuresJob::All { .. } => false,
+            FailuresJob::Without { names, .. } => !names.is_empty(),
         }
     }
 }
@@ -157,9 +168,10 @@ impl From<FailuresStatus> for ExitCode {
 ///
 /// Where LSAs are listed and the root's router-LSA is not among them, `err` says so. The status is
 /// `Ended(Done)`, or with `strict` `CutOff` where some failure cuts a prefix off. The first line
-/// that is refused is told on `err`, or where none is the first router whose router-LSA has more
-/// than 1,361 links, with status `Ended(Refused)`; else the first name of nothing in the area, with
-/// status `Ended(Words)`. Then nothing is printed. `Ended(Memory)` says that memory ran out, and
+/// that is refused is told on `err`, or where none is and parts are named, whose routers' LSAs are
+/// made anew, the first router whose router-LSA has more than 1,361 links, with status
+/// `Ended(Refused)`; else the first name of nothing in the area, with status `Ended(Words)`. Then
+/// nothing is printed. `Ended(Memory)` says that memory ran out, and
 /// `Ended(Stream)` that a read or a write failed; what it was is told on `err`, as far as that can
 /// be written, and no more than a beginning is printed. `progress` is told how far it has come.
 pub fn failures_text<R: BufRead + Drop, O: Write, E: Write, P: Progress>(
@@ -273,7 +285,8 @@ fn answer_of<R: BufRead + Drop, P: Progress>(
     }
 }
 
-// The listing of the lines of an input, none of whose routers has too many links.
+// The listing of the lines of an input, none of whose routers has too many links where parts are
+// named.
 fn listing_of<R: BufRead + Drop>(
     alloc: Global,
     job: &FailuresJob,
@@ -281,7 +294,8 @@ fn listing_of<R: BufRead + Drop>(
 ) -> Result<Listing, Unreported>
     ensures whole { IfOk result (λ listing. IfSome (R.remaining input)
         (λ bytes. Reads bytes [] listing)) }
-    ensures small { IfOk result (λ listing. HasLarge (advertisements_of listing) → ⊥) }
+    ensures small { IfOk result (λ listing. names_of job.now ≢ [] →
+        HasLarge (advertisements_of listing) → ⊥) }
     ensures fault { IfErr result (IsUnreported (R.remaining input) job.now) }
 {
     let listing = match read_listing(alloc, input) {
@@ -291,6 +305,9 @@ fn listing_of<R: BufRead + Drop>(
         }
         Err(TableFault::Failure(failure)) => return Err(Unreported::Failure(failure)),
     };
+    if !job.has_names() {
+        return Ok(listing);
+    }
     match first_large(&listing) {
         Some(router) => Err(router_refused(alloc, router)),
         None => Ok(listing),
@@ -351,8 +368,8 @@ fn are_more(links: Links, most: usize) -> bool
 // The refusal of a router of too many links.
 fn router_refused(alloc: Global, router: RouterId) -> Unreported
     ensures { (input : Option (List ℕ)) (job : FailuresJob) (listing : List (List ℕ)) →
-        IfSome input (λ bytes. Reads bytes [] listing) → IsFirstLarge listing router →
-        IsUnreported input job result }
+        IfSome input (λ bytes. Reads bytes [] listing) → names_of job ≢ [] →
+        IsFirstLarge listing router → IsUnreported input job result }
 {
     match format!(in alloc; "{router}: more than 1361 links\n") {
         Ok(text) => Unreported::Refused(text),
@@ -386,7 +403,7 @@ fn unlisted_text(alloc: Global, listing: &Listing, root: RouterId) -> Result<Str
     }
 }
 
-// What is asked of a listing none of whose routers has too many links.
+// What is asked of a listing none of whose routers has too many links where parts are named.
 fn said_of<P: Progress>(
     alloc: Global,
     rt: &(impl Threads + Sync),
@@ -394,7 +411,7 @@ fn said_of<P: Progress>(
     listing: Listing,
     progress: &mut P,
 ) -> Result<PrintedText, Unreported>
-    requires { HasLarge (advertisements_of listing) → ⊥ }
+    requires { names_of job.now ≢ [] → HasLarge (advertisements_of listing) → ⊥ }
     ensures said { IfOk result (λ said. SaysOf job.now (advertisements_of listing)
         (string_bytes said.text) said.end) }
     ensures whole { IfOk result (λ said. IsAllPrinted said.end) }

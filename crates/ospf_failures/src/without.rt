@@ -1,6 +1,6 @@
 //! The routing table of a router in an area without some of its parts.
 
-ghost use Rattle.std.specs.Prelude.{◌≡◌, IfErr, IfOk, string_bytes};
+ghost use Rattle.std.specs.Prelude.{◌≡◌, ◌≢◌, [], IfErr, IfOk, string_bytes};
 ghost use Rattle.std.specs.List.{AllZip};
 ghost use Rattle.ospf_edges.specs.Listed.{advertisements_of};
 ghost use Rattle.ospf_whatif.specs.Failure.{HasLarge, without_all};
@@ -22,7 +22,7 @@ pub(crate) fn text_without(
     names: &[String],
     addresses: &[Addr],
 ) -> Result<String, Unreported>
-    requires { HasLarge (advertisements_of listing) → ⊥ }
+    requires { names.now ≢ [] → HasLarge (advertisements_of listing) → ⊥ }
     ensures text { IfOk result (λ text. IsTableWithout (advertisements_of listing) names.now root
         addresses.now (string_bytes text)) }
     ensures fault { IfErr result (IsFaultOfNames
@@ -108,7 +108,7 @@ fn table_without(
     failures: &[AreaFailure],
     addresses: &[Addr],
 ) -> Result<String, AllocError>
-    requires { HasLarge (advertisements_of listing) → ⊥ }
+    requires { failures.now ≢ [] → HasLarge (advertisements_of listing) → ⊥ }
     ensures { IfOk result (λ text. SaysTableOfLeft
         (without_all failures.now (advertisements_of listing)) root addresses.now
         (string_bytes text)) }

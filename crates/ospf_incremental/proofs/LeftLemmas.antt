@@ -1,15 +1,19 @@
 -- What is left of kept paths where edges go is a tree of the edges that are left.
 use Rattle.std.proofs.Common.{◌≡◌, ◌==◌, ◌+◌, ◌<◌, ◌≤◌, ◌⊎◌, ◌↔◌, ◌&&◌, ◌∙◌, ◌^◌, ℕ, zero, suc, Bool, true, false, not, is_some, Option, Some, None, List, [], ◌∷◌, ◌++◌, length, take, get_or, refl, sym, ap, subst, inl, inr, arith, zero-add}
 use Rattle.std.specs.Prelude.{IsPermutation}
-use Rattle.std.specs.List.{Contains, filter, list_any}
+use Rattle.std.specs.List.{Contains, dedup, filter, list_any}
 use Rattle.std.proofs.lemmas.List.{get_or_default}
 use Rattle.std.proofs.lemmas.List.Elements.{All-contains, Contains-append_left, Contains-append_right, Contains-append_cases, Contains-push, Contains-push_cases}
+use Rattle.std.proofs.lemmas.List.Kept.{Contains-dedup}
 use Rattle.std.proofs.lemmas.List.Sorted.{IsPermutation-sym, Contains-permutation}
 use Rattle.ospf_graph.specs.declared.candidates.SpfCandidate.{SpfCandidate}
 use Rattle.ospf_graph.specs.declared.graph.Edge.{Edge}
 use Rattle.ospf_graph.specs.declared.graph.Start.{Start}
 use Rattle.ospf_graph.specs.declared.graph.Start.TheVariants.{Here}
+use Rattle.ospf_graph.specs.contracts.graph.VertexEq.TheImpl.Laws.{laws-law}
+use Rattle.ospf_graph.specs.contracts.graph.VertexPartialEq.TheImpl.{eq-value}
 use Rattle.ospf_graph.specs.declared.graph.Vertex.{Vertex}
+use Rattle.ospf_graph.specs.declared.graph.Vertex.TheVariants.{Network, Router}
 use Rattle.ospf_graph.specs.declared.paths.Settled.{Settled}
 use Rattle.ospf_graph.specs.declared.paths.VertexStart.{VertexStart}
 use Rattle.ospf_graph.specs.declared.reached.Reached.{Reached}
@@ -23,7 +27,7 @@ use Rattle.ospf_graph.proofs.ReachedLemmas.{none_some, place_at, starts_from}
 use Rattle.ospf_graph.proofs.TreeLemmas.{IsPath-map, IsTree-map, at_end}
 use Rattle.ospf_incremental.specs.Growth.{AreNear, HasEdge, HasStart, IsAt, IsGrowing, IsRelaxed, NoneWaits, Offers, Spares}
 use Rattle.ospf_incremental.specs.Kept.{IsKeptTree, IsSameBut, KeptTree}
-use Rattle.ospf_incremental.specs.Left.{AddsEdgesTo, AreBeside, AreCopies, AreEdgesTo, Copies, IsSoFarTo, LeadBack, HasStartLeft, IsAtLeft, edges_without, is_anew, left_kept, same_edge}
+use Rattle.ospf_incremental.specs.Left.{AddsEdgesTo, AreBeside, AreCopies, AreEdgesTo, AreFarEnds, Copies, LeadBack, HasStartLeft, IsAtLeft, edges_without, is_anew, left_kept, same_edge}
 use Rattle.ospf_incremental.specs.Shrinking.{IsClosed, TakesEdges}
 use Rattle.ospf_incremental.proofs.GrowthSteps.{at_from, at_one, at_to, none_waits, settled_push, start_to, starts_push, starts_stand}
 use Rattle.ospf_incremental.proofs.KeptGrowth.{same_less}
@@ -156,17 +160,17 @@ takes_without less edges e = (
   ]),
 )
 
--- ---- edges that end at a vertex
+-- ---- edges that end at some vertices
 
-pub adds_to_none : (less : List Edge) (v : Vertex) (old : List Edge) → AddsEdgesTo [] less v old old
-adds_to_none less v old e = (λ m. inl m, λ m. elim m [ inl there ↦ there | inr none ↦ absurd (let low = none.0.1 in omega arith) ])
+pub adds_to_none : (less : List Edge) (gone : List Vertex) (old : List Edge) → AddsEdgesTo [] less gone old old
+adds_to_none less gone old e = (λ m. inl m, λ m. elim m [ inl there ↦ there | inr none ↦ absurd (let low = none.0.1 in omega arith) ])
 
-module _ (some less : List Edge) (v : Vertex) (i : ℕ) (x : Edge) (lt : i < length some) (old ends : List Edge) (adds : AddsEdgesTo (take i some) less v old ends) where
-  pub adds_to_more : (get_or some i x).to ≡ v → (Contains less (get_or some i x) → ⊥) → AddsEdgesTo (take (i + 1) some) less v old (ends ++ get_or some i x ∷ [])
+module _ (some less : List Edge) (gone : List Vertex) (i : ℕ) (x : Edge) (lt : i < length some) (old ends : List Edge) (adds : AddsEdgesTo (take i some) less gone old ends) where
+  pub adds_to_more : Contains gone (get_or some i x).to → (Contains less (get_or some i x) → ⊥) → AddsEdgesTo (take (i + 1) some) less gone old (ends ++ get_or some i x ∷ [])
   adds_to_more to left e = (
     λ m. elim (Contains-push_cases ends (get_or some i x) e m) [
       | inl before ↦ elim ((adds e).0 before) [ inl there ↦ inl there | inr k ↦ inr ((more_members some i x lt e).1 (inl k.0), k.1, k.2) ]
-      | inr same ↦ inr ((more_members some i x lt e).1 (inr same), subst (λ f. Contains less f → ⊥) same left, subst (λ f. f.to ≡ v) same to)
+      | inr same ↦ inr ((more_members some i x lt e).1 (inr same), subst (λ f. Contains less f → ⊥) same left, subst (λ f. Contains gone f.to) same to)
     ],
     λ m. elim m [
       | inl there ↦ Contains-append_left ends (get_or some i x ∷ []) e ((adds e).1 (inl there))
@@ -177,67 +181,77 @@ module _ (some less : List Edge) (v : Vertex) (i : ℕ) (x : Edge) (lt : i < len
     ],
   )
 
-  pub adds_to_skip : ((get_or some i x).to ≡ v → (Contains less (get_or some i x) → ⊥) → ⊥) → AddsEdgesTo (take (i + 1) some) less v old ends
+  pub adds_to_skip : (Contains gone (get_or some i x).to → (Contains less (get_or some i x) → ⊥) → ⊥) → AddsEdgesTo (take (i + 1) some) less gone old ends
   adds_to_skip other e = (
     λ m. elim ((adds e).0 m) [ inl there ↦ inl there | inr k ↦ inr ((more_members some i x lt e).1 (inl k.0), k.1, k.2) ],
     λ m. elim m [
       | inl there ↦ (adds e).1 (inl there)
       | inr k ↦ elim ((more_members some i x lt e).0 k.0) [
         | inl before ↦ (adds e).1 (inr (before, k.1, k.2))
-        | inr same ↦ absurd (other (subst (λ f. f.to ≡ v) (sym same) k.2) (subst (λ f. Contains less f → ⊥) (sym same) k.1))
+        | inr same ↦ absurd (other (subst (λ f. Contains gone f.to) (sym same) k.2) (subst (λ f. Contains less f → ⊥) (sym same) k.1))
       ]
     ],
   )
 
-pub so_far_none : (edges less : List Edge) (v : Vertex) (old : List Edge) → IsSoFarTo edges less v [] old old
-so_far_none edges less v old =
-    record { kept = λ e m. m; only = λ e m. inl m; added = λ e back is left to none leads. absurd (let low = none.1 in omega arith) }
+-- the edges that are left and lead from some vertices to others
+abbrev pub AreBetween : List Edge → List Edge → List Vertex → List Vertex → List Edge → Type 0
+AreBetween edges less far gone ends = (e : Edge) → Contains ends e ↔ (Contains edges e × (Contains less e → ⊥) × Contains gone e.to × Contains far e.from)
 
-pub so_far_more : (edges less : List Edge) (v : Vertex) (out : List Edge) (i : ℕ) (x : Edge) → i < length out → (old ends ends' some : List Edge)
-    → IsSoFarTo edges less v (take i out) old ends → HaveSameFrom (get_or out i x).to edges some → ((e : Edge) → Contains some e → Contains edges e)
-    → AddsEdgesTo some less v ends ends' → IsSoFarTo edges less v (take (i + 1) out) old ends'
-so_far_more edges less v out i x lt old ends ends' some first same part last =
-    record {
-      kept = λ e m. (last e).1 (inl (first.kept e m));
-      only = λ e m. elim ((last e).0 m) [ inl before ↦ first.only e before | inr k ↦ inr (part e k.0, k.1, k.2) ];
-      added = λ e back is left to there leads. elim ((more_members out i x lt back).0 there) [
-        | inl before ↦ (last e).1 (inl (first.added e back is left to before leads))
-        | inr here ↦ (last e).1 (inr (from_all (get_or out i x).to edges some same e is (sym leads ∙ ap (λ f. f.to) (sym here)), left, to))
-      ];
-    }
+pub between_none : (edges less : List Edge) (gone : List Vertex) → AreBetween edges less [] gone []
+between_none edges less gone e = (λ m. absurd (let low = m.1 in omega arith), λ m. absurd (let low = m.3.1 in omega arith))
 
-pub so_far_all : (edges less : List Edge) (v : Vertex) (out old new : List Edge) → LeadBack edges → HaveSameFrom v edges out → IsSoFarTo edges less v out old new
-    → AddsEdgesTo edges less v old new
-so_far_all edges less v out old new back same f e = (
-  λ m. f.only e m,
-  λ m. elim m [
-    | inl there ↦ f.kept e there
-    | inr k ↦ (let b = back e k.0 in f.added e b.0 k.0 k.1 k.2 (from_all v edges out same b.0 b.1 (b.2 ∙ k.2)) b.3)
-  ],
-)
-
-pub edges_to_none : (edges less : List Edge) → AreEdgesTo edges less [] []
-edges_to_none edges less e = (λ m. absurd (let low = m.1 in omega arith), λ m. absurd (let low = m.2.1 in omega arith))
-
-pub edges_to_more : (edges less : List Edge) (gone : List Vertex) (i : ℕ) (x : Vertex) → i < length gone → (ends ends' : List Edge) → AreEdgesTo edges less (take i gone) ends
-    → AddsEdgesTo edges less (get_or gone i x) ends ends' → AreEdgesTo edges less (take (i + 1) gone) ends'
-edges_to_more edges less gone i x lt ends ends' first last e = (
+pub between_more : (edges less : List Edge) (far gone : List Vertex) (i : ℕ) (x : Vertex) → i < length far → (ends ends' some : List Edge) → AreBetween edges less (take i far) gone ends
+    → HaveSameFrom (get_or far i x) edges some → ((e : Edge) → Contains some e → Contains edges e) → ((e : Edge) → Contains some e → e.from ≡ get_or far i x)
+    → AddsEdgesTo some less gone ends ends' → AreBetween edges less (take (i + 1) far) gone ends'
+between_more edges less far gone i x lt ends ends' some first same part only last e = (
   λ m. elim ((last e).0 m) [
-    | inl before ↦ (let k = (first e).0 before in (k.0, k.1, (more_members gone i x lt e.to).1 (inl k.2)))
-    | inr k ↦ (k.0, k.1, (more_members gone i x lt e.to).1 (inr (sym k.2)))
+    | inl before ↦ (let k = (first e).0 before in (k.0, k.1, k.2, (more_members far i x lt e.from).1 (inl k.3)))
+    | inr k ↦ (part e k.0, k.1, k.2, (more_members far i x lt e.from).1 (inr (sym (only e k.0))))
   ],
-  λ m. elim ((more_members gone i x lt e.to).0 m.2) [
-    | inl before ↦ (last e).1 (inl ((first e).1 (m.0, m.1, before)))
-    | inr here ↦ (last e).1 (inr (m.0, m.1, sym here))
+  λ m. elim ((more_members far i x lt e.from).0 m.3) [
+    | inl before ↦ (last e).1 (inl ((first e).1 (m.0, m.1, m.2, before)))
+    | inr here ↦ (last e).1 (inr (from_all (get_or far i x) edges some same e m.0 (sym here), m.1, m.2))
   ],
 )
 
-pub edges_to_sorted : (edges less : List Edge) (gone : List Vertex) (ends sorted : List Edge) → IsPermutation ends sorted → AreEdgesTo edges less gone ends
-    → AreEdgesTo edges less gone sorted
-edges_to_sorted edges less gone ends sorted perm are e = (
-  λ m. (are e).0 (Contains-permutation sorted ends e (IsPermutation-sym ends sorted perm) m),
-  λ m. Contains-permutation ends sorted e perm ((are e).1 m),
+-- each edge that ends at what is gone begins where one from there ends
+pub between_all : (edges less : List Edge) (far gone : List Vertex) (ends sorted : List Edge) → LeadBack edges → AreFarEnds edges gone far → IsPermutation ends sorted
+    → AreBetween edges less far gone ends → AreEdgesTo edges less gone sorted
+between_all edges less far gone ends sorted back are perm is e = (
+  λ m. (let k = (is e).0 (Contains-permutation sorted ends e (IsPermutation-sym ends sorted perm) m) in (k.0, k.1, k.2)),
+  λ m.
+      let b = back e m.0 in
+      let begins : Contains far e.from = subst (λ v. Contains far v) b.3 (are b.0 b.1 (subst (λ v. Contains gone v) (sym b.2) m.2)) in
+      Contains-permutation ends sorted e perm ((is e).1 (m.0, m.1, m.2, begins)),
 )
+
+-- the end of one more edge
+pub ends_more : (some : List Edge) (i : ℕ) (x : Edge) → i < length some → (far : List Vertex) → ((e : Edge) → Contains (take i some) e → Contains far e.to)
+    → (e : Edge) → Contains (take (i + 1) some) e → Contains (far ++ (get_or some i x).to ∷ []) e.to
+ends_more some i x lt far added e m =
+    elim ((more_members some i x lt e).0 m) [
+      | inl before ↦ Contains-append_left far ((get_or some i x).to ∷ []) e.to (added e before)
+      | inr here ↦ subst (λ (f : Edge). Contains (far ++ (get_or some i x).to ∷ []) f.to) here (Contains-push far (get_or some i x).to)
+    ]
+
+pub far_more : (edges : List Edge) (gone : List Vertex) (i : ℕ) (x : Vertex) → i < length gone → (far far' : List Vertex) (some : List Edge) → AreFarEnds edges (take i gone) far
+    → HaveSameFrom (get_or gone i x) edges some → ((v : Vertex) → Contains far v → Contains far' v) → ((e : Edge) → Contains some e → Contains far' e.to)
+    → AreFarEnds edges (take (i + 1) gone) far'
+far_more edges gone i x lt far far' some first same kept added e is m =
+    elim ((more_members gone i x lt e.from).0 m) [
+      | inl before ↦ kept e.to (first e is before)
+      | inr here ↦ added e (from_all (get_or gone i x) edges some same e is (sym here))
+    ]
+
+vertex_same : (v w : Vertex) → eq-value.it v w ≡ true → v ≡ w
+vertex_same (Network a) (Network b) is = ap (λ x. Network x) (is_equal a b is)
+vertex_same (Network a) (Router b) is = cc
+vertex_same (Router a) (Network b) is = cc
+vertex_same (Router a) (Router b) is = let same = is_equal a.0 b.0 is in ap (λ x. Router x) (λ i. record { 0 = same i })
+
+-- in order, each once
+pub far_once : (edges : List Edge) (gone far sorted : List Vertex) → IsPermutation far sorted → AreFarEnds edges gone far → AreFarEnds edges gone (dedup eq-value.it sorted)
+far_once edges gone far sorted moved are e is m = Contains-dedup laws-law vertex_same sorted e.to (Contains-permutation far sorted e.to moved (are e is m))
 
 -- ---- copies
 

@@ -1,12 +1,14 @@
 -- What leaves what is found, and which edges wait then.
-use Rattle.std.proofs.Common.{◌≡◌, ◌+◌, ◌-◌, ◌<◌, ◌≤◌, ◌⊎◌, ℕ, Option, Some, None, nat_eq, Bool, true, false, cond, List, [], ◌∷◌, ◌++◌, length, take, get_or, sym, ◌∙◌, ap, subst, inl, inr, arith, ltb, ltb-true}
-use Rattle.std.specs.List.{All, Contains}
+use Rattle.std.proofs.Common.{◌≡◌, ◌+◌, ◌-◌, ◌<◌, ◌≤◌, ◌⊎◌, ℕ, Option, Some, None, nat_eq, Bool, true, false, cond, List, [], ◌∷◌, ◌++◌, length, take, get_or, sym, ◌∙◌, ap, subst, inl, inr, arith, ltb, ltb-true, Decides}
+use Rattle.std.specs.List.{All, Contains, IsAnyAnswer}
 use Rattle.std.specs.List.Sorted.{IsPartitionPoint, IsPermutation}
 use Rattle.std.proofs.lemmas.Bool.{cases_eq}
 use Rattle.std.proofs.lemmas.List.{get_or_default, get_or-take, length-take, take_more}
 use Rattle.std.proofs.lemmas.List.Sorted.{Contains-permutation, IsNonDecreasingBy-push, IsPermutation-sym}
-use Rattle.std.proofs.lemmas.List.Elements.{All-contains, All-push, Contains-append_left, Contains-append_right, Contains-append_cases, Contains-push, Contains-push_cases}
+use Rattle.std.proofs.lemmas.List.Elements.{contains_decides, Decides-contains, All-contains, All-push, Contains-append_left, Contains-append_right, Contains-append_cases, Contains-push, Contains-push_cases}
 use Rattle.ospf_graph.specs.declared.candidates.SpfCandidate.{SpfCandidate}
+use Rattle.ospf_graph.proofs.SameEdges.{edges_decide}
+use Rattle.ospf_graph.specs.contracts.graph.EdgePartialEq.TheImpl.{eq-value}
 use Rattle.ospf_graph.specs.declared.graph.Edge.{Edge}
 use Rattle.ospf_graph.specs.declared.graph.Start.{Start}
 use Rattle.ospf_graph.specs.declared.graph.Vertex.{Vertex}
@@ -31,6 +33,10 @@ gone_or_not (w ∷ rest) v =
         | inr free ↦ inr (λ m. elim (member_cases w rest v m) [ inl same ↦ other same | inr later ↦ free later ])
       ]
     ]
+
+-- what `contains` says of edges
+pub edge_in : (edges : List Edge) (edge : Edge) (r : Bool) → IsAnyAnswer (λ y t. eq-value.it y edge ≡ t) edges r → Decides r (Contains edges edge)
+edge_in edges edge r is = Decides-contains edges edge r (contains_decides eq-value.it edges_decide edges edge r is)
 
 pub true_or_false : (b : Bool) → (b ≡ true) ⊎ (b ≡ false)
 true_or_false b = bool_cases b

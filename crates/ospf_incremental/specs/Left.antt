@@ -55,19 +55,16 @@ pub record IsLeftKept (gone : List Vertex) (own : FoundPaths) : Type 0 where
 
 -- ---- on the way
 
--- the edges, and these of others that are left and end at the vertex
-abbrev pub AddsEdgesTo : List Edge → List Edge → Vertex → List Edge → List Edge → Type 0
-AddsEdgesTo some less v old new =
-    (e : Edge) → Contains new e
-    ↔ (Contains old e ⊎ (Contains some e × (Contains less e → ⊥) × (e.to ≡ v)))
+-- at each edge that leaves one of the vertices its other end
+abbrev pub AreFarEnds : List Edge → List Vertex → List Vertex → Type 0
+AreFarEnds edges gone far =
+    (e : Edge) → Contains edges e → Contains gone e.from → Contains far e.to
 
--- of the edges that are left and end at the vertex those that begin where one of some ends
-pub record IsSoFarTo (edges less : List Edge) (v : Vertex) (some old new : List Edge) : Type 0 where
-  pub kept : (e : Edge) → Contains old e → Contains new e
-  pub only : (e : Edge) → Contains new e
-      → Contains old e ⊎ (Contains edges e × (Contains less e → ⊥) × (e.to ≡ v))
-  pub added : (e back : Edge) → Contains edges e → (Contains less e → ⊥) → e.to ≡ v
-      → Contains some back → back.to ≡ e.from → Contains new e
+-- the edges, and those of others that are left and end at one of these vertices
+abbrev pub AddsEdgesTo : List Edge → List Edge → List Vertex → List Edge → List Edge → Type 0
+AddsEdgesTo some less gone old new =
+    (e : Edge) → Contains new e
+    ↔ (Contains old e ⊎ (Contains some e × (Contains less e → ⊥) × Contains gone e.to))
 
 -- the edges that are left and end at one of these vertices
 abbrev pub AreEdgesTo : List Edge → List Edge → List Vertex → List Edge → Type 0

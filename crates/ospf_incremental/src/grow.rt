@@ -3,6 +3,7 @@
 ghost use Rattle.std.specs.Prelude.{◌≡◌, ◌+◌, ◌<◌, ◌↔◌, ◌^◌, ◌∷◌, [], ℕ, Contains, IsTrue, IfSome, OnOk, None, Some, length};
 ghost use Rattle.ospf_incremental.specs.Growth.{AreNear, AreThere, BringsNothing, Extends, HasPlaces, HasStart, ImprovesIn, IsAt, IsRelaxedIn, OffersIn, OnOkFalse, OnOkTrue, Pays, ResetsAt, PaysAll, SparesIn, found_place};
 ghost use Rattle.ospf_graph.specs.Search.{AreEdgesInOrder};
+ghost use Rattle.ospf_graph.specs.Tree.{extend};
 ghost use Rattle.ospf_graph.specs.declared.graph.Start.{Start};
 
 use ospf_graph::{
@@ -345,17 +346,12 @@ fn brings_nothing(found: &FoundPaths, edge: Edge, to: usize) -> bool
 fn are_there(starts: &[Start], edge: Edge, there: &[Start]) -> bool
     ensures { IsTrue result → AreThere edge starts.now there.now }
 {
-    for start in starts {
-        if !has_start(there, extended(*start, edge.to, edge.link_data)) {
-            return false;
-        }
-    }
-    true
+    starts.iter().all(|start| has_extended(there, *start, edge))
 }
 
-// Whether a start is among these.
-fn has_start(starts: &[Start], start: Start) -> bool
-    ensures { IsTrue result ↔ Contains starts.now start }
+// Whether a start, one edge further, is among these.
+fn has_extended(there: &[Start], start: Start, edge: Edge) -> bool
+    ensures { IsTrue result ↔ Contains there.now (extend start edge.to edge.link_data) }
 {
-    starts.contains(&start)
+    there.contains(&extended(start, edge.to, edge.link_data))
 }

@@ -7,15 +7,13 @@ ghost use Rattle.ospf_graph.specs.declared.graph.Start.{Start};
 ghost use Rattle.ospf_graph.specs.declared.graph.Vertex.{Vertex};
 ghost use Rattle.ospf_incremental.specs.Growth.{AreNear, HasPlaces};
 ghost use Rattle.ospf_incremental.specs.Kept.{KeptTree};
-ghost use Rattle.ospf_incremental.specs.Left.{AddsEdgesTo, AreBeside, AreCopies, AreEdgesTo, Copies, IsLeftKept, IsRegrown, LeadBack, is_anew};
+ghost use Rattle.ospf_incremental.specs.Left.{AddsEdgesTo, AreBeside, AreCopies, AreEdgesTo, AreFarEnds, Copies, IsLeftKept, IsRegrown, LeadBack, is_anew};
 ghost use Rattle.ospf_incremental.specs.Shrinking.{AreVerticesInOrder};
 
 use crate::grow::{FoundPaths, distance_of, offer_all, settle, starts_of};
 use crate::kept::KeptPaths;
-use crate::shrink::{has_edge, is_among};
-use ospf_graph::{
-    Candidates, Edge, Reached, Start, Vertex, edges_from, is_same, place_of, vertex_order,
-};
+use crate::shrink::is_among;
+use ospf_graph::{Candidates, Edge, Reached, Start, Vertex, edges_from, place_of, vertex_order};
 use std::alloc::{AllocError, Global};
 use std::collections::HashMap;
 use std::marker::Model;
@@ -136,7 +134,8 @@ pub(crate) fn regrown(
     }
 }
 
-// The edges that are left and end at vertices that are gone, in order.
+// The edges that are left and end at vertices that are gone, in order: each begins where an edge
+// from one of these ends, and the edges from there are gone through once.
 fn edges_to(
     alloc: Global,
     edges: &[Edge],
@@ -145,45 +144,59 @@ fn edges_to(
 ) -> Result<Vec<Edge>, AllocError>
     requires in_order { AreEdgesInOrder edges.now }
     requires both_ways { LeadBack edges.now }
+    requires gone { AreVerticesInOrder gone.now }
+    // They are these exactly.
     ensures in_order { IfOk result (λ ends. AreEdgesInOrder ends.items) }
     ensures members { IfOk result (λ ends. AreEdgesTo edges.now less.now gone.now ends.items) }
 {
+    let far = far_ends(alloc, edges, gone)?;
     let mut ends = Vec::new(alloc);
-    for vertex in gone {
-        add_edges_to(edges, less, *vertex, &mut ends)?;
+    for vertex in &far {
+        add_edges_to(edges_from(edges, *vertex), less, gone, &mut ends)?;
     }
     ends.sort_unstable_by_key(|e| vertex_order(e.from));
     Ok(ends)
 }
 
-// Adds the edges that are left and end at a vertex: each begins where an edge from there ends.
-fn add_edges_to(
-    edges: &[Edge],
-    less: &[Edge],
-    vertex: Vertex,
-    ends: &mut Vec<Edge>,
-) -> Result<(), AllocError>
-    requires in_order { AreEdgesInOrder edges.now }
-    requires both_ways { LeadBack edges.now }
-    ensures { OnOk result (AddsEdgesTo edges.now less.now vertex ends.old.items ends.new.items) }
+// The other ends of the edges that leave these vertices, each once.
+fn far_ends(alloc: Global, edges: &[Edge], gone: &[Vertex]) -> Result<Vec<Vertex>, AllocError>
+    requires { AreEdgesInOrder edges.now }
+    ensures { IfOk result (λ far. AreFarEnds edges.now gone.now far.items) }
 {
-    for edge in edges_from(edges, vertex) {
-        add_edges_between(edges_from(edges, edge.to), less, vertex, ends)?;
+    let mut far = Vec::new(alloc);
+    for vertex in gone {
+        add_far_ends(edges_from(edges, *vertex), &mut far)?;
+    }
+    far.sort_unstable_by_key(|vertex| vertex_order(*vertex));
+    far.dedup();
+    Ok(far)
+}
+
+// Adds the other ends of some edges.
+fn add_far_ends(some: &[Edge], far: &mut Vec<Vertex>) -> Result<(), AllocError>
+    ensures kept { OnOk result ((v : Vertex) → Contains far.old.items v →
+        Contains far.new.items v) }
+    ensures added { OnOk result ((e : Edge) → Contains some.now e → Contains far.new.items e.to) }
+{
+    for edge in some {
+        far.push(edge.to)?;
     }
     Ok(())
 }
 
-// Adds those of some edges that are left and end at a vertex.
-fn add_edges_between(
+// Adds those of some edges that are left and end at vertices that are gone.
+fn add_edges_to(
     some: &[Edge],
     less: &[Edge],
-    vertex: Vertex,
+    gone: &[Vertex],
     ends: &mut Vec<Edge>,
 ) -> Result<(), AllocError>
-    ensures { OnOk result (AddsEdgesTo some.now less.now vertex ends.old.items ends.new.items) }
+    requires { AreVerticesInOrder gone.now }
+    ensures { OnOk result (AddsEdgesTo some.now less.now gone.now ends.old.items
+        ends.new.items) }
 {
     for edge in some {
-        if is_same(edge.to, vertex) && !has_edge(less, *edge) {
+        if is_among(gone, edge.to) && !less.contains(edge) {
             ends.push(*edge)?;
         }
     }
@@ -261,10 +274,5 @@ fn are_among(gone: &[Vertex], some: &[Vertex]) -> bool
     requires { AreVerticesInOrder gone.now }
     ensures { IsTrue result → (v : Vertex) → Contains some.now v → Contains gone.now v }
 {
-    for vertex in some {
-        if !is_among(gone, *vertex) {
-            return false;
-        }
-    }
-    true
+    some.iter().all(|vertex| is_among(gone, *vertex))
 }

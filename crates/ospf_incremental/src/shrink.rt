@@ -103,19 +103,12 @@ pub(crate) fn offer_to(
     Ok(())
 }
 
-/// Whether an edge is among these.
-pub(crate) fn has_edge(edges: &[Edge], edge: Edge) -> bool
-    ensures { IsTrue result ↔ Contains edges.now edge }
-{
-    edges.contains(&edge)
-}
-
 /// Whether an edge is among these, which are in order.
 pub(crate) fn has_in_order(edges: &[Edge], edge: Edge) -> bool
     requires { AreEdgesInOrder edges.now }
     ensures { IsTrue result ↔ Contains edges.now edge }
 {
-    has_edge(edges_from(edges, edge.from), edge)
+    edges_from(edges, edge.from).contains(&edge)
 }
 
 // The edges without these, which are in order too.

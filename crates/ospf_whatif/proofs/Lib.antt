@@ -12,3 +12,4 @@ pub mod MatchingLemmas
 pub mod RenamedLemmas
 pub mod LinksBackLemmas
 pub mod TakeOverLemmas
+mod SameEnds

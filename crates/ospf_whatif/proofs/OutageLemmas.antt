@@ -1,8 +1,10 @@
 -- What a failure takes from the graph of an area, and which routes stay.
 use Rattle.std.proofs.Common.{◌≡◌, ◌==◌, ◌↔◌, ◌+◌, ◌++◌, ◌∷◌, ◌<◌, ℕ, Bool, true, false, List, [], IsTrue, Some, length, take, get_or, refl, sym, ap, subst, ◌∙◌, inl, inr, arith}
 use Rattle.std.specs.List.{All, Contains}
+use Rattle.std.specs.List.Sorted.{IsPermutation}
 use Rattle.std.proofs.lemmas.List.{take_more}
 use Rattle.std.proofs.lemmas.List.Elements.{All-push, Contains-append_left, Contains-push, Contains-push_cases}
+use Rattle.std.proofs.lemmas.List.Sorted.{Contains-permutation, IsPermutation-sym}
 use Rattle.ospf_base.specs.declared.ids.RouterId.{RouterId}
 use Rattle.ospf_base.specs.declared.prefix.Prefix.{Prefix}
 use Rattle.ospf_edges.specs.declared.end.End.{End}
@@ -24,6 +26,7 @@ use Rattle.ospf_incremental.specs.Left.{LeadBack}
 use Rattle.ospf_incremental.specs.Shrinking.{TakesEdges}
 use Rattle.ospf_edges.specs.Given.{IsEdgesOf}
 use Rattle.ospf_spf.proofs.RouteFrame.{IsKeptHere, kept_routes}
+use Rattle.ospf_spf.specs.Spared.{AreEndsInOrder}
 use Rattle.ospf_whatif.specs.Failure.{without}
 use Rattle.ospf_whatif.specs.Laws.{IsOffLeastPaths}
 use Rattle.ospf_whatif.specs.Lost.{AreEdgesLost, AreEndsLost}
@@ -56,6 +59,13 @@ module _ {X : Type 0} (before : List X) (After : X → Type 0) (i : ℕ) (x : X)
     ];
   }
 
+-- which order they are in that go does not matter
+pub lost_sorted : {X : Type 0} (Before After : X → Type 0) (lost sorted : List X) → IsPermutation lost sorted → AreLost Before After lost → AreLost Before After sorted
+lost_sorted Before After lost sorted moved are = record {
+  within = λ x m. are.within x (Contains-permutation sorted lost x (IsPermutation-sym lost sorted moved) m);
+  all = λ x m. elim (are.all x m) [ inl gone ↦ inl (Contains-permutation lost sorted x moved gone) | inr left ↦ inr left ];
+}
+
 -- of the edges in order all are found that leave a vertex
 pub from_all : (v : Vertex) (edges some : List Edge) → HaveSameFrom v edges some → (e : Edge) → Contains edges e → e.from ≡ v → Contains some e
 from_all v edges some same e m at =
@@ -87,12 +97,13 @@ lead_back A edges are e m =
 
 -- ---- what a failure takes
 
-pub outage_is : (f : AreaFailure) (A : List Advertisement) (o : Outage) → o.failure ≡ f → AreEdgesLost A f o.edges.items → AreEndsLost A f o.ends.items → IsOutage A o
-outage_is f A o of edges ends =
+pub outage_is : (f : AreaFailure) (A : List Advertisement) (o : Outage) → o.failure ≡ f → AreEdgesLost A f o.edges.items → AreEndsLost A f o.ends.items
+    → AreEndsInOrder o.ends.items → IsOutage A o
+outage_is f A o of edges ends in_order =
     let same : without f A ≡ left_of_area A o = ap (λ (g : AreaFailure). without g A) (sym of) in
     let edges : AreLost (IsEdge A) (IsEdge (left_of_area A o)) o.edges.items = subst (λ (l : List Advertisement). AreLost (IsEdge A) (IsEdge l) o.edges.items) same edges in
     let ends : AreLost (StandsIn A) (StandsIn (left_of_area A o)) o.ends.items = subst (λ (l : List Advertisement). AreLost (StandsIn A) (StandsIn l) o.ends.items) same ends in
-    record { edges = edges; ends = ends }
+    record { edges = edges; ends = ends; ends_in_order = in_order }
 
 -- the tree over the edges of an area
 pub tree_over : (A : List Advertisement) (root : RouterId) (k : KeptTree) → k.root ≡ Router root → IsEdgesOf A k.edges → IsKeptTree k

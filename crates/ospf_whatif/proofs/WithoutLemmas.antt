@@ -1,6 +1,6 @@
 -- An area without what a failure takes.
-use Rattle.std.proofs.Common.{◌≡◌, ◌+◌, ◌*◌, ◌<◌, ◌≤◌, ℕ, ℤ, suc, Bool, true, false, cond, ◌⊎◌, inl, inr, arith, filter, List, [], ◌∷◌, ◌++◌, map, take, drop, length, get_or, slice_index, refl, sym, ap, ◌∙◌, subst, not, Result, Ok, Err, IfOk, IfErr}
-use Rattle.std.specs.List.{AllZip, Contains}
+use Rattle.std.proofs.Common.{◌≡◌, ◌↔◌, ◌+◌, ◌*◌, ◌<◌, ◌≤◌, ℕ, ℤ, suc, Bool, true, false, cond, ◌⊎◌, inl, inr, arith, filter, List, [], ◌∷◌, ◌++◌, map, take, drop, length, get_or, slice_index, refl, sym, ap, ◌∙◌, subst, not, Result, Ok, Err, IfOk, IfErr}
+use Rattle.std.specs.List.{AllZip, Contains, list_all}
 use Rattle.std.proofs.lemmas.List.Elements.{filter-append}
 use Rattle.std.proofs.lemmas.List.{drop_more, length-append, take_more, take-append-drop, map-append}
 use Rattle.std.proofs.lemmas.List.Sums.{count_by-le-length, fold_more, length-filter}
@@ -18,7 +18,7 @@ use Rattle.ospf_lsa.specs.Value.{IsMade, IsUnmade, RouterNeeds, router_value, Ls
 use Rattle.ospf_lsa.specs.declared.link.Link.{Link}
 use Rattle.ospf_graph.specs.Advertisements.{Advertisement, network_lsa, router_lsa}
 use Rattle.ospf_edges.specs.Listed.{advertisement_of}
-use Rattle.ospf_graph.proofs.ListLemmas.{member_of_map, member_to_map}
+use Rattle.ospf_graph.proofs.ListLemmas.{bool_cases, member_of_map, member_to_map}
 use Rattle.ospf_edges.proofs.ListedLemmas.{router_of, network_of}
 use Rattle.ospf_whatif.specs.Failure.{HasLarge, HasLeftLarge, IsLarge, IsLeftLarge, IsLeftLsa, left_of_lsa, kept_after, kept_links, takes, without, without_all}
 use Rattle.ospf_whatif.specs.declared.failure.AreaFailure.{AreaFailure}
@@ -162,6 +162,21 @@ kept_fewer f r xs l ys goes same =
     let front : length (kept_links f r xs) ≤ length xs = kept_length test xs in
     let back : length (kept_links f r ys) ≤ length ys = kept_length test ys in
     omega arith
+
+-- all links are kept where none is taken
+kept_all : (f : AreaFailure) (r : RouterId) (links : List Link) → (list_all (λ l. not (takes f r l)) links ≡ true) ↔ (kept_links f r links ≡ links)
+kept_all f r [] = (λ yes. refl, λ same. refl)
+kept_all f r (l ∷ rest) =
+    elim (bool_cases (takes f r l)) [
+      | inl goes ↦ (λ yes. absurd (let no : false ≡ true = rw goes at yes in cc), λ same. absurd (kept_fewer f r [] l rest goes same))
+      | inr stays ↦ (
+        λ yes. rw stays (ap (λ ls. l ∷ ls) ((kept_all f r rest).0 (rw stays at yes))),
+        λ same. rw stays ((kept_all f r rest).1 (let kept : l ∷ kept_links f r rest ≡ l ∷ rest = rw stays at same in ap (drop 1) kept)),
+      )
+    ]
+
+pub all_kept : (f : AreaFailure) (r : RouterId) (links : List Link) (b : Bool) → b ≡ list_all (λ l. not (takes f r l)) links → (b ≡ true) ↔ (kept_links f r links ≡ links)
+all_kept f r links b is = (λ yes. (kept_all f r links).0 (sym is ∙ yes), λ same. is ∙ (kept_all f r links).1 same)
 
 kept_after_few : (fs : List AreaFailure) (r : RouterId) (links : List Link) → length (kept_after fs r links) ≤ length links
 kept_after_few [] r links = omega arith

@@ -55,10 +55,11 @@ left_of_area adverts outage = without outage.failure adverts
 abbrev pub StandsIn : List Advertisement → End → Type 0
 StandsIn adverts e = IsEnd adverts e.prefix e.vertex e.cost
 
--- its edges and its ends are those of the area that its failure does not leave
+-- its edges and its ends are those of the area that its failure does not leave, the ends in order
 pub record IsOutage (adverts : List Advertisement) (outage : Outage) : Type 0 where
   pub edges : AreLost (IsEdge adverts) (IsEdge (left_of_area adverts outage)) outage.edges.items
   pub ends : AreLost (StandsIn adverts) (StandsIn (left_of_area adverts outage)) outage.ends.items
+  pub ends_in_order : AreEndsInOrder outage.ends.items
 
 -- ---- a root
 

@@ -1,6 +1,6 @@
 //! The listing of an area after a failure.
 
-ghost use Rattle.std.specs.Prelude.{◌≡◌, ◌↔◌, ◌++◌, ◌<◌, ◌∷◌, [], Err, IfOk, OnOk, IsTrue};
+ghost use Rattle.std.specs.Prelude.{◌≡◌, ◌≢◌, ◌↔◌, ◌++◌, ◌<◌, ◌∷◌, [], Err, IfOk, OnOk, IsTrue};
 ghost use Rattle.std.specs.List.{AllZip};
 ghost use Rattle.ospf_base.specs.Constants.{max_age};
 ghost use Rattle.ospf_lsa.specs.Header.{header_of};
@@ -82,7 +82,7 @@ pub fn without_all(
     listing: Listing,
     failures: &[AreaFailure],
 ) -> Result<Listing, AllocError>
-    requires { HasLarge (advertisements_of listing) → ⊥ }
+    requires { failures.now ≢ [] → HasLarge (advertisements_of listing) → ⊥ }
     ensures left { IfOk result (λ left. advertisements_of left
         ≡ without_all failures.now (advertisements_of listing)) }
     ensures bytes { IfOk result (AllZip (IsLeftLsa failures.now) listing) }
@@ -156,15 +156,10 @@ fn router_without(alloc: Global, failure: &AreaFailure, lsa: &LsaView) -> Result
 }
 
 // Whether a router keeps all links.
-fn keeps_all(failure: &AreaFailure, router: RouterId, links: Links) -> bool
+fn keeps_all(failure: &AreaFailure, router: RouterId, mut links: Links) -> bool
     ensures { IsTrue result ↔ (kept_links failure.now router links.entry ≡ links.entry) }
 {
-    for link in links {
-        if failure.takes(router, link) {
-            return false;
-        }
-    }
-    true
+    links.all(|link| !failure.takes(router, link))
 }
 
 // The links that a router keeps.

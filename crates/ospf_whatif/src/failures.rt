@@ -182,24 +182,14 @@ fn is_met(far: &[End], back: &[Edge], a: RouterId, b: RouterId, prefix: Prefix) 
 fn has_end_for(ends: &[End], prefix: Prefix) -> bool
     ensures { IsTrue result ↔ HasEndFor ends.now prefix }
 {
-    for end in ends {
-        if is_same_prefix(end.prefix, prefix) {
-            return true;
-        }
-    }
-    false
+    ends.iter().any(|end| is_same_prefix(end.prefix, prefix))
 }
 
 // Whether one of some edges leads from one router to another out of an address in a subnet.
 fn leads_back(edges: &[Edge], from: RouterId, to: RouterId, subnet: Prefix) -> bool
     ensures { IsTrue result ↔ LeadsBack edges.now from to subnet }
 {
-    for edge in edges {
-        if is_edge_in(edge, from, to, subnet) {
-            return true;
-        }
-    }
-    false
+    edges.iter().any(|edge| is_edge_in(edge, from, to, subnet))
 }
 
 // Whether an edge does.

@@ -13,7 +13,7 @@ use ospf_base::{Addr, Prefix, RouterId};
 use ospf_edges::{End, edges_at, edges_of, ends_at};
 use ospf_graph::{Edge, Vertex, is_same, sorted_edges};
 use ospf_lsa::Listing;
-use ospf_spf::{ends_in_order, is_same_prefix};
+use ospf_spf::{ends_in_order, is_same_prefix, prefix_order};
 use std::alloc::{AllocError, Global};
 
 /// The edges of an area and the ends of its prefixes (RFC 2328, section 16.1), in the
@@ -41,7 +41,8 @@ impl AreaGraph {
     }
 }
 
-/// What a failure takes from the graph of an area: edges, and ends of prefixes.
+/// What a failure takes from the graph of an area: edges, and ends of prefixes in the order of
+/// these.
 #[derive(Drop)]
 pub struct Outage {
     pub(crate) failure: AreaFailure,
@@ -63,7 +64,8 @@ impl Outage {
         ensures outage { IfOk result (IsOutage (advertisements_of listing.now)) }
     {
         let edges = edges_lost(alloc, listing, failure)?;
-        let ends = ends_lost(alloc, listing, failure)?;
+        let mut ends = ends_lost(alloc, listing, failure)?;
+        ends.sort_unstable_by_key(|e| prefix_order(e.prefix));
         Ok(Outage {
             failure: *failure,
             edges,
@@ -203,42 +205,4 @@ fn stubs_of(
     ends.append(&mut others)?;
     ends.retain(|end| is_same_prefix(end.prefix, prefix));
     Ok(ends)
-}
-
-/// Whether an edge is among these.
-pub(crate) fn has_edge(edges: &[Edge], edge: Edge) -> bool
-    ensures { IsTrue result ↔ Contains edges.now edge }
-{
-    for one in edges {
-        if is_same_edge(*one, edge) {
-            return true;
-        }
-    }
-    false
-}
-
-// Whether two edges are one.
-fn is_same_edge(a: Edge, b: Edge) -> bool
-    ensures { IsTrue result ↔ (a ≡ b) }
-{
-    is_same(a.to, b.to) && is_same(a.from, b.from) && a.cost == b.cost && a.link_data == b.link_data
-}
-
-/// Whether an end is among these.
-pub(crate) fn has_end(ends: &[End], end: End) -> bool
-    ensures { IsTrue result ↔ Contains ends.now end }
-{
-    for one in ends {
-        if is_same_end(*one, end) {
-            return true;
-        }
-    }
-    false
-}
-
-// Whether two ends are one.
-fn is_same_end(a: End, b: End) -> bool
-    ensures { IsTrue result ↔ (a ≡ b) }
-{
-    is_same_prefix(a.prefix, b.prefix) && is_same(a.vertex, b.vertex) && a.cost == b.cost
 }

@@ -18,7 +18,7 @@ ghost use Rattle.ospf_whatif.specs.Outage.{AddsLoss, AreChangesTo, AreMissing, A
 ghost use Rattle.ospf_whatif.specs.Told.{IsLive};
 
 use crate::effect::{Loss, RouteChange, place_to};
-use crate::outage::{AreaGraph, Outage, has_edge, has_end};
+use crate::outage::{AreaGraph, Outage};
 use ospf_base::{Prefix, RouterId};
 use ospf_edges::{End, ends_at};
 use ospf_graph::{Edge, Route, Vertex, edges_from, is_same};
@@ -59,8 +59,9 @@ impl KeptRoot {
     /// a listing: each route that the table of the area after the failure does not have, once, in
     /// the order of prefixes. No other prefix is reached after a failure, and none at a lower cost
     /// (`failures_take_away`). Where no least path goes over an edge that the failure takes there
-    /// is no search, and only routes are looked at whose prefix loses an end; else only what one
-    /// reached over it is found anew, and nothing else is copied.
+    /// is no search, and only routes are looked at whose prefix loses an end. Else what one reached
+    /// over it is found anew, beside copies of the root and of the vertices next to what goes; and
+    /// all is searched anew where going on from these takes too long.
     ///
     /// `AllocError` where memory runs out.
     pub fn effect(
@@ -196,6 +197,7 @@ fn changes_at<P: Paths>(
 ) -> Result<Vec<RouteChange>, AllocError>
     requires edges { AreEdgesInOrder area.now.edges.items }
     requires ends { AreEndsInOrder area.now.ends.items }
+    requires less { AreEndsInOrder outage.now.ends.items }
     requires routes { AllPairs IsRouteBefore routes.now }
     requires within { All (λ k. k < length routes.now) places.now }
     requires in_order { IsNonDecreasing places.now }
@@ -229,6 +231,7 @@ fn add_change<P: Paths>(
 ) -> Result<(), AllocError>
     requires edges { AreEdgesInOrder area.now.edges.items }
     requires ends { AreEndsInOrder area.now.ends.items }
+    requires less { AreEndsInOrder outage.now.ends.items }
     ensures { OnOk result ((adverts : List Advertisement) (root : RouterId) →
         AreOverLeft adverts root area.now outage.now (P.kept paths.now) →
         IsRoute adverts root route.now →
@@ -256,6 +259,7 @@ fn loss_of<P: Paths>(
 ) -> Result<Option<Loss>, AllocError>
     requires edges { AreEdgesInOrder area.now.edges.items }
     requires ends { AreEndsInOrder area.now.ends.items }
+    requires less { AreEndsInOrder outage.now.ends.items }
     ensures { IfOk result (λ loss. (adverts : List Advertisement) (root : RouterId) →
         AreOverLeft adverts root area.now outage.now (P.kept paths.now) →
         IsRoute adverts root route.now →
@@ -289,17 +293,26 @@ fn loss_by(before: &Route, after: Route) -> Option<Loss>
     }
 }
 
-// The ends but those that go.
+// The ends but those that go, which are in order.
 fn ends_left(alloc: Global, ends: &[End], less: &[End]) -> Result<Vec<End>, AllocError>
+    requires { AreEndsInOrder less.now }
     ensures { IfOk result (λ left. AreMissing ends.now less.now left.items) }
 {
     let mut left = Vec::new(alloc);
     for end in ends {
-        if !has_end(less, *end) {
+        if !has_end_in_order(less, *end) {
             left.push(*end)?;
         }
     }
     Ok(left)
+}
+
+// Whether an end is among these, which are in order.
+fn has_end_in_order(ends: &[End], end: End) -> bool
+    requires { AreEndsInOrder ends.now }
+    ensures { IsTrue result ↔ Contains ends.now end }
+{
+    ends_to(ends, end.prefix).contains(&end)
 }
 
 // Whether somebody tells a prefix, of whose ends these are left.
@@ -344,17 +357,12 @@ fn is_live(area: &AreaGraph, outage: &Outage, vertex: Vertex) -> bool
 fn has_left(edges: &[Edge], vertex: Vertex, less: &[Edge]) -> bool
     ensures { IsTrue result ↔ HasOtherFrom edges.now less.now vertex }
 {
-    for edge in edges {
-        if is_other_from(*edge, less, vertex) {
-            return true;
-        }
-    }
-    false
+    edges.iter().any(|edge| is_other_from(*edge, less, vertex))
 }
 
 // Whether an edge leaves a vertex and is not among others.
 fn is_other_from(edge: Edge, less: &[Edge], vertex: Vertex) -> bool
     ensures { IsTrue result ↔ ((edge.from ≡ vertex) × (Contains less.now edge → ⊥)) }
 {
-    is_same(edge.from, vertex) && !has_edge(less, edge)
+    is_same(edge.from, vertex) && !less.contains(&edge)
 }

@@ -336,36 +336,35 @@ fn router_of_stubs(alloc: Global, id: RouterId, stubs: u32) -> Result<Vec<u8>, F
 #[test]
 fn router_of_too_many_links_is_refused(rt: HostRuntime) -> Result<(), Fail> {
     let alloc = rt.alloc();
-    for (stubs, status, out, err) in [
-        (
-            1361,
-            DONE,
-            "2.2.2.2 cut 0 gone 0 cost 0 hops 0\n",
-            "1.1.1.1: no router-LSA of this router\n",
-        ),
+    let unlisted = "1.1.1.1: no router-LSA of this router\n";
+    for (stubs, status, err) in [
+        (1361, DONE, unlisted),
         (
             1362,
             FailuresStatus::Ended(Status::Refused),
-            "",
             "2.2.2.2: more than 1361 links\n",
         ),
     ] {
         let input = hex::encode(alloc, &router_of_stubs(alloc, SECOND, stubs)?)?;
-        expect(
-            &rt,
-            alloc,
-            &Case {
-                root: FIRST,
-                each: false,
-                strict: false,
-                input: &input,
-                status,
-                out,
-                err,
-            },
-        )?;
+        // Only without parts that are named are LSAs made anew.
+        let report = "2.2.2.2 cut 0 gone 0 cost 0 hops 0\n";
+        let failures = Case::over(&input, DONE, report, unlisted);
+        expect(&rt, alloc, &failures)?;
+        let none = without(alloc, Vec::new(alloc));
+        expect_of(&rt, alloc, &none, &Case::over(&input, DONE, "", unlisted))?;
+        let second = without(alloc, vec![in alloc; String::from_str(alloc, "2.2.2.2")?]?);
+        expect_of(&rt, alloc, &second, &Case::over(&input, status, "", err))?;
     }
     Ok(())
+}
+
+// The table of the first router without parts.
+fn without(alloc: Global, names: Vec<String>) -> FailuresJob {
+    FailuresJob::Without {
+        root: FIRST,
+        names,
+        addresses: Vec::new(alloc),
+    }
 }
 
 // What is wanted over all routers.

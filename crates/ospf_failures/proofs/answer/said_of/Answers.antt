@@ -1,4 +1,4 @@
-use Rattle.std.proofs.Common.{◌∙◌, List, String, ap, subst, sym}
+use Rattle.std.proofs.Common.{◌∙◌, ◌≢◌, [], List, String, ap, subst, sym}
 use Rattle.std.specs.declared.alloc.Global.{Global}
 use Rattle.ospf_edges.specs.Listed.{advertisements_of}
 use Rattle.ospf_failures.specs.Answer.{names_of}
@@ -9,3 +9,7 @@ pub returns-in-Err-clause-fault : goal.returns-in-Err-clause-fault
 returns-in-Err-clause-fault g c =
     subst (λ (ns : List (String Global)). IsFaultOfNames (IsFirstUnnamed (advertisements_of c.args.listing) ns) c.in-Err.fault)
     (c.deref.ensures.value ∙ sym (ap names_of c.in-Without.is)) c.in-Err.ensures.fault
+
+pub text_without-requires : goal.text_without-requires
+text_without-requires g c = λ some.
+    c.requires (subst (λ (ns : List (String Global)). ns ≢ []) (c.deref.ensures.value ∙ sym (ap names_of c.in-Without.is)) some)

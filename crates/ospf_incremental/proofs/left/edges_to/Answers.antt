@@ -1,15 +1,21 @@
-use Rattle.std.proofs.Common.{rules, of_calls, ◌≤◌, length}
+use Rattle.std.proofs.Common.{rules, of_calls, ◌≤◌, List, length, subst, sym}
 use Rattle.std.proofs.lemmas.List.{take_all}
 use Rattle.std.proofs.lemmas.List.Sorted.{IsNonDecreasingBy-from_sort_by_key}
 use Rattle.ospf_graph.specs.declared.graph.Edge.{Edge}
+use Rattle.ospf_graph.specs.declared.graph.Vertex.{Vertex}
 use Rattle.ospf_graph.specs.Search.{vertex_code}
-use Rattle.ospf_incremental.proofs.LeftLemmas.{edges_to_more, edges_to_sorted}
+use Rattle.ospf_incremental.specs.Left.{AreFarEnds}
+use Rattle.ospf_incremental.proofs.LeftLemmas.{between_all, between_more, between_none}
 use Rattle.ospf_incremental.proofs.left.edges_to.Goals as goal
+
+pub loop-vertex-init : goal.loop-vertex-init
+loop-vertex-init c = rw c.new-ends.ensures.items (between_none c.args.edges.now c.args.less.now c.args.gone.now)
 
 pub loop-vertex-preserved : goal.loop-vertex-preserved
 loop-vertex-preserved c =
-    edges_to_more c.args.edges.now c.args.less.now c.args.gone.now c.loop-vertex.vertex-index _ c.loop-vertex-test.true c.loop-vertex.ends.items c.add_edges_to.new.ends.items
-    c.loop-vertex.invariant c.in_ok-add_edges_to.ensures
+    between_more c.args.edges.now c.args.less.now c.deref-vertex-items.result.now c.args.gone.now c.loop-vertex.vertex-index _ c.loop-vertex-test.true c.loop-vertex.ends.items
+    c.add_edges_to.new.ends.items c.edges_from.result.now c.loop-vertex.invariant c.edges_from.ensures.same c.edges_from.ensures.part c.edges_from.ensures.only
+    c.in_ok-add_edges_to.ensures
 
 pub returns-clause-in_order : goal.returns-clause-in_order
 returns-clause-in_order c =
@@ -17,6 +23,8 @@ returns-clause-in_order c =
 
 pub returns-clause-members : goal.returns-clause-members
 returns-clause-members c =
-    let end : length c.args.gone.now ≤ c.loop-vertex.vertex-index = c.loop-vertex-test.false in
-    edges_to_sorted c.args.edges.now c.args.less.now c.args.gone.now c.loop-vertex.ends.items c.sort_unstable_by_key.new.self.items c.sort_unstable_by_key.ensures.permutation
-    (rw take_all at c.loop-vertex.invariant)
+    let far = c.deref-vertex-items.result.now in
+    let end : length far ≤ c.loop-vertex.vertex-index = c.loop-vertex-test.false in
+    between_all c.args.edges.now c.args.less.now far c.args.gone.now c.loop-vertex.ends.items c.sort_unstable_by_key.new.self.items c.requires.both_ways
+    (subst (λ (l : List Vertex). AreFarEnds c.args.edges.now c.args.gone.now l) (sym c.deref-vertex-items.ensures.value) c.in_ok-far.ensures)
+    c.sort_unstable_by_key.ensures.permutation (rw take_all at c.loop-vertex.invariant)

@@ -1,4 +1,4 @@
-use Rattle.std.proofs.Common.{◌≤◌, List, [], length, refl, subst, sym, arith}
+use Rattle.std.proofs.Common.{◌≡◌, ◌<◌, ◌≤◌, List, [], ap, length, refl, subst, sym, arith}
 use Rattle.std.specs.List.{AllZip}
 use Rattle.std.proofs.lemmas.List.{take_all}
 use Rattle.ospf_graph.specs.Advertisements.{Advertisement}
@@ -18,9 +18,14 @@ loop-failure-preserved c = record {
   bytes =
       bytes_more c.args.failures.now c.loop-failure.failure-index c.failure-item.result c.args.listing c.loop-failure.left c.in_ok-left.left c.loop-failure-test.true c.failure-item.is
       c.loop-failure.invariant.bytes c.in_ok-left.ensures.bytes;
-  small = subst (λ (a : List Advertisement). HasLarge a → ⊥) (sym c.in_ok-left.ensures.left)
-      (small_without c.failure-item.result (advertisements_of c.loop-failure.left) c.loop-failure.invariant.small);
+  small = λ some. subst (λ (a : List Advertisement). HasLarge a → ⊥) (sym c.in_ok-left.ensures.left)
+      (small_without c.failure-item.result (advertisements_of c.loop-failure.left) (c.loop-failure.invariant.small some));
 }
+
+pub without_small-requires : goal.without_small-requires
+without_small-requires c =
+    let lt : c.loop-failure.failure-index < length c.args.failures.now = c.loop-failure-test.true in
+    c.loop-failure.invariant.small (λ none. (let zero' : length c.args.failures.now ≡ 0 = ap length none in omega arith))
 
 pub returns-clause-bytes : goal.returns-clause-bytes
 returns-clause-bytes c =

@@ -1,4 +1,4 @@
-use Rattle.std.proofs.Common.{◌≡◌, take}
+use Rattle.std.proofs.Common.{◌≡◌, ◌≢◌, [], take}
 use Rattle.std.specs.List.{AllZip}
 use Rattle.ospf_edges.specs.Listed.{advertisements_of}
 use Rattle.ospf_whatif.specs.Failure.{HasLarge, IsLeftLsa, without_all}
@@ -9,5 +9,5 @@ abbrev pub invariant-loop-failure : goal.invariant-loop-failure
 invariant-loop-failure l = record {
   left : advertisements_of l.left ≡ without_all (take l.failure-index l.failures) (advertisements_of l.fn.listing);
   bytes : AllZip (IsLeftLsa (take l.failure-index l.failures)) l.fn.listing l.left;
-  small : HasLarge (advertisements_of l.left) → ⊥;
+  small : l.failures ≢ [] → HasLarge (advertisements_of l.left) → ⊥;
 }

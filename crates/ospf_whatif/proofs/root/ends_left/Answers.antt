@@ -4,7 +4,7 @@ use Rattle.std.proofs.lemmas.List.{take_all}
 use Rattle.ospf_whatif.specs.Outage.{AreMissing}
 use Rattle.ospf_whatif.proofs.OutageLemmas.{false_true, lost_more, lost_none}
 use Rattle.ospf_whatif.proofs.root.ends_left.Goals as goal
-use Rattle.ospf_whatif.proofs.root.ends_left.Goals.{then-not-has_end+in_ok-push, else-not-has_end}
+use Rattle.ospf_whatif.proofs.root.ends_left.Goals.{then-not-has_end_in_order+in_ok-push, else-not-has_end_in_order}
 
 pub loop-end-preserved : goal.loop-end-preserved
 loop-end-preserved c =
@@ -12,13 +12,13 @@ loop-end-preserved c =
     let after = c.args.less.now in
     let i = c.loop-end.end-index in
     let inv = c.loop-end.invariant in
-    elim c.if-not-has_end.branch [
-      | then-not-has_end+in_ok-push w ↦
+    elim c.if-not-has_end_in_order.branch [
+      | then-not-has_end_in_order+in_ok-push w ↦
           subst (λ l. AreMissing (take (i + 1) before) after l) (sym (ap (λ v. v.items) w.left-is ∙ w.in_ok-push.ensures.items))
-          (lost_more before (Contains after) i c.end-item.result c.loop-end-test.true c.end-item.is c.loop-end.left.items inv (λ m. false_true c.has_end.result w.if-not-has_end.true (c.has_end.ensures.1 m)))
-      | else-not-has_end w ↦
+          (lost_more before (Contains after) i c.end-item.result c.loop-end-test.true c.end-item.is c.loop-end.left.items inv (λ m. false_true c.has_end_in_order.result w.if-not-has_end_in_order.true (c.has_end_in_order.ensures.1 m)))
+      | else-not-has_end_in_order w ↦
           subst (λ l. AreMissing (take (i + 1) before) after l) (sym (ap (λ v. v.items) w.left-is))
-          (lost_none before (Contains after) i c.end-item.result c.loop-end-test.true c.end-item.is c.loop-end.left.items inv (c.has_end.ensures.0 w.if-not-has_end.false))
+          (lost_none before (Contains after) i c.end-item.result c.loop-end-test.true c.end-item.is c.loop-end.left.items inv (c.has_end_in_order.ensures.0 w.if-not-has_end_in_order.false))
     ]
 
 pub returns : goal.returns
