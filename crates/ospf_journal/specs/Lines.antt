@@ -64,8 +64,11 @@ change_text (change.Removed key) = codes "removed " ++ own_text key
 change_text (change.Route route) = codes "route " ++ route_text route
 change_text (change.NoRoute prefix) = codes "no route " ++ prefix_text prefix
 
--- a line: the tick, the router, and what changed
+-- the line of a change: the tick, the router, and what changed
+abbrev pub journal_line : ℕ → RouterId → RouterChange → List ℕ
+journal_line tick q change =
+    decimal tick ++ codes " " ++ number_text q.0 ++ codes " " ++ change_text change
+
+-- a line
 abbrev pub line_text : JournalLine → List ℕ
-line_text line =
-    decimal line.tick ++ codes " " ++ number_text line.router.0 ++ codes " "
-    ++ change_text line.change.now
+line_text line = journal_line line.tick line.router line.change.now

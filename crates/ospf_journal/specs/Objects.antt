@@ -91,7 +91,11 @@ unfoldable pub moment_members : ℕ → RouterId → List ℕ
 moment_members tick q =
     codes "{\"tick\":" ++ decimal tick ++ codes ",\"router\":\"" ++ number_text q.0 ++ codes "\","
 
--- an object: the tick, the router, and what changed. No text of it has a character that JSON
--- escapes
+-- the object of a change: the tick, the router, and what changed. No text of it has a character
+-- that JSON escapes
+abbrev pub journal_object : ℕ → RouterId → RouterChange → List ℕ
+journal_object tick q change = moment_members tick q ++ change_members change ++ codes "}"
+
+-- an object
 abbrev pub object_text : Object → List ℕ
-object_text o = moment_members o.tick o.router ++ change_members o.change.now ++ codes "}"
+object_text o = journal_object o.tick o.router o.change.now

@@ -1,5 +1,8 @@
 //! What a router drops.
 
+ghost use Rattle.std.specs.Prelude.{◌≡◌};
+ghost use Rattle.ospf_notes.specs.Drops.{dropped_in};
+
 use ospf_base::Addr;
 use ospf_journal::DroppedAt;
 use ospf_run::Step;
@@ -12,7 +15,9 @@ pub(crate) struct Heard {
 }
 
 /// What was dropped in a step, which was that of the packet if one had come in.
-pub(crate) fn dropped_in(step: &Step, heard: Option<Heard>) -> Option<DroppedAt> {
+pub(crate) fn dropped_in(step: &Step, heard: Option<Heard>) -> Option<DroppedAt>
+    ensures { result ≡ dropped_in heard step.now.dropped }
+{
     let (Some(Heard { link, source }), Some(cause)) = (heard, step.dropped) else {
         return None;
     };

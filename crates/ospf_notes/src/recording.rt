@@ -1,20 +1,14 @@
 //! The capture of a simulation, as it goes.
 
-use ospf_base::RouterId;
-use ospf_headline::Datagram;
-use ospf_records::{CaptureFault, Moment, write_datagram, write_header};
+use ospf_records::{Recorder, write_header};
 use ospf_world::World;
 use std::alloc::{AllocError, Global};
-use std::collections::BTreeMap;
 use std::fs;
 use std::io::Write;
 use std::rt::Runtime;
 
 // So many bytes are written at once.
 const BLOCK: usize = 1 << 16;
-
-// The last microsecond of a second.
-const LAST_MICROSECOND: u32 = 999_999;
 
 /// Writes what the routers of a simulation send into the file of a capture while the simulation
 /// goes, so that one that is broken off leaves a file that can be read: with the moments that
@@ -29,12 +23,8 @@ pub struct Recording<R: Runtime + Drop> {
     name: Option<String>,
     file: Option<R::File>,
     block: Vec<u8>,
-    // How many ticks and datagrams of the world's logs are in it.
-    ticks: usize,
-    datagrams: usize,
-    clocks: BTreeMap<RouterId, u32>,
-    // How many datagrams are of a second.
-    seconds: BTreeMap<u32, u32>,
+    // What is written, or stands in the block.
+    recorder: Recorder,
 }
 
 impl<R: Runtime + Drop> Recording<R> {
@@ -46,10 +36,7 @@ impl<R: Runtime + Drop> Recording<R> {
             name,
             file: None,
             block: Vec::new(alloc),
-            ticks: 0,
-            datagrams: 0,
-            clocks: BTreeMap::new(alloc),
-            seconds: BTreeMap::new(alloc),
+            recorder: Recorder::new(alloc),
         }
     }
 
@@ -70,72 +57,12 @@ impl<R: Runtime + Drop> Recording<R> {
         }
     }
 
-    // Adds what was sent since. No log of a world ever shrinks.
+    // Adds what was sent since, the first of it behind the head of the file.
     fn add_sent(&mut self, world: &World) -> Result<(), AllocError> {
-        let sent = world.datagrams();
-        if self.datagrams > sent.len() {
-            return Ok(());
-        }
-        for datagram in &sent[self.datagrams..] {
-            self.count_ticks(world)?;
-            self.add(datagram)?;
-            self.datagrams = self.datagrams.saturating_add(1);
-        }
-        Ok(())
-    }
-
-    // Counts the ticks that came before the next datagram, or sent it.
-    fn count_ticks(&mut self, world: &World) -> Result<(), AllocError> {
-        let ticks = world.ticks();
-        if self.ticks > ticks.len() {
-            return Ok(());
-        }
-        for tick in &ticks[self.ticks..] {
-            if tick.sent > self.datagrams {
-                break;
-            }
-            let clock = self.clocks.get(&tick.router).copied().unwrap_or(0);
-            if self
-                .clocks
-                .insert(tick.router, clock.saturating_add(1))
-                .is_err()
-            {
-                return Err(AllocError);
-            }
-            self.ticks = self.ticks.saturating_add(1);
-        }
-        Ok(())
-    }
-
-    // Adds a datagram. One that fits into no IP packet is left out.
-    fn add(&mut self, datagram: &Datagram) -> Result<(), AllocError> {
-        if self.datagrams == 0 {
+        if self.recorder.datagrams() == 0 && !world.datagrams().is_empty() {
             write_header(&mut self.block)?;
         }
-        let second = self.clocks.get(&datagram.router).copied().unwrap_or(0);
-        let before = self.seconds.get(&second).copied().unwrap_or(0);
-        if self
-            .seconds
-            .insert(second, before.saturating_add(1))
-            .is_err()
-        {
-            return Err(AllocError);
-        }
-        let at = Moment {
-            seconds: second,
-            microseconds: before.min(LAST_MICROSECOND),
-        };
-        let sent = &datagram.sent;
-        match write_datagram(
-            &mut self.block,
-            at,
-            sent.source,
-            sent.destination,
-            &sent.bytes,
-        ) {
-            Ok(()) | Err(CaptureFault::TooLong) => Ok(()),
-            Err(CaptureFault::Memory) => Err(AllocError),
-        }
+        self.recorder.add_sent(&mut self.block, world)
     }
 
     // Writes the block, into the file that is made first where there is

@@ -1,21 +1,19 @@
 -- Captures that grow by one datagram.
-use Rattle.std.proofs.Common.{Bool, ◌≡◌, ◌==◌, ◌<◌, ◌≤◌, ◌+◌, ◌++◌, ℕ, List, [], ◌∷◌, true, false, flat_map, length, take, get_or, sym, ap, subst, ◌∙◌, arith}
+use Rattle.std.proofs.Common.{Bool, ◌≡◌, ◌==◌, ◌<◌, ◌≤◌, ◌+◌, ℕ, List, [], ◌∷◌, true, false, length, take, get_or, sym, ap, subst, ◌∙◌, arith}
 use Rattle.std.specs.Prelude.{count_by, if◌then◌else◌, nat_le, unwrap_or}
 use Rattle.std.specs.BTreeMap as tree
 use Rattle.std.specs.Map.{lookup}
 use Rattle.std.specs.Ordering.{nat_cmp}
 use Rattle.std.proofs.lemmas.Bool.Decides.{nat_tests}
-use Rattle.std.proofs.lemmas.List.{append-nil, get_or-map, length-map, take_all, take_more}
-use Rattle.std.proofs.lemmas.List.Concat.{flat_map-append}
+use Rattle.std.proofs.lemmas.List.{get_or-map, length-map}
 use Rattle.std.proofs.lemmas.List.FromFn.{get_or-enumerate_from, length-enumerate_from}
 use Rattle.ospf_base.specs.Constants.{ip_header}
 use Rattle.ospf_base.specs.declared.ids.Addr.{Addr}
 use Rattle.ospf_records.specs.Datagram.{captured}
 use Rattle.ospf_records.specs.Ip.{largest_ip_packet}
-use Rattle.ospf_records.specs.Pcap.{Captured}
 use Rattle.ospf_records.specs.declared.moment.Moment.{Moment}
 use Rattle.ospf_headline.specs.declared.logs.Datagram.{Datagram}
-use Rattle.ospf_records.specs.Captures.{captured_at, captured_of, is_tick_of, microsecond_of, numbered_datagrams, second_of, seconds, within_second}
+use Rattle.ospf_records.specs.Captures.{captured_at, is_tick_of, microsecond_of, numbered_datagrams, second_of, seconds, within_second}
 use Rattle.ospf_records.specs.Counts.{IsOneMoreOf, capped, count_in}
 use Rattle.ospf_records.specs.Stamps.{AreTicksRead, IsReadTo}
 use Rattle.ospf_records.proofs.CountFacts.{all_weaker, counts_more}
@@ -58,13 +56,6 @@ module _ (ticks : List Ticked) (datagrams : List Datagram) (n : ℕ) (g : Datagr
   at : get_or (numbered_datagrams datagrams) n (n, g) ≡ (n, g)
   at = get_or-enumerate_from 0 datagrams n (n, g) within ∙ (let zero_more : 0 + n ≡ n = omega arith in λ i. (zero_more i, sym is i))
 
-  pub captured_more : flat_map (captured_of ticks datagrams) (take (n + 1) (numbered_datagrams datagrams)) ≡ flat_map (captured_of ticks datagrams) (take n (numbered_datagrams datagrams)) ++ captured_of ticks datagrams (n, g)
-  captured_more =
-      let f = captured_of ticks datagrams in
-      ap (flat_map f) (take_more (numbered_datagrams datagrams) n (n, g) there) ∙ flat_map-append f (take n (numbered_datagrams datagrams)) (get_or (numbered_datagrams datagrams) n (n, g) ∷ [])
-      ∙ ap (λ (x : ℕ × Datagram). flat_map f (take n (numbered_datagrams datagrams)) ++ flat_map f (x ∷ [])) at
-      ∙ ap (λ (cs : List Captured). flat_map f (take n (numbered_datagrams datagrams)) ++ cs) (append-nil (f (n, g)))
-
   -- its second
   pub second_is : (read second : ℕ) (clocks : tree.BTreeMap ℕ ℕ) → IsReadTo ticks n read clocks → second ≡ count_in clocks g.router.0 → second ≡ second_of ticks (n, g)
   unfolding second_of
@@ -97,9 +88,3 @@ read_on ticks n read clocks r = record {
   came = all_weaker (λ (t : Ticked). t.sent ≤ n) (λ (t : Ticked). t.sent ≤ n + 1) (take read ticks) (λ t le. omega (arith, le)) r.came;
   counts = r.counts;
 }
-
-pub all_taken : (ticks : List Ticked) (datagrams : List Datagram) (n : ℕ) → length datagrams ≤ n →
-    flat_map (captured_of ticks datagrams) (take n (numbered_datagrams datagrams)) ≡ flat_map (captured_of ticks datagrams) (numbered_datagrams datagrams)
-all_taken ticks datagrams n all =
-    let short : length (numbered_datagrams datagrams) ≤ n = (let h = length-enumerate_from 0 datagrams in omega (arith, h, all)) in
-    ap (flat_map (captured_of ticks datagrams)) (take_all n (numbered_datagrams datagrams) short)

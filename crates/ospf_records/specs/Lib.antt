@@ -6,6 +6,8 @@ pub mod Text
 pub mod Counts
 pub mod Captures
 pub mod Stamps
+pub mod Recorder
 pub mod Graph
 pub mod GraphLaws
 pub mod Drawings
+pub mod Files

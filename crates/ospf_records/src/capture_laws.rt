@@ -1,6 +1,7 @@
 //! Laws: each holds of all packets and captures.
 
 ghost use Rattle.ospf_records.specs.CaptureLaws.{ChecksumHolds, HasOneReading, LengthsAreTold};
+ghost use Rattle.ospf_records.specs.Recorder.{CapturesGoOn, GoOnAndOn, LogsGoOn};
 
 /// The checksum of each IP header holds: its words sum to all ones (RFC
 /// 791, section 3.1, and RFC 1071).
@@ -16,4 +17,15 @@ pub fn lengths_are_told()
 /// A file is the capture of one list of packets and no other.
 pub fn has_one_reading()
     ensures { HasOneReading }
+{}
+
+/// The capture of logs that go on is what it was, and behind it what was sent since.
+pub fn captures_go_on()
+    ensures { CapturesGoOn }
+{}
+
+/// The logs of a world go on, whatever happens in it, and however often.
+pub fn logs_go_on()
+    ensures once { LogsGoOn }
+    ensures again { GoOnAndOn }
 {}

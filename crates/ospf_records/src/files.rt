@@ -1,7 +1,8 @@
 //! The files that are wanted of a simulation.
 
-ghost use Rattle.std.specs.Prelude.{◌≡◌, IfErr, Ok, true};
+ghost use Rattle.std.specs.Prelude.{◌≡◌, ◌++◌, IfErr, IfOk, OnErr, Ok, true};
 ghost use Rattle.std.specs.IoError.{error_kind};
+ghost use Rattle.ospf_records.specs.Files.{TellsBefore, TellsUnwritten, names_in};
 
 use crate::captures::capture;
 use crate::drawings::drawing;
@@ -13,9 +14,10 @@ use std::rt::Runtime;
 
 /// Writes what is wanted of the world that a simulation leaves: into the file `dot` its drawing,
 /// with the walk if there was one, into `pcap` its capture. The answer is whether all was written;
-/// what was not is told, as far as `err` can be written.
+/// what was not is told, as far as `err` can be written, a line a file, the drawing before the
+/// capture.
 ///
-/// The error is want of memory.
+/// The error is want of memory. What was not written of the files before it is told.
 pub fn write_records<R: Runtime + AllocGlobal, E: Write>(
     rt: &R,
     world: &World,
@@ -24,19 +26,63 @@ pub fn write_records<R: Runtime + AllocGlobal, E: Write>(
     pcap: Option<&str>,
     err: &mut E,
 ) -> io::Result<bool>
+    // Of each file that could not be written its line was begun, in their order.
+    ensures told { IfOk result (λ all. TellsUnwritten (names_in dot.entry ++ names_in pcap.entry)
+        all (E.contents err.old) (E.contents err.new)) }
     ensures silent { result ≡ Ok true → E.contents err.new ≡ E.contents err.old }
+    // Want of memory, at one of the files, is the only error. Those before it are told so.
+    ensures cut { OnErr result (TellsBefore (names_in dot.entry ++ names_in pcap.entry)
+        (E.contents err.old) (E.contents err.new)) }
     ensures memory { IfErr result (λ error. error_kind error ≡ ErrorKind.OutOfMemory) }
 {
-    let mut all = true;
-    if let Some(name) = dot {
-        let text = drawing(world, routers_in(walk), rt.alloc())?;
-        all &= write_file(rt, name, text.as_bytes(), err)?;
+    let drawn = write_drawing(rt, world, walk, dot, err)?;
+    let captured = write_capture(rt, world, pcap, err)?;
+    Ok(drawn && captured)
+}
+
+// Writes the drawing of the world, if it is wanted. The answer is whether all was written.
+fn write_drawing<R: Runtime + AllocGlobal, E: Write>(
+    rt: &R,
+    world: &World,
+    walk: Option<&Walk>,
+    dot: Option<&str>,
+    err: &mut E,
+) -> io::Result<bool>
+    ensures told { IfOk result (λ all. TellsUnwritten (names_in dot.entry) all (E.contents err.old)
+        (E.contents err.new)) }
+    ensures cut { OnErr result (TellsBefore (names_in dot.entry) (E.contents err.old)
+        (E.contents err.new)) }
+    ensures memory { IfErr result (λ error. error_kind error ≡ ErrorKind.OutOfMemory) }
+{
+    match dot {
+        None => Ok(true),
+        Some(name) => {
+            let text = drawing(world, routers_in(walk), rt.alloc())?;
+            write_file(rt, name, text.as_bytes(), err)
+        }
     }
-    if let Some(name) = pcap {
-        let bytes = capture(world, rt.alloc())?;
-        all &= write_file(rt, name, &bytes, err)?;
+}
+
+// Writes the capture of the world, if it is wanted. The answer is whether all was written.
+fn write_capture<R: Runtime + AllocGlobal, E: Write>(
+    rt: &R,
+    world: &World,
+    pcap: Option<&str>,
+    err: &mut E,
+) -> io::Result<bool>
+    ensures told { IfOk result (λ all. TellsUnwritten (names_in pcap.entry) all (E.contents err.old)
+        (E.contents err.new)) }
+    ensures cut { OnErr result (TellsBefore (names_in pcap.entry) (E.contents err.old)
+        (E.contents err.new)) }
+    ensures memory { IfErr result (λ error. error_kind error ≡ ErrorKind.OutOfMemory) }
+{
+    match pcap {
+        None => Ok(true),
+        Some(name) => {
+            let bytes = capture(world, rt.alloc())?;
+            write_file(rt, name, &bytes, err)
+        }
     }
-    Ok(all)
 }
 
 // The routers that a walk met; none where there was no walk.

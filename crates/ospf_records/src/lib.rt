@@ -3,10 +3,10 @@
 //!
 //! `capture` makes a file as Wireshark and tcpdump open it: libpcap's classic format, each
 //! packet as an IP packet of protocol 89 (RFC 791 and RFC 2328, appendix A.1). `write_header`
-//! begins one, and `write_datagram` adds a packet. `drawing` prints what a router lists: a
-//! `Graph` is a listing in the language of Graphviz's `dot` (`specs/Graph`). `write_records`
-//! writes the files that are wanted. What is captured, and when, stands in `specs/Captures`, how
-//! in `specs/Pcap` and `specs/Ip`.
+//! begins one, `write_datagram` adds a packet, and a `Recorder` what a network has sent since it
+//! did so last. `drawing` prints what a router lists: a `Graph` is a listing in the language of
+//! Graphviz's `dot` (`specs/Graph`). `write_records` writes the files that are wanted. What is
+//! captured, and when, stands in `specs/Captures`, how in `specs/Pcap` and `specs/Ip`.
 #![tactic(auto)]
 
 mod arrows;
@@ -23,10 +23,13 @@ mod graph;
 mod graph_laws;
 mod moment;
 mod nodes;
+mod recorder;
 mod stamps;
 mod write;
 
-pub use crate::capture_laws::{checksum_holds, has_one_reading, lengths_are_told};
+pub use crate::capture_laws::{
+    captures_go_on, checksum_holds, has_one_reading, lengths_are_told, logs_go_on,
+};
 pub use crate::captures::capture;
 pub use crate::drawings::drawing;
 pub use crate::fault::CaptureFault;
@@ -35,4 +38,5 @@ pub use crate::graph::Graph;
 pub use crate::graph_laws::{names_tell_apart, prefixes_are_drawn};
 pub use crate::moment::Moment;
 pub use crate::nodes::Under;
+pub use crate::recorder::Recorder;
 pub use crate::write::{write_datagram, write_header};

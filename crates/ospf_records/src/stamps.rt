@@ -21,8 +21,8 @@ pub(crate) fn read_ticks(
     read: usize,
     number: usize,
 ) -> Result<usize, AllocError>
-    requires { AreTicksRead ticks.now number read clocks.old }
-    ensures { IfOk result (λ now. IsReadTo ticks.now number now clocks.new) }
+    ensures { AreTicksRead ticks.now number read clocks.old →
+        IfOk result (λ now. IsReadTo ticks.now number now clocks.new) }
 {
     let mut next = read;
     while next < ticks.len() && ticks[next].sent <= number {

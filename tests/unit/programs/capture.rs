@@ -1,11 +1,14 @@
 //! A capture that was written by hand from the formats (`tests/simulations/check-capture` reads it), and what is refused.
 
+use super::given::{FIRST, SECOND};
+use super::worlds::two_that_run;
 use super::written::{HELLO, UPDATE};
 use ospf_base::{ALL_SPF_ROUTERS, Addr};
 use ospf_records::{
-    CaptureFault, Moment, checksum_holds, has_one_reading, lengths_are_told, write_datagram,
-    write_header,
+    CaptureFault, Moment, Recorder, capture, captures_go_on, checksum_holds, has_one_reading,
+    lengths_are_told, logs_go_on, write_datagram, write_header,
 };
+use ospf_world::WorldEvent;
 use std::alloc::{AllocError, Global};
 use std::test::Fail;
 
@@ -84,5 +87,33 @@ fn the_longest_packet_and_a_longer_one(rt: HostRuntime) -> Result<(), Fail> {
     checksum_holds();
     lengths_are_told();
     has_one_reading();
+    captures_go_on();
+    logs_go_on();
+    Ok(())
+}
+
+// Each router's first Hello goes out as its link comes up, and the next one with its tenth tick.
+#[test]
+fn a_capture_that_goes_on(rt: HostRuntime) -> Result<(), Fail> {
+    let alloc = rt.alloc();
+    let mut world = two_that_run(alloc)?;
+    let mut recorder = Recorder::new(alloc);
+    let mut out = Vec::new(alloc);
+    write_header(&mut out)?;
+    recorder.add_sent(&mut out, &world)?;
+    assert_eq!(rt; recorder.datagrams(), 2);
+    assert_eq!(rt; out.len(), 24 + 2 * 80);
+    for _ in 0..10 {
+        for router in [FIRST, SECOND] {
+            world.step(WorldEvent::Tick { router }, alloc)?;
+            recorder.add_sent(&mut out, &world)?;
+        }
+    }
+    let moments = ["00000000 00000000", "00000000 00000001", "0000000a 00000000", "0000000a 00000001"];
+    assert_eq!(rt; out.len(), 24 + moments.len() * 80);
+    for (record, moment) in out[24..].chunks(80).zip(moments) {
+        assert_eq!(rt; record[..8], *bytes_of(alloc, &[moment])?);
+    }
+    assert_eq!(rt; out.as_slice(), capture(&world, alloc)?.as_slice());
     Ok(())
 }

@@ -1,0 +1,3 @@
+pub mod Journals
+pub mod Tables
+pub mod Drops
