@@ -1,8 +1,8 @@
 -- The tables of interfaces among values.
-use Rattle.std.proofs.Common.{◌≡◌, ◌⊎◌, ℕ, zero, suc, ◌+◌, ◌<◌, ◌≤◌, true, false, ◌&&◌, List, [], ◌∷◌, ◌++◌, length, take, get_or, Option, Some, None, is_some, option_and_then, unwrap_or, Err, inl, inr, refl, sym, ap, ◌∙◌, subst, if◌then◌else◌, arith}
-use Rattle.std.specs.Prelude.{Any}
-use Rattle.std.specs.List.{list_all, AllZip}
-use Rattle.std.proofs.lemmas.List.{take_more}
+use Rattle.std.proofs.Common.{◌≡◌, ◌⊎◌, ℕ, zero, suc, ◌+◌, ◌<◌, ◌≤◌, Bool, true, false, ◌&&◌, List, [], ◌∷◌, ◌++◌, length, take, get_or, Option, Some, None, is_some, option_and_then, unwrap_or, Err, inl, inr, refl, sym, ap, ◌∙◌, subst, if◌then◌else◌, arith}
+use Rattle.std.specs.Prelude.{◌↔◌, Any, IsTrue, MatchBool}
+use Rattle.std.specs.List.{list_all, AllWithin, AllZip, HoldsAt}
+use Rattle.std.proofs.lemmas.List.{get_or_default, take_more}
 use Rattle.std.proofs.lemmas.Option.{same_Some}
 use Rattle.std.proofs.lemmas.Bool.{cases_order, false≢true}
 use Rattle.toml.specs.Data.{Data, string, integer, float, boolean, datetime, array, table, Items, no_items, item, push_item, Members, as_table, as_array}
@@ -76,6 +76,12 @@ module _ {A : Type 0} (P : A → Type 0) where
         | inl p ↦ inl (any_here x xs p)
         | inr r ↦ elim (any_snoc xs y r) [ inl q ↦ inl (any_later x xs q) | inr q ↦ inr q ]
       ]
+
+  -- what `any` answers
+  pub any_by : (r : Bool) (xs : List A) → MatchBool r ((k : ℕ) × (k < length xs) × HoldsAt P xs k) (AllWithin (λ x. P x → ⊥) xs 0 (length xs)) → IsTrue r ↔ Any P xs
+  any_by true [] found = absurd (omega (arith, found.1))
+  any_by true (x ∷ xs) found = ((λ _. (found.0, get_or (x ∷ xs) found.0 x, found.1, get_or_default (x ∷ xs) found.0 _ x found.1, found.2 x)), λ _. refl)
+  any_by false xs none = ((λ yes. absurd (false≢true yes)), λ some. absurd (none some.0 some.1 (omega arith) some.2 (subst P (sym some.3) some.4)))
 
   -- one more in front of an index
   pub any_more : (xs : List A) (i : ℕ) (x : A) → i < length xs → x ≡ get_or xs i x → Any P (take i xs) ⊎ P x → Any P (take (i + 1) xs)

@@ -134,12 +134,7 @@ fn is_among(key: &str, known: &[&str]) -> bool
 fn conflicts_with_any(address: &InterfaceAddress, others: &[InterfaceAddress]) -> bool
     ensures { IsTrue result ↔ Any (Conflict address.now) others.now }
 {
-    for other in others {
-        if address.conflicts_with(other) {
-            return true;
-        }
-    }
-    false
+    others.iter().any(|other| address.conflicts_with(other))
 }
 
 // Whether a value is the table of an interface whose RouterDeadInterval
@@ -165,12 +160,7 @@ fn is_any_other(table: &Table, known: &[&str]) -> bool
     ensures { IsTrue result ↔ Any (λ k. IsOtherKey (map (λ n. n.now) known.now) (string_bytes k))
         (keys table.now) }
 {
-    for key in table.keys() {
-        if is_other(key.as_str(), known) {
-            return true;
-        }
-    }
-    false
+    table.keys().any(|key| is_other(key.as_str(), known))
 }
 
 // Whether a key of an interface is not known.

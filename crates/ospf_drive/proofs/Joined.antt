@@ -1,6 +1,5 @@
 -- Lists of threads and of what came of them.
-use Rattle.std.proofs.Common.{◌≡◌, ◌+◌, ◌<◌, ◌++◌, ℕ, suc, List, [], ◌∷◌, Result, Ok, Err, length, take, drop, get_or, refl, sym, subst, ap, ◌∙◌, append_assoc, arith, nat_eq, Bool, true}
-use Rattle.std.proofs.lemmas.Bool.{eqb-true}
+use Rattle.std.proofs.Common.{◌≡◌, ◌++◌, ℕ, suc, List, [], ◌∷◌, Result, Ok, Err, length, refl, sym, subst, ap, ◌∙◌, append_assoc}
 use Rattle.std.proofs.lemmas.List.{append-nil}
 use Rattle.std.specs.List.{AllZip}
 use Rattle.ospf_drive.specs.Driven.{IsDriven, IsThreadJoined, IsDriverStarted, Outcome}
@@ -28,12 +27,9 @@ all_joined begins (j ∷ js) [] os ps qs = absurd ps
 all_joined begins (j ∷ js) (t ∷ ts) [] ps qs = absurd qs
 all_joined begins (j ∷ js) (t ∷ ts) (o ∷ os) ps qs = (joined (begins j) t o ps.0 qs.0, all_joined begins js ts os ps.1 qs.1)
 
--- the first is taken off
-pub first_taken : {A : Type 0} (all done left rest : List A) (x : A) → all ≡ done ++ left → x ≡ get_or left 0 x → 0 < length left → rest ≡ take 0 left ++ drop (0 + 1) left → all ≡ (done ++ x ∷ []) ++ rest
-first_taken all done [] rest x is first some after =
-    let no : ⊥ = omega (arith, some) in absurd no
-first_taken all done (y ∷ left) rest x is first some after =
-    is ∙ ap (λ z. done ++ z ∷ left) (sym first) ∙ ap (λ zs. done ++ x ∷ zs) (sym after) ∙ sym (append_assoc done (x ∷ []) rest)
+-- one more is taken off what is left
+pub walked_on : {A : Type 0} (all yielded left later : List A) (x : A) → all ≡ yielded ++ left → left ≡ x ∷ later → all ≡ (yielded ++ x ∷ []) ++ later
+walked_on all yielded left later x walked step = walked ∙ ap (λ xs. yielded ++ xs) step ∙ sym (append_assoc yielded (x ∷ []) later)
 
 -- a list of no length
 no_length : {A : Type 0} (xs : List A) → length xs ≡ 0 → xs ≡ []
@@ -41,9 +37,9 @@ no_length [] none = refl
 no_length (x ∷ xs) none = cc
 
 -- none is left
-pub all_gone : {A B : Type 0} (P : A → B → Type 0) (all done left : List A) (ys : List B) → all ≡ done ++ left → (empty : Bool) (count : ℕ) → empty ≡ true → empty ≡ nat_eq count 0 → count ≡ length left → AllZip P done ys → AllZip P all ys
-all_gone P all done left ys is empty count so tested counted ps =
-    subst (λ (xs : List _). AllZip P xs ys) (sym (is ∙ ap (λ zs. done ++ zs) (no_length left (sym counted ∙ eqb-true count 0 (sym tested ∙ so))) ∙ append-nil done)) ps
+pub all_gone : {A B : Type 0} (P : A → B → Type 0) (all yielded left : List A) (ys : List B) → all ≡ yielded ++ left → length left ≡ 0 → AllZip P yielded ys → AllZip P all ys
+all_gone P all yielded left ys walked none ps =
+    subst (λ (xs : List _). AllZip P xs ys) (sym (walked ∙ ap (λ xs. yielded ++ xs) (no_length left none) ∙ append-nil yielded)) ps
 
 -- the one list is as long as the other
 pub as_many : {A B : Type 0} (P : A → B → Type 0) (xs : List A) (ys : List B) → AllZip P xs ys → length xs ≡ length ys

@@ -77,7 +77,7 @@ fn start_all<
 >(
     rt: S,
     alloc: Global,
-    mut jobs: Vec<DriverJob<W, R>>,
+    jobs: Vec<DriverJob<W, R>>,
     threads: &mut Vec<Result<Running<W, R>, DriveFault>>,
 )
     requires fresh { All (λ job. W.failed job.1 + 1 < 2 ^ 64) jobs.items }
@@ -87,8 +87,7 @@ fn start_all<
         job.2)
         thread) jobs.items threads.new.items }
 {
-    while !jobs.is_empty() {
-        let job = jobs.remove(0);
+    for job in jobs {
         let Ok(()) = threads.push(start(rt, alloc, job)) else {
             unreachable!()
         };
@@ -135,16 +134,15 @@ fn drive_one<W: Wire + Drop, R: Wait + Drop, S: Wait>(
 // Waits for each of the threads, in order.
 fn join_all<W: Wire + Drop, R: Wait + Send + Drop + 'static, S: Threads + Wait>(
     rt: &S,
-    mut threads: Vec<Result<Running<W, R>, DriveFault>>,
+    threads: Vec<Result<Running<W, R>, DriveFault>>,
     results: &mut Vec<Driven<R>>,
 )
     requires none { results.old.items ≡ [] }
     requires room { vec_len threads ≤ vec_capacity results.old }
     ensures { AllZip IsThreadJoined threads.items results.new.items }
 {
-    while !threads.is_empty() {
-        let driven = join(rt, threads.remove(0));
-        let Ok(()) = results.push(driven) else {
+    for running in threads {
+        let Ok(()) = results.push(join(rt, running)) else {
             unreachable!()
         };
     }

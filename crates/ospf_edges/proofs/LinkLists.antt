@@ -1,19 +1,20 @@
 -- Lists of links that grow by one.
-use Rattle.std.proofs.Common.{◌≡◌, ◌<◌, ◌≤◌, ◌++◌, ◌⊎◌, ℕ, Bool, true, false, List, [], ◌∷◌, Option, None, Some, refl, sym, ap, subst, inl, inr, arith}
+use Rattle.std.proofs.Common.{◌≡◌, ◌<◌, ◌≤◌, ◌++◌, ◌⊎◌, ◌↔◌, ℕ, Bool, true, false, List, [], ◌∷◌, Option, None, Some, refl, sym, ap, subst, inl, inr, arith, get_or, length}
 use Rattle.std.proofs.lemmas.List.Elements.{Contains-append_left, Contains-push, Contains-push_cases}
-use Rattle.std.proofs.lemmas.Bool.{ltb-false, ltb-true}
-use Rattle.std.specs.List.{Contains}
-use Rattle.std.specs.Prelude.{nat_lt}
+use Rattle.std.proofs.lemmas.Bool.{false≢true, ltb-false, ltb-true}
+use Rattle.std.proofs.lemmas.List.{get_or_default}
+use Rattle.std.specs.List.{AllWithin, Contains, HoldsAt}
+use Rattle.std.specs.Prelude.{IsTrue, MatchBool, nat_lt}
 use Rattle.ospf_lsa.specs.declared.link.Link.{Link}
 use Rattle.ospf_lsa.specs.declared.link.LinkKind.{LinkKind}
 use Rattle.ospf_edges.specs.Costs.{IsLeastOf, IsTo, NamesLinkTo, lesser_of}
 
-pub names_more : (xs : List Link) (x : Link) (kind : LinkKind) (id : ℕ) → (NamesLinkTo xs kind id → ⊥) → (IsTo kind id x → ⊥) → NamesLinkTo (xs ++ x ∷ []) kind id → ⊥
-names_more xs x kind id none not h =
-    elim (Contains-push_cases xs x h.0 h.1) [
-      | inl before ↦ none (h.0, before, h.2)
-      | inr same ↦ not (subst (λ (l : Link). IsTo kind id l) (sym same) h.2)
-    ]
+-- what is answered of the links, one after the other
+pub names_by : (kind : LinkKind) (id : ℕ) (r : Bool) (xs : List Link) → MatchBool r ((k : ℕ) × (k < length xs) × HoldsAt (IsTo kind id) xs k) (AllWithin (λ l. IsTo kind id l → ⊥) xs 0 (length xs))
+    → IsTrue r ↔ NamesLinkTo xs kind id
+names_by kind id true [] found = absurd (omega (arith, found.1))
+names_by kind id true (x ∷ xs) found = ((λ _. (get_or (x ∷ xs) found.0 x, (found.0, found.1, get_or_default (x ∷ xs) found.0 _ x found.1), found.2 x)), λ _. refl)
+names_by kind id false xs none = ((λ yes. absurd (false≢true yes)), λ some. absurd (none some.1.0 some.0 (omega arith) some.1.1 (subst (λ (l : Link). IsTo kind id l) (sym some.1.2) some.2)))
 
 bool_cases : (b : Bool) → (b ≡ true) ⊎ (b ≡ false)
 bool_cases true = inl refl

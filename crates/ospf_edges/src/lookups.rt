@@ -72,15 +72,10 @@ pub(crate) fn address_on(listing: &Listing, id: u32, router: RouterId) -> Option
 }
 
 // Whether one of the links is of this kind and has this Link ID.
-fn has_link(links: Links, kind: LinkKind, id: u32) -> bool
+fn has_link(mut links: Links, kind: LinkKind, id: u32) -> bool
     ensures { IsTrue result ↔ NamesLinkTo links.entry kind id }
 {
-    for link in links {
-        if is_to(&link, kind, id) {
-            return true;
-        }
-    }
-    false
+    links.any(|link| is_to(&link, kind, id))
 }
 
 // Whether a link is of this kind and has this Link ID.

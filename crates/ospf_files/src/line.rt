@@ -2,7 +2,7 @@
 
 ghost use Rattle.std.specs.Prelude.{◌≡◌, ◌<◌, ◌∷◌, [], length, map, IfOk, IfSome, IfNone};
 ghost use Rattle.std.specs.Str.Lines.{strip_carriage_return};
-ghost use Rattle.ospf_files.specs.Lines.{numbered_line, lines_of, numbered_from, uncommented};
+ghost use Rattle.ospf_files.specs.Lines.{BeginsWithLine, numbered_line, lines_of, numbered_from, uncommented};
 
 use crate::byte::place_of;
 use std::alloc::{AllocError, Global};
@@ -22,6 +22,7 @@ pub struct Line<'a> {
 /// A line ends with a line feed, before which a carriage return may stand, or with the text.
 pub fn first_line(text: &[u8]) -> Option<(&[u8], &[u8])>
     ensures line { IfSome result (λ found. lines_of text.now ≡ found.0.now ∷ lines_of found.1.now) }
+    ensures cut { IfSome result (λ found. BeginsWithLine text.now found.0.now found.1.now) }
     ensures shorter { IfSome result (λ found. length found.1.now < length text.now) }
     ensures none { IfNone result (text.now ≡ []) }
 {

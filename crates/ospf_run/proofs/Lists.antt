@@ -1,5 +1,5 @@
 -- Lists that go along with each other.
-use Rattle.std.proofs.Common.{◌≡◌, ◌∙◌, ap, sym, subst, refl, ◌+◌, ◌<◌, ℕ, suc, List, [], ◌∷◌, ◌++◌, All, length, take, drop, get_or, arith, add-one, length-append, map, append_assoc}
+use Rattle.std.proofs.Common.{◌≡◌, ◌∙◌, ap, sym, subst, refl, ◌+◌, ◌<◌, ℕ, suc, List, [], ◌∷◌, ◌++◌, All, length, take, drop, get_or, add-one, length-append, map, append_assoc}
 use Rattle.std.proofs.lemmas.List.{take_more, append-nil, map-append}
 use Rattle.std.proofs.lemmas.List.Elements.{All-cons, All-nil, All-append}
 use Rattle.std.proofs.Math.Seq.{drop-cons}
@@ -55,15 +55,14 @@ all_paired R P Q [] [] then pairs all = All-nil Q
 all_paired R P Q [] (y ∷ ys) then pairs all = absurd pairs
 all_paired R P Q (x ∷ xs) [] then pairs all = absurd pairs
 all_paired R P Q (x ∷ xs) (y ∷ ys) then pairs all =
-    All-cons Q y ys (then x y pairs.0 (of_first P (x ∷ xs) x refl (omega (arith)) all)) (all_paired R P Q xs ys then pairs.1 (of_later P (x ∷ xs) xs refl all))
+    All-cons Q y ys (then x y pairs.0 (of_first P (x ∷ xs) xs x refl all)) (all_paired R P Q xs ys then pairs.1 (of_later P (x ∷ xs) xs x refl all))
 
 -- what has begun is over the first of what there is, and the rest is left
-pub over_more : {J W : Type 0} (f : J → W) (all : List W) (jobs more : List J) (left later : List W) (job : J) (wire : W) → map f jobs ++ left ≡ all → 0 < length left
-    → wire ≡ get_or left 0 wire → later ≡ take 0 left ++ drop (0 + 1) left → f job ≡ wire → more ≡ jobs ++ job ∷ [] → map f more ++ later ≡ all
-over_more {J} {W} f all jobs more [] later job wire over some first after same more_is = let no : ⊥ = omega (arith, some) in absurd no
-over_more {J} {W} f all jobs more (w ∷ left) later job wire over some first after same more_is =
+pub over_more : {J W : Type 0} (f : J → W) (all : List W) (jobs more : List J) (left later : List W) (job : J) (wire : W) → map f jobs ++ left ≡ all
+    → left ≡ wire ∷ later → f job ≡ wire → more ≡ jobs ++ job ∷ [] → map f more ++ later ≡ all
+over_more {J} {W} f all jobs more left later job wire over step same more_is =
     ap (λ (xs : List J). map f xs ++ later) more_is ∙ ap (λ (xs : List W). xs ++ later) (map-append f jobs (job ∷ []))
-    ∙ append_assoc (map f jobs) (f job ∷ []) later ∙ ap (λ (x : W). map f jobs ++ x ∷ later) (same ∙ first) ∙ ap (λ (xs : List W). map f jobs ++ w ∷ xs) after ∙ over
+    ∙ append_assoc (map f jobs) (f job ∷ []) later ∙ ap (λ (x : W). map f jobs ++ x ∷ later) same ∙ ap (λ (xs : List W). map f jobs ++ xs) (sym step) ∙ over
 
 -- and all of it, where nothing is left
 pub over_all : {J W : Type 0} (f : J → W) (all : List W) (jobs : List J) (left : List W) → map f jobs ++ left ≡ all → length left ≡ 0 → map f jobs ≡ all
@@ -76,7 +75,7 @@ all_over {J} {W} f P jobs wires over all = go jobs (subst (λ (ws : List W). All
   where
     go : (js : List J) → All P (map f js) → All (λ job. P (f job)) js
     go [] h = All-nil (λ job. P (f job))
-    go (j ∷ js) h = All-cons (λ job. P (f job)) j js (of_first P (f j ∷ map f js) (f j) refl (omega (arith)) h) (go js (of_later P (f j ∷ map f js) (map f js) refl h))
+    go (j ∷ js) h = All-cons (λ job. P (f job)) j js (of_first P (f j ∷ map f js) (map f js) (f j) refl h) (go js (of_later P (f j ∷ map f js) (map f js) (f j) refl h))
 
 -- what began and what came of it, router by router
 pub routers_ran_of : {J : Type 0} (begins : J → Moment) (terms : Terms) (configs : List Config) (jobs : List J) (drivens : List Driven) (seats : List Known) (router_seats : List RouterSeat)
@@ -92,38 +91,28 @@ routers_ran_of begins terms (c ∷ cs) (j ∷ js) [] ks ls p n q r s = absurd q
 routers_ran_of begins terms (c ∷ cs) (j ∷ js) (d ∷ ds) [] ls p n q r s = absurd r
 routers_ran_of begins terms (c ∷ cs) (j ∷ js) (d ∷ ds) (k ∷ ks) [] p n q r s = absurd s
 routers_ran_of begins terms (c ∷ cs) (j ∷ js) (d ∷ ds) (k ∷ ks) (l ∷ ls) p n q r s =
-    (record { a = begins j; begins = p.0; counted = of_first (λ job. (begins job).traffic ≡ Ticks 0 terms.span) (j ∷ js) j refl (omega (arith)) n; ended = q.0; looks = subst (λ (known : Known). IsFrom known l) r.0 s.0 }, routers_ran_of begins terms cs js ds ks ls p.1 (of_later (λ job. (begins job).traffic ≡ Ticks 0 terms.span) (j ∷ js) js refl n) q.1 r.1 s.1)
+    (record { a = begins j; begins = p.0; counted = of_first (λ job. (begins job).traffic ≡ Ticks 0 terms.span) (j ∷ js) js j refl n; ended = q.0; looks = subst (λ (known : Known). IsFrom known l) r.0 s.0 }, routers_ran_of begins terms cs js ds ks ls p.1 (of_later (λ job. (begins job).traffic ≡ Ticks 0 terms.span) (j ∷ js) js j refl n) q.1 r.1 s.1)
 
--- the first of those that are left
-pub record HasFirst (terms : Terms) (config : Config) (configs : List Config) (drivens : List Driven) (router_seats : List RouterSeat) : Type 0 where
-  pub driven : Driven
-  pub router_seat : RouterSeat
-  pub later_drivens : List Driven
-  pub later_seats : List RouterSeat
-  pub drivens_are : drivens ≡ driven ∷ later_drivens
-  pub seats_are : router_seats ≡ router_seat ∷ later_seats
-  pub first : RouterRan terms config driven router_seat
-  pub later : RoutersRan terms configs later_drivens later_seats
-
-first_of : (terms : Terms) (config : Config) (configs : List Config) (drivens : List Driven) (router_seats : List RouterSeat) → RoutersRan terms (config ∷ configs) drivens router_seats
-    → HasFirst terms config configs drivens router_seats
-first_of terms config configs [] ls all_ran = absurd all_ran
-first_of terms config configs (d ∷ ds) [] all_ran = absurd all_ran
-first_of terms config configs (d ∷ ds) (l ∷ ls) all_ran =
-    record { driven = d; router_seat = l; later_drivens = ds; later_seats = ls; drivens_are = refl; seats_are = refl; first = all_ran.0; later = all_ran.1 }
-
-pub first_left : (terms : Terms) (configs : List Config) (i : ℕ) (config : Config) (drivens : List Driven) (router_seats : List RouterSeat) → i < length configs
-    → config ≡ get_or configs i config → RoutersRan terms (drop i configs) drivens router_seats → HasFirst terms config (drop (i + 1) configs) drivens router_seats
-first_left terms configs i config ds ls within is all_ran =
+-- one of each list is taken off what is left
+pub taken_off : (terms : Terms) (configs : List Config) (i : ℕ) (config : Config) (drivens later_drivens : List Driven) (driven : Driven) (router_seats later_seats : List RouterSeat) (router_seat : RouterSeat)
+    → i < length configs → config ≡ get_or configs i config → drivens ≡ driven ∷ later_drivens → router_seats ≡ router_seat ∷ later_seats
+    → RoutersRan terms (drop i configs) drivens router_seats → RouterRan terms config driven router_seat × RoutersRan terms (drop (i + 1) configs) later_drivens later_seats
+taken_off terms configs i config ds ds' d ls ls' l within is ds_are ls_are all_ran =
     let split : drop i configs ≡ config ∷ drop (i + 1) configs =
     drop-cons configs i config within ∙ ap (λ x. x ∷ drop (suc i) configs) (sym is) ∙ ap (λ n. config ∷ drop n configs) (sym (add-one i)) in
-    first_of terms config (drop (i + 1) configs) ds ls (subst (λ (cs : List Config). RoutersRan terms cs ds ls) split all_ran)
+    subst (λ (cs : List Config). RoutersRan terms cs (d ∷ ds') (l ∷ ls')) split
+    (subst (λ (xs : List Driven). RoutersRan terms (drop i configs) xs (l ∷ ls')) ds_are (subst (λ (ys : List RouterSeat). RoutersRan terms (drop i configs) ds ys) ls_are all_ran))
 
--- what is taken off a list, and what is left
-pub taken_off : {A : Type 0} (xs : List A) (x y : A) (ys rest : List A) → xs ≡ x ∷ ys → y ≡ get_or xs 0 y → rest ≡ take 0 xs ++ drop (0 + 1) xs → (y ≡ x) × (rest ≡ ys)
-taken_off [] x y ys rest is first after = absurd (cc is)
-taken_off (z ∷ zs) x y ys rest is first after =
-    let heads : z ≡ x = cc (is) in let tails : zs ≡ ys = cc (is) in (first ∙ heads, after ∙ tails)
+-- there are as many of each
+pub as_long : (terms : Terms) (configs : List Config) (drivens : List Driven) (router_seats : List RouterSeat) → RoutersRan terms configs drivens router_seats
+    → (length drivens ≡ length configs) × (length router_seats ≡ length configs)
+as_long terms [] [] [] all_ran = (refl, refl)
+as_long terms [] [] (l ∷ ls) all_ran = absurd all_ran
+as_long terms [] (d ∷ ds) ls all_ran = absurd all_ran
+as_long terms (c ∷ cs) [] ls all_ran = absurd all_ran
+as_long terms (c ∷ cs) (d ∷ ds) [] all_ran = absurd all_ran
+as_long terms (c ∷ cs) (d ∷ ds) (l ∷ ls) all_ran =
+    let long = as_long terms cs ds ls all_ran.1 in (ap (λ (n : ℕ). suc n) long.0, ap (λ (n : ℕ). suc n) long.1)
 
 outcomes_then : (lookup : Option Addr) (terms : Terms) (files : List NamedFile) (configs : List Config) (outcomes : List Outcome) (file : NamedFile) (config : Config) (outcome : Outcome)
     → AreOutcomes lookup terms files configs outcomes → IsOutcome lookup terms file config outcome

@@ -23,9 +23,9 @@ stop_unplanned asked files (stop.Obstacle (obstacle.NoSocket file none)) is = ab
 stop_unplanned asked files (stop.Failure f) is = subst (λ (x : Failure). IsEarly asked files x) (sym is) no_memory
 
 -- the plan fails
-pub early_of_plan : (asked : Asked) (files : List NamedFile) (f : Failure) → HasPlan asked.floor files → FailsPlan asked.lookup f → IsEarly asked files f
+pub early_of_plan : (asked : Asked) (files : List NamedFile) (f : Failure) → HasPlan asked.floor files → FailsPlan asked.lookup files f → IsEarly asked files f
 early_of_plan asked files failure.Memory has fails = no_memory
-early_of_plan asked files failure.Closed has fails = closed fails has
+early_of_plan asked files failure.Closed has fails = closed fails.0 fails.1 has
 early_of_plan asked files failure.Input has fails = absurd fails
 early_of_plan asked files failure.Output has fails = absurd fails
 early_of_plan asked files failure.Error has fails = absurd fails

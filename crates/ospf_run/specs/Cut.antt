@@ -1,6 +1,6 @@
 -- What stands written where memory runs out, a stream fails or a published table is closed
 -- before a run has come to its end.
-use Rattle.std.specs.Prelude.{⊤, ◌≡◌, ℕ, ℤ, List, Option, Result, Ok, Err, IsSome}
+use Rattle.std.specs.Prelude.{⊤, ◌≡◌, ◌≢◌, ℕ, ℤ, List, [], Option, Result, Ok, Err, IsSome}
 use Rattle.ospf_base.specs.declared.ids.Addr.{Addr}
 use Rattle.ospf_config.specs.declared.config.Config.{Config}
 use Rattle.ospf_files.specs.Status.{failure_line, failure_status}
@@ -21,11 +21,12 @@ use Rattle.ospf_udp.specs.declared.stop.Obstacle.{Obstacle}
 use Rattle.ospf_udp.specs.declared.stop.Stop.{Stop}
 use Rattle.ospf_udp.specs.declared.stop.Stop.TheVariants as stop
 
--- what fails before anything is written: memory ran out; or, where there is a plan and an address
--- is to be looked up, a table that a router publishes was closed
+-- what fails before anything is written: memory ran out; or, where there is a plan of one router or
+-- more and an address is to be looked up, a table that a router publishes was closed
 pub data IsEarly (asked : Asked) (files : List NamedFile) : Failure → Type 0 where
   no_memory : IsEarly asked files failure.Memory
-  closed : IsSome asked.lookup → HasPlan asked.floor files → IsEarly asked files failure.Closed
+  closed : IsSome asked.lookup → files ≢ [] → HasPlan asked.floor files
+      → IsEarly asked files failure.Closed
 
 -- a run is cut: before anything is written; or what is told of what keeps the
 -- routers from running; or their report
@@ -85,8 +86,8 @@ IsStopOfPlan files configs s =
     (asked : Asked) (least : ℤ) → IsPlan asked.floor files configs least → IsStop asked files s
 
 -- what failed of a plan before anything was written: memory ran out; or, where an address is to be
--- looked up, a table that a router publishes was closed
-abbrev pub FailsPlan : Option Addr → Failure → Type 0
-FailsPlan lookup failure.Memory = ⊤
-FailsPlan lookup failure.Closed = IsSome lookup
-FailsPlan lookup _ = ⊥
+-- looked up, a table that a router of one of these files publishes was closed
+abbrev pub FailsPlan : Option Addr → List NamedFile → Failure → Type 0
+FailsPlan lookup files failure.Memory = ⊤
+FailsPlan lookup files failure.Closed = IsSome lookup × (files ≢ [])
+FailsPlan lookup files _ = ⊥

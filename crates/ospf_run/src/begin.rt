@@ -27,7 +27,7 @@ pub(crate) fn begin_all<W: Wire + Drop, R: Wait + Copy + Drop>(
     alloc: Global,
     configs: &[Config],
     floor: i32,
-    mut wires: Vec<W>,
+    wires: Vec<W>,
 ) -> Result<(Vec<DriverJob<W, R>>, Vec<Seat>), AllocError>
     requires floor { floor ≢ max_sequence_number }
     requires wires { length wires.items ≡ length configs.now }
@@ -42,8 +42,11 @@ pub(crate) fn begin_all<W: Wire + Drop, R: Wait + Copy + Drop>(
 {
     let mut jobs = Vec::with_capacity(alloc, configs.len())?;
     let mut seats = Vec::with_capacity(alloc, configs.len())?;
+    let mut wires = wires.into_iter();
     for config in configs {
-        let wire = wires.remove(0);
+        let Some(wire) = wires.next() else {
+            unreachable!()
+        };
         let (job, seat) = begin(rt, alloc, config, floor, wire)?;
         put(&mut jobs, job)?;
         put(&mut seats, seat)?;

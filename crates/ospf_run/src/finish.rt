@@ -26,20 +26,26 @@ pub(crate) fn finish_all<'a, R: Wait + Drop, S: Threads>(
     alloc: Global,
     files: &'a [NamedFile],
     configs: &[Config],
-    mut driven: Vec<Driven<R>>,
-    mut seats: Vec<RouterSeat>,
+    driven: Vec<Driven<R>>,
+    seats: Vec<RouterSeat>,
     lookup: Option<Addr>,
 ) -> Result<Vec<Outcome<'a>>, Failure>
     requires files { length files.now ≡ length configs.now }
     requires ended { (terms : Terms) × RoutersRan terms configs.now driven.items seats.items }
     ensures outcomes { (terms : Terms) → RoutersRan terms configs.now driven.items seats.items
         → IfOk result (λ all. AreOutcomes lookup terms files.now configs.now all.items) }
-    ensures early { IfErr result (FailsPlan lookup) }
+    ensures early { IfErr result (FailsPlan lookup files.now) }
 {
     let mut outcomes = Vec::with_capacity(alloc, configs.len())?;
+    let mut driven = driven.into_iter();
+    let mut seats = seats.into_iter();
     for (place, config) in configs.iter().enumerate() {
-        let ended = driven.remove(0);
-        let router_seat = seats.remove(0);
+        let Some(ended) = driven.next() else {
+            unreachable!()
+        };
+        let Some(router_seat) = seats.next() else {
+            unreachable!()
+        };
         let Ok(came) = finish(rt, ended, router_seat, lookup) else {
             return Err(Failure::Closed);
         };

@@ -47,7 +47,7 @@ pub(crate) fn run_over<
     requires counted { All (λ wire. W.traffic wire ≡ Ticks 0 (span_of settings.now)) wires.items }
     // What comes of each router, or what failed before anything was written.
     ensures outcomes { IfOk result (λ all. ComeOf settings.now plan.now files.now all.items) }
-    ensures early { IfErr result (FailsPlan settings.now.lookup) }
+    ensures early { IfErr result (FailsPlan settings.now.lookup files.now) }
 {
     let (jobs, seats) = begin_all(*rt, alloc, &plan.configs, plan.floor, wires)?;
     let (driven, router_seats) = drive_and_look(rt, alloc, jobs, seats, settings.lookup)?;
@@ -90,7 +90,7 @@ fn drive_and_look<
 // Starts to look the address up from the seats, in order.
 fn start_lookups<S: Threads + Wait + Clock + Copy + Send + 'static>(
     rt: S,
-    mut seats: Vec<Seat>,
+    seats: Vec<Seat>,
     lookup: Option<Addr>,
     done: &Done,
     router_seats: &mut Vec<RouterSeat>,
@@ -99,8 +99,7 @@ fn start_lookups<S: Threads + Wait + Clock + Copy + Send + 'static>(
     requires room { vec_len seats ≤ vec_capacity router_seats.old }
     ensures { AllZip IsFrom seats.items router_seats.new.items }
 {
-    while !seats.is_empty() {
-        let seat = seats.remove(0);
+    for seat in seats {
         let router_seat = start_lookup(rt, seat, lookup, done);
         let Ok(()) = router_seats.push(router_seat) else {
             unreachable!()

@@ -102,7 +102,7 @@ pub(crate) fn tap_all<W: Wire + Drop, T: Tap + Drop>(
     alloc: Global,
     files: &[NamedFile],
     configs: &[Config],
-    mut wires: Vec<W>,
+    wires: Vec<W>,
     tap: &T,
 ) -> Result<Vec<TappedWire<W, T>>, AllocError>
     requires files { length files.now ≡ length configs.now }
@@ -110,8 +110,11 @@ pub(crate) fn tap_all<W: Wire + Drop, T: Tap + Drop>(
     ensures { IfOk result (λ all. AllZip (λ wire it. it.wire ≡ wire) wires.items all.items) }
 {
     let mut all = Vec::with_capacity(alloc, wires.len())?;
+    let mut wires = wires.into_iter();
     for (place, config) in configs.iter().enumerate() {
-        let wire = wires.remove(0);
+        let Some(wire) = wires.next() else {
+            unreachable!()
+        };
         put(&mut all, tapped(wire, tap, &files[place], config)?)?;
     }
     Ok(all)

@@ -1,6 +1,9 @@
 -- Configurations that can run beside each other.
-use Rattle.std.proofs.Common.{◌≡◌, refl, ap, sym, subst, ◌+◌, ◌<◌, ◌≤◌, ℕ, suc, List, [], ◌∷◌, length, take, get_or, Some, All, arith, slice_get, below_more, ◌∙◌, ◌==◌, true, false, eqb-true, eq-eqb, length-take, ◌++◌, drop, Result, Ok, Err, IfErr}
+use Rattle.std.proofs.Common.{◌≡◌, ◌↔◌, Bool, refl, ap, sym, subst, ◌+◌, ◌<◌, ◌≤◌, ℕ, suc, List, [], ◌∷◌, length, take, get_or, Some, All, arith, slice_get, below_more, ◌∙◌, ◌==◌, true, false, eqb-true, eq-eqb, length-take, ◌++◌, drop, Result, Ok, Err, IfErr}
+use Rattle.std.specs.List.{AllWithin, HoldsAt}
+use Rattle.std.specs.Prelude.{IsTrue, MatchBool}
 use Rattle.std.specs.Result.{IsErrAnd}
+use Rattle.std.proofs.lemmas.Bool.{false≢true}
 use Rattle.std.proofs.lemmas.Option.{get_or_from_slice_get, slice_get-get_or, slice_get_read, slice_get_within}
 use Rattle.std.proofs.lemmas.List.{get_or-take}
 use Rattle.ospf_base.specs.declared.ids.RouterId.{RouterId}
@@ -55,6 +58,22 @@ same_router a b same = let number : a.0 ≡ b.0 = eqb-true a.0 b.0 same in λ i.
 
 pub other_router : (a b : RouterId) → (a.0 == b.0) ≡ false → a ≡ b → ⊥
 other_router a b other same = let number : (a.0 == a.0) ≡ false = subst (λ (r : RouterId). (a.0 == r.0) ≡ false) (sym same) other in absurd (cc (number, eq-eqb a.0 a.0 refl))
+
+-- what is answered of the configurations, one after the other
+pub configured_by : (router : RouterId) (r : Bool) (configs : List Config)
+    → MatchBool r ((k : ℕ) × (k < length configs) × HoldsAt (λ (c : Config). (c.router_id.0 == router.0) ≡ true) configs k) (AllWithin (λ (c : Config). (c.router_id.0 == router.0) ≡ false) configs 0 (length configs))
+    → IsTrue r ↔ IsConfigured configs router
+configured_by router true [] found = absurd (omega (arith, found.1))
+configured_by router true (c ∷ cs) found = (
+  λ _. record { place = found.0; config = get_or (c ∷ cs) found.0 c; at = slice_get-get_or (c ∷ cs) found.0 c found.1; same = same_router _ _ (found.2 c) },
+  λ _. refl,
+)
+configured_by router false configs none = (
+  λ yes. absurd (false≢true yes),
+  λ among.
+      let here = get_or_from_slice_get configs among.place among.config among.config among.at in
+      absurd (other_router _ _ (none among.place among.config (omega arith) (slice_get_within configs among.place among.config among.at)) (ap (λ (c : Config). c.router_id) here ∙ among.same)),
+)
 
 -- one more, of whose router none before it is
 pub twins_more : (configs : List Config) (later : ℕ) (config : Config) → slice_get configs later ≡ Some config

@@ -156,12 +156,7 @@ fn share_router(configs: &[Config]) -> bool
 fn is_among(configs: &[Config], router: RouterId) -> bool
     ensures { IsTrue result ↔ IsConfigured configs.now router }
 {
-    for config in configs {
-        if config.router_id == router {
-            return true;
-        }
-    }
-    false
+    configs.iter().any(|config| config.router_id == router)
 }
 
 // The first file with an interface that has no port.

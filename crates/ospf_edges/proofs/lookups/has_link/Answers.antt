@@ -1,11 +1,12 @@
-use Rattle.std.proofs.Common.{◌++◌, ◌∷◌, [], ap, sym, append_assoc, ◌∙◌}
-use Rattle.ospf_edges.proofs.LinkLists.{names_more}
+use Rattle.std.proofs.Common.{rules}
+use borrow.Author.Tests.{tests}
+use Rattle.std.proofs.lemmas.Iterator.{cases_from_any}
+use Rattle.std.proofs.lemmas.Iterator.Consumers.{YieldsList-from_first}
+use Rattle.ospf_edges.proofs.LinkLists.{names_by}
+use Rattle.ospf_edges.specs.Costs.{IsTo}
 use Rattle.ospf_edges.proofs.lookups.has_link.Goals as goal
 
-pub loop-link-preserved : goal.loop-link-preserved
-loop-link-preserved c = record {
-  walked =
-      c.loop-link.invariant.walked ∙ ap (λ t. c.loop-link.yielded ++ t) c.in-Some.ensures.steps
-      ∙ sym (append_assoc c.loop-link.yielded (c.in-Some.link ∷ []) c.next.new.self);
-  none = names_more c.loop-link.yielded c.in-Some.link c.args.kind c.args.id c.loop-link.invariant.none (λ is. let yes = c.is_to.ensures.1 is in let no = c.if-is_to.false in cc);
-}
+pub returns : goal.returns
+returns c =
+    names_by c.args.kind c.args.id c.any.result c.args.links (cases_from_any _ _ _ (IsTo c.args.kind c.args.id) (λ l. IsTo c.args.kind c.args.id l → ⊥) c.any.ensures.ran
+    (YieldsList-from_first (λ x. x) (λ s. s) c.args.links cc) (λ x q k. search (rules, tests)) (λ x q k. search (rules, tests)))

@@ -1,4 +1,4 @@
-use Rattle.std.proofs.Common.{rules, ◌≡◌, ◌+◌, ◌<◌, ◌^◌, ℤ, arith, length, of_z, subst, sym, to_z, w32}
+use Rattle.std.proofs.Common.{rules, ◌≡◌, ◌+◌, ◌<◌, ◌^◌, ℤ, arith, of_z, subst, sym, to_z, w32}
 use Rattle.std.proofs.lemmas.List.{take_all}
 use Rattle.std.specs.List.{AllZip}
 use Rattle.ospf_drive.proofs.Jobs.{of_first, of_later}
@@ -8,15 +8,14 @@ use Rattle.ospf_run.proofs.begin.begin_all.Goals as goal
 
 pub loop-config-preserved : goal.loop-config-preserved
 loop-config-preserved g c =
-    let some : 0 < length c.loop-config.wires.items = omega (arith, c.remove-wire.ensures.len) in
-    let fresh : g.W.Wire.failed c.remove-wire.result + 1 < 2 ^ 64 =
-    of_first (λ wire. g.W.Wire.failed wire + 1 < 2 ^ 64) c.loop-config.wires.items c.remove-wire.result c.remove-wire.ensures.value some c.loop-config.invariant.fresh in
+    let fresh : g.W.Wire.failed c.in-Some.wire + 1 < 2 ^ 64 =
+    of_first (λ wire. g.W.Wire.failed wire + 1 < 2 ^ 64) c.loop-config.wires.rest.items c.next.new.self.rest.items c.in-Some.wire c.in-Some.ensures.cases.0 c.loop-config.invariant.fresh in
     let jobs = c.in_ok-put.ensures.ok in
     let seats = c.in_ok-put-2.ensures.ok in
     record {
-      left = omega (arith, c.remove-wire.ensures.len, c.loop-config.invariant.left);
-      fresh = of_later (λ wire. g.W.Wire.failed wire + 1 < 2 ^ 64) c.loop-config.wires.items c.remove-wire.new.self.items c.remove-wire.ensures.by_index.2 c.loop-config.invariant.fresh;
-      over = over_more (λ job. job.1) c.args.wires.items c.loop-config.jobs.items c.put.new.list.items c.loop-config.wires.items c.remove-wire.new.self.items c.in_ok-job.job c.remove-wire.result c.loop-config.invariant.over some c.remove-wire.ensures.value c.remove-wire.ensures.by_index.2 c.in_ok-job.ensures.wire jobs;
+      left = omega (arith, c.in-Some.ensures.cases.1, c.loop-config.invariant.left);
+      fresh = of_later (λ wire. g.W.Wire.failed wire + 1 < 2 ^ 64) c.loop-config.wires.rest.items c.next.new.self.rest.items c.in-Some.wire c.in-Some.ensures.cases.0 c.loop-config.invariant.fresh;
+      over = over_more (λ job. job.1) c.args.wires.items c.loop-config.jobs.items c.put.new.list.items c.loop-config.wires.rest.items c.next.new.self.rest.items c.in_ok-job.job c.in-Some.wire c.loop-config.invariant.over c.in-Some.ensures.cases.0 c.in_ok-job.ensures.wire jobs;
       begins = pairs_more _ c.args.configs.now c.loop-config.config-index c.config-item.result c.loop-config.jobs.items c.put.new.list.items c.in_ok-job.job c.loop-config-test.true c.config-item.is c.loop-config.invariant.begins c.in_ok-job.ensures.begins jobs;
       jobs_fresh = all_more (λ job. g.W.Wire.failed job.1 + 1 < 2 ^ 64) c.loop-config.jobs.items c.put.new.list.items c.in_ok-job.job c.loop-config.invariant.jobs_fresh (subst (λ wire. g.W.Wire.failed wire + 1 < 2 ^ 64) (sym c.in_ok-job.ensures.wire) fresh) jobs;
       seats = pairs_both _ c.loop-config.jobs.items c.put.new.list.items c.loop-config.seats.items c.put-in-loop-config.new.list.items c.in_ok-job.job c.in_ok-job.seat c.loop-config.invariant.seats c.in_ok-job.ensures.seat jobs seats;
@@ -31,4 +30,4 @@ returns-clause-begins g c =
 pub returns-clause-over : goal.returns-clause-over
 returns-clause-over g c =
     let left = c.loop-config.invariant.left in
-    over_all (λ job. job.1) c.args.wires.items c.loop-config.jobs.items c.loop-config.wires.items c.loop-config.invariant.over (omega (arith, left, c.loop-config-test.false, c.requires.wires))
+    over_all (λ job. job.1) c.args.wires.items c.loop-config.jobs.items c.loop-config.wires.rest.items c.loop-config.invariant.over (omega (arith, left, c.loop-config-test.false, c.requires.wires))

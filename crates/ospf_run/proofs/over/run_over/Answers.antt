@@ -8,11 +8,11 @@ use Rattle.ospf_run.specs.Runs.{AreOutcomes, RoutersRan, span_of}
 use Rattle.ospf_run.proofs.over.run_over.Goals as goal
 
 pub returns-in_err-jobs-clause-early : goal.returns-in_err-jobs-clause-early
-returns-in_err-jobs-clause-early g c = for_memory c.from_residual.result (FailsPlan c.args.settings.now.lookup) c.from_residual.ensures.1 tt
+returns-in_err-jobs-clause-early g c = for_memory c.from_residual.result (FailsPlan c.args.settings.now.lookup c.args.files.now) c.from_residual.ensures.1 tt
 
 pub returns-in_err-driven-clause-early : goal.returns-in_err-driven-clause-early
 returns-in_err-driven-clause-early g c =
-    for_memory c.from_residual-in_err-driven.result (FailsPlan c.args.settings.now.lookup) c.from_residual-in_err-driven.ensures.1 tt
+    for_memory c.from_residual-in_err-driven.result (FailsPlan c.args.settings.now.lookup c.args.files.now) c.from_residual-in_err-driven.ensures.1 tt
 
 pub finish_all-requires-clause-ended : goal.finish_all-requires-clause-ended
 finish_all-requires-clause-ended g c = (
