@@ -12,4 +12,5 @@ pub mod MatchingLemmas
 pub mod RenamedLemmas
 pub mod LinksBackLemmas
 pub mod TakeOverLemmas
+pub mod NameLemmas
 mod SameEnds

@@ -1,5 +1,5 @@
 -- An area without what a failure takes.
-use Rattle.std.proofs.Common.{◌≡◌, ◌↔◌, ◌+◌, ◌*◌, ◌<◌, ◌≤◌, ℕ, ℤ, suc, Bool, true, false, cond, ◌⊎◌, inl, inr, arith, filter, List, [], ◌∷◌, ◌++◌, map, take, drop, length, get_or, slice_index, refl, sym, ap, ◌∙◌, subst, not, Result, Ok, Err, IfOk, IfErr}
+use Rattle.std.proofs.Common.{◌≡◌, ◌↔◌, ◌+◌, ◌*◌, ◌<◌, ◌≤◌, ℕ, ℤ, suc, Bool, true, false, cond, ◌⊎◌, inl, inr, arith, filter, List, [], ◌∷◌, ◌++◌, map, take, drop, length, get_or, slice_index, refl, sym, ap, ◌∙◌, subst, not, Result, Ok, Err, IfOk, IfErr, OnOk}
 use Rattle.std.specs.List.{AllZip, Contains, list_all}
 use Rattle.std.proofs.lemmas.List.Elements.{filter-append}
 use Rattle.std.proofs.lemmas.List.{drop_more, length-append, take_more, take-append-drop, map-append}
@@ -14,7 +14,7 @@ use Rattle.ospf_lsa.specs.Link.{LinkEntry, entries_in, plain}
 use Rattle.ospf_lsa.proofs.Words.{IsRising}
 use Rattle.ospf_lsa.specs.declared.fault.LsaFault.TheVariants as fault
 use Rattle.ospf_lsa.proofs.ListingLemmas.{AllBefore, before_it}
-use Rattle.ospf_lsa.specs.Value.{IsMade, IsUnmade, RouterNeeds, router_value, LsaValue, router_body}
+use Rattle.ospf_lsa.specs.Value.{HasAll, IsMade, IsUnmade, RouterNeeds, router_value, LsaValue, router_body}
 use Rattle.ospf_lsa.specs.declared.link.Link.{Link}
 use Rattle.ospf_graph.specs.Advertisements.{Advertisement, network_lsa, router_lsa}
 use Rattle.ospf_edges.specs.Listed.{advertisement_of}
@@ -195,6 +195,42 @@ large_left f r number links lsa is same are differs (inr first) =
   where
     go : (24 + 12 * length links ≤ 16356 → ⊥) → 1361 < length links
     go long = omega (arith, long)
+
+-- none is left so large where one of all links that are kept is made
+pub small_left : (f : AreaFailure) (r : RouterId) (number : ℤ) (links : List Link) (lsa : List ℕ) → IsRouterLsa lsa → r ≡ (key_of lsa).router → links ≡ kept_links f r (links_of lsa)
+    → HasAll (RouterNeeds number links) → IsLeftLarge f (advertisement_of lsa) → ⊥
+small_left f r number links lsa is same are needs large =
+    let of : kept_links f r (links_of lsa) ≡ kept_links f (key_of lsa).router (links_of lsa) = ap (λ (q : RouterId). kept_links f q (links_of lsa)) same in
+    let here : IsLeftLarge f (router_lsa (key_of lsa).router (links_of lsa)) = subst (IsLeftLarge f) (router_of lsa is) large in
+    let many : 1361 < length links = subst (λ (l : List Link). 1361 < length l) (sym (are ∙ of)) here.1 in
+    apart many (needs fault.Length)
+  where
+    apart : 1361 < length links → 24 + 12 * length links ≤ 16356 → ⊥
+    apart many short = omega (arith, many, short)
+
+-- nor where all links are kept
+pub small_kept : (f : AreaFailure) (r : RouterId) (lsa : List ℕ) → IsRouterLsa lsa → r ≡ (key_of lsa).router → kept_links f r (links_of lsa) ≡ links_of lsa
+    → IsLeftLarge f (advertisement_of lsa) → ⊥
+small_kept f r lsa is same kept large =
+    let of : kept_links f r (links_of lsa) ≡ kept_links f (key_of lsa).router (links_of lsa) = ap (λ (q : RouterId). kept_links f q (links_of lsa)) same in
+    let here : IsLeftLarge f (router_lsa (key_of lsa).router (links_of lsa)) = subst (IsLeftLarge f) (router_of lsa is) large in
+    here.0 (sym of ∙ kept)
+
+-- nor of a network-LSA
+pub small_network : (f : AreaFailure) (lsa : List ℕ) → IsNetworkLsa lsa → IsLeftLarge f (advertisement_of lsa) → ⊥
+small_network f lsa is large = subst (IsLeftLarge f) (network_of lsa is) large
+
+-- what follows from what a success says
+pub OnOk-map : {T E : Type 0} (r : Result T E) (P Q : Type 0) → OnOk r P → (P → Q) → OnOk r Q
+OnOk-map (Ok x) P Q p f = f p
+OnOk-map (Err e) P Q p f = p
+
+-- none of a listing
+pub small_in : (f : AreaFailure) (items listing : List (List ℕ)) → items ≡ listing → ((lsa : List ℕ) → Contains items lsa → IsLeftLarge f (advertisement_of lsa) → ⊥)
+    → HasLeftLarge f (map advertisement_of listing) → ⊥
+small_in f items listing same none large =
+    let m = member_of_map advertisement_of listing large.0 large.1 in
+    none m.0 (subst (λ (l : List (List ℕ)). Contains l m.0) (sym same) m.1) (subst (IsLeftLarge f) (sym m.2) large.2)
 
 -- one of a listing
 pub large_in : (f : AreaFailure) (items listing : List (List ℕ)) (lsa : List ℕ) → items ≡ listing → Contains items lsa → IsLeftLarge f (advertisement_of lsa) → HasLeftLarge f (map advertisement_of listing)

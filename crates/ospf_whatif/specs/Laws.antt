@@ -1,6 +1,7 @@
 -- Laws of failures: what they do to every area.
 use Rattle.std.specs.Prelude.{◌≡◌, ◌+◌, ◌≤◌, ◌⊎◌, ℕ, List, Contains}
 use Rattle.ospf_base.specs.declared.ids.RouterId.{RouterId}
+use Rattle.ospf_edges.specs.Listed.{advertisements_of}
 use Rattle.ospf_graph.specs.Advertisements.{Advertisement}
 use Rattle.ospf_graph.specs.Graph.{IsEdge}
 use Rattle.ospf_graph.specs.Routes.{IsTable}
@@ -11,7 +12,10 @@ use Rattle.ospf_graph.specs.declared.paths.VertexStart.{VertexStart}
 use Rattle.ospf_graph.specs.Search.{AtIn, StartsIn}
 use Rattle.ospf_graph.specs.declared.graph.Vertex.{Vertex}
 use Rattle.ospf_graph.specs.declared.route.Route.{Route}
+use Rattle.ospf_lsa.specs.Listing.{IsListing}
 use Rattle.ospf_whatif.specs.Failure.{without}
+use Rattle.ospf_whatif.specs.Name.{area_failure_text}
+use Rattle.ospf_whatif.specs.Single.{IsFailure}
 use Rattle.ospf_whatif.specs.declared.failure.AreaFailure.{AreaFailure}
 
 -- after a failure no prefix is reached that was not reached before, and none at a lower cost
@@ -43,3 +47,10 @@ TreesStay =
     ((e : Edge) → IsEdge adverts e
     → IsEdge (without failure adverts) e ⊎ IsOffLeastPaths (AtIn settled) e) →
     IsTree (IsEdge (without failure adverts)) root (AtIn settled) (StartsIn starts)
+
+-- no two failures of an area have one name
+abbrev pub FailureNamesTellApart : Type 0
+FailureNamesTellApart =
+    (lsas : List (List ℕ)) (f g : AreaFailure) → IsListing lsas
+    → IsFailure (advertisements_of lsas) f → IsFailure (advertisements_of lsas) g
+    → area_failure_text f ≡ area_failure_text g → f ≡ g

@@ -63,8 +63,11 @@ pub fn without(
     ensures left { IfOk result (λ left. advertisements_of left
         ≡ without failure.now (advertisements_of listing.now)) }
     ensures bytes { IfOk result (AllZip (IsLeftLsa (failure.now ∷ [])) listing.now) }
+    // Too many links are told only where an LSA would have them, and then there is no listing.
     ensures large { result ≡ Err WithoutFault.Links →
         HasLeftLarge failure.now (advertisements_of listing.now) }
+    ensures small { OnOk result
+        (HasLeftLarge failure.now (advertisements_of listing.now) → ⊥) }
 {
     let mut left = Listing::new(alloc);
     for lsa in listing.lsas() {
@@ -121,9 +124,10 @@ fn lsa_without(alloc: Global, failure: &AreaFailure, lsa: &LsaView) -> Result<Ls
     ensures bytes { IfOk result (IsLeftLsa (failure.now ∷ []) lsa.now) }
     ensures key { IfOk result (λ left. key_of left ≡ key_of lsa.now) }
     ensures young { IfOk result (λ left. (header_of left).age < max_age) }
-    // It is too long only where it is made anew of more links than one of the largest size has.
+    // It is too long exactly where it is made anew of more links than one of the largest size has.
     ensures large { result ≡ Err LsaFault.Length →
         IsLeftLarge failure.now (advertisement_of lsa.now) }
+    ensures small { OnOk result (IsLeftLarge failure.now (advertisement_of lsa.now) → ⊥) }
 {
     match lsa.kind() {
         Kind::Router => router_without(alloc, failure, lsa),
@@ -141,9 +145,10 @@ fn router_without(alloc: Global, failure: &AreaFailure, lsa: &LsaView) -> Result
     ensures bytes { IfOk result (IsLeftLsa (failure.now ∷ []) lsa.now) }
     ensures key { IfOk result (λ left. key_of left ≡ key_of lsa.now) }
     ensures young { IfOk result (λ left. (header_of left).age < max_age) }
-    // It is too long only where it is made anew of more links than one of the largest size has.
+    // It is too long exactly where it is made anew of more links than one of the largest size has.
     ensures large { result ≡ Err LsaFault.Length →
         IsLeftLarge failure.now (advertisement_of lsa.now) }
+    ensures small { OnOk result (IsLeftLarge failure.now (advertisement_of lsa.now) → ⊥) }
 {
     let router = lsa.key().router;
     if keeps_all(failure, router, lsa.links()) {

@@ -1,6 +1,6 @@
 //! Laws: each holds of all areas and failures.
 
-ghost use Rattle.ospf_whatif.specs.Laws.{FailuresMakeNoEdge, FailuresTakeAway, TreesStay};
+ghost use Rattle.ospf_whatif.specs.Laws.{FailureNamesTellApart, FailuresMakeNoEdge, FailuresTakeAway, TreesStay};
 ghost use Rattle.ospf_whatif.specs.LinksBack.{OnlyLinksBackCount};
 ghost use Rattle.ospf_whatif.specs.Renamed.{NetworksAreButNames};
 
@@ -30,4 +30,9 @@ pub fn networks_are_but_names()
 /// back (RFC 2328, section 16.1, step 2b).
 pub fn only_links_back_count()
     ensures { OnlyLinksBackCount }
+{}
+
+/// Different failures of an area have different names.
+pub fn failure_names_tell_apart()
+    ensures { FailureNamesTellApart }
 {}

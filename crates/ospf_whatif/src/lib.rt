@@ -23,8 +23,8 @@ pub use crate::effect::{Loss, RouteChange};
 pub use crate::failure::AreaFailure;
 pub use crate::failures::single_failures;
 pub use crate::laws::{
-    failures_make_no_edge, failures_take_away, networks_are_but_names, only_links_back_count,
-    trees_stay,
+    failure_names_tell_apart, failures_make_no_edge, failures_take_away, networks_are_but_names,
+    only_links_back_count, trees_stay,
 };
 pub use crate::outage::{AreaGraph, Outage};
 pub use crate::root::KeptRoot;

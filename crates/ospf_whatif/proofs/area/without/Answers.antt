@@ -1,12 +1,13 @@
-use Rattle.std.proofs.Common.{rules, ◌≡◌, ◌+◌, ◌≤◌, ℕ, List, ◌∷◌, [], length, map, take, sym, ap, subst, ◌∙◌, arith}
+use Rattle.std.proofs.Common.{rules, ◌≡◌, ◌+◌, ◌≤◌, ℕ, List, ◌∷◌, [], length, map, take, sym, ap, subst, ◌∙◌, inl, inr, arith}
 use Rattle.std.specs.List.{AllZip, Contains}
 use Rattle.std.proofs.lemmas.List.{take_all}
 use Rattle.std.proofs.lemmas.List.Elements.{all_zip_more}
 use Rattle.ospf_lsa.specs.Lsa.{key_of}
 use Rattle.ospf_lsa.proofs.Words.{IsRising}
+use Rattle.ospf_graph.proofs.ListLemmas.{more_members}
 use Rattle.ospf_edges.specs.Listed.{advertisement_of, advertisements_of}
 use Rattle.ospf_whatif.specs.Failure.{IsLeftLarge, IsLeftLsa, left_of_lsa, without}
-use Rattle.ospf_whatif.proofs.WithoutLemmas.{keys_before, keys_next, large_in, told_next}
+use Rattle.ospf_whatif.proofs.WithoutLemmas.{keys_before, keys_next, large_in, small_in, told_next}
 use Rattle.ospf_whatif.proofs.area.without.Goals as goal
 
 pub append-requires : goal.append-requires
@@ -19,6 +20,14 @@ append-requires c =
           (c.in_ok-kept.ensures.key ∙ ap key_of c.view.ensures.same);
       young = c.in_ok-kept.ensures.young;
     }
+
+pub loop-lsa-init : goal.loop-lsa-init
+loop-lsa-init c = record {
+  told = ap (map advertisement_of) c.new-left.ensures;
+  bytes = subst (λ (l : List (List ℕ)). AllZip (IsLeftLsa (c.args.failure.now ∷ [])) [] l) (sym c.new-left.ensures) tt;
+  small = λ lsa m. absurd (let low = m.1 in omega arith);
+  keys = ap (map key_of) c.new-left.ensures;
+}
 
 pub loop-lsa-preserved : goal.loop-lsa-preserved
 loop-lsa-preserved c =
@@ -36,6 +45,10 @@ loop-lsa-preserved c =
       bytes =
           subst (AllZip R (take (i + 1) items)) (sym c.in_ok-append.ensures.ok)
           (all_zip_more R items c.loop-lsa.left i x c.in_ok-kept.kept c.loop-lsa-test.true c.lsa-item.is c.loop-lsa.invariant.bytes one);
+      small = λ lsa m large. elim ((more_members items i x c.loop-lsa-test.true lsa).0 m) [
+        | inl old ↦ c.loop-lsa.invariant.small lsa old large
+        | inr here ↦ c.in_ok-kept.ensures.small (subst (λ (l : List ℕ). IsLeftLarge c.args.failure.now (advertisement_of l)) (sym here ∙ sym c.lsa-item.is ∙ sym c.view.ensures.same) large)
+      ];
       keys = ap (map key_of) c.in_ok-append.ensures.ok ∙ keys;
     }
 
@@ -53,6 +66,15 @@ returns-clause-bytes c =
     let end : length items ≤ c.loop-lsa.lsa-index = omega (arith, c.loop-lsa-test.false) in
     let all : take c.loop-lsa.lsa-index items ≡ c.args.listing.now = take_all c.loop-lsa.lsa-index items end ∙ c.lsas-lsa-items.ensures.lsas in
     subst (λ (l : List (List ℕ)). AllZip (IsLeftLsa (c.args.failure.now ∷ [])) l c.loop-lsa.left) all c.loop-lsa.invariant.bytes
+
+pub returns-clause-small : goal.returns-clause-small
+unfolding advertisements_of
+returns-clause-small c =
+    let items = c.lsas-lsa-items.result.now in
+    let end : length items ≤ c.loop-lsa.lsa-index = omega (arith, c.loop-lsa-test.false) in
+    let none : (lsa : List ℕ) → Contains items lsa → IsLeftLarge c.args.failure.now (advertisement_of lsa) → ⊥ =
+    subst (λ (l : List (List ℕ)). (lsa : List ℕ) → Contains l lsa → IsLeftLarge c.args.failure.now (advertisement_of lsa) → ⊥) (take_all c.loop-lsa.lsa-index items end) c.loop-lsa.invariant.small in
+    small_in c.args.failure.now items c.args.listing.now c.lsas-lsa-items.ensures.lsas none
 
 pub returns-in_err-kept-clause-large : goal.returns-in_err-kept-clause-large
 unfolding advertisements_of
