@@ -10,3 +10,4 @@ pub mod Prefixes
 pub mod Expecting
 pub mod OneCommand
 pub mod Named
+pub mod Printed

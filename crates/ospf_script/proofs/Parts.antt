@@ -48,7 +48,7 @@ blank_behind text rest r h =
     let space : is_space (get_or text k d) ≡ true = prefix_len_passes is_space text k d (omega arith) in
     eqb-true _ 32 space
 
-filter-word : (word : Text) (parts : List Text) → 0 < length word → filter is_word (word ∷ parts) ≡ word ∷ filter is_word parts
+pub filter-word : (word : Text) (parts : List Text) → 0 < length word → filter is_word (word ∷ parts) ≡ word ∷ filter is_word parts
 filter-word [] parts h = absurd (omega arith)
 filter-word (b ∷ bs) parts h = ap (λ t. cond (not t) ((b ∷ bs) ∷ filter is_word parts) (filter is_word parts)) (ne_eqb (length (b ∷ bs)) 0 (λ z. omega (arith, h)))
 

@@ -1,7 +1,8 @@
--- No words spell two commands.
+-- Laws of commands: no words spell two, and what is printed of one spells it.
 use Rattle.std.specs.Prelude.{◌≡◌, List, string_bytes}
 use Rattle.ospf_script.specs.Commands.{SpellsCommand}
-use Rattle.ospf_script.specs.Words.{Text}
+use Rattle.ospf_script.specs.Texts.{command_text}
+use Rattle.ospf_script.specs.Words.{Text, line_words}
 use Rattle.ospf_script.specs.declared.command.Command.{Command}
 use Rattle.ospf_script.specs.declared.command.Command.TheVariants.{Expect, Say, Walk}
 use Rattle.ospf_script.specs.declared.expected.Expected.{Expected}
@@ -33,3 +34,9 @@ IsOneCommand c d = c ≡ d
 abbrev pub WordsSpellOneCommand : Type 0
 WordsSpellOneCommand =
     (ws : List Text) (c d : Command) → SpellsCommand ws c → SpellsCommand ws d → IsOneCommand c d
+
+-- the law: what is printed of a command that some line spells is a line that spells it
+abbrev pub PrintedIsSpelled : Type 0
+PrintedIsSpelled =
+    (line : Text) (c : Command) → SpellsCommand (line_words line) c
+    → SpellsCommand (line_words (command_text c)) c

@@ -24,7 +24,7 @@ pub use crate::command::{Command, Many, View};
 pub use crate::expected::{Expected, Wanted};
 pub use crate::fault::CommandFault;
 pub use crate::hint::Hint;
-pub use crate::laws::words_spell_one_command;
+pub use crate::laws::{printed_is_spelled, words_spell_one_command};
 pub use crate::show::{FloorShown, WantedShown};
 pub use crate::values::floor_of;
 pub use ospf_headline::WorldEvent;
