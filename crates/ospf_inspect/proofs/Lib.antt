@@ -5,3 +5,4 @@ mod Ways
 mod AnswerLemmas
 mod ValueLemmas
 mod Floats
+mod WayLemmas

@@ -14,7 +14,7 @@ use Rattle.ospf_inspect.specs.Path.{HasNoRouteFor, SaysWay, TakesHop, arrives, a
 use Rattle.ospf_inspect.specs.declared.path.PathLeg.{PathLeg}
 
 -- what stands at a place is in the list
-contains_at : {X : Type 0} (xs : List X) (i : ℕ) (x : X) → slice_get xs i ≡ Some x → Contains xs x
+pub contains_at : {X : Type 0} (xs : List X) (i : ℕ) (x : X) → slice_get xs i ≡ Some x → Contains xs x
 contains_at [] i x is = cc
 contains_at (y ∷ ys) zero x is = (zero, omega arith, (let same : y ≡ x = cc in same))
 contains_at (y ∷ ys) (suc i) x is = let h = contains_at ys i x is in (suc h.0, omega arith, h.2)

@@ -5,3 +5,4 @@ pub mod Values
 pub mod Tables
 pub mod Path
 pub mod Answer
+pub mod Laws

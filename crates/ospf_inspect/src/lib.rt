@@ -8,12 +8,14 @@
 
 mod answer;
 mod json;
+mod laws;
 mod lsas;
 mod path;
 mod tables;
 mod values;
 
 pub use crate::answer::{Form, InspectJob, inspect_text};
+pub use crate::laws::ways_arrive;
 pub use crate::lsas::lsas_text;
 pub use crate::path::path_text;
 pub use crate::tables::{table_json, tables_json, tables_text};
