@@ -1,3 +1,4 @@
 mod IfaceFacts
 pub mod Enumerated
 pub mod CountedLemmas
+pub mod ObjectLemmas

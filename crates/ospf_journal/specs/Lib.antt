@@ -4,3 +4,4 @@ pub mod Lines
 pub mod Objects
 pub mod Causes
 pub mod Counted
+pub mod Laws

@@ -16,7 +16,7 @@ use Rattle.ospf_journal.specs.Lines.{iface_text}
 use Rattle.ospf_journal.specs.declared.change.RouterChange.{RouterChange}
 use Rattle.ospf_journal.specs.declared.change.RouterChange.TheVariants as change
 use Rattle.ospf_journal.specs.declared.change.DroppedAt.{DroppedAt}
-use Rattle.ospf_journal.specs.declared.json.Object.{Object}
+use Rattle.ospf_journal.specs.declared.object.Object.{Object}
 use Rattle.ospf_journal.specs.declared.seen.SeenIface.{SeenIface}
 
 -- why a datagram was dropped, and where from

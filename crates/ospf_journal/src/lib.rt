@@ -3,22 +3,24 @@
 //! A `Seen` is what is kept of a router from step to step. `Seen::follow` tells what changed of
 //! it (`RouterChange`), in the order that `specs/Changes` states, and `JournalLine` and
 //! `Object` write a change as a line of text and as a JSON object (`specs/Lines`,
-//! `specs/Objects`). `dropped_of` tells why a router drops a datagram that comes to it, and
-//! `drop_lines` how many it dropped (`specs/Counted`).
+//! `specs/Objects`); that it is one is a law (`objects_are_json`). `dropped_of` tells why a router
+//! drops a datagram that comes to it, and `drop_lines` how many it dropped (`specs/Counted`).
 #![tactic(auto)]
 
 mod cause;
 mod change;
 mod counted;
-mod json;
+mod laws;
 mod line;
+mod object;
 mod seen;
 mod told;
 
 pub use crate::cause::dropped_of;
 pub use crate::change::{DroppedAt, RouterChange};
 pub use crate::counted::drop_lines;
-pub use crate::json::Object;
+pub use crate::laws::objects_are_json;
 pub use crate::line::{JournalLine, iface_text};
+pub use crate::object::Object;
 pub use crate::seen::{Seen, SeenIface, SeenNeighbour, SeenOwn};
 pub use ospf_step::Dropped;
