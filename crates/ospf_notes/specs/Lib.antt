@@ -1,3 +1,4 @@
 pub mod Journals
 pub mod Tables
 pub mod Drops
+pub mod Capturing

@@ -2,6 +2,10 @@
 //! tables from time to time, what they drop, a line on a terminal, and messages of
 //! neighbours whose LSAs a router refuses.
 
+ghost use Rattle.std.specs.Prelude.{◌≡◌, IfOk};
+ghost use Rattle.ospf_records.specs.Pcap.{file_header};
+
+use crate::capture::{Capture, record_of};
 use crate::dropped::{Heard, dropped_in};
 use crate::journal::Journal;
 use crate::line::StatusLine;
@@ -12,11 +16,11 @@ use ospf_config::Interface;
 use ospf_files::{Failure, NamedFile};
 use ospf_journal::{DroppedAt, Seen};
 use ospf_neighbour::NeighbourState;
-use ospf_records::{CaptureFault, Moment, write_datagram, write_header};
+use ospf_records::write_header;
 use ospf_run::{Config, Drops, Router, Sent, Step, Tap};
 use ospf_step::{DropCounts, count_dropped, none_dropped_on};
 use std::alloc::{AllocError, Global};
-use std::io::{self, ErrorKind, Write};
+use std::io::Write;
 use std::mem;
 use std::sync::{Arc, Mutex, Wait};
 use std::time::Clock;
@@ -91,8 +95,7 @@ impl<R: Wait + Clock + Copy + Drop, F: Write + Drop, T: Write + Drop, O: Write +
         let (captures, shows, logs) = (capture.is_some(), line.has_terminal(), journal.is_some());
         let every = tables.as_ref().map(|it| it.every());
         let mut shared = Shared {
-            capture,
-            is_written: true,
+            capture: Capture::new(capture),
             tables,
             journal,
             failure: None,
@@ -102,7 +105,7 @@ impl<R: Wait + Clock + Copy + Drop, F: Write + Drop, T: Write + Drop, O: Write +
             full: 0,
             running: 0,
         };
-        shared.write(Ok(capture_head(alloc)?));
+        shared.capture.write(Ok(capture_head(alloc)?));
         let shared = share(shared, alloc)?;
         Ok(Notes {
             rt,
@@ -124,7 +127,7 @@ impl<R: Wait + Clock + Copy + Drop, F: Write + Drop, T: Write + Drop, O: Write +
 
     /// Whether the capture, if there is one, could be written so far.
     pub fn is_written(&self) -> bool {
-        self.shared.lock(&self.rt).is_written
+        self.shared.lock(&self.rt).capture.is_written()
     }
 
     /// Whether the journal, if there is one, could be written so far.
@@ -258,7 +261,7 @@ impl<R: Wait + Clock + Copy + Drop, F: Write + Drop, T: Write + Drop, O: Write +
         }
         let mut all = self.shared.lock(&self.rt);
         let record = record_of(&self.rt, sent, self.alloc);
-        all.write(record);
+        all.capture.write(record);
     }
 
     fn ends(&mut self) {
@@ -277,9 +280,7 @@ impl<R: Wait + Clock + Copy + Drop, F: Write + Drop, T: Write + Drop, O: Write +
 // What the notes of all routers share.
 #[derive(Drop)]
 struct Shared<F: Write + Drop, T: Write + Drop, O: Write + Drop> {
-    // `None` where nothing is captured, or no more.
-    capture: Option<F>,
-    is_written: bool,
+    capture: Capture<F>,
     // `None` where no tables are printed, or no more.
     tables: Option<Tables<O>>,
     // `None` where no journal is written.
@@ -296,21 +297,6 @@ struct Shared<F: Write + Drop, T: Write + Drop, O: Write + Drop> {
 }
 
 impl<F: Write + Drop, T: Write + Drop, O: Write + Drop> Shared<F, T, O> {
-    // Writes to the capture, up to the first write that fails.
-    fn write(&mut self, bytes: Result<Vec<u8>, io::Error>) {
-        let Some(file) = &mut self.capture else {
-            return;
-        };
-        let written = match bytes {
-            Ok(bytes) => file.write_all(&bytes),
-            Err(error) => Err(error),
-        };
-        if written.is_err() {
-            self.capture = None;
-            self.is_written = false;
-        }
-    }
-
     // A router took its tick of this number, and has so many Full
     // neighbours in place of so many before.
     fn note<C: Clock>(
@@ -421,7 +407,9 @@ impl Teller {
 }
 
 // The head of a capture.
-fn capture_head(alloc: Global) -> Result<Vec<u8>, AllocError> {
+fn capture_head(alloc: Global) -> Result<Vec<u8>, AllocError>
+    ensures { IfOk result (λ head. head.items ≡ file_header) }
+{
     let mut head = Vec::new(alloc);
     write_header(&mut head)?;
     Ok(head)
@@ -469,18 +457,4 @@ fn full_neighbours(router: &Router) -> usize {
         full = full.saturating_add(more);
     }
     full
-}
-
-// The bytes of a datagram in a capture; none where it fits into no IP packet.
-fn record_of<C: Clock>(clock: &C, sent: &Sent, alloc: Global) -> Result<Vec<u8>, io::Error> {
-    let now = clock.since_1970()?;
-    let at = Moment {
-        seconds: u32::try_from(now.as_secs()).unwrap_or(u32::MAX),
-        microseconds: now.subsec_micros(),
-    };
-    let mut bytes = Vec::new(alloc);
-    match write_datagram(&mut bytes, at, sent.source, sent.destination, &sent.bytes) {
-        Ok(()) | Err(CaptureFault::TooLong) => Ok(bytes),
-        Err(CaptureFault::Memory) => Err(io::Error::from(ErrorKind::OutOfMemory)),
-    }
 }
