@@ -1,70 +1,25 @@
--- A text spells one address at most, and its parts are found at its first slash.
-use Rattle.std.proofs.Common.{◌≡◌, ◌≢◌, ℕ, zero, suc, ◌^◌, ◌<◌, ◌≤◌, List, [], ◌∷◌, ◌++◌, length, get_or, decimal, codes, Option, Some, None, IfNone, Result, Ok, Err, Bor, sym, ap, ◌∙◌, arith}
-use Rattle.std.specs.Int.{w32, to_be_bytes, from_be_bytes}
+-- The parts of a text that spells a prefix are found at its first slash.
+use Rattle.std.proofs.Common.{◌≡◌, ℕ, ◌^◌, ◌<◌, ◌≤◌, List, length, get_or, decimal, Option, Some, None, IfNone, Result, Ok, Err, Bor, sym, ap, ◌∙◌, arith}
 use Rattle.std.specs.Option.{MatchOption}
 use Rattle.std.specs.Str.Parse.{AllDigits, digits_value, ParsesUnsigned}
-use Rattle.std.specs.declared.net.ipv4_addr.Ipv4Addr.{Ipv4Addr}
-use Rattle.std.proofs.NetLemmas.Theorems.{IsIpv4Text_unique}
+use Rattle.std.proofs.lemmas.Bool.Decides.{nat_tests}
 use Rattle.std.proofs.lemmas.Fmt.{decimal_is_IsNumeral, decimal-digits_value, first_decimal}
-use Rattle.std.proofs.lemmas.Nat.{from_be_bytes-to_be_bytes_4}
-use Rattle.std.proofs.lemmas.Str.Parse.{IsNumeralModel, numerals_by_value, tells_digits, digit_from_value, digit_at, parse_plain}
+use Rattle.std.proofs.lemmas.Str.Parse.{IsNumeralModel, numerals_by_value, tells_digits, digit_at, parse_plain}
 use Rattle.std.proofs.lemmas.Str.Pattern.{IsSplitOnceResult, split_after}
 use Rattle.ospf_base.specs.Text.{IsDottedNumber}
+use Rattle.ospf_base.proofs.Dotted.{HasNo, dotted_has_no}
 use Rattle.ospf_config.specs.Texts.{IsPrefixText}
-
--- ---- one number to a dotted text
-
-pub dotted_one : (text : List ℕ) (m n : ℕ) → m < 2 ^ 32 → n < 2 ^ 32 → IsDottedNumber text m → IsDottedNumber text n → m ≡ n
-dotted_one text m n hm hn dm dn =
-    let a : Ipv4Addr = record { octets = to_be_bytes w32 m } in
-    let b : Ipv4Addr = record { octets = to_be_bytes w32 n } in
-    let same : to_be_bytes w32 m ≡ to_be_bytes w32 n = ap (λ (x : Ipv4Addr). x.octets) (IsIpv4Text_unique text a b dm dn) in
-    sym (from_be_bytes-to_be_bytes_4 m hm) ∙ ap (from_be_bytes w32) same ∙ from_be_bytes-to_be_bytes_4 n hn
 
 -- ---- the slash
 
--- no byte is a slash
-abbrev pub HasNoSlash : List ℕ → Type 0
-HasNoSlash [] = Unit {0}
-HasNoSlash (b ∷ bs) = (b ≢ 47) × HasNoSlash bs
-
-HasNoSlash-append : (xs ys : List ℕ) → HasNoSlash xs → HasNoSlash ys → HasNoSlash (xs ++ ys)
-HasNoSlash-append [] ys a b = b
-HasNoSlash-append (x ∷ xs) ys a b = (a.0, HasNoSlash-append xs ys a.1 b)
-
-HasNoSlash-at : (xs : List ℕ) → HasNoSlash xs → (i : ℕ) → i < length xs → get_or xs i 0 ≢ 47
-HasNoSlash-at [] h i lt = absurd (omega arith)
-HasNoSlash-at (x ∷ xs) h zero lt = h.0
-HasNoSlash-at (x ∷ xs) h (suc i) lt = HasNoSlash-at xs h.1 i (omega arith)
-
-digits_no_slash : (ds : List ℕ) → AllDigits 10 ds → HasNoSlash ds
-digits_no_slash [] h = tt
-digits_no_slash (d ∷ ds) h =
-    let digit = digit_from_value d h.0 in
-    ((λ e. omega (arith, digit)), digits_no_slash ds h.1)
-
-decimal_no_slash : (n : ℕ) → n < 256 → HasNoSlash (decimal n)
-decimal_no_slash n h = digits_no_slash (decimal n) ((decimal_is_IsNumeral n (omega arith)).0.1)
-
-dot_no_slash : HasNoSlash (codes ".")
-dot_no_slash = ((λ e. omega arith), tt)
-
-pub dotted_no_slash : (text : List ℕ) (n : ℕ) → IsDottedNumber text n → HasNoSlash text
-dotted_no_slash text n h =
-    let f = h.fit in
-    let one = decimal_no_slash h.a f.0 in
-    let two = decimal_no_slash h.b f.1 in
-    let three = decimal_no_slash h.c f.2 in
-    let four = decimal_no_slash h.d f.3 in
-    rw h.spelled
-    (HasNoSlash-append _ _ (HasNoSlash-append _ _ (HasNoSlash-append _ _ (HasNoSlash-append _ _
-    (HasNoSlash-append _ _ (HasNoSlash-append _ _ one dot_no_slash) two) dot_no_slash) three) dot_no_slash) four)
+pub dotted_no_slash : (text : List ℕ) (n : ℕ) → IsDottedNumber text n → HasNo 47 text
+dotted_no_slash text n h = dotted_has_no 47 (λ k. grind (arith, nat_tests)) text n h
 
 -- where the first slash of a text that spells a prefix is, its two parts stand
 pub parts_of : (text : List ℕ) (r : Option (Bor (List ℕ) × Bor (List ℕ))) (address n : ℕ) (p : IsPrefixText text address n)
     → IsSplitOnceResult 47 text r → MatchOption r ⊥ (λ x. (x.0.now ≡ p.dotted) × (x.1.now ≡ decimal n))
 parts_of text r address n p split =
-    split_after 47 text p.dotted (decimal n) r split (omega arith) p.spelled (HasNoSlash-at p.dotted (dotted_no_slash p.dotted address p.address_spelled))
+    split_after 47 text p.dotted (decimal n) r split (omega arith) p.spelled (λ i within. dotted_no_slash p.dotted address p.address_spelled i 0 within)
 
 -- ---- the length
 

@@ -1,5 +1,5 @@
 -- Conflicts among addresses, and among the tables that they stand in.
-use Rattle.std.proofs.Common.{◌≡◌, ◌↔◌, ℕ, zero, suc, ◌<◌, List, [], ◌∷◌, ◌++◌, length, get_or, Option, Some, None, Ok, Err, decimal, codes, inl, inr, refl, sym, ap, ◌∙◌, subst, arith}
+use Rattle.std.proofs.Common.{◌≡◌, ◌↔◌, ℕ, zero, suc, ◌<◌, List, [], ◌∷◌, length, get_or, Option, Some, None, Ok, Err, decimal, codes, inl, inr, refl, sym, ap, ◌∙◌, subst, arith}
 use Rattle.std.specs.Prelude.{Any, AllPairs, slice_get}
 use Rattle.std.specs.List.{AllZip}
 use Rattle.ospf_config.specs.declared.address.InterfaceAddress.{InterfaceAddress}
@@ -16,7 +16,8 @@ use Rattle.ospf_config.specs.Keys.{ReadsInterfaceAddress}
 use Rattle.ospf_config.specs.Tables.{HaveSamePrefix}
 use Rattle.ospf_config.specs.Interfaces.{IsInterfaceOf}
 use Rattle.ospf_config.specs.Conflicts.{Conflict, one_prefix, one_address, HasConflict, network_part}
-use Rattle.ospf_config.proofs.AddressTexts.{HasNoSlash, dotted_no_slash, dotted_one}
+use Rattle.ospf_base.proofs.Dotted.{dotted_one, one_cut}
+use Rattle.ospf_config.proofs.AddressTexts.{dotted_no_slash}
 use Rattle.ospf_config.proofs.PeerLists.{none_is_some}
 
 pub found_first : (all rest : List InterfaceAddress) (x : InterfaceAddress) (xs : List InterfaceAddress) → rest ≡ x ∷ xs → (HasConflict all ↔ HasConflict rest) → Any (Conflict x) xs → HasConflict all
@@ -84,20 +85,9 @@ same_prefix (t ∷ ts) (x ∷ xs) h (inl (k, y, lt, at, c)) =
 
 -- ---- a text has one address
 
-split_same : (xs ys us vs : List ℕ) → HasNoSlash xs → HasNoSlash us → xs ++ (47 ∷ ys) ≡ us ++ (47 ∷ vs) → (xs ≡ us) × (ys ≡ vs)
-split_same [] ys [] vs p q e = (refl, (let whole : 47 ∷ ys ≡ 47 ∷ vs = e in cc))
-split_same [] ys (u ∷ us) vs p q e = absurd (q.0 (let whole : 47 ∷ ys ≡ u ∷ (us ++ (47 ∷ vs)) = e in cc))
-split_same (x ∷ xs) ys [] vs p q e = absurd (p.0 (let whole : x ∷ (xs ++ (47 ∷ ys)) ≡ 47 ∷ vs = e in cc))
-split_same (x ∷ xs) ys (u ∷ us) vs p q e =
-    let whole : x ∷ (xs ++ (47 ∷ ys)) ≡ u ∷ (us ++ (47 ∷ vs)) = e in
-    let heads : x ≡ u = (cc) in
-    let tails : xs ++ (47 ∷ ys) ≡ us ++ (47 ∷ vs) = (cc) in
-    let (a, b) = split_same xs ys us vs p.1 q.1 tails in
-    ((let c : xs ≡ us = a in cc), b)
-
 text_one : (text : List ℕ) (a b : InterfaceAddress) → IsAddressText text a → IsAddressText text b → (a.address.0 ≡ b.address.0) × (a.length ≡ b.length)
 text_one text a b p q =
-    let (d, l) = split_same p.dotted (decimal a.length) q.dotted (decimal b.length) (dotted_no_slash p.dotted a.address.0 p.address_spelled) (dotted_no_slash q.dotted b.address.0 q.address_spelled)
+    let (d, l) = one_cut 47 p.dotted (decimal a.length) q.dotted (decimal b.length) (dotted_no_slash p.dotted a.address.0 p.address_spelled) (dotted_no_slash q.dotted b.address.0 q.address_spelled)
     (sym p.spelled ∙ q.spelled) in
     let spelled : IsDottedNumber p.dotted b.address.0 = subst (λ s. IsDottedNumber s b.address.0) (sym d) q.address_spelled in (
       dotted_one p.dotted a.address.0 b.address.0 (omega (arith, a.host.octet_high)) (omega (arith, b.host.octet_high)) p.address_spelled spelled,

@@ -4,7 +4,6 @@ use Rattle.std.specs.Fmt.{digits, digits_onto, digit_glyph}
 use Rattle.std.specs.Int.{w32, cast_unsigned, to_be_bytes}
 use Rattle.std.specs.Char.{digit_value}
 use Rattle.std.specs.Str.Parse.{AllDigits}
-use Rattle.std.proofs.NetLemmas.Texts.{IsDotted-ipv4_text}
 use Rattle.std.proofs.lemmas.Bool.{ne_eqb}
 use Rattle.std.proofs.lemmas.Bool.Decides.{nat_tests}
 use Rattle.std.proofs.lemmas.Fmt.{decimal_is_IsNumeral}
@@ -12,6 +11,7 @@ use Rattle.json.specs.Print.{escape, escape_byte, quoted}
 use Rattle.serde_json.specs.Data.{Members, member, no_members, number, string, unsigned}
 use Rattle.serde_json.specs.Written.{members_text}
 use Rattle.ospf_base.specs.Text.{IsDottedNumber, number_text, prefix_text}
+use Rattle.ospf_base.proofs.Dotted.{number_spells}
 use Rattle.ospf_base.specs.declared.ids.LsaKey.{LsaKey}
 use Rattle.ospf_base.specs.declared.ids.Kind.{Kind}
 use Rattle.ospf_base.specs.declared.ids.Kind.TheVariants as kind
@@ -115,17 +115,6 @@ digits_plain radix (d ∷ ds) small h = (digit_plain d (omega (arith, h.0)), dig
 decimal_plain : (n : ℕ) → n < 2 ^ 64 → IsPlain (decimal n)
 decimal_plain n h = digits_plain 10 (decimal n) (omega arith) (decimal_is_IsNumeral n h).0.1
 
-octet : (n k : ℕ) → get_or (to_be_bytes w32 n) k 0 < 2 ^ 8
-octet n zero = omega arith
-octet n (suc zero) = omega arith
-octet n (suc (suc zero)) = omega arith
-octet n (suc (suc (suc zero))) = omega arith
-octet n (suc (suc (suc (suc k)))) = omega arith
-
-dotted : (n : ℕ) → IsDottedNumber (number_text n) n
-unfolding number_text
-dotted n = IsDotted-ipv4_text (to_be_bytes w32 n) refl (octet n)
-
 dotted_plain : (text : List ℕ) (n : ℕ) → IsDottedNumber text n → IsPlain text
 dotted_plain text n h =
     let f = h.fit in
@@ -138,7 +127,7 @@ dotted_plain text n h =
     (plain-append _ _ (plain-append _ _ (plain-append _ _ (plain-append _ _ (plain-append _ _ (plain-append _ _ one dot) two) dot) three) dot) four)
 
 number_plain : (n : ℕ) → IsPlain (number_text n)
-number_plain n = dotted_plain (number_text n) n (dotted n)
+number_plain n = dotted_plain (number_text n) n (number_spells n)
 
 prefix_plain : (p : Prefix) → IsPlain (prefix_text p)
 prefix_plain p =

@@ -1,19 +1,15 @@
 -- A word spells one next hop at most, whose parts stand around its first bytes `>` and `@`.
 use Rattle.std.proofs.Common.{◌≡◌, ◌≢◌, ◌==◌, ℕ, zero, suc, ◌+◌, ◌<◌, ◌^◌, [], ◌∷◌, ◌++◌, true, false, get_or, length, take, drop, codes, refl, sym, ap, ◌∙◌, subst, arith, append_assoc}
-use Rattle.std.specs.Int.{w32, to_be_bytes}
 use Rattle.std.specs.List.{All, position_or_len}
-use Rattle.std.specs.Net.Text.{ipv4_text}
-use Rattle.std.proofs.NetLemmas.Alphabet.{IsDigitOrDot, All-ipv4_text}
-use Rattle.std.proofs.NetLemmas.Texts.{IsDotted-ipv4_text}
 use Rattle.std.proofs.lemmas.Bool.Decides.{nat_tests}
 use Rattle.std.proofs.lemmas.Bool.{eq-eqb, eqb-true}
 use Rattle.std.proofs.lemmas.List.{get_or-drop, get_or-take, take-append-drop, length-take, length-drop}
-use Rattle.std.proofs.lemmas.List.Elements.{All-weaker}
 use Rattle.std.proofs.lemmas.List.Sums.{fails_before_first, passes_at_first}
 use Rattle.std.proofs.Math.Seq.{take_all}
 use Rattle.ospf_base.specs.Text.{number_text}
 use Rattle.ospf_base.specs.declared.ids.Addr.{Addr}
 use Rattle.ospf_base.specs.declared.ids.RouterId.{RouterId}
+use Rattle.ospf_base.proofs.Dotted.{HasNo, dotted_has_no, number_spells, one_cut, spelled_is_written}
 use Rattle.ospf_graph.specs.Text.{hop_text}
 use Rattle.ospf_graph.specs.declared.hop.NextHop.{NextHop}
 use Rattle.ospf_graph.specs.declared.hop.NextHop.TheVariants.{Attached, PointToPoint, Lan}
@@ -23,36 +19,21 @@ use Rattle.ospf_script.proofs.OneValue.{address_one, router_one}
 
 -- ---- numbers as they are printed
 
-octet : (n k : ℕ) → get_or (to_be_bytes w32 n) k 0 < 2 ^ 8
-octet n zero = omega arith
-octet n (suc zero) = omega arith
-octet n (suc (suc zero)) = omega arith
-octet n (suc (suc (suc zero))) = omega arith
-octet n (suc (suc (suc (suc k)))) = omega arith
-
 -- what is printed of a number spells it
 pub printed_spells : (n : ℕ) → n < 2 ^ 32 → IsDotted32 (number_text n) n
-unfolding number_text
-printed_spells n fits = (IsDotted-ipv4_text (to_be_bytes w32 n) refl (octet n), fits)
+printed_spells n fits = (number_spells n, fits)
 
 -- and what spells it is printed of it
 pub spelled_is_printed : (word : Text) (n : ℕ) → IsDotted32 word n → word ≡ number_text n
-unfolding number_text
-spelled_is_printed word n h = h.0.spelled ∙ ap ipv4_text (sym h.0.value)
+spelled_is_printed word n h = spelled_is_written word n h.0
 
 -- ---- bytes that no number has
 
--- no byte of a word is this one
-abbrev pub HasNo : ℕ → Text → Type 0
-HasNo byte word = All (λ b. b ≢ byte) word
-
 number_has_no_greater : (n : ℕ) → HasNo 62 (number_text n)
-unfolding number_text
-number_has_no_greater n = All-weaker IsDigitOrDot (λ b. b ≢ 62) (λ b k. grind (arith, nat_tests)) (number_text n) (All-ipv4_text (to_be_bytes w32 n) (octet n))
+number_has_no_greater n = dotted_has_no 62 (λ k. grind (arith, nat_tests)) (number_text n) n (number_spells n)
 
 number_has_no_at : (n : ℕ) → HasNo 64 (number_text n)
-unfolding number_text
-number_has_no_at n = All-weaker IsDigitOrDot (λ b. b ≢ 64) (λ b k. grind (arith, nat_tests)) (number_text n) (All-ipv4_text (to_be_bytes w32 n) (octet n))
+number_has_no_at n = dotted_has_no 64 (λ k. grind (arith, nat_tests)) (number_text n) n (number_spells n)
 
 -- none stands before the first such byte of a word
 pub front_has_no : (byte : ℕ) (word front : Text) (n : ℕ) → n ≡ position_or_len (λ b. b == byte) word → front ≡ take n word → HasNo byte front
@@ -80,17 +61,6 @@ cut_at byte word front rest behind first n at is rest_is cut =
     let plus : n + 0 ≡ n = omega arith in
     let at_first : first ≡ get_or word n 0 = ap (λ (t : Text). get_or t 0 0) (sym cut ∙ rest_is) ∙ get_or-drop n word 0 0 ∙ ap (λ m. get_or word m 0) plus in
     sym (take-append-drop n word) ∙ ap (λ t. take n word ++ t) (sym rest_is ∙ cut ∙ ap (λ b. b ∷ behind) (at_first ∙ here)) ∙ ap (λ t. t ++ byte ∷ behind) (sym is)
-
--- the first such byte of a word stands at one place
-one_cut : (byte : ℕ) (xs ys us vs : Text) → HasNo byte xs → HasNo byte us → xs ++ byte ∷ ys ≡ us ++ byte ∷ vs → (xs ≡ us) × (ys ≡ vs)
-one_cut byte [] ys [] vs h k e = (refl, (let same : ys ≡ vs = cc in same))
-one_cut byte [] ys (u ∷ us) vs h k e = absurd (k 0 0 (omega arith) (let same : u ≡ byte = cc in same))
-one_cut byte (x ∷ xs) ys [] vs h k e = absurd (h 0 0 (omega arith) (let same : x ≡ byte = cc in same))
-one_cut byte (x ∷ xs) ys (u ∷ us) vs h k e =
-    let first : x ≡ u = cc in
-    let behind : xs ++ byte ∷ ys ≡ us ++ byte ∷ vs = cc in
-    let others = one_cut byte xs ys us vs (λ i d l. h (suc i) d (omega (arith, l))) (λ i d l. k (suc i) d (omega (arith, l))) behind in
-    ((let same = others.0 in let all : x ∷ xs ≡ u ∷ us = cc in all), others.1)
 
 -- it stands there
 has_in : (byte : ℕ) (xs ys : Text) → HasNo byte (xs ++ byte ∷ ys) → ⊥

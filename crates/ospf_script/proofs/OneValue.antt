@@ -1,34 +1,28 @@
 -- A word spells one value at most.
 use Rattle.std.proofs.Common.{◌≡◌, ℕ, ℤ, sym, ap, ◌∙◌}
-use Rattle.std.specs.Int.{w32, cast_signed, from_be_bytes, to_be_bytes}
-use Rattle.std.specs.declared.net.ipv4_addr.Ipv4Addr.{Ipv4Addr}
-use Rattle.std.proofs.NetLemmas.Theorems.{IsIpv4Text_unique}
-use Rattle.std.proofs.lemmas.Nat.{from_be_bytes-to_be_bytes_4}
+use Rattle.std.specs.Int.{w32, cast_signed}
 use Rattle.ospf_base.specs.declared.ids.Addr.{Addr}
 use Rattle.ospf_base.specs.declared.ids.RouterId.{RouterId}
+use Rattle.ospf_base.proofs.Dotted.{dotted_one}
 use Rattle.ospf_script.specs.Values.{IsAddress, IsDecimal, IsDotted32, IsFloor, IsPercent, IsRouterWord}
 use Rattle.ospf_script.specs.Words.{Text}
 
-pub dotted_one : (word : Text) (m n : ℕ) → IsDotted32 word m → IsDotted32 word n → m ≡ n
-dotted_one word m n h k =
-    let a : Ipv4Addr = record { octets = to_be_bytes w32 m } in
-    let b : Ipv4Addr = record { octets = to_be_bytes w32 n } in
-    let same : to_be_bytes w32 m ≡ to_be_bytes w32 n = ap (λ (x : Ipv4Addr). x.octets) (IsIpv4Text_unique word a b h.0 k.0) in
-    sym (from_be_bytes-to_be_bytes_4 m h.1) ∙ ap (from_be_bytes w32) same ∙ from_be_bytes-to_be_bytes_4 n k.1
+pub number_one : (word : Text) (m n : ℕ) → IsDotted32 word m → IsDotted32 word n → m ≡ n
+number_one word m n h k = dotted_one word m n h.1 k.1 h.0 k.0
 
 router_with : ℕ → RouterId
 router_with n = record { 0 = n }
 
 pub router_one : (word : Text) (r s : RouterId) → IsRouterWord word r → IsRouterWord word s → r ≡ s
 unfolding router_with
-router_one word r s h k = ap router_with (dotted_one word r.0 s.0 h k)
+router_one word r s h k = ap router_with (number_one word r.0 s.0 h k)
 
 address_with : ℕ → Addr
 address_with n = record { 0 = n }
 
 pub address_one : (word : Text) (a b : Addr) → IsAddress word a → IsAddress word b → a ≡ b
 unfolding address_with
-address_one word a b h k = ap address_with (dotted_one word a.0 b.0 h k)
+address_one word a b h k = ap address_with (number_one word a.0 b.0 h k)
 
 pub decimal_one : (bits : ℕ) (word : Text) (m n : ℕ) → IsDecimal bits word m → IsDecimal bits word n → m ≡ n
 decimal_one bits word m n h k = sym h.0.1 ∙ k.0.1

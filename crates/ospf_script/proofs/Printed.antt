@@ -6,13 +6,13 @@ use Rattle.std.specs.List.{AllZip, filter, slice_split, onto_first}
 use Rattle.std.specs.Net.Grammar.{IsNumber}
 use Rattle.std.specs.Char.{digit_value}
 use Rattle.std.specs.Str.Parse.{AllDigits, digits_value}
-use Rattle.std.proofs.NetLemmas.Texts.{IsDotted-ipv4_text}
 use Rattle.std.proofs.lemmas.Bool.{ne_eqb, eq-eqb}
 use Rattle.std.proofs.lemmas.Fmt.{decimal_is_IsNumeral, digits_is_IsNumeral}
 use Rattle.std.proofs.lemmas.Int.{of_z-to_z}
 use Rattle.std.proofs.lemmas.Int.Digits.{digits_value-lt}
 use Rattle.std.proofs.lemmas.List.{length-replicate}
 use Rattle.ospf_base.specs.Text.{IsDottedNumber, number_text, prefix_text}
+use Rattle.ospf_base.proofs.Dotted.{number_spells}
 use Rattle.ospf_base.specs.declared.ids.Addr.{Addr}
 use Rattle.ospf_base.specs.declared.ids.RouterId.{RouterId}
 use Rattle.ospf_base.specs.declared.prefix.Prefix.{Prefix}
@@ -154,17 +154,6 @@ decimal_number n h = decimal_is_IsNumeral n h
 decimal_word : (n : ℕ) → n < 2 ^ 64 → IsWord (decimal n)
 decimal_word n h = number_word 10 (decimal n) n (omega arith) (decimal_number n h)
 
-octet : (n k : ℕ) → get_or (to_be_bytes w32 n) k 0 < 2 ^ 8
-octet n zero = omega arith
-octet n (suc zero) = omega arith
-octet n (suc (suc zero)) = omega arith
-octet n (suc (suc (suc zero))) = omega arith
-octet n (suc (suc (suc (suc k)))) = omega arith
-
-dotted : (n : ℕ) → IsDottedNumber (number_text n) n
-unfolding number_text
-dotted n = IsDotted-ipv4_text (to_be_bytes w32 n) refl (octet n)
-
 dot_whole : HasNoSpace (codes ".")
 dot_whole = whole-of (codes ".") refl
 
@@ -180,7 +169,7 @@ dotted_word text n h =
     (word-append _ _ (word-append _ _ one dot_whole) two.whole) dot_whole) three.whole) dot_whole) four.whole)
 
 dots : (n : ℕ) → IsWord (number_text n)
-dots n = dotted_word (number_text n) n (dotted n)
+dots n = dotted_word (number_text n) n (number_spells n)
 
 -- ---- floors: eight hexadecimal digits
 
@@ -237,7 +226,7 @@ prefix_spelled p small =
       dotted = number_text p.address.0;
       digits = decimal p.length;
       spelled = append_assoc (number_text p.address.0) (47 ∷ []) (decimal p.length);
-      address_spelled = (dotted p.address.0, small);
+      address_spelled = (number_spells p.address.0, small);
       length_spelled = decimal_number p.length (omega arith);
       short = omega arith;
       masked = p.masked;
@@ -300,10 +289,10 @@ abbrev Again : Command → Type 0
 Again c = SpellsCommand (line_words (command_text c)) c
 
 router_spelled : (r : RouterId) → r.0 < 2 ^ 32 → IsRouterWord (number_text r.0) r
-router_spelled r small = (dotted r.0, small)
+router_spelled r small = (number_spells r.0, small)
 
 address_spelled : (a : Addr) → a.0 < 2 ^ 32 → IsAddress (number_text a.0) a
-address_spelled a small = (dotted a.0, small)
+address_spelled a small = (number_spells a.0, small)
 
 decimal_spelled : (n : ℕ) → n < 2 ^ 64 → IsDecimal 64 (decimal n) n
 decimal_spelled n small = (decimal_number n small, small)

@@ -1,21 +1,15 @@
 -- Names of failures tell them apart.
 use Rattle.std.proofs.Common.{◌≡◌, ◌-◌, ℕ, zero, suc, ◌^◌, ◌<◌, ◌≤◌, List, [], ◌∷◌, ◌++◌, get_or, drop, length, decimal, Some, None, refl, sym, ap, ◌∙◌, arith}
-use Rattle.std.specs.Int.{w32, to_be_bytes, from_be_bytes}
-use Rattle.std.specs.Net.Grammar.{IsDotted}
-use Rattle.std.specs.Net.Reader.{read_ipv4}
 use Rattle.std.specs.Prelude.{bit_and}
-use Rattle.std.proofs.NetLemmas.Ipv4.{read_ipv4_complete, read_ipv4_none}
 use Rattle.std.proofs.NetLemmas.Numbers.{NoDigit}
-use Rattle.std.proofs.NetLemmas.Options.{same_parts}
-use Rattle.std.proofs.NetLemmas.Texts.{IsDotted-ipv4_text}
 use Rattle.std.proofs.lemmas.Fmt.{decimal_injective}
 use Rattle.std.proofs.lemmas.List.{append_assoc, append-nil}
-use Rattle.std.proofs.lemmas.Option.{none-some}
-use Rattle.std.proofs.lemmas.Nat.{and_le_r, from_be_bytes-to_be_bytes_4, pow_pos}
+use Rattle.std.proofs.lemmas.Nat.{and_le_r, pow_pos}
 use Rattle.ospf_base.specs.Masks.{mask_of}
 use Rattle.ospf_base.specs.Text.{number_text, prefix_text}
 use Rattle.ospf_base.specs.declared.ids.RouterId.{RouterId}
 use Rattle.ospf_base.specs.declared.prefix.Prefix.{Prefix}
+use Rattle.ospf_base.proofs.Dotted.{no_number, same_number}
 use Rattle.ospf_base.proofs.PrefixLaws.{prefix_same}
 use Rattle.ospf_lsa.specs.Listing.{IsListing}
 use Rattle.ospf_graph.specs.Graph.{IsEdgeBetween}
@@ -38,31 +32,9 @@ FailureFits (Router router) = router.0 < 2 ^ 32
 
 -- ---- numbers at the front
 
-octet : (n k : ℕ) → get_or (to_be_bytes w32 n) k 0 < 2 ^ 8
-octet n zero = omega arith
-octet n (suc zero) = omega arith
-octet n (suc (suc zero)) = omega arith
-octet n (suc (suc (suc zero))) = omega arith
-octet n (suc (suc (suc (suc k)))) = omega arith
-
-dotted : (n : ℕ) → IsDotted (number_text n) (to_be_bytes w32 n)
-unfolding number_text
-dotted n = IsDotted-ipv4_text (to_be_bytes w32 n) refl (octet n)
-
-read_back : (n : ℕ) (rest : List ℕ) → NoDigit 10 rest → read_ipv4 (number_text n ++ rest) ≡ Some (to_be_bytes w32 n, rest)
-read_back n rest stop = read_ipv4_complete (number_text n) (to_be_bytes w32 n) rest (dotted n) stop
-
--- the numbers at the front of two texts are one, and so is what stands behind them
-same_number : (m n : ℕ) (xs ys : List ℕ) → m < 2 ^ 32 → n < 2 ^ 32 → NoDigit 10 xs → NoDigit 10 ys → number_text m ++ xs ≡ number_text n ++ ys → (m ≡ n) × (xs ≡ ys)
-same_number m n xs ys hm hn sx sy e =
-    let parts = same_parts _ _ _ _ (sym (read_back m xs sx) ∙ ap read_ipv4 e ∙ read_back n ys sy) in
-    (sym (from_be_bytes-to_be_bytes_4 m hm) ∙ ap (from_be_bytes w32) parts.0 ∙ from_be_bytes-to_be_bytes_4 n hn, parts.1)
-
 -- no number begins with an at sign
 no_at : (m : ℕ) (xs ys : List ℕ) → NoDigit 10 xs → number_text m ++ xs ≡ 64 ∷ ys → ⊥
-no_at m xs ys stop e =
-    let none : read_ipv4 (64 ∷ ys) ≡ None = read_ipv4_none [] (64 ∷ ys) tt (omega arith) (λ h. omega arith) in
-    none-some _ (sym none ∙ ap read_ipv4 (sym e) ∙ read_back m xs stop)
+no_at m xs ys stop e = no_number m xs (64 ∷ ys) stop (omega arith) (λ h. omega arith) e
 
 router_same : (a b : RouterId) → a.0 ≡ b.0 → a ≡ b
 router_same a b e = λ i. record { 0 = e i }

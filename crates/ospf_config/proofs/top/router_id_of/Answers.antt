@@ -1,5 +1,5 @@
 use Rattle.std.proofs.Common.{◌≡◌, refl, arith}
-use Rattle.ospf_config.proofs.AddressTexts.{dotted_one}
+use Rattle.ospf_base.proofs.Dotted.{dotted_one}
 use Rattle.ospf_config.proofs.top.router_id_of.Goals as goal
 
 pub returns-in_default-dotted_number-clause-reads : goal.returns-in_default-dotted_number-clause-reads

@@ -3,7 +3,8 @@ use Rattle.std.proofs.lemmas.Bool.{iff_false}
 use Rattle.std.proofs.lemmas.Fmt.{decimal_injective}
 use Rattle.std.proofs.lemmas.Str.Pattern.{split_parts}
 use Rattle.ospf_config.specs.Host.{IsHostAddress}
-use Rattle.ospf_config.proofs.AddressTexts.{parts_of, dotted_one, if_none}
+use Rattle.ospf_base.proofs.Dotted.{dotted_one}
+use Rattle.ospf_config.proofs.AddressTexts.{parts_of, if_none}
 use Rattle.ospf_config.proofs.address.InterfaceAddress.read.Goals as goal
 
 pub returns-in_err-dotted-clause-none : goal.returns-in_err-dotted-clause-none
