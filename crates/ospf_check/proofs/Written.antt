@@ -1,5 +1,6 @@
 -- What is told of files, one after the other.
 use Rattle.std.proofs.Common.{◌≡◌, ◌∙◌, ◌&&◌, Bool, true, false, ap, sym, subst, ◌+◌, ◌<◌, ℕ, suc, List, [], ◌∷◌, ◌++◌, length, take, drop, get_or, flat_map, Option, Some, ◌⊎◌, inl, append_assoc, append-nil, refl}
+use Rattle.std.specs.Bool.{⊤}
 use Rattle.std.proofs.lemmas.List.{take_more, flat_map_more}
 use Rattle.ospf_files.specs.AllFaults.{explains}
 use Rattle.ospf_files.specs.declared.explained.Explained.{Explained}
@@ -16,8 +17,14 @@ use Rattle.std.specs.Io.KnownBytes.{Appends}
 use Rattle.ospf_files.specs.declared.streams.FailedStreams.{FailedStreams}
 use Rattle.ospf_check.specs.declared.check.CheckFault.{CheckFault}
 use Rattle.ospf_check.specs.declared.check.CheckFault.TheVariants as fault
-use Rattle.ospf_check.specs.Checked.{AreAllKept, AreTold, EndsIn, IsCutIn, IsExplanation, IsFileTold, IsWritten, IsWrittenOf, KeepsIf, accepted_line, accepted_told, no_error, no_file, no_output, one_file, place_line, refused_told, warnings}
+use Rattle.ospf_check.specs.Checked.{AreTold, EndsIn, IsCutIn, IsExplanation, IsFileTold, IsWritten, IsWrittenOf, KeepsIf, accepted_line, accepted_told, no_error, no_file, no_output, one_file, place_line, refused_told, warnings}
 use Rattle.ospf_files.specs.declared.files.NamedFile.{NamedFile}
+use Rattle.ospf_files.specs.Listed.{AreConfigs}
+
+-- where all files are accepted these are their configurations
+abbrev pub AreAllKept : List NamedFile → Bool → List Config → Type 0
+AreAllKept files true configs = AreConfigs files configs
+AreAllKept files false configs = ⊤
 
 and_assoc : (a b c : Bool) → ((a && b) && c) ≡ (a && (b && c))
 and_assoc true b c = refl

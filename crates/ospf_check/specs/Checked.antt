@@ -203,11 +203,6 @@ abbrev pub KeepsIf : Bool → NamedFile → List Config → List Config → Type
 KeepsIf true file old new = IsConfigKept file old new
 KeepsIf false file old new = ⊤
 
--- where all files are accepted these are their configurations
-abbrev pub AreAllKept : List NamedFile → Bool → List Config → Type 0
-AreAllKept files true configs = AreConfigs files configs
-AreAllKept files false configs = ⊤
-
 -- the configurations that are handed on, where all files are accepted
 abbrev pub HoldConfigs : List NamedFile → Option (List Config) → Type 0
 HoldConfigs files None = ⊤

@@ -12,11 +12,17 @@ use Rattle.ospf_lsa.specs.Listing.{IsListing}
 use Rattle.ospf_graph.specs.Advertisements.{Advertisement, router_lsa, network_lsa, transit_address, is_transit_to, IsAddressOn}
 use Rattle.ospf_graph.specs.Pairs.{pair_code}
 use Rattle.ospf_graph.proofs.ListLemmas.{bool_cases, member_cases, member_head, member_later}
-use Rattle.ospf_edges.specs.Addresses.{AddsAddresses, AddsTold, AreAddresses, own_address_by, links_by}
+use Rattle.ospf_edges.specs.Addresses.{AddsAddresses, AddsTold, own_address_by, links_by}
 use Rattle.ospf_edges.specs.Index.{AreAddressesOn}
 use Rattle.ospf_edges.specs.Listed.{advertisement_of, advertisements_of}
 use Rattle.ospf_edges.proofs.GivenLemmas.{told_more}
 use Rattle.ospf_edges.proofs.ListedLemmas.{router_of, network_of, router_in, router_only}
+
+-- of each router and network the first address
+abbrev pub AreAddresses : List Advertisement → (ℕ → Option ℕ) → Type 0
+AreAddresses adverts address =
+    (r : RouterId) (n : ℕ) → n < 2 ^ 32
+    → address (pair_code r.0 n) ≡ transit_address n (links_by r adverts)
 
 map_or : {X Y : Type 0} (f : X → Y) (a b : Option X) → option_map f (option_or a b) ≡ option_or (option_map f a) (option_map f b)
 map_or f None b = refl

@@ -28,9 +28,3 @@ AddsTold advert old new =
     (r : RouterId) (n : ℕ) → n < 2 ^ 32
     → new (pair_code r.0 n)
     ≡ option_or (old (pair_code r.0 n)) (transit_address n (links_by r (advert ∷ [])))
-
--- of each router and network the first address
-abbrev pub AreAddresses : List Advertisement → (ℕ → Option ℕ) → Type 0
-AreAddresses adverts address =
-    (r : RouterId) (n : ℕ) → n < 2 ^ 32
-    → address (pair_code r.0 n) ≡ transit_address n (links_by r adverts)

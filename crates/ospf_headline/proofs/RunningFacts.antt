@@ -16,11 +16,26 @@ use Rattle.ospf_step.specs.declared.dropped.Dropped.{Dropped}
 use Rattle.ospf_lsdb.specs.Database.{listed}
 use Rattle.ospf_lsdb.specs.Moments.{among}
 use Rattle.ospf_router.specs.Routers.{RouterValue}
-use Rattle.ospf_router.specs.Steps.{Steps}
+use Rattle.ospf_router.specs.Steps.{Steps, IsLawful}
 use Rattle.ospf_router.specs.declared.router.Step.{Step}
 use Rattle.ospf_headline.specs.Logs.{LogsTake, LogsValue, run_of}
-use Rattle.ospf_headline.specs.Running.{Fed, TakesStep, RunningValue, SettlesLogs, runs_in}
+use Rattle.ospf_headline.specs.Running.{Fed, RunningValue, SettlesLogs, runs_in}
 use Rattle.ospf_update.specs.Removal.{lowest_number}
+
+-- the router takes the exact step of the event, dropped for this cause if it is dropped, which is
+-- counted; its runs are as before
+pub record TakesStep (e : Event) (before : RunningValue) (out : OutputsValue) (after : RunningValue)
+    : Type 0 where
+  pub area : AreaValue
+  pub next : AreaValue
+  pub was : before.router.area ≡ Some area
+  pub is : after.router.area ≡ Some next
+  pub dropped : Option Dropped
+  pub lawful : IsLawful e area dropped out next
+  pub table : HasItsTable (runs_in after next)
+  pub first : after.first ≡ before.first
+  pub later : after.later ≡ before.later
+  pub drops : after.drops ≡ with_dropped e dropped before.drops
 
 same_table : (before after : RunningValue) (s : AreaValue) → after.router ≡ before.router → HasItsTable (runs_in before s) → HasItsTable (runs_in after s)
 same_table before after s same has = record {

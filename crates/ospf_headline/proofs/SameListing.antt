@@ -11,8 +11,14 @@ use Rattle.ospf_lsa.specs.Lsa.{key_of, instance_of, kind_of}
 use Rattle.ospf_lsa.proofs.Words.{IsRising}
 use Rattle.ospf_graph.specs.Advertisements.{Advertisement}
 use Rattle.ospf_edges.specs.Listed.{advertisement_of, advertisements_of, advertisement_by}
-use Rattle.ospf_headline.specs.Listings.{ListsInstance, ListTheSame, AgreeByInstance}
+use Rattle.ospf_headline.specs.Listings.{ListsInstance, ListTheSame}
 use Rattle.ospf_step.proofs.SentFacts.{first_or_later}
+
+-- LSAs of one instance have equal contents
+abbrev pub AgreeByInstance : List (List ℕ) → List (List ℕ) → Type 0
+AgreeByInstance a b =
+    (x y : List ℕ) → Contains a x → Contains b y → instance_of x ≡ instance_of y
+    → contents x ≡ contents y
 
 -- what an LSA says does not depend on its age
 kind_same : (a b : ℕ) (rest : List ℕ) → kind_of (a ∷ b ∷ rest) ≡ kind_of (0 ∷ 0 ∷ rest)

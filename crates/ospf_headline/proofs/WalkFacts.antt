@@ -17,12 +17,12 @@ use Rattle.ospf_area.specs.State.{database_entry}
 use Rattle.ospf_area.proofs.Words.{copy_in}
 use Rattle.ospf_step.specs.Words.{HasCopy}
 use Rattle.ospf_step.proofs.StateFacts.{same_contents, key_of-lsa_of, Contains-map, Contains-map_cases, Contains-filter_cases}
-use Rattle.ospf_headline.specs.Listings.{ListTheSame, AgreeByInstance}
+use Rattle.ospf_headline.specs.Listings.{ListTheSame}
 use Rattle.ospf_headline.specs.Sound.{NoCollision}
 use Rattle.ospf_headline.specs.World.{World, Running, router_at, listing, HasItsTable}
 use Rattle.ospf_headline.specs.Walks.{adverts, table_at, table_in, AllListedAgree, StepsOn, WalksOn, StandsOnWay, RunningWalksArrive}
 use Rattle.ospf_headline.proofs.Facts.{Facts}
-use Rattle.ospf_headline.proofs.SameListing.{same_advertisements}
+use Rattle.ospf_headline.proofs.SameListing.{same_advertisements, AgreeByInstance}
 
 -- what is listed is a copy of the database
 listed_has : (x : Running) (lsa : List ℕ) → AreKeysRising x.state.database → Contains (listing x) lsa → HasCopy x.state lsa

@@ -56,21 +56,6 @@ pub record Begins (config : Config) (dd_start issued : ℕ) (floor : ℤ) (v : R
       → StartsAs config dd_start floor log (runs_in v area)
   pub drops : v.drops ≡ none_dropped_on config.interfaces.items
 
--- the router takes the exact step of the event, dropped for this cause if it is dropped, which is
--- counted; its runs are as before
-pub record TakesStep (e : Event) (before : RunningValue) (out : OutputsValue) (after : RunningValue)
-    : Type 0 where
-  pub area : AreaValue
-  pub next : AreaValue
-  pub was : before.router.area ≡ Some area
-  pub is : after.router.area ≡ Some next
-  pub dropped : Option Dropped
-  pub lawful : IsLawful e area dropped out next
-  pub table : HasItsTable (runs_in after next)
-  pub first : after.first ≡ before.first
-  pub later : after.later ≡ before.later
-  pub drops : after.drops ≡ with_dropped e dropped before.drops
-
 -- the logs grow by exactly these outputs, and the runs that have ended begin again
 pub record SettlesLogs (r : RouterId) (before : RunningValue) (out : OutputsValue)
     (logs : LogsValue) (after : RunningValue) (logs' : LogsValue) : Type 0 where

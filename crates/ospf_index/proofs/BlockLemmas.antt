@@ -13,7 +13,8 @@ use Rattle.ospf_graph.specs.declared.route.Route.{Route}
 use Rattle.ospf_graph.specs.Routes.{IsRouteBefore}
 use Rattle.ospf_spf.proofs.PrefixOrder.{prefixes_told}
 use Rattle.ospf_index.specs.Ranges.{end_of, IsPlaceFor}
-use Rattle.ospf_index.specs.Sweep.{IsLongest, AreNested, blocks_of}
+use Rattle.ospf_index.specs.Sweep.{IsLongest, blocks_of}
+use Rattle.ospf_index.proofs.SweepLemmas.{AreNested}
 
 same_or_less : (i j : ℕ) → i ≤ j → (i ≡ j) ⊎ (i < j)
 same_or_less i j le = grind arith

@@ -4,7 +4,15 @@ use Rattle.std.specs.List.{Contains}
 use Rattle.std.proofs.lemmas.List.{get_or_append_left, get_or_push, get_or-take, get_or_default, length_push, length-take-le}
 use Rattle.std.proofs.lemmas.List.Elements.{Contains-append_left, Contains-push}
 use Rattle.ospf_index.specs.Ranges.{AreStartsRising}
-use Rattle.ospf_index.specs.Sweep.{Blocks, IsRangeBegun, IsLongest, IsSwept, AreNested, here, top}
+use Rattle.ospf_index.specs.Sweep.{Blocks, IsRangeBegun, IsLongest, IsSwept, here, top}
+
+-- blocks stand in the order of their first addresses, and one that begins before an earlier
+-- one ends lies in it and is longer
+pub record AreNested (b : Blocks) : Type 0 where
+  pub in_order : (k l : ℕ) → k ≤ l → l < b.count → b.first k ≤ b.first l
+  pub nested : (k l : ℕ) → k < l → l < b.count → b.first l < b.end k
+      → (b.end l ≤ b.end k) × (b.long k < b.long l)
+  pub not_empty : (k : ℕ) → k < b.count → b.first k < b.end k
 
 same_or_less : (i j : ℕ) → i ≤ j → (i ≡ j) ⊎ (i < j)
 same_or_less i j le = grind arith

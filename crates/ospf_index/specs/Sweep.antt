@@ -75,11 +75,3 @@ pub record IsSwept (b : Blocks) (begun : ℕ) (opened starts places : List ℕ) 
       × (b.long (get_or opened s 0) < b.long (get_or opened t 0))
   pub ended : (k : ℕ) → k < begun → Contains opened k ⊎ (b.end k ≤ here starts)
   pub ahead : (k : ℕ) → begun ≤ k → k < b.count → here starts ≤ b.first k
-
--- blocks stand in the order of their first addresses, and one that begins before an earlier
--- one ends lies in it and is longer
-pub record AreNested (b : Blocks) : Type 0 where
-  pub in_order : (k l : ℕ) → k ≤ l → l < b.count → b.first k ≤ b.first l
-  pub nested : (k l : ℕ) → k < l → l < b.count → b.first l < b.end k
-      → (b.end l ≤ b.end k) × (b.long k < b.long l)
-  pub not_empty : (k : ℕ) → k < b.count → b.first k < b.end k

@@ -11,7 +11,7 @@ use Rattle.ospf_lsdb.specs.Database.{Ages, Entry, Held, Installs, IsDatabase, Pu
 use Rattle.ospf_lsdb.proofs.Words.{AreKeysRising}
 use Rattle.ospf_lsdb.specs.Expired.{IsIndex, KeysValue, SetsKey}
 use Rattle.ospf_lsdb.specs.Moments.{among}
-use Rattle.ospf_lsdb.specs.Places.{AllBefore, AllAfter}
+use Rattle.ospf_lsdb.proofs.Places.{AllBefore, AllAfter}
 use Rattle.ospf_lsdb.proofs.EntryLemmas.{is_expired-old, is_expired-young, older-young, older-old}
 use Rattle.ospf_lsdb.proofs.KeyLists.{set_same}
 use Rattle.ospf_lsdb.proofs.MapLaws.{one_database}

@@ -1,3 +1,4 @@
+pub mod Places
 pub mod Words
 pub mod EntryLemmas
 pub mod MapLemmas

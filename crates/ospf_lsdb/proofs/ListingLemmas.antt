@@ -9,7 +9,7 @@ use Rattle.ospf_base.specs.declared.ids.LsaKey.{LsaKey}
 use Rattle.ospf_lsa.specs.Lsa.{key_of}
 use Rattle.ospf_lsdb.specs.Database.{Held, key_at, key_in, lsa_of, is_fresh, listed, listed_of}
 use Rattle.ospf_lsdb.proofs.Words.{AreKeysRising}
-use Rattle.ospf_lsdb.specs.Places.{AllAfter}
+use Rattle.ospf_lsdb.proofs.Places.{AllAfter}
 use Rattle.ospf_lsdb.specs.declared.moments.AgeDue.{AgeDue}
 use Rattle.ospf_lsdb.specs.declared.dated.Stored.{Stored}
 use Rattle.ospf_lsdb.specs.Timers.{age_at, held_at, IsStored}

@@ -4,7 +4,7 @@ use Rattle.ospf_base.specs.declared.ids.LsaKey.{LsaKey}
 use Rattle.ospf_base.specs.Keys.{same_key}
 use Rattle.ospf_base.proofs.SameKeys.{same_key-refl, same_key-eq, same_key-apart, same_key-apart_after}
 use Rattle.ospf_lsdb.specs.Database.{Held, key_at, held_of, Puts}
-use Rattle.ospf_lsdb.specs.Places.{AllBefore, AllAfter}
+use Rattle.ospf_lsdb.proofs.Places.{AllBefore, AllAfter}
 
 pub after-none : (key : LsaKey) (xs : List Held) → AllAfter key xs → held_of xs key ≡ None
 after-none key [] above = refl

@@ -10,7 +10,7 @@ use Rattle.ospf_base.proofs.KeyOrder.{Precedes-cases, Precedes-trans}
 use Rattle.ospf_base.specs.declared.ids.LsaKey.{LsaKey}
 use Rattle.ospf_lsdb.specs.Database.{Held, key_at, held_of, is_some_and, reached_at}
 use Rattle.ospf_lsdb.proofs.Words.{AreKeysRising}
-use Rattle.ospf_lsdb.specs.Places.{AllAfter}
+use Rattle.ospf_lsdb.proofs.Places.{AllAfter}
 use Rattle.ospf_lsdb.specs.declared.moments.AgeDue.{AgeDue}
 use Rattle.ospf_lsdb.specs.declared.dated.Stored.{Stored}
 use Rattle.ospf_lsdb.specs.Moments.{due_cmp, has_due, same_due, is_due_at, keys_at, among}

@@ -6,7 +6,7 @@ use Rattle.ospf_base.specs.declared.ids.LsaKey.{LsaKey}
 use Rattle.ospf_base.specs.Keys.{Precedes}
 use Rattle.ospf_lsa.specs.Lsa.{key_of}
 use Rattle.ospf_lsdb.specs.Database.{Entry, Held, lsa_of, is_fresh, listed, listed_of}
-use Rattle.ospf_lsdb.specs.Places.{AllBefore}
+use Rattle.ospf_lsdb.proofs.Places.{AllBefore}
 use Rattle.ospf_lsdb.proofs.EntryLemmas.{key_of-with_age}
 use Rattle.ospf_lsdb.proofs.MapLemmas.{bool_cases}
 

@@ -8,7 +8,7 @@ use Rattle.ospf_base.specs.Keys.{Precedes}
 use Rattle.ospf_base.proofs.KeyOrder.{Precedes-trans}
 use Rattle.ospf_lsdb.specs.Database.{Held, key_at, IsDatabase, older}
 use Rattle.ospf_lsdb.proofs.Words.{AreKeysRising}
-use Rattle.ospf_lsdb.specs.Places.{AllBefore, AllAfter}
+use Rattle.ospf_lsdb.proofs.Places.{AllBefore, AllAfter}
 use Rattle.ospf_lsdb.proofs.EntryLemmas.{older-young, older-old}
 use Rattle.ospf_lsa.proofs.ListingLemmas.{all_back, all_front, all_join}
 

@@ -15,7 +15,7 @@ use Rattle.ospf_base.specs.Keys.{Precedes, same_key, key_cmp}
 use Rattle.ospf_base.specs.declared.ids.LsaKey.{LsaKey}
 use Rattle.ospf_lsdb.specs.Database.{key_at, held_of, is_told, IsDatabase, Puts}
 use Rattle.ospf_lsdb.proofs.Words.{AreKeysRising}
-use Rattle.ospf_lsdb.specs.Places.{AllAfter}
+use Rattle.ospf_lsdb.proofs.Places.{AllAfter}
 use Rattle.ospf_lsdb.specs.declared.moments.AgeDue.{AgeDue}
 use Rattle.ospf_lsdb.specs.declared.dated.Stored.{Stored}
 use Rattle.ospf_lsdb.specs.Moments.{ahead, has_due, same_due, coming, is_coming}

@@ -1,5 +1,4 @@
 pub mod Database
-pub mod Places
 pub mod Moments
 pub mod Timers
 pub mod Laws

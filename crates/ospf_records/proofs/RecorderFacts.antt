@@ -10,10 +10,14 @@ use Rattle.ospf_headline.specs.declared.logs.Datagram.{Datagram}
 use Rattle.ospf_records.specs.Captures.{capture_of, captured_at, captured_of, is_by, is_tick_of, microsecond_of, numbered_datagrams, second_of, seconds, within_second}
 use Rattle.ospf_records.specs.Counts.{capped}
 use Rattle.ospf_records.specs.Pcap.{Captured, file_header, record_bytes}
-use Rattle.ospf_records.specs.Recorder.{AddsTo, CapturesGoOn, GoOn, IsRecorded, IsRecordedTo, records_of, records_since}
+use Rattle.ospf_records.specs.Recorder.{AddsTo, CapturesGoOn, GoOn, IsRecorded, IsRecordedTo, records_since}
 use Rattle.ospf_records.specs.declared.recorder.Recorder.{Recorder}
 use Rattle.ospf_records.proofs.CountFacts.{by_false}
 use Rattle.ospf_world.specs.declared.ticks.Ticked.{Ticked}
+
+-- what a datagram adds to a capture of these logs
+abbrev pub records_of : List Ticked → List Datagram → ℕ × Datagram → List ℕ
+records_of ticks datagrams sent = flat_map record_bytes (captured_of ticks datagrams sent)
 
 -- ---- lists with numbers
 

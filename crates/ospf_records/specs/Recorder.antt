@@ -42,10 +42,6 @@ pub record GoOn (ticks : List Ticked) (datagrams : List Datagram) (ticks' : List
   pub datagrams_are : datagrams' ≡ datagrams ++ sent
   pub behind : AllByRecursion (λ t. length datagrams ≤ t.sent) more
 
--- what a datagram adds to a capture of these logs
-abbrev pub records_of : List Ticked → List Datagram → ℕ × Datagram → List ℕ
-records_of ticks datagrams sent = flat_map record_bytes (captured_of ticks datagrams sent)
-
 -- what all datagrams but the first so many do
 abbrev pub records_since : ℕ → List Ticked → List Datagram → List ℕ
 records_since n ticks datagrams =

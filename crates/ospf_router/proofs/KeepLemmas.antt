@@ -13,7 +13,7 @@ use Rattle.ospf_lsa.specs.Lsa.{key_of}
 use Rattle.ospf_lsdb.specs.Database.{Entry, Held, IsDatabase, entries, entry_of, held_of, is_fresh, key_at, key_in, listed, lsa_of}
 use Rattle.ospf_lsa.proofs.Words.{IsRising}
 use Rattle.ospf_lsdb.proofs.Words.{AreKeysRising}
-use Rattle.ospf_lsdb.specs.Places.{AllAfter}
+use Rattle.ospf_lsdb.proofs.Places.{AllAfter}
 use Rattle.ospf_lsdb.proofs.EntryLemmas.{key_of-contents}
 use Rattle.ospf_lsdb.proofs.MapLemmas.{after-none, bool_cases}
 use Rattle.ospf_router.proofs.ListLemmas.{fresh_of, listed_fresh}

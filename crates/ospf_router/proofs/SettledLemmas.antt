@@ -14,9 +14,9 @@ use Rattle.ospf_lsdb.specs.Database.{Entry, Held, entry_of, is_fresh}
 use Rattle.ospf_step.specs.declared.dropped.Dropped.{Dropped}
 use Rattle.ospf_step.specs.Drops.{is_dropped}
 use Rattle.ospf_router.proofs.KeepLemmas.{lists_each}
-use Rattle.ospf_router.proofs.TouchedChains.{step_keeps}
+use Rattle.ospf_router.proofs.TouchedChains.{step_keeps, KeepsBut}
 use Rattle.ospf_router.specs.Listings.{AreListedAt, ListsAs, ListsBut, ListsEntry, StayListed}
-use Rattle.ospf_router.specs.Touched.{KeepsBut, TouchesKey}
+use Rattle.ospf_router.specs.Touched.{TouchesKey}
 
 module _ (out : OutputsValue) (s t : AreaValue) (lsas : List (List ℕ)) (keeps : KeepsBut out s t) (lists : ListsAs s.database lsas) where
   none_at : (key : LsaKey) (e : Entry) → entry_of t.database key ≡ Some e → entry_of t.database key ≡ None → ⊥

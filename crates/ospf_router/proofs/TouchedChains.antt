@@ -28,7 +28,15 @@ use Rattle.ospf_step.proofs.StateFacts.{AnswersAll}
 use Rattle.ospf_step.specs.Step.{AndRequests, Chain, Event, ExpiryStep, IsPart, OwnStep, Part, StepLaws, Then, Times}
 use Rattle.ospf_step.specs.Step.Part.{HelloComes, DdComes, RequestComes, LsaComes, HeaderComes, DirectAcknowledgements, LinkChanges, Ages, Timers, Hellos, Acknowledgements, Repeats, Requests, Elections, OwnLsas, Removals}
 use Rattle.ospf_step.specs.Words.{Brings}
-use Rattle.ospf_router.specs.Touched.{KeepsBut, TouchesKey}
+use Rattle.ospf_router.specs.Touched.{TouchesKey}
+
+-- each entry below MaxAge is of a key that is taken or issued, or stood there
+-- before, with the same contents
+abbrev pub KeepsBut : OutputsValue → AreaValue → AreaValue → Type 0
+KeepsBut out s t = (key : LsaKey) (e : Entry) → database_entry t key ≡ Some e → is_fresh e ≡ true
+    → TouchesKey out key
+    ⊎ ((d : Entry) × (database_entry s key ≡ Some d) × (is_fresh d ≡ true)
+    × (d.contents ≡ e.contents))
 
 by_entries : (out : OutputsValue) (s t : AreaValue) → ((key : LsaKey) → database_entry t key ≡ database_entry s key) → KeepsBut out s t
 by_entries out s t same key e at fresh = inr (e, sym (same key) ∙ at, fresh, refl)

@@ -10,11 +10,3 @@ use Rattle.ospf_lsdb.specs.Database.{Entry, is_fresh}
 -- an instance of this key is taken or issued
 abbrev pub TouchesKey : OutputsValue → LsaKey → Type 0
 TouchesKey out key = (i : Instance) × Brings out i × (i.key ≡ key)
-
--- each entry below MaxAge is of a key that is taken or issued, or stood there
--- before, with the same contents
-abbrev pub KeepsBut : OutputsValue → AreaValue → AreaValue → Type 0
-KeepsBut out s t = (key : LsaKey) (e : Entry) → database_entry t key ≡ Some e → is_fresh e ≡ true
-    → TouchesKey out key
-    ⊎ ((d : Entry) × (database_entry s key ≡ Some d) × (is_fresh d ≡ true)
-    × (d.contents ≡ e.contents))

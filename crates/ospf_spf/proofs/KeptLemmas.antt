@@ -5,13 +5,13 @@ use Rattle.std.specs.List.Sorted.{IsNonDecreasingBy}
 use Rattle.ospf_base.specs.declared.ids.RouterId.{RouterId}
 use Rattle.ospf_graph.specs.Advertisements.{Advertisement}
 use Rattle.ospf_graph.specs.Graph.{IsEdge}
-use Rattle.ospf_graph.specs.SameGraph.{graph_part, IsSameGraph}
+use Rattle.ospf_graph.specs.SameGraph.{graph_part}
 use Rattle.ospf_graph.specs.Search.{AtIn, StartsIn, vertex_code}
 use Rattle.ospf_graph.specs.Tree.{IsTree}
 use Rattle.ospf_graph.specs.declared.graph.Edge.{Edge}
 use Rattle.ospf_graph.specs.declared.graph.Vertex.TheVariants.{Router}
 use Rattle.ospf_graph.specs.declared.paths.ShortestPaths.{ShortestPaths}
-use Rattle.ospf_graph.proofs.GraphLemmas.{same_edges}
+use Rattle.ospf_graph.proofs.GraphLemmas.{same_edges, IsSameGraph}
 use Rattle.ospf_graph.proofs.TreeLemmas.{IsTree-map}
 use Rattle.ospf_edges.specs.Items.{graph_in, items_of_all}
 use Rattle.ospf_spf.specs.Kept.{IsKeptFor, IsTreeOf}

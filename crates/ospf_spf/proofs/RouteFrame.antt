@@ -12,9 +12,8 @@ use Rattle.ospf_graph.specs.declared.graph.Vertex.{Vertex}
 use Rattle.ospf_graph.specs.declared.graph.Vertex.TheVariants.{Network, Router}
 use Rattle.ospf_graph.specs.declared.route.Route.{Route}
 use Rattle.ospf_incremental.specs.Kept.{KeptTree}
-use Rattle.ospf_spf.proofs.RouteLemmas.{IsReach, reach_of_way, route_exact, route_reached, way_of_reach}
+use Rattle.ospf_spf.proofs.RouteLemmas.{IsReach, reach_of_way, route_exact, route_reached, way_of_reach, IsReachedRoute}
 use Rattle.ospf_spf.specs.Spared.{IsSparedPrefix}
-use Rattle.ospf_spf.specs.Reach.{IsReachedRoute}
 
 -- what is reached of the prefix's ends is the same
 pub record IsKeptHere (A B : List Advertisement) (paths grown : KeptTree) (p : Prefix) : Type 0 where

@@ -14,8 +14,8 @@ use Rattle.ospf_graph.specs.declared.graph.Vertex.TheVariants.{Router, Network}
 use Rattle.ospf_graph.specs.declared.paths.Settled.{Settled}
 use Rattle.ospf_graph.specs.declared.paths.VertexStart.{VertexStart}
 use Rattle.ospf_graph.specs.declared.route.Route.{Route}
-use Rattle.ospf_spf.proofs.RouteLemmas.{IsReach, reach_of_way, route_exact, table_exact}
-use Rattle.ospf_spf.specs.Reach.{AreEndsWithin, IsReachOf, IsRouteOf, IsLargerNetwork, IsReachedRoute}
+use Rattle.ospf_spf.proofs.RouteLemmas.{IsReach, reach_of_way, route_exact, table_exact, IsReachedRoute}
+use Rattle.ospf_spf.specs.Reach.{AreEndsWithin, IsReachOf, IsRouteOf, IsLargerNetwork}
 use Rattle.ospf_edges.specs.declared.end.End.{End}
 use Rattle.ospf_spf.specs.declared.routes.Reach.{Reach}
 

@@ -130,17 +130,3 @@ pub record IsGroup (reaches : List Reach) (place end : ℕ) : Type 0 where
       → (slice_index_or reaches place d).prefix ≡ (slice_index_or reaches k d).prefix
   pub other : (d : Reach) → end < length reaches
       → (slice_index_or reaches place d).prefix ≡ (slice_index_or reaches end d).prefix → ⊥
-
--- IsReach prefix v k: the shortest paths reach an end v of the prefix, at the cost k
--- the route of least cost, with the hops of the routers at that cost
--- and of the largest network at it
-pub record IsReachedRoute (IsReach : Prefix → Vertex → ℕ → Type 0)
-    (Starts : Vertex → Start → Type 0) (route : Route) : Type 0 where
-  pub end : Vertex
-  pub reached : IsReach route.prefix end route.cost
-  pub least : (v : Vertex) (k : ℕ) → IsReach route.prefix v k → route.cost ≤ k
-  pub in_order : AllPairs IsHopBefore route.hops
-  pub hops : (hop : NextHop) → Contains route.hops hop ↔
-      ((v : Vertex) × IsReach route.prefix v route.cost
-      × ((m n : ℕ) → v ≡ Network n → IsReach route.prefix (Network m) route.cost → m ≤ n)
-      × (x : Start) × Starts v x × (hop ≡ hop_of_start x))

@@ -10,9 +10,9 @@ use Rattle.ospf_base.specs.declared.ids.LsaKey.{LsaKey}
 use Rattle.ospf_area.specs.Acting.{Becomes}
 use Rattle.ospf_step.specs.Packets.{Received}
 use Rattle.ospf_step.specs.Words.{IsSoundState}
-use Rattle.ospf_step.specs.Accounts.{Accounts, Adjusts, NoneEntersExchange, Sends}
+use Rattle.ospf_step.specs.Accounts.{Accounts, NoneEntersExchange, Sends}
 use Rattle.ospf_step.proofs.Compose.{Accounts-then}
-use Rattle.ospf_step.proofs.QuietAccounts.{Adjusts-accounts, Adjusts-sound, Unchanged-adjusts}
+use Rattle.ospf_step.proofs.QuietAccounts.{Adjusts-accounts, Adjusts-sound, Unchanged-adjusts, Adjusts}
 use Rattle.std.proofs.lemmas.List.Elements.{All-contains, Contains-append_left, Contains-append_right, Contains-get_or}
 use Rattle.std.specs.List.{Contains}
 use Rattle.ospf_neighbour.specs.Machine.{is_exchanging}

@@ -19,7 +19,7 @@ use Rattle.ospf_area.specs.Sending.{own_of, packet_from, way_out}
 use Rattle.ospf_area.specs.State.{AreaValue, LinkValue, neighbour}
 use Rattle.ospf_step.specs.Accounts.{WasHeld}
 use Rattle.ospf_step.specs.Headers.{IsOfInstance, Lists}
-use Rattle.ospf_step.specs.Links.{AreKnown, IsLinkIn, IsKnownPacket, EntersNot, LinkQuiet}
+use Rattle.ospf_step.specs.Links.{AreKnown, IsKnownPacket, EntersNot, LinkQuiet}
 use Rattle.ospf_step.specs.Packets.{lsas_of, headers_in_body}
 use Rattle.ospf_step.specs.Words.{CanName, HoldsInstance}
 use Rattle.ospf_step.proofs.SentFacts.{flat_map-members, datagrams-packet}
@@ -39,6 +39,10 @@ use Rattle.ospf_neighbour.specs.Neighbours.{neighbour_of}
 use Rattle.ospf_step.specs.Neighbours.{NeighbourGoes, NeighbourGoesOn}
 use Rattle.ospf_adjacency.specs.Laws as adjacency
 use Rattle.ospf_adjacency.specs.HelloLaws as hellos
+
+-- a link of the area
+abbrev pub IsLinkIn : AreaValue → LinkValue → Type 0
+IsLinkIn s link = (l : ℕ) × (slice_get s.links l ≡ Some link)
 
 -- Packets that have copies of the database, and name what the router can name.
 -- what a packet says is known

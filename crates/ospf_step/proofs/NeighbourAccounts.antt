@@ -15,10 +15,10 @@ use Rattle.ospf_area.proofs.Words.{copy_in}
 use Rattle.ospf_step.specs.Headers.{IsOfInstance, Lists}
 use Rattle.ospf_step.specs.Packets.{Received}
 use Rattle.ospf_step.specs.Words.{CanName, HoldsInstance, HasCopy}
-use Rattle.ospf_step.specs.Accounts.{Adjusts, IsDescribed}
+use Rattle.ospf_step.specs.Accounts.{IsDescribed}
 use Rattle.ospf_step.specs.Neighbours.{NeighbourGoes, NeighboursGo, told_by, IsOldOrHeld}
 use Rattle.ospf_step.proofs.StateFacts.{Contains-nil, same_router, list_in}
-use Rattle.ospf_step.proofs.QuietAccounts.{brings_none, kept_same, none_ended}
+use Rattle.ospf_step.proofs.QuietAccounts.{brings_none, kept_same, none_ended, Adjusts}
 
 -- what is told in a DD packet is heard
 told-hears : (heard : Option Received) (l : ℕ) (q : RouterId) (h : LsaHeader) (i : Instance) → IsOfInstance h i → Contains (told_by heard l q) h → IsDescribed heard l q i

@@ -44,14 +44,14 @@ use Rattle.ospf_area.specs.Numbers.{is_own}
 use Rattle.ospf_step.specs.Words.{CanName, HoldsInstance, HasCopy, Brings, IsSoundState, ListsAreHeld}
 use Rattle.ospf_lsdb.specs.Moments.{among}
 use Rattle.ospf_flood.specs.Rules.{max_sequence_number}
-use Rattle.ospf_step.specs.Accounts.{Adjusts, HasContents, HasLargest, TakesItsPlace, Sends, WasHeld, WasKept, Numbers, NoneEntersExchange}
+use Rattle.ospf_step.specs.Accounts.{HasContents, HasLargest, TakesItsPlace, Sends, WasHeld, WasKept, Numbers, NoneEntersExchange}
 use Rattle.ospf_step.proofs.Accountable.{IsAccountable, Adjusts-accountable, sent_packet}
 use Rattle.ospf_step.proofs.SentFacts.{direct-packets, IsUpdateOf, flooding-packets}
 use Rattle.ospf_step.proofs.FloodingAccounts as flooding
 use Rattle.ospf_step.proofs.FloodingAccounts.{FloodsTo, IsFlooded, IsAccounted, Replaces}
 use Rattle.ospf_step.proofs.StateFacts.{Contains-nil, Contains-map_cases, Contains-from_slice_get, find-some, greater_is_newer, header_is_of, header_names, same_contents, copy_of-has, copy_of-key, entry_of-key, key_of-lsa_of, list_in, delayed_in, AnswersAll, ends_run_if}
 use Rattle.ospf_step.proofs.OfferFacts.{floods_to, stays_itself}
-use Rattle.ospf_step.proofs.QuietAccounts.{brings_none, kept_same, none_ended, Numbers-none_issued}
+use Rattle.ospf_step.proofs.QuietAccounts.{brings_none, kept_same, none_ended, Numbers-none_issued, Adjusts}
 use Rattle.ospf_step.specs.Links.{IsKnownPacket}
 use Rattle.ospf_step.proofs.MeetAccounts.{sends_known, sends_nothing}
 use Rattle.ospf_step.proofs.ShrinkAccounts.{ShrinkBy, Shrinks-accountable, same-shrinks, map-id, map_from-id}

@@ -19,7 +19,7 @@ use Rattle.ospf_update.specs.Aging.{Flushes, TickAges}
 use Rattle.ospf_update.specs.Meets.{header_met}
 use Rattle.ospf_update.specs.Removal.{and_ends, ends_run, leaving}
 use Rattle.ospf_update.proofs.Words.{RemovesAll, Removes, copies_out, copies_sent, copy_out, copy_sent}
-use Rattle.ospf_step.specs.Links.{AllEach, AreKnown, ChangesLinks, IsLinkIn, IsKnownPacket, LinkQuiet}
+use Rattle.ospf_step.specs.Links.{AllEach, AreKnown, ChangesLinks, IsKnownPacket, LinkQuiet}
 use Rattle.ospf_step.specs.Neighbours.{Quiet}
 use Rattle.ospf_step.specs.Parts.{ExpiryPart, RemovalPart}
 use Rattle.ospf_step.specs.Puts.{PutsOut, headers_met}
@@ -34,6 +34,7 @@ use Rattle.ospf_step.proofs.LinkParts.{goes_same, map_each, part_quiet}
 use Rattle.ospf_step.proofs.StateFacts.{Contains-nil, delayed_in}
 use Rattle.ospf_step.proofs.RemovalChains.{Removes-is_part}
 use Rattle.ospf_update.proofs.CopyLemmas.{copies_become}
+use Rattle.ospf_step.proofs.Known.{IsLinkIn}
 
 -- a part that sends alone
 pub puts_sent : (R : OutputsValue → Type 0) (out out' : OutputsValue) (ds : List SentValue) → R (sends ds) → out' ≡ and_sends out ds → PutsOut R out out'

@@ -19,17 +19,44 @@ use Rattle.ospf_neighbour.specs.Laws.{Waits}
 use Rattle.ospf_neighbour.specs.Machine.{is_exchanging}
 use Rattle.ospf_neighbour.specs.Neighbour.{NeighbourValue}
 use Rattle.ospf_area.specs.Outputs.{OutputsValue, no_outputs}
-use Rattle.ospf_area.specs.State.{AreaValue, LinkValue, neighbour, database_entry, kept_number, Awaits, WaitsIn, state_in}
+use Rattle.ospf_area.specs.State.{AreaValue, LinkValue, neighbour, database_entry, kept_number, Awaits, WaitsIn, state_in, copy_of}
 use Rattle.ospf_area.proofs.Words.{copy_in, state_of}
 use Rattle.ospf_area.specs.Acting.{Becomes}
 use Rattle.ospf_step.specs.Headers.{IsOfInstance, Lists}
 use Rattle.ospf_step.specs.Packets.{Received, lsas_of, headers_in_body, dd_headers_of, acknowledging_headers_of}
 use Rattle.ospf_area.specs.Places.{map_from}
-use Rattle.ospf_step.specs.Words.{CanName, HoldsInstance, HasCopy, Brings, IsSoundState, delayed}
+use Rattle.ospf_step.specs.Words.{CanName, HoldsInstance, HasCopy, Brings, IsSoundState, delayed, Asks, ListsAreHeld}
 use Rattle.ospf_update.specs.Removal.{lowest_number}
 use Rattle.ospf_lsdb.specs.Moments.{among}
-use Rattle.ospf_step.specs.Accounts.{Accounts, Adjusts, WasHeld, WasKept, HasLargest, Numbers, HasContents, Hears, IsAcknowledged, Sends, MayLeave}
+use Rattle.ospf_step.specs.Accounts.{Accounts, WasHeld, WasKept, HasLargest, Numbers, HasContents, Hears, IsAcknowledged, Sends, MayLeave, IsDescribed}
 use Rattle.ospf_step.proofs.StateFacts.{Contains-nil, same_contents, neighbour-changed, link-changed, neighbour-router, list-changed, list_in, delayed_in}
+
+-- a part of a step that installs and issues nothing: what it holds and asks for it did before, what
+-- it names it could name before or took without a copy, and lists are left by what the neighbour
+-- names or by a neighbour below Exchange
+pub record Adjusts (heard : Option Received) (before : AreaValue) (out : OutputsValue)
+    (after : AreaValue) : Type 0 where
+  pub same_router : after.router ≡ before.router
+  pub bears : (p : Meaning) → Sends out p → p.router ≡ before.router
+  pub copies : (lsa : List ℕ) → HasCopy after lsa → WasKept heard before lsa
+  pub updates : (p : Meaning) (lsa : List ℕ) → Sends out p → Contains (lsas_of p.body) lsa
+      → WasHeld before (contents lsa)
+  pub names : (i : Instance) → CanName after i → CanName before i ⊎ Brings out i
+  pub named : (p : Meaning) (i : Instance) → Sends out p → Lists (headers_in_body p.body) i
+      → CanName before i
+  pub asks : (l : ℕ) (q : RouterId) (i : Instance) → Asks after l q i
+      → Asks before l q i ⊎ IsDescribed heard l q i
+  pub leaves : (l : ℕ) (q : RouterId) (i : Instance) → Awaits before l q i
+      → Awaits after l q i
+      ⊎ (IsAcknowledged heard l q i ⊎ (is_exchanging (state_in (neighbour after l q)) ≡ false))
+  pub lists : ListsAreHeld before → ListsAreHeld after
+  pub unheld : (i : Instance) → Brings out i → HoldsInstance after i → ⊥
+  pub issues_none : out.issued ≡ []
+  pub kept : (key : LsaKey) → among out.ended key ≡ false
+      → kept_number after key ≡ kept_number before key
+  pub again : (key : LsaKey) → among out.ended key ≡ true → kept_number after key ≡ lowest_number
+  pub gone : (key : LsaKey) → among out.ended key ≡ true → copy_of after key ≡ None
+  pub ends : (key : LsaKey) → among out.ended key ≡ true → HasLargest heard before out
 
 pub brings_none : (out : OutputsValue) (i : Instance) → out.taken ≡ [] → out.issued ≡ [] → Brings out i → ⊥
 brings_none out i taken issued (Brings.Takes c) = Contains-nil i (subst (λ is. Contains is i) taken c)

@@ -10,7 +10,7 @@ use Rattle.ospf_packet.specs.PacketOf.{packet_of}
 use Rattle.ospf_area.specs.Outputs.{OutputsValue, then_outputs, AreReadAsSent}
 use Rattle.ospf_area.specs.State.{AreaValue}
 use Rattle.ospf_area.specs.declared.flooding.Origin.{Origin}
-use Rattle.ospf_step.specs.Accounts.{Accounts, Adjusts, NoneEntersExchange}
+use Rattle.ospf_step.specs.Accounts.{Accounts, NoneEntersExchange}
 use Rattle.ospf_step.specs.Neighbours.{Quiet}
 use Rattle.ospf_step.specs.Packets.{Received, lsas_of, acknowledging_headers_of}
 use Rattle.ospf_step.specs.Parts.{AgesPart, IssuePart, ExpiryPart}
@@ -23,7 +23,7 @@ use Rattle.ospf_step.proofs.Compose.{Accounts-then}
 use Rattle.ospf_step.proofs.MeetAccounts.{LsaPart-accountable, HeaderPart-accountable}
 use Rattle.ospf_step.proofs.NeighbourAccounts.{NeighboursGo-adjusts, copy_back}
 use Rattle.ospf_step.proofs.PartAccounts.{DirectPart-accountable, IssuePart-accountable, ExpiryPart-accountable, AgesPart-accountable, AnswersAll-accountable, RemovalPart-adjusts}
-use Rattle.ospf_step.proofs.QuietAccounts.{Adjusts-accounts, Adjusts-sound, Adjusts-with_packet, Unchanged-adjusts}
+use Rattle.ospf_step.proofs.QuietAccounts.{Adjusts-accounts, Adjusts-sound, Adjusts-with_packet, Unchanged-adjusts, Adjusts}
 
 Then-accountable : (heard : Option Received) (before : AreaValue) (First : OutputsValue → AreaValue → Type 0) (Next : AreaValue → OutputsValue → AreaValue → Type 0) (out : OutputsValue) (after : AreaValue) → IsSoundState before → AreReadAsSent out.sent → ((o : OutputsValue) (mid : AreaValue) → AreReadAsSent o.sent → First o mid → IsAccountable heard before o mid) → ((mid : AreaValue) (o : OutputsValue) (after : AreaValue) → IsSoundState mid → AreReadAsSent o.sent → Next mid o after → IsAccountable heard mid o after) → Then First Next out after → IsAccountable heard before out after
 Then-accountable heard before First Next out after sound read first next t =

@@ -170,30 +170,3 @@ pub record WasHeld (before : AreaValue) (content : List ℕ) : Type 0 where
   pub lsa : List ℕ
   pub copy : HasCopy before lsa
   pub same : contents lsa ≡ content
-
--- a part of a step that installs and issues nothing: what it holds and asks for it did before, what
--- it names it could name before or took without a copy, and lists are left by what the neighbour
--- names or by a neighbour below Exchange
-pub record Adjusts (heard : Option Received) (before : AreaValue) (out : OutputsValue)
-    (after : AreaValue) : Type 0 where
-  pub same_router : after.router ≡ before.router
-  pub bears : (p : Meaning) → Sends out p → p.router ≡ before.router
-  pub copies : (lsa : List ℕ) → HasCopy after lsa → WasKept heard before lsa
-  pub updates : (p : Meaning) (lsa : List ℕ) → Sends out p → Contains (lsas_of p.body) lsa
-      → WasHeld before (contents lsa)
-  pub names : (i : Instance) → CanName after i → CanName before i ⊎ Brings out i
-  pub named : (p : Meaning) (i : Instance) → Sends out p → Lists (headers_in_body p.body) i
-      → CanName before i
-  pub asks : (l : ℕ) (q : RouterId) (i : Instance) → Asks after l q i
-      → Asks before l q i ⊎ IsDescribed heard l q i
-  pub leaves : (l : ℕ) (q : RouterId) (i : Instance) → Awaits before l q i
-      → Awaits after l q i
-      ⊎ (IsAcknowledged heard l q i ⊎ (is_exchanging (state_in (neighbour after l q)) ≡ false))
-  pub lists : ListsAreHeld before → ListsAreHeld after
-  pub unheld : (i : Instance) → Brings out i → HoldsInstance after i → ⊥
-  pub issues_none : out.issued ≡ []
-  pub kept : (key : LsaKey) → among out.ended key ≡ false
-      → kept_number after key ≡ kept_number before key
-  pub again : (key : LsaKey) → among out.ended key ≡ true → kept_number after key ≡ lowest_number
-  pub gone : (key : LsaKey) → among out.ended key ≡ true → copy_of after key ≡ None
-  pub ends : (key : LsaKey) → among out.ended key ≡ true → HasLargest heard before out

@@ -76,7 +76,3 @@ AllEach P bs cs = (l : ℕ) → Each P (slice_get bs l) (slice_get cs l)
 abbrev pub AllGo : AreaValue → Option Received → List LinkValue → List LinkValue → Type 0
 AllGo s heard bs cs =
     (l : ℕ) → Each (LinkGoes s (told_by heard l)) (slice_get bs l) (slice_get cs l)
-
--- a link of the area
-abbrev pub IsLinkIn : AreaValue → LinkValue → Type 0
-IsLinkIn s link = (l : ℕ) × (slice_get s.links l ≡ Some link)

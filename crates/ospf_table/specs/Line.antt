@@ -72,7 +72,3 @@ pub data Refuses : List ℕ → List (List ℕ) → ℕ → EntryFault → Type 
   later : {input : List ℕ} {old next : List (List ℕ)} {number : ℕ} {fault : EntryFault} → input ≢ []
       → IsTaken (first_text input) old next → Refuses (drop_through 10 input) next number fault
       → Refuses input old (suc number) fault
-
--- the lines make some listing
-abbrev pub MakesListing : List ℕ → Type 0
-MakesListing input = (listing : List (List ℕ)) × Reads input [] listing

@@ -1,7 +1,8 @@
 use Rattle.std.proofs.Common.{take}
 use Rattle.ospf_files.specs.Streams.{written_on}
-use Rattle.ospf_check.specs.Checked.{AreAllKept, IsWritten}
+use Rattle.ospf_check.specs.Checked.{IsWritten}
 use Rattle.ospf_check.proofs.check.check_files.Given as goal
+use Rattle.ospf_check.proofs.Written.{AreAllKept}
 
 -- the files so far are told, and their configurations are kept
 abbrev pub invariant-loop-file : goal.invariant-loop-file

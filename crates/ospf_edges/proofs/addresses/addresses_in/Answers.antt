@@ -1,9 +1,8 @@
 use Rattle.std.proofs.Common.{◌≡◌, ◌≤◌, ℕ, List, length, map, nat_eq, take, subst, ◌∙◌, arith}
 use Rattle.std.proofs.lemmas.List.{take_all}
 use Rattle.std.specs.HashMap.{get}
-use Rattle.ospf_edges.specs.Addresses.{AreAddresses}
 use Rattle.ospf_edges.specs.Listed.{advertisement_of, advertisements_of}
-use Rattle.ospf_edges.proofs.AddressLemmas.{addresses_on, told_next}
+use Rattle.ospf_edges.proofs.AddressLemmas.{addresses_on, told_next, AreAddresses}
 use Rattle.ospf_edges.proofs.addresses.addresses_in.Goals as goal
 
 pub loop-lsa-preserved : goal.loop-lsa-preserved

@@ -2,9 +2,9 @@ use Rattle.std.proofs.Common.{◌+◌, ◌++◌, List, ℕ, ap, flat_map, refl, 
 use Rattle.std.proofs.lemmas.List.{append_assoc}
 use Rattle.ospf_records.specs.Captures.{captured_at}
 use Rattle.ospf_records.specs.Pcap.{record_bytes}
-use Rattle.ospf_records.specs.Recorder.{records_of, records_since}
+use Rattle.ospf_records.specs.Recorder.{records_since}
 use Rattle.ospf_records.proofs.CaptureFacts.{microsecond_is, read_on, second_is, stamped_more}
-use Rattle.ospf_records.proofs.RecorderFacts.{since_more}
+use Rattle.ospf_records.proofs.RecorderFacts.{since_more, records_of}
 use Rattle.ospf_records.proofs.recorder.Recorder.add.Goals as goal
 
 pub returns-clause-added : goal.returns-clause-added
