@@ -1,7 +1,9 @@
 -- What is said of a text that is refused: the places that have its fault, in order.
-use Rattle.std.specs.Prelude.{◌≡◌, ◌==◌, ℕ, ◌+◌, ◌≤◌, List, [], ◌∷◌, ◌++◌, length, take, count_by, Any, Option, Some, None, option_map, IfSome, Ok, Err, String, codes, decimal, string_bytes}
+use Rattle.std.specs.Prelude.{◌≡◌, ◌==◌, ◌||◌, ℕ, Bool, true, false, ◌+◌, ◌≤◌, List, [], ◌∷◌, ◌++◌, length, take, count_by, Any, Option, Some, None, option_map, IfSome, Ok, Err, String, codes, decimal, string_bytes}
 use Rattle.std.specs.declared.alloc.Global.{Global}
+use Rattle.std.specs.Char.{is_ascii_alphanumeric}
 use Rattle.std.specs.Fmt.{signed_decimal, debug_str}
+use Rattle.std.specs.List.{list_all}
 use Rattle.toml.specs.Data.{Data, string, integer, array, Items, no_items, item, Members, get_member, type_name}
 use Rattle.toml.specs.Parse.{parse_document}
 use Rattle.ospf_config.specs.declared.address.InterfaceAddress.{InterfaceAddress}
@@ -124,13 +126,24 @@ IsFoundText None found = found ≡ None
 IsFoundText (Some d) None = ⊥
 IsFoundText (Some d) (Some text) = IsValueText d text
 
+-- a byte of a key that needs no quotes
+abbrev pub is_bare_byte : ℕ → Bool
+is_bare_byte b = is_ascii_alphanumeric b || (b == 95 || b == 45)
+
+-- a key as it is shown: as it is where all its bytes are such, else quoted as a text is
+abbrev pub IsKeyText : List ℕ → List ℕ → Type 0
+IsKeyText key text = elim (list_all is_bare_byte key) [
+  | true ↦ text ≡ key
+  | false ↦ IfSome (debug_str key) (λ quoted. text ≡ quoted)
+]
+
 -- the place of a key: the number of its interface, if any, what belongs there and what stood there
 pub record IsKeyPlace (number : Option ℕ) (t : Members) (key wanted : List ℕ) (e : Explained)
     : Type 0 where
   pub place : KeyExplained
   pub is_key : e ≡ said.Key place
   pub number_is : place.interface ≡ number
-  pub key_is : string_bytes place.key ≡ key
+  pub key_is : IsKeyText key (string_bytes place.key)
   pub wanted_is : place.wanted.now ≡ wanted
   pub found_is : IsFoundText (get_member key t) (option_map (λ text. string_bytes text) place.found)
 

@@ -1,9 +1,10 @@
 //! The places that have a fault.
 
+ghost use Rattle.std.specs.List.{list_all};
 ghost use Rattle.std.specs.Prelude.{◌≡◌, ◌↔◌, IsTrue, IsSome, Some, IfOk, OnOk, All, Any, map, string_bytes};
 ghost use Rattle.toml.specs.Data.{as_table};
 ghost use Rattle.toml.specs.View.{view, table_view, items_view};
-ghost use Rattle.ospf_files.specs.Explained.{ArePlacesOf, IsKeyPlace, IsUnknownPlace, IsValueText, IsPlaceWhere, AreTopPlaces, AreInterfacePlaces, AreAllPlaces, AreTablePlaces, AreInConflict};
+ghost use Rattle.ospf_files.specs.Explained.{ArePlacesOf, IsKeyPlace, IsKeyText, is_bare_byte, IsUnknownPlace, IsValueText, IsPlaceWhere, AreTopPlaces, AreInterfacePlaces, AreAllPlaces, AreTablePlaces, AreInConflict};
 ghost use Rattle.ospf_files.specs.Rows.{AddsRows};
 ghost use Rattle.ospf_config.specs.Tables.{IsOtherKey, IsTableWith, keys_of, tables_among};
 
@@ -100,13 +101,38 @@ fn key_of(
         None => None,
         Some(value) => Some(found_in(alloc, value)?),
     };
-    let key = String::from_str(alloc, key)?;
+    let key = key_text(alloc, key)?;
     Ok(Explained::Key(KeyExplained {
         interface,
         key,
         wanted,
         found,
     }))
+}
+
+// A key as it is shown: a terminal gets no commands, and a line no end, by one that was quoted.
+fn key_text(alloc: Global, key: &str) -> Result<String, AllocError>
+    ensures { IfOk result (λ text. IsKeyText key.now (string_bytes text)) }
+{
+    if is_bare(key) {
+        String::from_str(alloc, key)
+    } else {
+        format!(in alloc; "{key:?}")
+    }
+}
+
+// Whether a key needs no quotes.
+fn is_bare(key: &str) -> bool
+    ensures { result ≡ list_all is_bare_byte key.now }
+{
+    key.as_bytes().iter().all(|byte| is_bare_byte(*byte))
+}
+
+// Whether a byte of a key needs none.
+fn is_bare_byte(byte: u8) -> bool
+    ensures { result ≡ is_bare_byte byte }
+{
+    byte.is_ascii_alphanumeric() || byte == b'_' || byte == b'-'
 }
 
 // What stands at a key, in words.

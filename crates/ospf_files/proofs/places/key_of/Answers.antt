@@ -8,7 +8,7 @@ returns c = record {
   place = _;
   is_key = refl;
   number_is = refl;
-  key_is = c.in_ok-key.ensures.ok;
+  key_is = c.in_ok-key.ensures;
   wanted_is = refl;
   found_is = elim c.match-value_at.branch [
     | in-None w ↦ found_none _ _ w.in-None.ensures w.found-is
