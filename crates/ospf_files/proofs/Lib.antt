@@ -1,6 +1,7 @@
 mod Routes
 pub mod Written
 pub mod Listed
+pub mod FirstTwins
 pub mod Cut
 pub mod TextLines
 mod PlaceLists

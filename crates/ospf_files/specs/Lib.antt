@@ -3,6 +3,7 @@ pub mod Status
 pub mod Streams
 pub mod Files
 pub mod Listed
+pub mod Twins
 pub mod Lines
 pub mod Explained
 pub mod Rows

@@ -1,5 +1,5 @@
 -- Lists of files, and the configurations that they hold.
-use Rattle.std.specs.Prelude.{◌≡◌, ℕ, List, ◌∷◌, ◌++◌, Option, None, Some, codes}
+use Rattle.std.specs.Prelude.{◌≡◌, ℕ, List, ◌∷◌, ◌++◌, Option, None, Some}
 use Rattle.std.specs.List.{AllByRecursion, AllZip}
 use Rattle.std.specs.Io.KnownBytes.{Appends}
 use Rattle.ospf_config.specs.declared.config.Config.{Config}
@@ -53,7 +53,3 @@ abbrev pub ConfigsCome : List NamedFile → Option (List Config) → Option (Lis
     → Type 0
 ConfigsCome files (Some configs) old new = AreConfigs files configs × (new ≡ old)
 ConfigsCome files None old new = IsRefusalTold files old new
-
--- what is told of two files of one Router ID
-abbrev pub same_router_line : List ℕ
-same_router_line = codes "W7 SameRouter\n"

@@ -2,7 +2,8 @@
 //! wrong with one, lines of texts and of routes, and how a program ends.
 //!
 //! `read_files` and `write_file` read and write files whole, and `config_in` finds the
-//! configuration in a file's bytes. `explain` tells the places of the fault of least number of a
+//! configuration in a file's bytes; `first_twins` finds two files that configure one router
+//! (`specs/Twins`). `explain` tells the places of the fault of least number of a
 //! text that holds none, and `explain_all` those of each fault that holds (`specs/Explained`,
 //! `specs/AllFaults`). `lines` gives the lines of a text, with their numbers and without comments.
 //! `print_routes` and `print_lookup` print a table and what a lookup found (RFC 2328, section 11),
@@ -24,6 +25,7 @@ mod status;
 mod streams;
 mod telling;
 mod told;
+mod twins;
 
 pub use crate::all::{FaultExplained, explain_all};
 pub use crate::byte::place_of;
@@ -37,3 +39,4 @@ pub use crate::status::{Failure, Status};
 pub use crate::streams::{FailedStreams, write_line, write_text};
 pub use crate::telling::Telling;
 pub use crate::told::{tell_refused, tell_unread};
+pub use crate::twins::{Twins, first_twins, same_router_lines};

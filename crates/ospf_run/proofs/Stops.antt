@@ -17,8 +17,8 @@ stop_unplanned asked files (stop.Obstacle obstacle.NoNumber) is = is
 stop_unplanned asked files (stop.Obstacle obstacle.GreatestFloor) is = is
 stop_unplanned asked files (stop.Obstacle (obstacle.Unread file)) is = is
 stop_unplanned asked files (stop.Obstacle (obstacle.NoConfig file fault)) is = is
-stop_unplanned asked files (stop.Obstacle obstacle.SameRouter) is = is
-stop_unplanned asked files (stop.Obstacle (obstacle.NoPort file)) is = is
+stop_unplanned asked files (stop.Obstacle (obstacle.SameRouter twins)) is = is
+stop_unplanned asked files (stop.Obstacle (obstacle.NoPort file number)) is = is
 stop_unplanned asked files (stop.Obstacle (obstacle.NoSocket file none)) is = absurd is
 stop_unplanned asked files (stop.Failure f) is = subst (λ (x : Failure). IsEarly asked files x) (sym is) no_memory
 

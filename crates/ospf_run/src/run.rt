@@ -42,7 +42,7 @@ use std::time::Clock;
 ///
 /// What failed for all is told last on `err`, as far as that can be written. Before it nothing
 /// new stands on either, where memory ran out, or a table was closed in which an address is looked
-/// up, before anything was written; or on `err` alone a beginning of the line that tells what ended
+/// up, before anything was written; or on `err` alone a beginning of the lines that tell what ended
 /// the run before it began; or on `out` a beginning of what is written of the routers and, where
 /// that is whole, on `err` a beginning of what is told of them.
 pub fn run_text<

@@ -18,11 +18,11 @@ use Rattle.ospf_files.specs.declared.line.Line.{Line}
 use Rattle.ospf_sim.specs.Begun.{IsEventAnswerCut, IsSimulationCut, IsCutAtLine, IsFileCut, IsLineCut, IsOpeningCut, IsScriptCut, IsTellingCut, IsWorldCut, in_fault, in_file, in_refusal, in_same_router, in_script, in_twins, in_unreadable, no_config, no_room, no_world}
 use Rattle.ospf_commands.specs.Commands.{DoesCommand, IsDone}
 use Rattle.ospf_commands.specs.Simulations.{Answer, begun_in}
-use Rattle.ospf_sim.specs.Scripts.{EndsAtLine, IsScriptRun, unreadable_line}
+use Rattle.ospf_sim.specs.Scripts.{IsScriptRun, unreadable_line}
 use Rattle.ospf_sim.specs.Simulations.{WorldComes}
 use Rattle.ospf_commands.specs.Worlds.{WorldValue}
 use Rattle.ospf_commands.specs.declared.simulation.Simulation.{Simulation}
-use Rattle.ospf_sim.proofs.Lines.{entries_split}
+use Rattle.ospf_sim.proofs.Lines.{entries_split, EndsAtLine}
 
 -- a flush writes nothing
 pub flushed : (a b : Option (List ℕ)) → Keeps a b → Appends a b []

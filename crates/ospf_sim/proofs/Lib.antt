@@ -2,7 +2,6 @@ pub mod Lines
 pub mod Files
 pub mod Worlds
 pub mod Cuts
-pub mod Shared
 pub mod Pieces
 pub mod Sessions
 pub mod Consoles

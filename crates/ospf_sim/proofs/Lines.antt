@@ -5,7 +5,7 @@ use Rattle.std.proofs.Math.Seq.{drop-cons}
 use Rattle.std.specs.Io.KnownBytes.{Appends, Keeps}
 use Rattle.ospf_files.specs.Lines.{numbered_line, numbered_from}
 use Rattle.ospf_files.specs.Streams.{Written, written_on}
-use Rattle.ospf_script.specs.Commands.{SpellsCommand}
+use Rattle.ospf_script.specs.Commands.{SpellsCommand, IsUnreadable}
 use Rattle.ospf_script.specs.Words.{Text, line_words}
 use Rattle.ospf_script.specs.declared.command.Command.{Command}
 use Rattle.ospf_files.specs.declared.line.Line.{Line}
@@ -13,7 +13,16 @@ use Rattle.ospf_commands.specs.declared.simulation.Simulation.{Simulation}
 use Rattle.ospf_files.proofs.Written.{both_written, kept_written, nothing_written}
 use Rattle.ospf_commands.specs.Commands.{IsDone}
 use Rattle.ospf_commands.specs.Simulations.{Answer}
-use Rattle.ospf_sim.specs.Scripts.{EndsAtLine, IsScriptRun, IsRunLine, LineComes, EndsEarly, RunsLine, RunsLines, is_taken, no_line, one_line, told_of, unreadable_line}
+use Rattle.ospf_sim.specs.Scripts.{IsScriptRun, IsRunLine, LineComes, EndsEarly, RunsLine, RunsLines, is_taken, no_line, one_line, told_of, unreadable_line}
+
+-- the line of this number is the first that cannot be read, and those before it have run
+pub record EndsAtLine (lines : List (ℕ × Text)) (number : ℕ) (line : Text) (w w' : Simulation)
+    (old new : Written) : Type 0 where
+  pub before : List (ℕ × Text)
+  pub after : List (ℕ × Text)
+  pub lines_are : lines ≡ before ++ (number, line) ∷ after
+  pub unreadable : IsUnreadable line
+  pub run : IsScriptRun before w w' old new
 
 -- one line more
 more_lines : (lines : List (ℕ × Text)) (number : ℕ) (line : Text) (w mid w' : Simulation) (outs out errs err : Text) → RunsLines lines w mid outs errs

@@ -13,12 +13,25 @@ use Rattle.ospf_commands.specs.Worlds.{WorldValue}
 use Rattle.ospf_sim.specs.Scripts.{ScriptComes}
 use Rattle.ospf_commands.specs.declared.simulation.Simulation.{Simulation}
 use Rattle.ospf_sim.specs.declared.text.Simulated.{Simulated}
-use Rattle.ospf_sim.specs.Simulations.{ComesOfScript, IsNoWorld, IsNewOf, OpensWorld, ScriptRunsTo, WorldComes, same_router, status_of_script}
+use Rattle.ospf_sim.specs.Simulations.{ComesOfScript, IsNoWorld, IsNewOf, OpensWorld, WorldComes, same_router, status_of_script}
 use Rattle.ospf_commands.specs.Simulations.{begun_in}
 use Rattle.ospf_headline.specs.declared.event.WorldFault.{WorldFault}
 use Rattle.ospf_world.specs.Worlds as worlds
 use Rattle.ospf_world.specs.Worlds.{Begins, NoMemory, SameRouter, new_world}
 use Rattle.ospf_sim.specs.Twins.{AreTwinsTold}
+
+-- a script runs from this world, whole or up to a line that cannot be read, as the status says
+pub record RunsWhole (script : NamedFile) (start : WorldValue) (simulated : Simulated)
+    (whole : Bool) (old new : Written) : Type 0 where
+  pub end : Simulation
+  pub left : simulated.left ≡ Some end
+  pub comes : ScriptComes whole (text_in script) (begun_in start) end old new
+
+-- what a script comes to by the status: all that was expected is met, or something is not
+abbrev pub ScriptRunsTo : Status → NamedFile → WorldValue → Simulated → Written → Written → Type 0
+ScriptRunsTo Done script start simulated = RunsWhole script start simulated true
+ScriptRunsTo Refused script start simulated = RunsWhole script start simulated false
+ScriptRunsTo _ script start simulated = λ old new. ⊥
 
 pub world_comes : (found : Option (List Config)) (configs : List Config) (files : List NamedFile) (result : Result (Option WorldValue) Failure) (x y z : Option (List ℕ))
     → found ≡ Some configs → ConfigsCome files found x y → IfOk result (λ world. OpensWorld files configs world y z) → IfOk result (λ world. WorldComes files world x z)

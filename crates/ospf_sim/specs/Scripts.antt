@@ -62,15 +62,6 @@ pub record IsScriptRun (lines : List (ℕ × Text)) (w w' : Simulation) (old new
   pub out_written : Appends old.out new.out out
   pub err_written : Appends old.err new.err err
 
--- the line of this number is the first that cannot be read, and those before it have run
-pub record EndsAtLine (lines : List (ℕ × Text)) (number : ℕ) (line : Text) (w w' : Simulation)
-    (old new : Written) : Type 0 where
-  pub before : List (ℕ × Text)
-  pub after : List (ℕ × Text)
-  pub lines_are : lines ≡ before ++ (number, line) ∷ after
-  pub unreadable : IsUnreadable line
-  pub run : IsScriptRun before w w' old new
-
 -- what a line writes is what was written
 pub record IsRunLine (number : ℕ) (line : Text) (w w' : Simulation) (old new : Written)
     : Type 0 where

@@ -56,19 +56,6 @@ abbrev pub status_of_script : Bool → Status
 status_of_script true = status.Done
 status_of_script false = status.Refused
 
--- a script runs from this world, whole or up to a line that cannot be read, as the status says
-pub record RunsWhole (script : NamedFile) (start : WorldValue) (simulated : Simulated)
-    (whole : Bool) (old new : Written) : Type 0 where
-  pub end : Simulation
-  pub left : simulated.left ≡ Some end
-  pub comes : ScriptComes whole (text_in script) (begun_in start) end old new
-
--- what a script comes to by the status: all that was expected is met, or something is not
-abbrev pub ScriptRunsTo : Status → NamedFile → WorldValue → Simulated → Written → Written → Type 0
-ScriptRunsTo status.Done script start simulated = RunsWhole script start simulated true
-ScriptRunsTo status.Refused script start simulated = RunsWhole script start simulated false
-ScriptRunsTo _ script start simulated = λ old new. ⊥
-
 -- the whole script has run, in a world of the configurations
 pub record IsSimulated (script : NamedFile) (files : List NamedFile) (simulated : Simulated)
     (old new : Written) : Type 0 where

@@ -10,7 +10,6 @@ mod configs;
 mod console;
 mod script;
 mod text;
-mod twins;
 
 pub use crate::console::{Console, console_text};
 pub use crate::text::{Simulated, sim_text};

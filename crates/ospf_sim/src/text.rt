@@ -11,14 +11,17 @@ ghost use Rattle.ospf_files.specs.Streams.{IsBegun, IsErrorCut, IsTold, written_
 ghost use Rattle.ospf_sim.specs.Begun.{IsSimulationCut, IsOpeningCut, IsWorldCut};
 ghost use Rattle.ospf_sim.specs.Simulations.{ComesOfScript, IsScriptRefused, IsSimulated, OpensWorld, WorldComes, status_of_script};
 ghost use Rattle.ospf_sim.specs.Stopped.{IsStopped, IsScriptUnreadTold};
-ghost use Rattle.ospf_sim.specs.Twins.{AreFirstTwins, AreTwinsTold};
+ghost use Rattle.ospf_files.specs.Twins.{AreFirstTwins};
+ghost use Rattle.ospf_sim.specs.Twins.{AreTwinsTold};
 
 use crate::configs::read_configs;
 use crate::script::run_script;
-use crate::twins::{first_twins, twins_lines};
 use ospf_commands::{Simulation, Watch};
 use ospf_config::Config;
-use ospf_files::{FailedStreams, Failure, NamedFile, Status, first_unread, tell_unread};
+use ospf_files::{
+    FailedStreams, Failure, NamedFile, Status, Twins, first_twins, first_unread, same_router_lines,
+    tell_unread,
+};
 use ospf_world::World;
 use std::alloc::Global;
 use std::io::Write;
@@ -202,7 +205,7 @@ fn open_world<E: Write>(
     ensures cut { IfErr result (IsOpeningCut files.now configs.items streams.new
         (E.contents err.old) (E.contents err.new)) }
 {
-    if let Some(twins) = first_twins(&configs) {
+    if let Some(twins) = first_twins(files, &configs) {
         tell_twins(alloc, files, &configs, twins, err, streams)?;
         return Ok(None);
     }
@@ -217,18 +220,17 @@ fn tell_twins<E: Write>(
     alloc: Global,
     files: &[NamedFile],
     configs: &[Config],
-    twins: (usize, usize),
+    twins: Twins<'_>,
     err: &mut E,
     streams: &mut FailedStreams,
 ) -> Result<(), Failure>
-    requires files { length files.now ≡ length configs.now }
-    requires twins { AreFirstTwins configs.now twins.0 twins.1 }
+    requires { AreFirstTwins files.now configs.now twins }
     ensures told { OnOk result
         (AreTwinsTold files.now configs.now (E.contents err.old) (E.contents err.new)) }
     ensures cut { IfErr result (IsOpeningCut files.now configs.now streams.new
         (E.contents err.old) (E.contents err.new)) }
 {
-    let lines = twins_lines(alloc, files, configs, twins)?;
+    let lines = same_router_lines(alloc, twins)?;
     streams.tell(err, &lines)
 }
 

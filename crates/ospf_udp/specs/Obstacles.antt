@@ -1,9 +1,10 @@
 -- What keeps the routers of files from running, and what is told of it.
-use Rattle.std.specs.Prelude.{◌≡◌, ◌++◌, ℕ, ℤ, List, Option, Some, Result, Ok, Err, codes, slice_get, string_bytes}
+use Rattle.std.specs.Prelude.{◌≡◌, ◌++◌, ℕ, ℤ, List, Option, Some, Result, Ok, Err, codes, decimal, slice_get, string_bytes}
 use Rattle.ospf_config.specs.declared.config.Config.{Config}
 use Rattle.ospf_config.specs.declared.fault.ConfigFault.{ConfigFault}
 use Rattle.ospf_files.specs.Files.{IsConfigIn, IsRefusedFor, refused_line, text_in, unread_line}
-use Rattle.ospf_files.specs.Listed.{AreConfigs, AreFilesRead, IsFirstRefused, IsFirstUnread, same_router_line}
+use Rattle.ospf_files.specs.Listed.{AreConfigs, AreFilesRead, IsFirstRefused, IsFirstUnread}
+use Rattle.ospf_files.specs.Twins.{AreFirstTwins, same_router_lines}
 use Rattle.ospf_files.specs.declared.files.NamedFile.{NamedFile}
 use Rattle.ospf_files.specs.declared.status.Failure.TheVariants as failure
 use Rattle.ospf_files.specs.declared.status.Status.{Status}
@@ -51,11 +52,11 @@ Hinders floor files (obstacle.Unread file) =
     (least : ℤ) × HasFloor floor least × IsFirstUnread file.now files
 Hinders floor files (obstacle.NoConfig file fault) =
     (least : ℤ) × HasFloor floor least × AreFilesRead files × IsFirstRefused file.now fault files
-Hinders floor files obstacle.SameRouter =
-    (configs : List Config) × Hold floor files configs × ShareRouter configs
-Hinders floor files (obstacle.NoPort file) =
+Hinders floor files (obstacle.SameRouter twins) =
+    (configs : List Config) × Hold floor files configs × AreFirstTwins files configs twins
+Hinders floor files (obstacle.NoPort file number) =
     (configs : List Config) × Hold floor files configs × (ShareRouter configs → ⊥)
-    × IsFirstPortless file.now files configs
+    × IsFirstPortless file.now number files configs
 Hinders floor files (obstacle.NoSocket file no_socket) =
     (configs : List Config) × (least : ℤ) × IsPlan floor files configs least
     × IsSocketless file.now files configs no_socket
@@ -64,20 +65,19 @@ Hinders floor files (obstacle.NoSocket file no_socket) =
 abbrev pub line_about : NamedFile → List ℕ → List ℕ
 line_about file text = string_bytes file.name ++ codes ": " ++ text ++ codes "\n"
 
--- the line of a file of whose interfaces one has no socket, and below it the port and why
-abbrev pub no_socket_line : NamedFile → NoSocket → List ℕ
-no_socket_line file no_socket =
-    string_bytes file.name ++ codes ": socket\n  " ++ no_socket_text no_socket ++ codes "\n"
-
--- what is written where this keeps the routers from running: a line, or two of a socket
+-- what is written where this keeps the routers from running: a line, and below it what is wanted,
+-- or what it is about; of a file alone there is no more than the line
 abbrev pub obstacle_line : Obstacle → List ℕ
-obstacle_line obstacle.NoNumber = codes "floor: not a number\n"
-obstacle_line obstacle.GreatestFloor = codes "floor: S2 Floor\n"
+obstacle_line obstacle.NoNumber = codes "floor: not a number\n  eight hexadecimal digits wanted\n"
+obstacle_line obstacle.GreatestFloor = codes "floor: S2 Floor\n  no number is above 7fffffff\n"
 obstacle_line (obstacle.Unread file) = unread_line file.now
 obstacle_line (obstacle.NoConfig file fault) = refused_line file.now fault
-obstacle_line obstacle.SameRouter = same_router_line
-obstacle_line (obstacle.NoPort file) = line_about file.now (codes "no port")
-obstacle_line (obstacle.NoSocket file no_socket) = no_socket_line file.now no_socket
+obstacle_line (obstacle.SameRouter twins) = same_router_lines twins
+obstacle_line (obstacle.NoPort file number) =
+    line_about file.now
+    (codes "no port\n  interface " ++ decimal number ++ codes ": port: 1024 to 65535 wanted")
+obstacle_line (obstacle.NoSocket file no_socket) =
+    line_about file.now (codes "socket\n  " ++ no_socket_text no_socket)
 
 -- the status that it ends with: a file or a socket failed, or else something is refused
 abbrev pub obstacle_status : Obstacle → Status

@@ -1,9 +1,9 @@
 -- What is found before any socket is made: the floor, the files, the
 -- configurations in them, and their ports.
-use Rattle.std.specs.Prelude.{◌≡◌, ◌≢◌, ◌<◌, ℕ, ℤ, List, All, Option, None, Some, IsSome, slice_get}
-use Rattle.ospf_base.specs.declared.ids.RouterId.{RouterId}
+use Rattle.std.specs.Prelude.{◌≡◌, ◌≢◌, ◌<◌, ℕ, ℤ, List, All, Option, None, Some, IsSome, slice_get, take}
 use Rattle.ospf_config.specs.Configs.{ShareRouter}
 use Rattle.ospf_config.specs.declared.config.Config.{Config}
+use Rattle.ospf_config.specs.declared.interface.Interface.{Interface}
 use Rattle.ospf_files.specs.Listed.{AreConfigs, AreFilesRead}
 use Rattle.ospf_files.specs.declared.files.NamedFile.{NamedFile}
 use Rattle.ospf_flood.specs.Rules.{max_sequence_number}
@@ -25,25 +25,21 @@ pub record HasFloor (text : Option (List ℕ)) (floor : ℤ) : Type 0 where
 
 -- ---- the configurations
 
--- one of the configurations is of this router
-pub record IsConfigured (configs : List Config) (router : RouterId) : Type 0 where
-  pub place : ℕ
-  pub config : Config
-  pub at : slice_get configs place ≡ Some config
-  pub same : config.router_id ≡ router
-
 -- each interface has a port
 abbrev pub HasPorts : Config → Type 0
 HasPorts config = All (λ interface. IsSome interface.port) config.interfaces.items
 
--- the first file with an interface that has no port
-pub record IsFirstPortless (file : NamedFile) (files : List NamedFile) (configs : List Config)
-    : Type 0 where
+-- the first file with an interface that has no port, and the number of the first such of it, from 0
+pub record IsFirstPortless (file : NamedFile) (number : ℕ) (files : List NamedFile)
+    (configs : List Config) : Type 0 where
   pub place : ℕ
   pub config : Config
   pub file_at : slice_get files place ≡ Some file
   pub config_at : slice_get configs place ≡ Some config
-  pub portless : HasPorts config → ⊥
+  pub interface : Interface
+  pub portless : slice_get config.interfaces.items number ≡ Some interface
+  pub no_port : interface.port ≡ None
+  pub ported : All (λ other. IsSome other.port) (take number config.interfaces.items)
   pub before : (k : ℕ) (other : Config) → k < place → slice_get configs k ≡ Some other
       → HasPorts other
 

@@ -1,17 +1,17 @@
 //! What is found before any socket is made: the floor, the files, the
 //! configurations in them, and their ports.
 
-ghost use Rattle.std.specs.Prelude.{◌≡◌, ◌↔◌, All, ℤ, IfOk, IfErr, IfSome, IfNone, IsTrue, length, option_map, string_bytes};
+ghost use Rattle.std.specs.Prelude.{◌≡◌, All, ℤ, IfOk, IfErr, IfSome, IfNone, IsSome, None, Some, length, option_map, slice_get, string_bytes, take};
 ghost use Rattle.ospf_files.specs.Listed.{AreConfigs, AreFilesRead};
 ghost use Rattle.ospf_udp.specs.Obstacles.{IsReadAs, IsUnplanned, IsUnplannedOfRead};
-ghost use Rattle.ospf_config.specs.Configs.{ShareRouter};
-ghost use Rattle.ospf_udp.specs.Plans.{HasPorts, HasFloor, IsConfigured, IsFirstPortless, IsFloorOf, IsPlanAt};
+ghost use Rattle.ospf_config.specs.declared.interface.Interface.{Interface};
+ghost use Rattle.ospf_udp.specs.Plans.{HasPorts, HasFloor, IsFirstPortless, IsFloorOf, IsPlanAt};
 
 use crate::list::put;
 use crate::stop::{Obstacle, Stop};
-use ospf_base::{MAX_SEQUENCE_NUMBER, NO_FLOOR, RouterId};
-use ospf_config::{Config, ConfigFault};
-use ospf_files::{NamedFile, config_in, first_unread};
+use ospf_base::{MAX_SEQUENCE_NUMBER, NO_FLOOR};
+use ospf_config::{Config, ConfigFault, Interface};
+use ospf_files::{NamedFile, config_in, first_twins, first_unread};
 use ospf_script::floor_of;
 use std::alloc::{AllocError, Global};
 
@@ -128,11 +128,11 @@ fn plan_of<'a>(
     ensures plan { IfOk result (IsPlanAt (option_map string_bytes floor.now) files.now) }
     ensures stop { IfErr result (IsUnplanned (option_map string_bytes floor.now) files.now) }
 {
-    if share_router(&configs) {
-        return Err(Stop::Obstacle(Obstacle::SameRouter));
+    if let Some(twins) = first_twins(files, &configs) {
+        return Err(Stop::Obstacle(Obstacle::SameRouter(twins)));
     }
     match first_portless(files, &configs) {
-        Some(file) => Err(Stop::Obstacle(Obstacle::NoPort(file))),
+        Some((file, number)) => Err(Stop::Obstacle(Obstacle::NoPort(file, number))),
         None => Ok(Plan {
             configs,
             floor: least,
@@ -140,45 +140,33 @@ fn plan_of<'a>(
     }
 }
 
-// Whether two of the configurations are of one router.
-fn share_router(configs: &[Config]) -> bool
-    ensures { IsTrue result ↔ ShareRouter configs.now }
-{
-    for (later, config) in configs.iter().enumerate() {
-        if is_among(&configs[..later], config.router_id) {
-            return true;
-        }
-    }
-    false
-}
-
-// Whether one of the configurations is of this router.
-fn is_among(configs: &[Config], router: RouterId) -> bool
-    ensures { IsTrue result ↔ IsConfigured configs.now router }
-{
-    configs.iter().any(|config| config.router_id == router)
-}
-
-// The first file with an interface that has no port.
-fn first_portless<'a>(files: &'a [NamedFile], configs: &[Config]) -> Option<&'a NamedFile>
+// The first file with an interface that has no port, and the number of that interface.
+fn first_portless<'a>(files: &'a [NamedFile], configs: &[Config]) -> Option<(&'a NamedFile, usize)>
     requires { length files.now ≡ length configs.now }
-    ensures some { IfSome result (λ file. IsFirstPortless file.now files.now configs.now) }
+    ensures some { IfSome result (λ found.
+        IsFirstPortless found.0.now found.1 files.now configs.now) }
     ensures none { IfNone result (All HasPorts configs.now) }
 {
     for (place, config) in configs.iter().enumerate() {
-        if !has_ports(config) {
-            return Some(&files[place]);
+        if let Some(number) = portless_in(&config.interfaces) {
+            return Some((&files[place], number));
         }
     }
     None
 }
 
-// Whether each interface has a port.
-fn has_ports(config: &Config) -> bool
-    ensures { IsTrue result ↔ HasPorts config.now }
+// The number of the first interface that has no port.
+fn portless_in(interfaces: &[Interface]) -> Option<usize>
+    ensures some { IfSome result (λ number. (portless : Interface)
+        × (slice_get interfaces.now number ≡ Some portless) × (portless.port ≡ None)) }
+    ensures before { IfSome result (λ number.
+        All (λ other. IsSome other.port) (take number interfaces.now)) }
+    ensures none { IfNone result (All (λ interface. IsSome interface.port) interfaces.now) }
 {
-    config
-        .interfaces
-        .iter()
-        .all(|interface| interface.port.is_some())
+    for (number, interface) in interfaces.iter().enumerate() {
+        if interface.port.is_none() {
+            return Some(number);
+        }
+    }
+    None
 }

@@ -1,13 +1,14 @@
 //! Why the routers of files do not run to their end.
 
-ghost use Rattle.std.specs.Prelude.{◌≡◌, ◌⊎◌, IfErr, IfOk, OnErr, OnOk, string_bytes};
+ghost use Rattle.std.specs.Prelude.{◌≡◌, ◌++◌, ◌⊎◌, codes, decimal, IfErr, IfOk, OnErr, OnOk, string_bytes};
 ghost use Rattle.std.specs.Io.KnownBytes.{Appends};
 ghost use Rattle.ospf_files.specs.Streams.{IsBegun, IsErrorCut, with_error};
-ghost use Rattle.ospf_udp.specs.Obstacles.{line_about, no_socket_line, obstacle_line, obstacle_status};
+ghost use Rattle.ospf_udp.specs.Faults.{no_socket_text};
+ghost use Rattle.ospf_udp.specs.Obstacles.{line_about, obstacle_line, obstacle_status};
 
 use crate::fault::NoSocket;
 use ospf_config::ConfigFault;
-use ospf_files::{FailedStreams, Failure, NamedFile, Status};
+use ospf_files::{FailedStreams, Failure, NamedFile, Status, Twins, same_router_lines};
 use std::alloc::{AllocError, Global};
 use std::io::Write;
 
@@ -23,9 +24,9 @@ pub enum Obstacle<'a> {
     /// The file holds no configuration.
     NoConfig(&'a NamedFile, ConfigFault),
     /// Two configurations are of one Router ID.
-    SameRouter,
-    /// An interface in the file has no port.
-    NoPort(&'a NamedFile),
+    SameRouter(Twins<'a>),
+    /// The interface of this number, from 0, in the file has no port.
+    NoPort(&'a NamedFile, usize),
     /// A socket of the file's router could not be made.
     NoSocket(&'a NamedFile, NoSocket),
 }
@@ -81,8 +82,8 @@ pub fn status_of(obstacle: Obstacle<'_>) -> Status
         Obstacle::NoNumber
         | Obstacle::GreatestFloor
         | Obstacle::NoConfig(..)
-        | Obstacle::SameRouter
-        | Obstacle::NoPort(_) => Status::Refused,
+        | Obstacle::SameRouter(_)
+        | Obstacle::NoPort(..) => Status::Refused,
     }
 }
 
@@ -95,11 +96,11 @@ pub fn tell_obstacle<E: Write>(
     err: &mut E,
     streams: &mut FailedStreams,
 ) -> Result<(), Failure>
-    // The line is written, and no stream has failed by it.
+    // The lines are written, and no stream has failed by them.
     ensures same { OnOk result (streams.new ≡ streams.old) }
     ensures told { OnOk result
         (Appends (E.contents err.old) (E.contents err.new) (obstacle_line obstacle.entry)) }
-    // Else a beginning of it stands there, and standard error has failed, or memory ran out.
+    // Else a beginning of them stands there, and standard error has failed, or memory ran out.
     ensures begun { OnErr result
         (IsBegun (E.contents err.old) (E.contents err.new) (obstacle_line obstacle.entry)) }
     ensures failed { OnErr result ((streams.new ≡ streams.old)
@@ -115,24 +116,40 @@ fn line_of(alloc: Global, obstacle: Obstacle<'_>) -> Result<String, AllocError>
     ensures { IfOk result (λ line. string_bytes line ≡ obstacle_line obstacle.entry) }
 {
     match obstacle {
-        Obstacle::NoNumber => String::from_str(alloc, "floor: not a number\n"),
-        Obstacle::GreatestFloor => String::from_str(alloc, "floor: S2 Floor\n"),
+        Obstacle::NoNumber => String::from_str(
+            alloc,
+            "floor: not a number\n  eight hexadecimal digits wanted\n",
+        ),
+        Obstacle::GreatestFloor => {
+            String::from_str(alloc, "floor: S2 Floor\n  no number is above 7fffffff\n")
+        }
         Obstacle::Unread(file) => line_about(alloc, file, "not read"),
         Obstacle::NoConfig(file, fault) => line_about(alloc, file, fault.text()),
-        Obstacle::SameRouter => String::from_str(alloc, "W7 SameRouter\n"),
-        Obstacle::NoPort(file) => line_about(alloc, file, "no port"),
-        Obstacle::NoSocket(file, no_socket) => no_socket_line(alloc, file, no_socket),
+        Obstacle::SameRouter(twins) => same_router_lines(alloc, twins),
+        Obstacle::NoPort(file, number) => no_port_lines(alloc, file, number),
+        Obstacle::NoSocket(file, no_socket) => no_socket_lines(alloc, file, no_socket),
     }
 }
 
+// The line of a file with an interface that has no port, and one of that interface.
+fn no_port_lines(alloc: Global, file: &NamedFile, number: usize) -> Result<String, AllocError>
+    ensures { IfOk result (λ lines. string_bytes lines ≡ line_about file.now
+        (codes "no port\n  interface " ++ decimal number
+        ++ codes ": port: 1024 to 65535 wanted")) }
+{
+    let text = format!(in alloc; "no port\n  interface {number}: port: 1024 to 65535 wanted")?;
+    line_about(alloc, file, &text)
+}
+
 // The line of a file of whose router a socket could not be made, and one of the port and why.
-fn no_socket_line(
+fn no_socket_lines(
     alloc: Global,
     file: &NamedFile,
     no_socket: NoSocket,
 ) -> Result<String, AllocError>
-    ensures { IfOk result (λ line. string_bytes line ≡ no_socket_line file.now no_socket) }
+    ensures { IfOk result (λ lines. string_bytes lines ≡ line_about file.now
+        (codes "socket\n  " ++ no_socket_text no_socket)) }
 {
-    let line = format!(in alloc; "{}: socket\n  {no_socket}\n", file.name)?;
-    Ok(line)
+    let text = format!(in alloc; "socket\n  {no_socket}")?;
+    line_about(alloc, file, &text)
 }
