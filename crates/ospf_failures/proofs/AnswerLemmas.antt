@@ -17,24 +17,24 @@ use Rattle.ospf_failures.specs.Without.{IsFaultOfNames, IsFirstUnnamed}
 use Rattle.ospf_failures.specs.declared.answer.FailuresAnswer.{FailuresAnswer}
 use Rattle.ospf_failures.specs.declared.answer.FailuresJob.{FailuresJob}
 use Rattle.ospf_failures.specs.declared.answer.FailuresStatus.{FailuresStatus}
-use Rattle.ospf_failures.specs.declared.answer.FailuresStatus.TheVariants.{CutOff, Ended}
+use Rattle.ospf_failures.specs.declared.answer.FailuresStatus.TheVariants.{Ended, Unmet}
 use Rattle.ospf_failures.specs.declared.answer.Unreported.{Unreported}
 use Rattle.ospf_failures.specs.declared.answer.Unreported.TheVariants as fault
 
 -- ---- an answer
 
 -- how it ends
-pub whole_end : (strict cut : Bool) → IsAllPrinted (end_by strict cut)
-whole_end true true = inr refl
-whole_end true false = inl refl
-whole_end false true = inl refl
-whole_end false false = inl refl
+pub whole_end : (strict cut listed : Bool) → IsAllPrinted (end_by strict cut listed)
+whole_end true true listed = inr refl
+whole_end true false true = inl refl
+whole_end true false false = inr refl
+whole_end false cut listed = inl refl
 
-pub end_is : (P : Type 0) (strict cut : Bool) → (IsTrue cut ↔ P) → IsEndBy strict P (end_by strict cut)
-end_is P true true is = (refl, is.0 refl)
-end_is P true false is = (refl, λ e p. let t : false ≡ true = is.1 p in cc)
-end_is P false true is = (refl, λ e p. cc)
-end_is P false false is = (refl, λ e p. cc)
+pub end_is : (P Q : Type 0) (strict cut listed : Bool) → (IsTrue cut ↔ P) → (IsTrue listed ↔ Q) → IsEndBy strict (P ⊎ (Q → ⊥)) (end_by strict cut listed)
+end_is P Q true true listed cuts is = (refl, inl (cuts.0 refl))
+end_is P Q true false true cuts is = (refl, λ e unmet. elim unmet [ inl p ↦ (let t : false ≡ true = cuts.1 p in cc) | inr none ↦ none (is.0 refl) ])
+end_is P Q true false false cuts is = (refl, inr (λ q. let t : false ≡ true = is.1 q in cc))
+end_is P Q false cut listed cuts is = (refl, λ e unmet. cc)
 
 pub answer_made : (input : Option (List ℕ)) (job : FailuresJob) (answer : FailuresAnswer) (listing : List (List ℕ)) → IfSome input (λ bytes. Reads bytes [] listing)
     → (names_of job ≢ [] → HasLarge (advertisements_of listing) → ⊥) → WarnsOf (root_of job) listing (string_bytes answer.warning)
@@ -171,12 +171,12 @@ module _ (input : Option (List ℕ)) (job : FailuresJob) (failed : FailedStreams
   whole_answered _ (inl (is_refused {s = s} unserved names same told)) (inl e) = let is : s ≡ status.Done = cc e in absurd (not_done s unserved is)
   whole_answered _ (inl (is_refused unserved names same told)) (inr e) = absurd (cc e)
   whole_answered end (inr cut) (inl e) = elim (not_early end status.Done cut e) [ inl m ↦ absurd (cc m) | inr t ↦ absurd (cc t) ]
-  whole_answered end (inr cut) (inr e) = let same : CutOff ≡ Ended (failure_status cut.cause) = sym e ∙ cut.end_is in absurd (cc same)
+  whole_answered end (inr cut) (inr e) = let same : Unmet ≡ Ended (failure_status cut.cause) = sym e ∙ cut.end_is in absurd (cc same)
 
   -- whole, it is not refused
   whole_served : (end : FailuresStatus) (s : Status) → IsAllPrinted end → IsUnserved s → end ≡ Ended s → ⊥
   whole_served end s (inl w) unserved e = let same : Ended s ≡ Ended status.Done = sym e ∙ w in let is : s ≡ status.Done = cc same in not_done s unserved is
-  whole_served end s (inr w) unserved e = let same : Ended s ≡ CutOff = sym e ∙ w in cc same
+  whole_served end s (inr w) unserved e = let same : Ended s ≡ Unmet = sym e ∙ w in cc same
 
   early_served : (end : FailuresStatus) (s : Status) → IsFailuresCutShort input job failed old new end → IsUnserved s → end ≡ Ended s → ⊥
   early_served end s cut unserved e = elim (not_early end s cut e) [ inl m ↦ not_memory s unserved m | inr t ↦ not_stream s unserved t ]

@@ -5,3 +5,4 @@ pub mod LargeLemmas
 pub mod OverallLemmas
 pub mod JsonLemmas
 pub mod WithoutLemmas
+pub mod RouterLemmas

@@ -1,13 +1,13 @@
 -- What is printed of the failures of the area whose LSAs are the lines
 -- of an input, and how that ends.
-use Rattle.std.specs.Prelude.{◌≡◌, ◌≢◌, ◌⊎◌, ◌&&◌, ℕ, Bool, true, false, List, [], ◌∷◌, ◌++◌, IfSome, Option, None, Some, String, if◌then◌else◌, codes, string_bytes, vec_items}
+use Rattle.std.specs.Prelude.{◌≡◌, ◌≢◌, ◌⊎◌, ◌&&◌, ◌||◌, ℕ, Bool, not, true, false, List, [], ◌∷◌, ◌++◌, IfSome, Option, None, Some, String, if◌then◌else◌, codes, string_bytes, vec_items}
 use Rattle.std.specs.Io.KnownBytes.{Appends}
 use Rattle.std.specs.declared.alloc.Global.{Global}
 use Rattle.ospf_base.specs.Text.{number_text}
 use Rattle.ospf_base.specs.declared.ids.RouterId.{RouterId}
 use Rattle.ospf_lsa.specs.Lsa.{key_of}
 use Rattle.ospf_edges.specs.Listed.{advertisement_of, advertisements_of}
-use Rattle.ospf_graph.specs.Advertisements.{Advertisement}
+use Rattle.ospf_graph.specs.Advertisements.{Advertisement, IsListed}
 use Rattle.ospf_graph.specs.Routes.{IsTable}
 use Rattle.ospf_graph.specs.declared.route.Route.{Route}
 use Rattle.ospf_files.specs.Status.{code_of, failure_line, failure_status}
@@ -17,7 +17,7 @@ use Rattle.ospf_files.specs.declared.status.Status.{Status}
 use Rattle.ospf_files.specs.declared.status.Status.TheVariants as status
 use Rattle.ospf_files.specs.declared.streams.FailedStreams.{FailedStreams}
 use Rattle.ospf_table.specs.Line.{Reads, Refuses}
-use Rattle.ospf_table.specs.Output.{IsWarning}
+use Rattle.ospf_table.specs.Output.{unlisted_line}
 use Rattle.ospf_table.specs.Refusal.{refusal_line}
 use Rattle.ospf_table.specs.declared.table.EntryFault.{EntryFault}
 use Rattle.ospf_whatif.specs.Failure.{HasLarge, IsLarge}
@@ -33,7 +33,7 @@ use Rattle.ospf_failures.specs.declared.answer.FailuresForm.TheVariants as form
 use Rattle.ospf_failures.specs.declared.answer.FailuresJob.{FailuresJob}
 use Rattle.ospf_failures.specs.declared.answer.FailuresJob.TheVariants.{All, Root, Without}
 use Rattle.ospf_failures.specs.declared.answer.FailuresStatus.{FailuresStatus}
-use Rattle.ospf_failures.specs.declared.answer.FailuresStatus.TheVariants.{CutOff, Ended}
+use Rattle.ospf_failures.specs.declared.answer.FailuresStatus.TheVariants.{Ended, Unmet}
 use Rattle.ospf_failures.specs.declared.overall.RouteDetail.{RouteDetail}
 use Rattle.ospf_failures.specs.declared.overall.RouteDetail.TheVariants as detail
 use Rattle.ospf_failures.specs.declared.overall.Overall.{Overall}
@@ -43,24 +43,35 @@ use Rattle.ospf_failures.specs.declared.overall.Overall.{Overall}
 -- the number of a status
 abbrev pub exit_code_of : FailuresStatus → ℕ
 exit_code_of (Ended s) = code_of s
-exit_code_of CutOff = 1
+exit_code_of Unmet = 1
 
 -- where it is asked to be strict, that this holds is told by the status
 abbrev pub IsEndBy : Bool → Type 0 → FailuresStatus → Type 0
 IsEndBy strict P (Ended s) = (s ≡ status.Done) × ((strict ≡ true) → P → ⊥)
-IsEndBy strict P CutOff = (strict ≡ true) × P
+IsEndBy strict P Unmet = (strict ≡ true) × P
 
--- that a prefix is cut off is
-abbrev pub IsFailuresEnd : Bool → List ReportValue → FailuresStatus → Type 0
-IsFailuresEnd strict printed end = IsEndBy strict (HasCut printed) end
+-- what is told of a root: some failure cuts a prefix off, or the root has no router-LSA among those
+-- listed, so that nothing of it was checked
+abbrev pub IsUnmetAt : List Advertisement → RouterId → List ReportValue → Type 0
+IsUnmetAt adverts root printed = HasCut printed ⊎ (IsListed adverts root → ⊥)
 
--- how it ends where all was printed: by `--strict`, whether something is cut off
-abbrev pub end_by : Bool → Bool → FailuresStatus
-end_by strict cut = if strict && cut then CutOff else Ended status.Done
+-- the router-LSA of some router is listed
+abbrev pub HasRouter : List Advertisement → Type 0
+HasRouter adverts = (router : RouterId) × IsListed adverts router
+
+-- what is told over all routers: some failure cuts a prefix off from one, or no router-LSA is
+-- listed, so that nothing was checked
+abbrev pub IsUnmetSomewhere : List Advertisement → List Overall → Type 0
+IsUnmetSomewhere adverts printed = CutsSomewhere printed ⊎ (HasRouter adverts → ⊥)
+
+-- how it ends where all was printed: by `--strict`, whether something is cut off, and whether what
+-- is asked of is listed
+abbrev pub end_by : (strict cut listed : Bool) → FailuresStatus
+end_by strict cut listed = if strict && (cut || not listed) then Unmet else Ended status.Done
 
 -- all is printed
 abbrev pub IsAllPrinted : FailuresStatus → Type 0
-IsAllPrinted end = (end ≡ Ended status.Done) ⊎ (end ≡ CutOff)
+IsAllPrinted end = (end ≡ Ended status.Done) ⊎ (end ≡ Unmet)
 
 -- ---- what is asked
 
@@ -127,7 +138,7 @@ pub record SaysChanges (adverts : List Advertisement) (root : RouterId) (each st
   pub printed : List ReportValue
   pub reported : IsReported adverts root table printed
   pub text_is : text ≡ changes_text form each root printed
-  pub ends : IsFailuresEnd strict printed end
+  pub ends : IsEndBy strict (IsUnmetAt adverts root printed) end
 
 -- what is kept of the routes that change, where each is to be told
 abbrev pub detail_of : Bool → FailuresForm → RouteDetail
@@ -146,7 +157,7 @@ pub record SaysOverall (adverts : List Advertisement) (each strict : Bool) (form
   pub printed : List Overall
   pub are : AreOveralls adverts (detail_of each form) printed
   pub text_is : text ≡ added_text form each printed
-  pub ends : IsEndBy strict (CutsSomewhere printed) end
+  pub ends : IsEndBy strict (IsUnmetSomewhere adverts printed) end
 
 -- what is asked of the area, and the status that it ends with
 abbrev pub SaysOf : FailuresJob → List Advertisement → List ℕ → FailuresStatus → Type 0
@@ -157,9 +168,15 @@ SaysOf (Without root names addresses) adverts text end =
     IsTableWithout adverts (vec_items names) root (vec_items addresses) text
     × (end ≡ Ended status.Done)
 
+-- what is said of a root: a line where its router-LSA is not listed, and else nothing
+abbrev pub TellsOfRoot : List Advertisement → RouterId → List ℕ → Type 0
+TellsOfRoot adverts root text =
+    ((IsListed adverts root → ⊥) × (text ≡ unlisted_line root))
+    ⊎ (IsListed adverts root × (text ≡ []))
+
 -- what is said of the root, if there is one
 abbrev pub WarnsOf : Option RouterId → List (List ℕ) → List ℕ → Type 0
-WarnsOf (Some root) listing text = IsWarning listing root text
+WarnsOf (Some root) listing text = TellsOfRoot (advertisements_of listing) root text
 WarnsOf None listing text = text ≡ []
 
 -- the answer of the area whose LSAs the lines of the input are, none of whose routers has too many

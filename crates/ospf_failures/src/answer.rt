@@ -6,9 +6,8 @@ ghost use Rattle.ospf_files.specs.Streams.{written_on};
 ghost use Rattle.ospf_files.specs.declared.status.Status.{Status};
 ghost use Rattle.ospf_files.specs.declared.streams.FailedStreams.{FailedStreams};
 ghost use Rattle.ospf_table.specs.Line.{Reads, Refuses};
-ghost use Rattle.ospf_table.specs.Output.{IsWarning};
 ghost use Rattle.ospf_whatif.specs.Failure.{HasLarge, IsLarge};
-ghost use Rattle.ospf_failures.specs.Answer.{FailuresEndsBy, IsFailuresAnswerOf, IsFailuresAnswered, IsFailuresCutShort, IsFailuresEnding, IsUnreported, IsFirstLarge, IsRefusalOf, IsFailuresRefusalTold, IsFailuresSaid, IsUnserved, IsAllPrinted, SaysChanges, SaysOf, SaysOverall, WarnsOf, added_text, changes_text, detail_of, end_by, names_of};
+ghost use Rattle.ospf_failures.specs.Answer.{FailuresEndsBy, IsFailuresAnswerOf, IsFailuresAnswered, IsFailuresCutShort, IsFailuresEnding, IsUnreported, HasRouter, IsFirstLarge, IsRefusalOf, IsFailuresRefusalTold, IsFailuresSaid, IsUnserved, IsAllPrinted, SaysChanges, SaysOf, SaysOverall, WarnsOf, added_text, changes_text, detail_of, end_by, names_of};
 ghost use Rattle.ospf_failures.specs.declared.answer.FailuresJob.{FailuresJob};
 ghost use Rattle.ospf_graph.specs.Routes.{IsTable};
 ghost use Rattle.ospf_graph.specs.declared.route.Route.{Route};
@@ -22,10 +21,11 @@ use crate::progress::Progress;
 use crate::report::{Report, has_cut, reports, reports_json, reports_text};
 use crate::without::text_without;
 use ospf_base::{Addr, Kind, RouterId};
+use ospf_edges::is_listed;
 use ospf_files::{FailedStreams, Failure, Status};
 use ospf_lsa::{Links, Listing, LsaView};
 use ospf_spf::RouteTable;
-use ospf_table::{EntryFault, TableFault, is_unlisted, read_listing};
+use ospf_table::{EntryFault, TableFault, read_listing};
 use std::alloc::{AllocError, Global};
 use std::io::{BufRead, Write};
 use std::process::ExitCode;
@@ -51,7 +51,7 @@ pub enum FailuresJob {
         root: RouterId,
         /// Whether each changed prefix is told.
         each: bool,
-        /// Whether a prefix that is cut off is told by the status.
+        /// Whether the status tells that a prefix is cut off, or that the root is not listed.
         strict: bool,
         /// How it is printed.
         form: FailuresForm,
@@ -60,7 +60,7 @@ pub enum FailuresJob {
     All {
         /// Whether each changed prefix of a router is told.
         each: bool,
-        /// Whether a prefix that is cut off from a router is told by the status.
+        /// Whether the status tells that a prefix is cut off from a router, or that none is listed.
         strict: bool,
         /// How it is printed.
         form: FailuresForm,
@@ -107,8 +107,8 @@ impl FailuresJob {
 pub enum FailuresStatus {
     /// As another job does.
     Ended(Status),
-    /// All is printed, some failure cuts a prefix off, and that was to be told.
-    CutOff,
+    /// All is printed, and what `strict` asks for is not met.
+    Unmet,
 }
 
 impl FailuresStatus {
@@ -121,7 +121,7 @@ impl FailuresStatus {
     {
         match self {
             FailuresStatus::Ended(status) => status.code(),
-            FailuresStatus::CutOff => 1,
+            FailuresStatus::Unmet => 1,
         }
     }
 }
@@ -166,14 +166,14 @@ impl From<FailuresStatus> for ExitCode {
 /// (`reports_json`, `overalls_json`). Or it is the root's table in the area without the parts that
 /// are named, with lookups, as `table_text` prints it.
 ///
-/// Where LSAs are listed and the root's router-LSA is not among them, `err` says so. The status is
-/// `Ended(Done)`, or with `strict` `CutOff` where some failure cuts a prefix off. The first line
-/// that is refused is told on `err`, or where none is and parts are named, whose routers' LSAs are
-/// made anew, the first router whose router-LSA has more than 1,361 links, with status
-/// `Ended(Refused)`; else the first name of nothing in the area, with status `Ended(Words)`. Then
-/// nothing is printed. `Ended(Memory)` says that memory ran out, and
-/// `Ended(Stream)` that a read or a write failed; what it was is told on `err`, as far as that can
-/// be written, and no more than a beginning is printed. `progress` is told how far it has come.
+/// Where the root's router-LSA is not listed, `err` says so. The status is `Ended(Done)`, or with
+/// `strict` `Unmet` where some failure cuts a prefix off, or the root's router-LSA is not listed,
+/// or over all routers none is. The first line that is refused is told on `err`, or where none is
+/// and parts are named, whose routers' LSAs are made anew, the first router whose router-LSA has
+/// more than 1,361 links, with status `Ended(Refused)`; else the first name of nothing in the area,
+/// with status `Ended(Words)`. Then nothing is printed. `Ended(Memory)` says that memory ran out,
+/// and `Ended(Stream)` that a read or a write failed; what it was is told on `err`, as far as that
+/// can be written, and no more than a beginning is printed. `progress` is told how far it has come.
 pub fn failures_text<R: BufRead + Drop, O: Write, E: Write, P: Progress>(
     rt: &(impl AllocGlobal + Threads + Sync),
     job: &FailuresJob,
@@ -377,7 +377,7 @@ fn router_refused(alloc: Global, router: RouterId) -> Unreported
     }
 }
 
-// What is said of the root, if there is one.
+// What is said of the root, if there is one: that its router-LSA is not listed.
 fn warning_of(
     alloc: Global,
     listing: &Listing,
@@ -385,22 +385,14 @@ fn warning_of(
 ) -> Result<String, AllocError>
     ensures { IfOk result (λ text. WarnsOf root listing.now (string_bytes text)) }
 {
-    match root {
-        Some(root) => unlisted_text(alloc, listing, root),
-        None => Ok(String::new(alloc)),
+    let Some(root) = root else {
+        return Ok(String::new(alloc));
+    };
+    if is_listed(listing, root) {
+        return Ok(String::new(alloc));
     }
-}
-
-// What is said of a root: that its router-LSA is not listed, where others are.
-fn unlisted_text(alloc: Global, listing: &Listing, root: RouterId) -> Result<String, AllocError>
-    ensures { IfOk result (λ text. IsWarning listing.now root (string_bytes text)) }
-{
-    if is_unlisted(listing, root) {
-        let text = format!(in alloc; "{root}: no router-LSA of this router\n")?;
-        Ok(text)
-    } else {
-        Ok(String::new(alloc))
-    }
+    let text = format!(in alloc; "{root}: no router-LSA of this router\n")?;
+    Ok(text)
 }
 
 // What is asked of a listing none of whose routers has too many links where parts are named.
@@ -462,7 +454,7 @@ fn changes_said(
 {
     let printed = reports_at(alloc, rt, listing, root)?;
     let text = changes_text(alloc, &printed, root, each, form)?;
-    let end = end_of(strict, has_cut(&printed));
+    let end = end_of(strict, has_cut(&printed), is_listed(listing, root));
     Ok(PrintedText { text, end })
 }
 
@@ -497,8 +489,20 @@ fn overalls_said<P: Progress>(
 {
     let printed = overalls(alloc, rt, listing, detail_of(each, form), progress)?;
     let text = added_text(alloc, &printed, each, form)?;
-    let end = end_of(strict, cuts_somewhere(&printed));
+    let end = end_of(strict, cuts_somewhere(&printed), has_router(listing));
     Ok(PrintedText { text, end })
+}
+
+// Whether the router-LSA of some router is listed.
+fn has_router(listing: &Listing) -> bool
+    ensures { IsTrue result ↔ HasRouter (advertisements_of listing.now) }
+{
+    for lsa in listing.lsas() {
+        if let Kind::Router = lsa.view().kind() {
+            return true;
+        }
+    }
+    false
 }
 
 // Reports in a form.
@@ -546,11 +550,11 @@ fn detail_of(each: bool, form: FailuresForm) -> RouteDetail
 }
 
 // How it ends where all is printed.
-fn end_of(strict: bool, has_cut: bool) -> FailuresStatus
-    ensures { result ≡ end_by strict has_cut }
+fn end_of(strict: bool, has_cut: bool, is_listed: bool) -> FailuresStatus
+    ensures { result ≡ end_by strict has_cut is_listed }
 {
-    if strict && has_cut {
-        FailuresStatus::CutOff
+    if strict && (has_cut || !is_listed) {
+        FailuresStatus::Unmet
     } else {
         FailuresStatus::Ended(Status::Done)
     }
@@ -575,9 +579,8 @@ fn print<O: Write, E: Write>(
         IfSome input (IsFailuresAnswerOf job answer.now) →
         IfErr result (FailuresEndsBy input job streams.new old new) }
 {
-    match streams.tell(err, &answer.warning) {
-        Ok(()) => {}
-        Err(failure) => return Err(failure),
+    if let Err(failure) = streams.tell(err, &answer.warning) {
+        return Err(failure);
     }
     match streams.print(out, &answer.said.text) {
         Ok(()) => Ok(answer.said.end),

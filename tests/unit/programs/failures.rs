@@ -265,7 +265,7 @@ fn what_is_cut_off_is_told_where_it_is_asked_for(rt: HostRuntime) -> Result<(), 
         1.1.1.1-2.2.2.2@10.0.0.0/30 cut 1 gone 1 cost 0 hops 0\n\
         2.2.2.2 gone 192.168.2.0/24\n\
         2.2.2.2 cut 0 gone 1 cost 0 hops 0\n";
-    for (strict, status) in [(false, DONE), (true, FailuresStatus::CutOff)] {
+    for (strict, status) in [(false, DONE), (true, FailuresStatus::Unmet)] {
         expect(
             &rt,
             alloc,
@@ -283,25 +283,54 @@ fn what_is_cut_off_is_told_where_it_is_asked_for(rt: HostRuntime) -> Result<(), 
     Ok(())
 }
 
+// A root that is not listed, or an input where nothing is, does not pass where it is asked to be strict.
 #[test]
 fn root_that_is_not_listed_is_told(rt: HostRuntime) -> Result<(), Fail> {
     let alloc = rt.alloc();
     let input = lines(alloc, &chain(alloc)?)?;
-    expect(
-        &rt,
-        alloc,
-        &Case {
-            root: THIRD,
-            each: true,
-            strict: true,
-            input: &input,
-            status: DONE,
-            out: "1.1.1.1-2.2.2.2@10.0.0.0/30 cut 0 gone 0 cost 0 hops 0\n\
-                1.1.1.1 cut 0 gone 0 cost 0 hops 0\n\
-                2.2.2.2 cut 0 gone 0 cost 0 hops 0\n",
-            err: "3.3.3.3: no router-LSA of this router\n",
-        },
-    )
+    let out = "1.1.1.1-2.2.2.2@10.0.0.0/30 cut 0 gone 0 cost 0 hops 0\n\
+        1.1.1.1 cut 0 gone 0 cost 0 hops 0\n\
+        2.2.2.2 cut 0 gone 0 cost 0 hops 0\n";
+    for (strict, status) in [(false, DONE), (true, FailuresStatus::Unmet)] {
+        for (input, out) in [(input.as_str(), out), ("", "")] {
+            expect(
+                &rt,
+                alloc,
+                &Case {
+                    root: THIRD,
+                    each: true,
+                    strict,
+                    input,
+                    status,
+                    out,
+                    err: "3.3.3.3: no router-LSA of this router\n",
+                },
+            )?;
+        }
+    }
+    Ok(())
+}
+
+// Over all routers no root is missing, but there may be none.
+#[test]
+fn no_router_is_told_by_the_status(rt: HostRuntime) -> Result<(), Fail> {
+    let alloc = rt.alloc();
+    let members = [FIRST, SECOND];
+    let network = Lsa::network(alloc, 0x0a01_0002, SECOND, FIRST_NUMBER, 0xffff_ff00, &members)?;
+    let alone = lines(alloc, &[network])?;
+    for (strict, status) in [(false, DONE), (true, FailuresStatus::Unmet)] {
+        for (form, out) in [(FailuresForm::Text, ""), (FailuresForm::Json, "[]\n")] {
+            for input in ["", alone.as_str()] {
+                let job = FailuresJob::All {
+                    each: false,
+                    strict,
+                    form,
+                };
+                expect_of(&rt, alloc, &job, &Case::over(input, status, out, ""))?;
+            }
+        }
+    }
+    Ok(())
 }
 
 #[test]
@@ -513,7 +542,7 @@ fn failures_over_all_routers_are_told_as_json(rt: HostRuntime) -> Result<(), Fai
             strict: true,
             form: FailuresForm::Json,
         };
-        expect_all(&rt, alloc, &lsas, job, FailuresStatus::CutOff, out)?;
+        expect_all(&rt, alloc, &lsas, job, FailuresStatus::Unmet, out)?;
     }
     Ok(())
 }
@@ -588,10 +617,10 @@ fn failed_stream_is_told(rt: HostRuntime) -> Result<(), Fail> {
 
 #[test]
 fn statuses_are_exit_statuses(rt: HostRuntime) -> Result<(), Fail> {
-    assert_eq!(rt; FailuresStatus::CutOff.code(), 1);
+    assert_eq!(rt; FailuresStatus::Unmet.code(), 1);
     assert_eq!(rt; DONE.code(), 0);
     assert_eq!(rt; FailuresStatus::Ended(Status::Refused).code(), 3);
-    let _ = ExitCode::from(FailuresStatus::CutOff);
+    let _ = ExitCode::from(FailuresStatus::Unmet);
     Ok(())
 }
 

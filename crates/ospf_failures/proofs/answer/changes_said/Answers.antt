@@ -1,5 +1,7 @@
 use Rattle.std.proofs.Common.{◌↔◌, ◌∙◌, List, IsTrue, ap, subst, sym}
-use Rattle.ospf_failures.specs.Answer.{IsEndBy, IsAllPrinted, changes_text}
+use Rattle.ospf_edges.specs.Listed.{advertisements_of}
+use Rattle.ospf_graph.specs.Advertisements.{IsListed}
+use Rattle.ospf_failures.specs.Answer.{IsEndBy, IsAllPrinted, IsUnmetAt, changes_text}
 use Rattle.ospf_failures.specs.Reports.{HasCut, ReportValue}
 use Rattle.ospf_failures.specs.declared.answer.FailuresStatus.{FailuresStatus}
 use Rattle.ospf_failures.proofs.AnswerLemmas.{end_is, whole_end}
@@ -8,6 +10,7 @@ use Rattle.ospf_failures.proofs.answer.changes_said.Goals as goal
 pub returns-clause-said : goal.returns-clause-said
 returns-clause-said g c =
     let printed = c.in_ok-printed.printed.items in
+    let adverts = advertisements_of c.args.listing.now in
     let cuts : IsTrue c.has_cut.result ↔ HasCut printed = subst (λ (l : List ReportValue). IsTrue c.has_cut.result ↔ HasCut l) c.deref-2.ensures.value c.has_cut.ensures in
     record {
       table = c.in_ok-printed.ensures.0;
@@ -15,8 +18,9 @@ returns-clause-said g c =
       printed = printed;
       reported = c.in_ok-printed.ensures.2;
       text_is = c.in_ok-text.ensures ∙ ap (λ (l : List ReportValue). changes_text c.args.form c.args.each c.args.root l) c.deref.ensures.value;
-      ends = subst (λ (e : FailuresStatus). IsEndBy c.args.strict (HasCut printed) e) (sym c.end_of-end.ensures) (end_is (HasCut printed) c.args.strict c.has_cut.result cuts);
+      ends = subst (λ (e : FailuresStatus). IsEndBy c.args.strict (IsUnmetAt adverts c.args.root printed) e) (sym c.end_of-end.ensures)
+          (end_is (HasCut printed) (IsListed adverts c.args.root) c.args.strict c.has_cut.result c.is_listed.result cuts c.is_listed.ensures);
     }
 
 pub returns-clause-whole : goal.returns-clause-whole
-returns-clause-whole g c = subst IsAllPrinted (sym c.end_of-end.ensures) (whole_end c.args.strict c.has_cut.result)
+returns-clause-whole g c = subst IsAllPrinted (sym c.end_of-end.ensures) (whole_end c.args.strict c.has_cut.result c.is_listed.result)

@@ -1,6 +1,6 @@
 use Rattle.std.proofs.Common.{◌↔◌, ◌∙◌, List, IsTrue, ap, subst, sym}
 use Rattle.ospf_edges.specs.Listed.{advertisements_of}
-use Rattle.ospf_failures.specs.Answer.{IsEndBy, IsAllPrinted, added_text}
+use Rattle.ospf_failures.specs.Answer.{HasRouter, IsEndBy, IsAllPrinted, IsUnmetSomewhere, added_text}
 use Rattle.ospf_failures.specs.Overall.{AreOveralls, CutsSomewhere}
 use Rattle.ospf_failures.specs.declared.answer.FailuresStatus.{FailuresStatus}
 use Rattle.ospf_failures.specs.declared.overall.RouteDetail.{RouteDetail}
@@ -11,15 +11,16 @@ use Rattle.ospf_failures.proofs.answer.overalls_said.Goals as goal
 pub returns-clause-said : goal.returns-clause-said
 returns-clause-said g c =
     let printed = c.in_ok-printed.printed.items in
+    let adverts = advertisements_of c.args.listing.now in
     let cuts : IsTrue c.cuts_somewhere.result ↔ CutsSomewhere printed =
     subst (λ (l : List Overall). IsTrue c.cuts_somewhere.result ↔ CutsSomewhere l) c.deref-2.ensures.value c.cuts_somewhere.ensures in
     record {
       printed = printed;
-      are = subst (λ (d : RouteDetail). AreOveralls (advertisements_of c.args.listing.now) d printed) c.detail_of.ensures c.in_ok-printed.ensures;
+      are = subst (λ (d : RouteDetail). AreOveralls adverts d printed) c.detail_of.ensures c.in_ok-printed.ensures;
       text_is = c.in_ok-text.ensures ∙ ap (added_text c.args.form c.args.each) c.deref.ensures.value;
-      ends = subst (λ (e : FailuresStatus). IsEndBy c.args.strict (CutsSomewhere printed) e) (sym c.end_of-end.ensures)
-          (end_is (CutsSomewhere printed) c.args.strict c.cuts_somewhere.result cuts);
+      ends = subst (λ (e : FailuresStatus). IsEndBy c.args.strict (IsUnmetSomewhere adverts printed) e) (sym c.end_of-end.ensures)
+          (end_is (CutsSomewhere printed) (HasRouter adverts) c.args.strict c.cuts_somewhere.result c.has_router.result cuts c.has_router.ensures);
     }
 
 pub returns-clause-whole : goal.returns-clause-whole
-returns-clause-whole g c = subst IsAllPrinted (sym c.end_of-end.ensures) (whole_end c.args.strict c.cuts_somewhere.result)
+returns-clause-whole g c = subst IsAllPrinted (sym c.end_of-end.ensures) (whole_end c.args.strict c.cuts_somewhere.result c.has_router.result)
