@@ -1,7 +1,9 @@
 -- Texts that spell addresses.
-use Rattle.std.proofs.Common.{Bool, true, false, ◌≡◌, ◌⊎◌, ◌∙◌, ◌+◌, ◌<◌, ◌^◌, ◌++◌, ℕ, suc, zero, List, [], ◌∷◌, Ok, Err, Result, IsErrAnd, IfErr, IfNone, IfOk, IfSome, Bor, map, take, length, drop, get_or, subst, refl, ap, ap₂, sym, Option, Some, None, Contains, option_map, unwrap_or, inl, inr, arith, codes, slice_index, string_bytes}
+use Rattle.std.proofs.Common.{Any, Bool, true, false, ◌≡◌, ◌⊎◌, ◌∙◌, ◌+◌, ◌<◌, ◌^◌, ◌++◌, ℕ, suc, zero, List, [], ◌∷◌, Ok, Err, Result, IsErrAnd, IfErr, IfNone, IfOk, IfSome, Bor, map, take, length, drop, get_or, subst, refl, ap, ap₂, sym, Option, Some, None, Contains, option_map, unwrap_or, inl, inr, is_some, not, arith, codes, slice_index, slice_index_or, string_bytes}
 use Rattle.std.proofs.lemmas.List.{map-append, take_more}
 use Rattle.std.proofs.lemmas.Option.{none-some}
+use Rattle.std.specs.Cmp.Lexicographic.{bytes_decides}
+use Rattle.std.specs.Str.{bytes_eq}
 use Rattle.std.specs.declared.net.parser.AddrParseError.{AddrParseError}
 use Rattle.clap.specs.Faults.{fault_of}
 use Rattle.clap.specs.Kinds.{HasKind}
@@ -11,8 +13,8 @@ use Rattle.ospf_base.specs.Text.{IsDottedNumber, ReadsAddress, ReadsRouterId}
 use Rattle.ospf_base.specs.declared.ids.RouterId.{RouterId}
 use Rattle.ospf_base.specs.declared.ids.Addr.{Addr}
 use Rattle.ospf_words.specs.Job.{IsFaultOfNoValue, IsFaultOfValue, IsFaultOfWords}
-use Rattle.ospf_words.specs.Unasked.{IsAllInJson, IsFirstWrong, IsJobIfAny, IsMoreInJson, IsNoAddress, IsNoJob, IsNoNumber, IsUncounted, IsWrongValue, LacksInPath, LacksInRun}
-use Rattle.ospf_words.specs.Words.{AreChoices, IsFailuresForm, IsFlag, IsInspectJob, IsNumber, IsNumberIfAny, IsRunWith, IsTelling, Spell, command_app, failures_form, lsas_asked, telling_of}
+use Rattle.ospf_words.specs.Unasked.{HasForever, IsAllInJson, IsFirstWrong, IsJobIfAny, IsMoreInJson, IsMoreOfAll, IsNoAddress, IsNoJob, IsNoNumber, IsUnasked, IsUncounted, IsUnending, IsUnendingRun, IsWrongValue, LacksInPath, LacksInRun, LacksInSim}
+use Rattle.ospf_words.specs.Words.{AreChoices, IsFailuresForm, IsFlag, IsInspectJob, IsNumber, IsNumberIfAny, IsRunWith, IsTelling, Spell, command_app, endless_app, failures_form, lsas_asked, telling_of}
 use Rattle.ospf_files.specs.declared.telling.Telling.TheVariants as telling
 use Rattle.ospf_failures.specs.declared.answer.FailuresForm.{FailuresForm}
 use Rattle.ospf_inspect.specs.declared.answer.Form.TheVariants as form
@@ -91,6 +93,10 @@ pub first_half : {S X Y : Type 0} (s : Option S) (f : S → X) (g : S → Y) (x 
 first_half {X = X} {Y = Y} (Some b) f g x y e = ap (option_map (λ (p : X × Y). p.0)) e
 first_half {X = X} {Y = Y} None f g x y e = ap (option_map (λ (p : X × Y). p.0)) e
 
+-- what there is is one
+pub some_one : (x y : List ℕ) → Some x ≡ Some y → x ≡ y
+some_one x y same = ap (λ o. unwrap_or o x) same
+
 -- the second half is one
 pub second_half : {X Y : Type 0} (o : Option (X × Y)) (x : X) (y z : Y) → o ≡ Some (x, y) → option_map (λ (p : X × Y). p.1) o ≡ Some z → y ≡ z
 second_half {X} {Y} o x y z e h = ap (λ q. unwrap_or q z) (ap (option_map (λ (p : X × Y). p.1)) (sym e) ∙ h)
@@ -105,6 +111,11 @@ texts_or_none None none is_empty = ap texts_of is_empty
 pub some_texts : {S : Type 0} (text : S → List ℕ) (texts : List S) (words : List (Bor (List ℕ))) → map text texts ≡ texts_of words → (words ≡ [] → ⊥) → texts ≡ [] → ⊥
 some_texts text texts [] is some none = some refl
 some_texts text texts (w ∷ words) is some none = let e : [] ≡ w.now ∷ texts_of words = sym (ap (map text) none) ∙ is in cc
+
+-- and where there are no texts there are no words
+pub no_names : (words : List (Bor (List ℕ))) → (words ≡ [] → ⊥) → texts_of words ≡ [] → ⊥
+no_names [] some none = some refl
+no_names (w ∷ words) some none = let e : w.now ∷ texts_of words ≡ [] = none in cc
 
 pub some_words : (words : List (Bor (List ℕ))) → 0 < length words → texts_of words ≡ [] → ⊥
 some_words [] some none = omega (arith, some)
@@ -169,10 +180,14 @@ address_wrong root r texts w reads f = record {
   wrong = f.wrong;
 }
 
+-- a word that is other than a text
+pub not_word : (word text : List ℕ) (same : Bool) → bytes_eq word text ≡ same → same ≡ false → word ≡ text → ⊥
+not_word word text same is other equal = let found = (bytes_decides word text).1 equal in absurd (let wrong : true ≡ false = sym found ∙ is ∙ other in cc)
+
 -- the first wrong word is the first wrong value of `table`
-pub wrong_value : (rows : List Row) (root w : List ℕ) → first_of (codes "root") rows ≡ Some root
+pub wrong_value : (rows : List Row) (root w : List ℕ) → first_of (codes "root") rows ≡ Some root → (root ≡ codes "all" → ⊥)
     → IsFirstWrong (root ∷ unwrap_or (all_of (codes "addresses") rows) []) w → IsWrongValue (Some (codes "table", rows)) w
-wrong_value rows root w is_root first = inl (record { rows = rows; table = refl; root = root; has_root = is_root; first = first })
+wrong_value rows root w is_root one first = inl (record { rows = rows; table = refl; root = root; has_root = is_root; one = one; first = first })
 
 -- what a run is to look up spells no address
 pub wrong_lookup : (rows : List Row) (w : List ℕ) → first_of (codes "lookup") rows ≡ Some w → IsNoAddress w → IsWrongValue (Some (codes "run", rows)) w
@@ -224,10 +239,13 @@ other m n rows others apart same = absurd (apart (ap letter_of same))
 same_rows : (name : List ℕ) (rows others : List Row) → entered_of name rows ≡ entered_of name others → rows ≡ others
 same_rows name rows others same = ap (λ entered. unwrap_or (option_map (λ (p : List ℕ × List Row). p.1) entered) rows) same
 
--- `table` without a root
-pub no_root : (rows : List Row) → first_of (codes "root") rows ≡ None → IsNoJob (Some (codes "table", rows))
-no_root rows none = record {
-  no_table = λ others same. inl (ap (first_of (codes "root")) (sym (same_rows (codes "table") rows others same)) ∙ none);
+-- why `table` makes no job
+abbrev NoTable : List Row → Type 0
+NoTable rows = (first_of (codes "root") rows ≡ None) ⊎ IsMoreInJson rows ⊎ IsMoreOfAll rows
+
+no_table_job : (rows : List Row) → NoTable rows → IsNoJob (Some (codes "table", rows))
+no_table_job rows is = record {
+  no_table = λ others same. subst NoTable (same_rows (codes "table") rows others same) is;
   no_failures = λ others same. other (codes "table") (codes "failures") rows others (λ (e : 116 ≡ 102). omega (arith, e)) same;
   no_lsas = λ others same. other (codes "table") (codes "lsas") rows others (λ (e : 116 ≡ 108). omega (arith, e)) same;
   no_path = λ others same. other (codes "table") (codes "path") rows others (λ (e : 116 ≡ 112). omega (arith, e)) same;
@@ -236,17 +254,17 @@ no_root rows none = record {
   no_run = λ others same. other (codes "table") (codes "run") rows others (λ (e : 116 ≡ 114). omega (arith, e)) same;
 }
 
+-- `table` without a root
+pub no_root : (rows : List Row) → first_of (codes "root") rows ≡ None → IsNoJob (Some (codes "table", rows))
+no_root rows none = no_table_job rows (inl none)
+
 -- a table as JSON, and more
 pub more_in_json : (rows : List Row) → IsMoreInJson rows → IsNoJob (Some (codes "table", rows))
-more_in_json rows is = record {
-  no_table = λ others same. inr (subst IsMoreInJson (same_rows (codes "table") rows others same) is);
-  no_failures = λ others same. other (codes "table") (codes "failures") rows others (λ (e : 116 ≡ 102). omega (arith, e)) same;
-  no_lsas = λ others same. other (codes "table") (codes "lsas") rows others (λ (e : 116 ≡ 108). omega (arith, e)) same;
-  no_path = λ others same. other (codes "table") (codes "path") rows others (λ (e : 116 ≡ 112). omega (arith, e)) same;
-  no_check = λ others same. other (codes "table") (codes "check") rows others (λ (e : 116 ≡ 99). omega (arith, e)) same;
-  no_sim = λ others same. other (codes "table") (codes "sim") rows others (λ (e : 116 ≡ 115). omega (arith, e)) same;
-  no_run = λ others same. other (codes "table") (codes "run") rows others (λ (e : 116 ≡ 114). omega (arith, e)) same;
-}
+more_in_json rows is = no_table_job rows (inr (inl is))
+
+-- all tables, and more
+pub more_of_all : (rows : List Row) → IsMoreOfAll rows → IsNoJob (Some (codes "table", rows))
+more_of_all rows is = no_table_job rows (inr (inr is))
 
 -- both flags of `lsas`
 pub both_flags : (rows : List Row) → IsFlag (one_of (codes "dot") rows) true → IsFlag (one_of (codes "json") rows) true → IsNoJob (Some (codes "lsas", rows))
@@ -326,17 +344,26 @@ all_apart explain true json (inr none) is = none
 all_apart true false json apart is = absurd (let same : telling.Explained ≡ telling.AllExplained = is in cc)
 all_apart false false json apart is = absurd (let same : telling.Verdict ≡ telling.AllExplained = is in cc)
 
--- `sim` without a script, or without files
-pub no_simulation : (rows : List Row) → (first_of (codes "script") rows ≡ None) ⊎ (all_of (codes "files") rows ≡ None) → IsNoJob (Some (codes "sim", rows))
-no_simulation rows none = record {
+-- a journal that is JSON is one
+pub journal_apart : {T : Type 0} (log : Option T) (json : Bool) → (json ≡ false) ⊎ (is_some log ≡ true) → log ≡ None → json ≡ false
+journal_apart log json (inl plain) is = plain
+journal_apart log json (inr some) is = absurd (let same : false ≡ true = ap is_some (sym is) ∙ some in cc)
+
+-- a text that is none is of no word
+pub no_text : {T : Type 0} (text : T → List ℕ) (log : Option T) (found : Option (List ℕ)) (none : Bool) → is_some log ≡ not none → none ≡ true
+    → option_map text log ≡ found → found ≡ None
+no_text text None found none known is same = sym same
+no_text text (Some x) found none known is same = absurd (let wrong : true ≡ false = known ∙ ap not is in cc)
+
+-- `sim` without a script, without files, or without the journal that is to be JSON
+pub no_simulation : (rows : List Row) → LacksInSim rows → IsNoJob (Some (codes "sim", rows))
+no_simulation rows lacks = record {
   no_table = λ others same. other (codes "sim") (codes "table") rows others (λ (e : 115 ≡ 116). omega (arith, e)) same;
   no_failures = λ others same. other (codes "sim") (codes "failures") rows others (λ (e : 115 ≡ 102). omega (arith, e)) same;
   no_lsas = λ others same. other (codes "sim") (codes "lsas") rows others (λ (e : 115 ≡ 108). omega (arith, e)) same;
   no_path = λ others same. other (codes "sim") (codes "path") rows others (λ (e : 115 ≡ 112). omega (arith, e)) same;
   no_check = λ others same. other (codes "sim") (codes "check") rows others (λ (e : 115 ≡ 99). omega (arith, e)) same;
-  no_sim = λ others same.
-      let one : rows ≡ others = same_rows (codes "sim") rows others same in
-      subst (λ found. (first_of (codes "script") found ≡ None) ⊎ (all_of (codes "files") found ≡ None)) one none;
+  no_sim = λ others same. subst LacksInSim (same_rows (codes "sim") rows others same) lacks;
   no_run = λ others same. other (codes "sim") (codes "run") rows others (λ (e : 115 ≡ 114). omega (arith, e)) same;
 }
 
@@ -414,3 +441,60 @@ told_by text json f is flag = subst (IsFailuresForm text) (sym is) (go json flag
     go : (b : Bool) → IsFlag text b → IsFailuresForm text (failures_form b)
     go true flag = flag
     go false flag = flag
+
+-- ---- runs without a last tick
+
+text_at : (words : List (Bor (List ℕ))) (k : ℕ) (w : Bor (List ℕ)) → k < length words → slice_index_or words k w ≡ w → slice_index_or (texts_of words) k w.now ≡ w.now
+text_at [] k w below at = absurd (omega (arith, below))
+text_at (v ∷ words) zero w below at = ap (λ (b : Bor (List ℕ)). b.now) at
+text_at (v ∷ words) (suc k) w below at = text_at words k w (omega (arith, below)) at
+
+texts_below : (words : List (Bor (List ℕ))) (k : ℕ) → k < length words → k < length (texts_of words)
+texts_below [] k below = absurd (omega (arith, below))
+texts_below (v ∷ words) zero below = omega arith
+texts_below (v ∷ words) (suc k) below = let h = texts_below words k (omega (arith, below)) in omega (arith, h)
+
+-- what is among the words is among their texts
+pub forever_text : (words : List (Bor (List ℕ))) → Any (λ w. w.now ≡ codes "forever") words → HasForever (texts_of words)
+forever_text words h = (
+  h.0,
+  h.1.now,
+  texts_below words h.0 h.2,
+  text_at words h.0 h.1 h.2 h.3,
+  h.4,
+)
+
+-- and the other way round
+pub forever_word : (words : List (Bor (List ℕ))) → HasForever (texts_of words) → Any (λ w. w.now ≡ codes "forever") words
+forever_word words h = go words h.0 h.1 h.2 h.3 h.4
+  where
+    go : (vs : List (Bor (List ℕ))) (k : ℕ) (t : List ℕ) → k < length (texts_of vs) → slice_index_or (texts_of vs) k t ≡ t → t ≡ codes "forever"
+        → Any (λ w. w.now ≡ codes "forever") vs
+    go [] k t below at is = absurd (omega (arith, below))
+    go (v ∷ vs) zero t below at is = (zero, v, omega arith, refl, at ∙ is)
+    go (v ∷ vs) (suc k) t below at is = let h = go vs k t (omega (arith, below)) at is in (suc h.0, h.1, omega (arith, h.2), h.3, h.4)
+
+-- what a run without a last tick is refused for
+pub unending_value : (words : List (List ℕ)) (f : JobFault) → IsFaultOfValue (IsWrongValue (subcommand_of endless_app words)) f → IsUnending words f
+unending_value words (fault.Words e) h = absurd h
+unending_value words (fault.Address w) h = h
+unending_value words fault.Memory h = tt
+
+pub unending_refused : (words : List (List ℕ)) (f : JobFault) → fault_of endless_app words ≡ [] → IsUnendingRun (subcommand_of endless_app words)
+    → IsFaultOfNoValue f → IsUnending words f
+unending_refused words (fault.Words e) none run is = inr (none, run)
+unending_refused words (fault.Address w) none run is = absurd is
+unending_refused words fault.Memory none run is = tt
+
+-- what `clap` refuses where `forever` is among the words
+pub unending_words : (words : List (List ℕ)) (e : Error) (f : JobFault) → HasForever words → HasKind (fault_of endless_app words) e → IsFaultOfWords e f
+    → IsUnending words f
+unending_words words e f forever kinds is = elim is [
+  | inl h ↦ subst (IsUnending words) (sym h.1) tt
+  | inr h ↦ subst (IsUnending words) (sym h.1) (inl (forever, elim kinds [ inl memory ↦ absurd (h.0 memory) | inr among ↦ among ]))
+]
+
+pub unending_unasked : (words : List (List ℕ)) (f : JobFault) → IsUnending words f → IsUnasked words f
+unending_unasked words (fault.Words e) h = inr h
+unending_unasked words (fault.Address w) h = inr h
+unending_unasked words fault.Memory h = inr tt

@@ -1,5 +1,5 @@
 -- Why the program's words ask for no job.
-use Rattle.std.specs.Prelude.{◌≡◌, ◌≢◌, true, ◌<◌, ◌^◌, ◌⊎◌, ℕ, List, [], ◌∷◌, ◌++◌, Option, Some, None, Contains, ⊤, codes, unwrap_or, string_bytes}
+use Rattle.std.specs.Prelude.{◌≡◌, ◌≢◌, true, ◌<◌, ◌^◌, ◌⊎◌, ℕ, List, [], ◌∷◌, ◌++◌, Option, Some, None, Any, Contains, ⊤, codes, unwrap_or, string_bytes}
 use Rattle.ospf_base.specs.Text.{IsDottedNumber}
 use Rattle.ospf_base.specs.declared.ids.Addr.{Addr}
 use Rattle.clap.specs.Kinds.{IsAmong}
@@ -8,8 +8,7 @@ use Rattle.clap.specs.Faults.{fault_of}
 use Rattle.ospf_words.specs.declared.jobs.Job.{Job}
 use Rattle.ospf_words.specs.declared.jobs.JobFault.{JobFault}
 use Rattle.ospf_words.specs.declared.jobs.JobFault.TheVariants as fault
-use Rattle.ospf_words.specs.Job.{IsFaultOfValue}
-use Rattle.ospf_words.specs.Words.{IsFlag, IsJobOf, IsNumber, Spell, command_app, endless_app}
+use Rattle.ospf_words.specs.Words.{HasTicks, IsFlag, IsJobOf, IsNumber, Spell, command_app, endless_app}
 
 -- the text spells no address
 abbrev pub IsNoAddress : Text → Type 0
@@ -24,12 +23,13 @@ pub record IsFirstWrong (texts : List Text) (word : Text) : Type 0 where
   pub spelled : Spell before addresses
   pub wrong : IsNoAddress word
 
--- the first of the root and the addresses after `table` that spells no address
+-- the first of the root, which is not `all`, and the addresses after `table` that spells no address
 pub record IsWrongInTable (entered : Option (Text × List Row)) (word : Text) : Type 0 where
   pub rows : List Row
   pub table : entered ≡ Some (codes "table", rows)
   pub root : Text
   pub has_root : first_of (codes "root") rows ≡ Some root
+  pub one : root ≢ codes "all"
   pub first : IsFirstWrong (root ∷ unwrap_or (all_of (codes "addresses") rows) []) word
 
 -- the root after `failures` spells no address
@@ -76,29 +76,49 @@ LacksInPath rows =
     (first_of (codes "from") rows ≡ None) ⊎ (first_of (codes "address") rows ≡ None)
     ⊎ HasNoChoice (unwrap_or (all_of (codes "choices") rows) [])
 
--- what `run` lacks beside its ticks: the number of milliseconds, or files
-abbrev pub LacksInRun : List Row → Type 0
-LacksInRun rows = IsNoNumber (one_of (codes "tick") rows) ⊎ (all_of (codes "files") rows ≡ None)
+-- the lines of a journal are to be JSON, and there is no journal
+abbrev pub IsJsonAlone : List Row → Type 0
+IsJsonAlone rows =
+    IsFlag (one_of (codes "json") rows) true × (first_of (codes "log") rows ≡ None)
 
--- a table is to be printed as JSON, and something is to be looked up in it or left out
+-- what `run` lacks beside its ticks: the number of milliseconds, files, or a journal for its JSON
+abbrev pub LacksInRun : List Row → Type 0
+LacksInRun rows =
+    IsNoNumber (one_of (codes "tick") rows) ⊎ (all_of (codes "files") rows ≡ None)
+    ⊎ IsJsonAlone rows
+
+-- what `sim` lacks: a script, files, or a journal for its JSON
+abbrev pub LacksInSim : List Row → Type 0
+LacksInSim rows =
+    (first_of (codes "script") rows ≡ None) ⊎ (all_of (codes "files") rows ≡ None)
+    ⊎ IsJsonAlone rows
+
+-- something is to be looked up in a table or left out
+abbrev pub IsMoreInTable : List Row → Type 0
+IsMoreInTable rows =
+    (unwrap_or (all_of (codes "addresses") rows) [] ≢ [])
+    ⊎ (unwrap_or (all_of (codes "without") rows) [] ≢ [])
+
+-- a table is to be printed as JSON, and more
 abbrev pub IsMoreInJson : List Row → Type 0
-IsMoreInJson rows =
-    IsFlag (one_of (codes "json") rows) true
-    × ((unwrap_or (all_of (codes "addresses") rows) [] ≢ [])
-    ⊎ (unwrap_or (all_of (codes "without") rows) [] ≢ []))
+IsMoreInJson rows = IsFlag (one_of (codes "json") rows) true × IsMoreInTable rows
+
+-- all tables are to be printed, and more
+abbrev pub IsMoreOfAll : List Row → Type 0
+IsMoreOfAll rows = (first_of (codes "root") rows ≡ Some (codes "all")) × IsMoreInTable rows
 
 -- all faults are to be told, and as JSON
 abbrev pub IsAllInJson : List Row → Type 0
 IsAllInJson rows =
     IsFlag (one_of (codes "all") rows) true × IsFlag (one_of (codes "json") rows) true
 
--- what the words enter is no `table` with a root, but one with `--json` and more, no
+-- what the words enter is no `table` with a root, but one with `--json` or `all` and more, no
 -- `failures` with a root, no `lsas` but one with both flags, no `path` with both ends and
--- choices, no `check` with files but one with `--all` and `--json`, no `sim` with both, and
--- no `run` with numbers and files
+-- choices, no `check` with files but one with `--all` and `--json`, no `sim` with both but one
+-- with `--json` and no journal, and no `run` with numbers and files but such a one
 pub record IsNoJob (entered : Option (Text × List Row)) : Type 0 where
   pub no_table : (rows : List Row) → entered ≡ Some (codes "table", rows)
-      → (first_of (codes "root") rows ≡ None) ⊎ IsMoreInJson rows
+      → (first_of (codes "root") rows ≡ None) ⊎ IsMoreInJson rows ⊎ IsMoreOfAll rows
   pub no_failures : (rows : List Row) → entered ≡ Some (codes "failures", rows)
       → first_of (codes "root") rows ≡ None
   pub no_lsas : (rows : List Row) → entered ≡ Some (codes "lsas", rows)
@@ -106,8 +126,7 @@ pub record IsNoJob (entered : Option (Text × List Row)) : Type 0 where
   pub no_path : (rows : List Row) → entered ≡ Some (codes "path", rows) → LacksInPath rows
   pub no_check : (rows : List Row) → entered ≡ Some (codes "check", rows)
       → (all_of (codes "files") rows ≡ None) ⊎ IsAllInJson rows
-  pub no_sim : (rows : List Row) → entered ≡ Some (codes "sim", rows)
-      → (first_of (codes "script") rows ≡ None) ⊎ (all_of (codes "files") rows ≡ None)
+  pub no_sim : (rows : List Row) → entered ≡ Some (codes "sim", rows) → LacksInSim rows
   pub no_run : (rows : List Row) → entered ≡ Some (codes "run", rows)
       → IsNoNumber (one_of (codes "ticks") rows) ⊎ LacksInRun rows
 
@@ -126,8 +145,44 @@ IsUncounted words (fault.Address word) =
     IsWrongValue (subcommand_of command_app words) (string_bytes word)
 IsUncounted words fault.Memory = ⊤
 
--- the words are refused for this: for that, or where they ask for a run without a
--- last tick a value is no address
+-- `forever` is among the words
+abbrev pub HasForever : List Text → Type 0
+HasForever = Any (λ w. w ≡ codes "forever")
+
+-- a run without a last tick is entered, and it lacks something
+pub record IsUnendingRun (entered : Option (Text × List Row)) : Type 0 where
+  pub rows : List Row
+  pub run : entered ≡ Some (codes "run", rows)
+  pub ticks : HasTicks rows None
+  pub lacks : LacksInRun rows
+
+-- the words are refused for this, where any word may stand in place of the ticks: `forever` is
+-- among them and `clap` refuses them by an error of this kind, a run without a last tick lacks
+-- something, or a value is no address
+abbrev pub IsUnending : List Text → JobFault → Type 0
+IsUnending words (fault.Words e) =
+    (HasForever words × IsAmong (kind_of e) (fault_of endless_app words))
+    ⊎ ((fault_of endless_app words ≡ []) × IsUnendingRun (subcommand_of endless_app words))
+IsUnending words (fault.Address word) =
+    IsWrongValue (subcommand_of endless_app words) (string_bytes word)
+IsUnending words fault.Memory = ⊤
+
+-- a run is entered with `forever` in place of its ticks
+abbrev pub IsForeverIn : Option (Text × List Row) → Type 0
+IsForeverIn entered =
+    (rows : List Row) × (entered ≡ Some (codes "run", rows)) × HasTicks rows None
+
+-- no run without a last tick is asked for: `forever` is not among the words, or `clap` reads it
+-- elsewhere
+abbrev pub IsNoneUnending : List Text → Type 0
+IsNoneUnending words =
+    (HasForever words → ⊥)
+    ⊎ ((fault_of endless_app words ≡ []) × (IsForeverIn (subcommand_of endless_app words) → ⊥))
+
+-- the words are refused for this: where the ticks of a run are a number, or any word; an error of
+-- `clap` is of the former only where no run without a last tick is asked for
 abbrev pub IsUnasked : List Text → JobFault → Type 0
-IsUnasked words f =
-    IsUncounted words f ⊎ IsFaultOfValue (IsWrongValue (subcommand_of endless_app words)) f
+IsUnasked words (fault.Words e) =
+    (IsUncounted words (fault.Words e) × IsNoneUnending words)
+    ⊎ IsUnending words (fault.Words e)
+IsUnasked words f = IsUncounted words f ⊎ IsUnending words f

@@ -357,7 +357,8 @@ pub record IsCheckJob (rows : List Row) (c : CheckJob) : Type 0 where
   pub json : IsFlag (one_of (codes "json") rows) c.json
   pub apart : c.how ≡ telling.AllExplained → c.json ≡ false
 
--- the script, the files, and the files to be written that `clap` reads after `sim`
+-- the script, the files, and the files to be written that `clap` reads after `sim`; no journal
+-- is JSON where there is none
 pub record IsSimJob (rows : List Row) (s : SimJob) : Type 0 where
   pub has_script : first_of (codes "script") rows ≡ Some (string_bytes s.script)
   pub texts : List Text
@@ -367,6 +368,7 @@ pub record IsSimJob (rows : List Row) (s : SimJob) : Type 0 where
   pub pcap : option_map string_bytes s.pcap ≡ first_of (codes "pcap") rows
   pub log : option_map string_bytes s.log ≡ first_of (codes "log") rows
   pub json : IsFlag (one_of (codes "json") rows) s.json
+  pub apart : s.log ≡ None → s.json ≡ false
 
 -- the address that a text spells, if there is one
 abbrev pub IsAddressIfAny : Option Text → Option Addr → Type 0
@@ -388,7 +390,8 @@ HasTicks rows (Some ticks) =
     (text : Text) × (one_of (codes "ticks") rows ≡ Some text) × IsNumber text ticks
 HasTicks rows None = first_of (codes "ticks") rows ≡ Some (codes "forever")
 
--- the ticks, the files and the options that `clap` reads after `run`
+-- the ticks, the files and the options that `clap` reads after `run`; no journal is JSON where
+-- there is none
 pub record IsRunJob (rows : List Row) (r : RunJob) : Type 0 where
   pub ticks : HasTicks rows r.ticks
   pub tick_text : Text
@@ -407,6 +410,7 @@ pub record IsRunJob (rows : List Row) (r : RunJob) : Type 0 where
   pub drops : IsFlag (one_of (codes "drops") rows) r.drops
   pub log : option_map string_bytes r.log ≡ first_of (codes "log") rows
   pub json : IsFlag (one_of (codes "json") rows) r.json
+  pub apart : r.log ≡ None → r.json ≡ false
 
 -- the job of a run with these ticks
 abbrev pub IsRunWith : List Row → Option ℕ → Job → Type 0

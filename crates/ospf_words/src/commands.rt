@@ -137,7 +137,7 @@ fn each_arg<'a>(alloc: Global) -> Arg<'a>
         .help("Tells each route that a failure changes")
 }
 
-// Whether a failure that cuts a prefix off is an error.
+// Whether a failure that cuts a prefix off is an error, or a root that is not listed.
 fn strict_arg<'a>(alloc: Global) -> Arg<'a>
     ensures rule { rule_of result ≡ flag_rule (codes "strict") }
     ensures local { result.global ≡ false }
@@ -145,7 +145,7 @@ fn strict_arg<'a>(alloc: Global) -> Arg<'a>
     Arg::new(alloc, "strict")
         .long("strict")
         .action(ArgAction::SetTrue)
-        .help("Ends with status 1 where a failure cuts a prefix off")
+        .help("Ends with status 1 where a failure cuts a prefix off, or no root is listed")
 }
 
 // Adds the command `lsas` and its words.
@@ -346,7 +346,7 @@ fn json_arg<'a>(alloc: Global) -> Arg<'a>
     Arg::new(alloc, "json")
         .long("json")
         .action(ArgAction::SetTrue)
-        .help("Writes the lines of the log as JSON objects")
+        .help("Writes the lines of the log as JSON objects; only with --log")
 }
 
 // Adds the command `run` and its words, with these ticks.
@@ -383,11 +383,7 @@ pub(crate) fn ticks_arg<'a>(alloc: Global) -> Arg<'a>
     ensures rule { rule_of result ≡ ticks_rule }
     ensures local { result.global ≡ false }
 {
-    Arg::new(alloc, "ticks")
-        .value_name("TICKS")
-        .help("How many ticks the routers run, 1 to 1000000, or forever")
-        .required(true)
-        .value_parser(ValueParser::unsigned(1, MOST_TICKS))
+    any_ticks_arg(alloc).value_parser(ValueParser::unsigned(1, MOST_TICKS))
 }
 
 // The word in place of the ticks.
@@ -395,7 +391,10 @@ pub(crate) fn any_ticks_arg<'a>(alloc: Global) -> Arg<'a>
     ensures rule { rule_of result ≡ one_rule (codes "ticks") }
     ensures local { result.global ≡ false }
 {
-    Arg::new(alloc, "ticks").value_name("TICKS").required(true)
+    Arg::new(alloc, "ticks")
+        .value_name("TICKS")
+        .help("How many ticks the routers run, 1 to 1000000, or forever")
+        .required(true)
 }
 
 // The milliseconds of a tick.

@@ -25,7 +25,7 @@ pub(crate) const TABLE_HELP: &str = "Output:
       LOCAL>ROUTER            over the point-to-point interface LOCAL
       LOCAL>ROUTER@ADDRESS    over the broadcast interface LOCAL, to ADDRESS
   lookup ADDRESS PREFIX COST HOP, or lookup ADDRESS none, for each ADDRESS
-Where ROOT is `all`, and no ADDRESS follows, each router's table stands below a line
+Where ROOT is `all`, with no ADDRESS and no --without, each router's table stands below
   router R
 With --without it is the table of the area without what is named, as in `failures`:
 a link R-S@SUBNET (or SUBNET alone), links R-S, an interface R@NETWORK, a network
@@ -116,7 +116,7 @@ A failure is one of
 
 Exit status:
   0  done
-  1  with --strict, a failure cuts a prefix off
+  1  with --strict, a failure cuts a prefix off, or ROOT is not listed, or for `all` no router
   2  the words fit no command, or ROOT is no address
   3  a line was refused: its number and fault are on standard error
   4  memory ran out

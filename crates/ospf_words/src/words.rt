@@ -1,11 +1,11 @@
 //! The words of the command line.
 
 ghost use Rattle.clap.specs.Faults.{fault_of};
-ghost use Rattle.std.specs.Prelude.{OnOk, true, false, [], ◌≡◌, ◌≢◌, map, option_map, unwrap_or, codes, string_bytes, Ok, Err, Some, IfNone, IfOk, IfErr, IfSome};
+ghost use Rattle.std.specs.Prelude.{OnOk, true, false, [], ◌≡◌, ◌≢◌, map, option_map, unwrap_or, codes, string_bytes, Ok, Err, Some, Any, IsTrue, ◌↔◌, IfNone, IfOk, IfErr, IfSome};
 ghost use Rattle.clap.specs.Words.{all_of, found_of, one_of, rows_of, subcommand_rows_of, subcommand_of};
 ghost use Rattle.ospf_words.specs.Job.{IsFaultOfNoValue, IsFaultOfValue, IsHelp};
-ghost use Rattle.ospf_words.specs.Unasked.{IsFirstWrong, IsJobIfAny, IsNoAddress, IsUnasked, HasNoChoice, IsWrongValue, IsUncounted, LacksInRun};
-ghost use Rattle.ospf_words.specs.Words.{AreChoices, IsAddressIfAny, IsAsked, IsFlag, Spell, command_app, failures_form, lsas_asked, telling_of, HasTicks, IsAccepted, IsEndless, IsEndlessIn, IsEndlessJob, IsJobOf, IsRunWith, endless_app};
+ghost use Rattle.ospf_words.specs.Unasked.{IsFirstWrong, IsJobIfAny, IsNoAddress, IsUnasked, HasNoChoice, IsWrongValue, IsForeverIn, IsNoneUnending, IsUncounted, IsUnending, LacksInRun};
+ghost use Rattle.ospf_words.specs.Words.{AreChoices, IsAddressIfAny, IsAsked, IsFlag, Spell, command_app, failures_form, lsas_asked, telling_of, HasTicks, IsAccepted, IsEndless, IsJobOf, IsRunWith, endless_app};
 
 use crate::commands::{any_ticks_arg, command, ticks_arg};
 use crate::jobs::{CheckJob, Job, JobFault, RunJob, SimJob};
@@ -24,9 +24,6 @@ const ALL: &str = "all";
 
 // The word that stands in place of the ticks of a run without a last one.
 const FOREVER: &str = "forever";
-
-// What is said of `--json` beside words that it does not go with.
-const ALONE: &str = "--json goes with no ADDRESS, no --without, no --dot and no --all";
 
 /// The fault of words of which one is not UTF-8: `Words`, or `Memory` where memory ran out.
 pub fn not_text(alloc: Global) -> JobFault
@@ -54,11 +51,13 @@ pub fn job(alloc: Global, words: &[&str]) -> Result<Job, JobFault>
     ensures fault { IfErr result (IsUnasked (map (λ w. w.now) words.now)) }
 {
     match counted_job(alloc, words) {
+        Ok(job) => Ok(job),
         Err(JobFault::Words(error)) => match endless_job(alloc, words)? {
             Some(job) => Ok(job),
             None => Err(JobFault::Words(error)),
         },
-        counted => counted,
+        Err(JobFault::Address(word)) => Err(JobFault::Address(word)),
+        Err(JobFault::Memory) => Err(JobFault::Memory),
     }
 }
 
@@ -72,26 +71,42 @@ fn counted_job(alloc: Global, words: &[&str]) -> Result<Job, JobFault>
     let matches = command.try_get_matches_from_mut(words)?;
     match entered_job(alloc, &matches)? {
         Some(job) => Ok(job),
-        None => Err(no_job(&mut command)),
+        None => Err(no_job(&mut command, &matches)),
     }
 }
 
 // Reads words where the ticks of a run are any word: the job is that of a run without a
-// last tick, if they ask for one.
+// last tick, if they ask for one. Words that are refused here too are told of only where
+// `forever` is among them.
 fn endless_job(alloc: Global, words: &[&str]) -> Result<Option<Job>, JobFault>
     ensures ok { IfOk result (λ found. IfSome found (IsEndless (map (λ w. w.now) words.now))) }
     ensures accepted { IfOk result (λ found. IfSome found
         (λ _. fault_of endless_app (map (λ w. w.now) words.now) ≡ [])) }
-    ensures fault { IfErr result (IsFaultOfValue
-        (IsWrongValue (subcommand_of endless_app (map (λ w. w.now) words.now)))) }
+    ensures none { IfOk result (λ found. IfNone found
+        (IsNoneUnending (map (λ w. w.now) words.now))) }
+    ensures fault { IfErr result (IsUnending (map (λ w. w.now) words.now)) }
 {
     let mut command = command(alloc, any_ticks_arg(alloc))?;
     let matches = match command.try_get_matches_from_mut(words) {
         Ok(matches) => matches,
         Err(error) if error.kind() == ErrorKind::OutOfMemory => return Err(JobFault::Memory),
+        Err(error) if has_forever(words) => return Err(JobFault::from(error)),
         Err(_) => return Ok(None),
     };
-    entered_endless(alloc, &matches)
+    let Some(values) = endless_values(&matches) else {
+        return Ok(None);
+    };
+    match run_with(alloc, values, None)? {
+        Some(job) => Ok(Some(job)),
+        None => Err(no_job(&mut command, &matches)),
+    }
+}
+
+// Whether `forever` is among the words.
+fn has_forever(words: &[&str]) -> bool
+    ensures { IsTrue result ↔ Any (λ w. w.now ≡ codes "forever") words.now }
+{
+    words.iter().any(|word| *word == FOREVER)
 }
 
 // The job of the command that the words entered, if its values make one.
@@ -123,16 +138,20 @@ fn entered_job(alloc: Global, matches: &ArgMatches<'_>) -> Result<Option<Job>, J
     Ok(None)
 }
 
-// The job of a run without a last tick, if the words entered that and its values make one.
-fn entered_endless(alloc: Global, matches: &ArgMatches<'_>) -> Result<Option<Job>, JobFault>
-    ensures ok { IfOk result (λ found. IfSome found
-        (IsEndlessIn (subcommand_rows_of matches.now))) }
-    ensures fault { IfErr result (IsFaultOfValue (IsWrongValue (subcommand_rows_of matches.now))) }
+// The values of `run`, if the words entered that with `forever` in place of its ticks.
+fn endless_values<'m, 'a>(matches: &'m ArgMatches<'a>) -> Option<&'m ArgMatches<'a>>
+    ensures run { IfSome result (λ values. subcommand_rows_of matches.now
+        ≡ Some (codes "run", rows_of (found_of values.now))) }
+    ensures ticks { IfSome result (λ values. HasTicks (rows_of (found_of values.now)) None) }
+    ensures none { IfNone result (IsForeverIn (subcommand_rows_of matches.now) → ⊥) }
 {
-    if let Some(values) = matches.subcommand_matches("run") {
-        return endless_run(alloc, values);
+    let Some(values) = matches.subcommand_matches("run") else {
+        return None;
+    };
+    match values.get_str("ticks") {
+        Some(word) if word == FOREVER => Some(values),
+        _ => None,
     }
-    Ok(None)
 }
 
 // The values of `table`: its job, if they have a root.
@@ -152,8 +171,8 @@ fn table_job(alloc: Global, values: &ArgMatches<'_>) -> Result<Option<Job>, JobF
     }
 }
 
-// The values of `table` where nothing is left out: its job, if they have a root. For
-// all roots there are no addresses.
+// The values of `table` where nothing is left out: its job, if they have a root, which is
+// not all roots where there are addresses.
 fn whole_job(alloc: Global, values: &ArgMatches<'_>) -> Result<Option<Job>, JobFault>
     requires whole { unwrap_or (all_of (codes "without") (rows_of (found_of values.now))) [] ≡ [] }
     requires plain { IsFlag (one_of (codes "json") (rows_of (found_of values.now))) false }
@@ -165,7 +184,10 @@ fn whole_job(alloc: Global, values: &ArgMatches<'_>) -> Result<Option<Job>, JobF
         return Ok(None);
     };
     let addresses = values.get_strs("addresses").unwrap_or(&[]);
-    if root == ALL && addresses.is_empty() {
+    if root == ALL {
+        if !addresses.is_empty() {
+            return Ok(None);
+        }
         return Ok(Some(Job::Inspect(InspectJob::Tables(Form::Text))));
     }
     Ok(Some(Job::Table(TableJob {
@@ -174,7 +196,8 @@ fn whole_job(alloc: Global, values: &ArgMatches<'_>) -> Result<Option<Job>, JobF
     })))
 }
 
-// The values of `table` where parts of these names are left out: its job, if they have a root.
+// The values of `table` where parts of these names are left out: its job, if they have a root,
+// which is not all roots.
 fn without_job(
     alloc: Global,
     values: &ArgMatches<'_>,
@@ -192,6 +215,9 @@ fn without_job(
     let Some(root) = values.get_str("root") else {
         return Ok(None);
     };
+    if root == ALL {
+        return Ok(None);
+    }
     let addresses = values.get_strs("addresses").unwrap_or(&[]);
     let root = parsed(alloc, root)?;
     let addresses = parsed_addresses(alloc, addresses)?;
@@ -408,7 +434,7 @@ fn owned(alloc: Global, words: &[&str]) -> Result<Vec<String>, AllocError>
     Ok(texts)
 }
 
-// The values of `sim`: its job, if they have a script and files.
+// The values of `sim`: its job, if they have a script and files, and no JSON without a log.
 fn sim_job(alloc: Global, values: &ArgMatches<'_>) -> Result<Option<Job>, AllocError>
     ensures { IfOk result (IsJobIfAny (Some (codes "sim", rows_of (found_of values.now)))) }
 {
@@ -424,6 +450,9 @@ fn sim_job(alloc: Global, values: &ArgMatches<'_>) -> Result<Option<Job>, AllocE
     let pcap = owned_if_any(alloc, values.get_str("pcap"))?;
     let log = owned_if_any(alloc, values.get_str("log"))?;
     let json = values.get_flag("json");
+    if json && log.is_none() {
+        return Ok(None);
+    }
     Ok(Some(Job::Sim(SimJob {
         script,
         files,
@@ -457,20 +486,7 @@ fn run_job(alloc: Global, values: &ArgMatches<'_>) -> Result<Option<Job>, JobFau
     run_with(alloc, values, Some(ticks))
 }
 
-// The values of `run`: its job without a last tick, if that is asked for and they have files.
-fn endless_run(alloc: Global, values: &ArgMatches<'_>) -> Result<Option<Job>, JobFault>
-    ensures ok { IfOk result (λ found. IfSome found
-        (IsEndlessJob (rows_of (found_of values.now)))) }
-    ensures fault { IfErr result (IsFaultOfValue
-        (IsWrongValue (Some (codes "run", rows_of (found_of values.now))))) }
-{
-    match values.get_str("ticks") {
-        Some(word) if word == FOREVER => run_with(alloc, values, None),
-        _ => Ok(None),
-    }
-}
-
-// The values of `run`: its job with these ticks, if they have files.
+// The values of `run`: its job with these ticks, if they have files, and no JSON without a log.
 fn run_with(
     alloc: Global,
     values: &ArgMatches<'_>,
@@ -501,6 +517,9 @@ fn run_with(
     let listing = values.get_flag("listing");
     let drops = values.get_flag("drops");
     let json = values.get_flag("json");
+    if json && log.is_none() {
+        return Ok(None);
+    }
     Ok(Some(Job::Run(RunJob {
         ticks,
         until_eof,
@@ -531,11 +550,22 @@ fn parsed_if_any(alloc: Global, word: Option<&str>) -> Result<Option<Addr>, JobF
 }
 
 // The fault of words in which `clap` reads no job.
-fn no_job(command: &mut Command<'_>) -> JobFault
+fn no_job(command: &mut Command<'_>, matches: &ArgMatches<'_>) -> JobFault
     ensures { IsFaultOfNoValue result }
 {
-    match command.error(ErrorKind::ArgumentConflict, ALONE) {
+    match command.error(ErrorKind::ArgumentConflict, apart(matches)) {
         Ok(error) => JobFault::from(error),
         Err(_) => JobFault::Memory,
+    }
+}
+
+// Which words of the command that was entered do not go together.
+fn apart(matches: &ArgMatches<'_>) -> &'static str {
+    match matches.subcommand_name() {
+        Some("table") => "`all` and --json go with no ADDRESS and no --without",
+        Some("lsas") => "--json goes with no --dot",
+        Some("check") => "--json goes with no --all",
+        Some("sim") | Some("run") => "--json goes only with --log",
+        _ => "the words do not go together",
     }
 }

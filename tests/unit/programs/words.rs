@@ -8,7 +8,7 @@ use std::alloc::Global;
 use std::test::Fail;
 
 // Words by name, the exit status, and how standard output and standard error begin.
-static WORDS: [(&str, &str, u8, &str, &str); 40] = [
+static WORDS: [(&str, &str, u8, &str, &str); 51] = [
     ("help", "--help", 0, "OSPF version 2 for one area\n", ""),
     ("help word", "help", 0, "OSPF version 2 for one area\n", ""),
     ("help of table", "table --help", 0, "Computes a routing", ""),
@@ -44,9 +44,9 @@ static WORDS: [(&str, &str, u8, &str, &str); 40] = [
     (
         "failures of nothing",
         "failures --each --strict 1.1.1.1",
-        0,
+        1,
         "",
-        "",
+        "1.1.1.1: no router-LSA of this router\n",
     ),
     ("no file of an area", "check --area", 2, "", "error: "),
     (
@@ -59,14 +59,25 @@ static WORDS: [(&str, &str, u8, &str, &str); 40] = [
     ("drawing of nothing", "lsas --dot", 0, "graph area {\n", ""),
     ("drawing of a word", "lsas --dot area.svg", 2, "", "error: "),
     ("LSAs as JSON", "lsas --json", 0, "[]\n", ""),
-    ("a drawing as JSON", "lsas --dot --json", 2, "", "error: --json goes with no"),
+    ("a drawing as JSON", "lsas --dot --json", 2, "", "error: --json goes with no --dot\n"),
     ("all tables as JSON", "table all --json", 0, "[]\n", ""),
-    ("a lookup as JSON", "table --json 1.1.1.1 10.0.0.1", 2, "", "error: --json goes with no"),
-    ("what is left out as JSON", "table --json 1.1.1.1 --without 2.2.2.2", 2, "", "error: --json goes with no"),
+    ("a lookup as JSON", "table --json 1.1.1.1 10.0.0.1", 2, "", "error: `all` and --json go with no ADDRESS and no --without\n"),
+    ("what is left out as JSON", "table --json 1.1.1.1 --without 2.2.2.2", 2, "", "error: `all` and --json go with no ADDRESS"),
+    ("a lookup in all tables", "table all 10.0.0.1", 2, "", "error: `all` and --json go with no ADDRESS"),
+    ("no address in all tables", "table all 10.0.0.01", 2, "", "error: `all` and --json go with no ADDRESS"),
+    ("all tables without a part", "table all --without 2.2.2.2", 2, "", "error: `all` and --json go with no ADDRESS"),
+    ("a root like all", "table ALL --without 2.2.2.2", 2, "", "ALL: not an address\n"),
     ("unread file as JSON", "check --json a.toml", 5, "", "a.toml: not read\n"),
     ("unread file with all faults", "check --all a.toml", 5, "", "a.toml: not read\n"),
     ("all faults of no file", "check --all", 2, "", "error: "),
-    ("all faults as JSON", "check --all --json a.toml", 2, "", "error: --json goes with no"),
+    ("all faults as JSON", "check --all --json a.toml", 2, "", "error: --json goes with no --all\n"),
+    ("JSON of no log in sim", "sim --json a b.toml", 2, "", "error: --json goes only with --log\n"),
+    ("JSON of a log in sim", "sim --json --log a.log a b.toml", 5, "", "a: not read\n"),
+    ("JSON of no log in a run", "run --json 60 a.toml", 2, "", "error: --json goes only with --log\n"),
+    ("JSON of no log in a run without end", "run --json forever a.toml", 2, "", "error: --json goes only with --log\n"),
+    ("a run without end of no file", "run forever", 2, "", "error: the following required arguments were not provided"),
+    ("help of a run without end", "run forever --help", 0, "Runs a router", ""),
+    ("a run of a word", "run never a.toml", 2, "", "error: invalid value 'never'"),
     ("help of sim", "sim --help", 0, "Simulates an area", ""),
     ("help of run", "run --help", 0, "Runs a router", ""),
     ("no configuration of a run", "run 60", 2, "", "error: "),

@@ -6,7 +6,7 @@ use Rattle.clap.specs.Words.{all_of, first_of, found_of, rows_of}
 use Rattle.clap.proofs.WalkLemmas.{first_value-rows, raw_values-rows}
 use Rattle.ospf_words.specs.Job.{IsFaultOfValue}
 use Rattle.ospf_words.specs.Unasked.{IsWrongValue}
-use Rattle.ospf_words.proofs.WordLemmas.{err_kept, more_in_json, named, no_root, root_wrong, some_words, texts_of, texts_or_none, value_weaker, wrong_value}
+use Rattle.ospf_words.proofs.WordLemmas.{err_kept, more_in_json, named, no_root, not_word, root_wrong, some_words, texts_of, texts_or_none, value_weaker, wrong_value}
 use Rattle.ospf_words.proofs.words.json_job.Goals as goal
 
 pub returns-in_default-clause-ok : goal.returns-in_default-clause-ok
@@ -40,9 +40,10 @@ returns-in_err-root-clause-fault c =
     let rows = rows_of found in
     let texts = unwrap_or (all_of (codes "addresses") rows) [] in
     let is_root = sym (c.in-Some.ensures ∙ first_value-rows found (codes "root")) in
+    let one : c.in-Some.root.now ≡ codes "all" → ⊥ = not_word c.in-Some.root.now (codes "all") c.eq.result (sym c.eq.ensures) c.if-eq.false in
     let wrong = IsFaultOfValue (IsWrongValue (Some (codes "table", rows))) in
     err_kept c.from_residual.result (λ f. f ≡ c.in_err-root.field-0.0) wrong c.from_residual.ensures.1 (λ f is. subst wrong (sym is)
-    (value_weaker _ _ c.in_err-root.field-0.0 (λ w h. wrong_value rows c.in-Some.root.now w is_root (root_wrong c.in-Some.root.now texts w h))
+    (value_weaker _ _ c.in_err-root.field-0.0 (λ w h. wrong_value rows c.in-Some.root.now w is_root one (root_wrong c.in-Some.root.now texts w h))
     c.in_err-root.ensures.fault))
 
 pub returns-then-eq-clause-ok : goal.returns-then-eq-clause-ok

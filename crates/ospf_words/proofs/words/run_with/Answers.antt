@@ -1,11 +1,12 @@
-use Rattle.std.proofs.Common.{◌≡◌, ◌∙◌, ◌<◌, ◌^◌, Bor, ℕ, List, sym, refl, subst, codes, inl, inr, Some, None, option_map}
+use Rattle.std.proofs.Common.{◌≡◌, ◌⊎◌, ◌∙◌, ap, ◌<◌, ◌^◌, Bor, ℕ, List, sym, refl, subst, codes, false, inl, inr, is_some, not, true, Some, None, option_map, string_bytes}
 use Rattle.std.specs.Str.Parse.{ParsesUnsigned, ExplainsUnsignedError, HasUnsignedDigitsIfOk}
 use Rattle.clap.specs.Words.{found_of, one_of, rows_of}
 use Rattle.clap.proofs.WalkLemmas.{first_value-rows, one_text-rows, raw_values-rows}
 use Rattle.ospf_words.specs.Job.{IsFaultOfValue}
 use Rattle.ospf_words.specs.Unasked.{IsNoAddress, IsWrongValue}
-use Rattle.ospf_words.specs.Words.{IsAddressIfAny}
-use Rattle.ospf_words.proofs.WordLemmas.{err_kept, no_number_read, number_if_any, number_read, texts_of, value_weaker, wrong_lookup}
+use Rattle.ospf_words.specs.Words.{IsAddressIfAny, IsFlag}
+use Rattle.ospf_words.proofs.WordLemmas.{err_kept, journal_apart, no_number_read, no_text, number_if_any, number_read, texts_of, value_weaker, wrong_lookup}
+use Rattle.ospf_words.proofs.words.run_with.Goals.{else-json-via-then-json+else-is_none, else-json-via-else-json}
 use Rattle.ospf_words.proofs.words.run_with.Goals as goal
 
 pub returns-in_default-clause-none : goal.returns-in_default-clause-none
@@ -18,7 +19,18 @@ returns-in_default-clause-none c =
 pub returns-in_default-get_strs-clause-none : goal.returns-in_default-get_strs-clause-none
 returns-in_default-get_strs-clause-none c =
     let found = found_of c.args.values.now in
-    inr (sym (c.in_default-get_strs.ensures ∙ raw_values-rows found (codes "files")))
+    inr (inl (sym (c.in_default-get_strs.ensures ∙ raw_values-rows found (codes "files"))))
+
+pub returns-then-is_none-clause-none : goal.returns-then-is_none-clause-none
+returns-then-is_none-clause-none c =
+    let found = found_of c.args.values.now in
+    let json : IsFlag (one_of (codes "json") (rows_of found)) c.get_flag-json.result = record {
+      none = λ e. c.get_flag-json.ensures.none (one_text-rows found (codes "json") ∙ e);
+      set = λ e. c.get_flag-json.ensures.value (one_text-rows found (codes "json") ∙ e);
+      unset = λ e. c.get_flag-json.ensures.other (one_text-rows found (codes "json") ∙ e);
+    } in
+    let none = no_text string_bytes c.in_ok-log.log _ c.is_none.result c.is_none.ensures c.if-is_none.true (c.in_ok-log.ensures ∙ c.get_str-4.ensures ∙ first_value-rows found (codes "log")) in
+    inr (inr (rw c.if-json.true at json, none))
 
 pub returns-in_err-lookup-clause-fault : goal.returns-in_err-lookup-clause-fault
 returns-in_err-lookup-clause-fault c =
@@ -33,6 +45,8 @@ pub returns-clause-some : goal.returns-clause-some
 returns-clause-some c =
     let found = found_of c.args.values.now in
     let rows = rows_of found in
+    let apart : (c.get_flag-json.result ≡ false) ⊎ (is_some c.in_ok-log.log ≡ true) =
+    elim c.else-json.branch [ else-json-via-then-json+else-is_none w ↦ inr (w.is_none.ensures ∙ ap not w.if-is_none.false) | else-json-via-else-json w ↦ inl w.if-json.false ] in
     let tick = number_read (λ bs r. ParsesUnsigned 64 10 bs r × ExplainsUnsignedError 10 bs r × HasUnsignedDigitsIfOk bs r) (λ t n h. (h.0.0.0, sym h.0.1))
     (one_of (codes "tick") rows) c.get_one.result c.in-Some.milliseconds (λ e. c.get_one.ensures.none (one_text-rows found (codes "tick") ∙ e))
     (λ t at. c.get_one.ensures.value t (one_text-rows found (codes "tick") ∙ at)) c.in-Some.is in (
@@ -77,6 +91,7 @@ returns-clause-some c =
           set = λ e. c.get_flag-json.ensures.value (one_text-rows found (codes "json") ∙ e);
           unset = λ e. c.get_flag-json.ensures.other (one_text-rows found (codes "json") ∙ e);
         };
+        apart = journal_apart c.in_ok-log.log c.get_flag-json.result apart;
       },
       refl,
     )
