@@ -113,9 +113,10 @@ settled_so most still s now result rounds still_is is p =
     (ap (λ (n : ℕ). settled_line (rounds - n) n) still_is) refl
 
 pub unsettled_so : (most still : ℕ) (s now : Simulation) (result : Result (Option ℕ) WorldFault) → still ≡ longest_dead s → result ≡ Ok None → Passes most still s result now
-    → Settles most s (Ok tt) (unsettled_line most) now
+    → Settles most s (Ok tt) (unsettled_line most still) now
 unsettled_so most still s now result still_is is p =
-    has_not_settled (subst (λ n. Passes most n s (Ok None) now) still_is (subst (λ r. Passes most still s r now) is p)) refl refl
+    has_not_settled (subst (λ n. Passes most n s (Ok None) now) still_is (subst (λ r. Passes most still s r now) is p)) refl
+    (ap (λ (n : ℕ). unsettled_line most n) still_is)
 
 pub ended_so : (most still : ℕ) (s now : Simulation) (result : Result (Option ℕ) WorldFault) (f : WorldFault) → still ≡ longest_dead s → result ≡ Err f → Passes most still s result now
     → Settles most s (Err f) [] now

@@ -1,19 +1,21 @@
 -- What a command of a script does to a simulation, and what it prints.
-use Rattle.std.specs.Prelude.{◌≡◌, ℕ, List, [], Ok, Option, Some, false}
+use Rattle.std.specs.Prelude.{◌≡◌, ℕ, List, [], Ok, Err, Option, Some, true, false}
 use Rattle.ospf_headline.specs.declared.event.WorldEvent.{WorldEvent}
+use Rattle.ospf_headline.specs.declared.event.WorldFault.TheVariants as fault
 use Rattle.ospf_script.specs.Words.{Text}
 use Rattle.ospf_script.specs.declared.command.Command.{Command}
 use Rattle.ospf_script.specs.declared.command.Command.TheVariants as command
 use Rattle.ospf_script.specs.declared.command.Many.{Many}
 use Rattle.ospf_commands.specs.Asked.{AreDatagramsShown, AreDropsShown, IsTextSaid, IsViewShown, IsWalked, IsWhyAnswered}
 use Rattle.ospf_commands.specs.Judged.{JudgedSo}
-use Rattle.ospf_commands.specs.Losses.{losses_of}
+use Rattle.ospf_commands.specs.Losses.{lose_somewhere, losses_of}
 use Rattle.ospf_commands.specs.Many.{ComesAbout}
 use Rattle.ospf_commands.specs.Printed.{IsPrinted, IsPrintedBegun}
 use Rattle.ospf_commands.specs.Rounds.{AreBatches, AreRounds, most_of}
 use Rattle.ospf_commands.specs.Settling.{Settles}
 use Rattle.ospf_commands.specs.Simulations.{Answer, moved}
 use Rattle.ospf_commands.specs.Worlds.{EventDoes, IsRandomRun, WorldValue}
+use Rattle.ospf_commands.specs.declared.losses.Losses.{Losses}
 use Rattle.ospf_commands.specs.declared.simulation.Simulation.{Simulation}
 
 -- an event comes about
@@ -28,6 +30,13 @@ ManyHappen many s answer s' = (w : WorldValue) × ComesAbout many s.world answer
 abbrev pub SomeHappen : (number count : ℕ) → Simulation → Answer → Simulation → Type 0
 SomeHappen number count s answer s' =
     (w : WorldValue) × IsRandomRun number count s.world answer w × (s' ≡ moved s w)
+
+-- losses in the place of those before, where an interface is on their network
+pub data Loses (losses : Losses) (s : Simulation) (answer : Answer) (s' : Simulation) : Type 0 where
+  are_lost : lose_somewhere losses.network s.world.slots ≡ true → answer ≡ Ok tt
+      → s' ≡ record s { losses = Some losses } → Loses losses s answer s'
+  lost_nowhere : lose_somewhere losses.network s.world.slots ≡ false → answer ≡ Err fault.NoLink
+      → s' ≡ s → Loses losses s answer s'
 
 -- what a command does to a simulation, what is answered, and what is printed
 abbrev pub DoesCommand : Command → Simulation → Answer → Text → Simulation → Type 0
@@ -50,8 +59,7 @@ DoesCommand (command.Datagrams r most) s answer text s' =
     AreDatagramsShown r most s answer text × (s' ≡ s)
 DoesCommand (command.Drops r) s answer text s' = AreDropsShown r s answer text × (s' ≡ s)
 DoesCommand (command.Loss percent number network) s answer text s' =
-    (answer ≡ Ok tt) × (text ≡ [])
-    × (s' ≡ record s { losses = Some (losses_of percent number network) })
+    Loses (losses_of percent number network) s answer s' × (text ≡ [])
 DoesCommand (command.Expect e) s answer text s' = JudgedSo e s s' answer text
 DoesCommand (command.Label is_on) s answer text s' =
     (answer ≡ Ok tt) × (text ≡ []) × (s' ≡ record s { is_labelled = is_on })

@@ -1,5 +1,6 @@
 -- Deliveries that are lost by chance, and rounds with losses.
 use Rattle.std.specs.Prelude.{◌≡◌, ◌==◌, ◌%◌, ℕ, zero, suc, Bool, true, false, List, [], ◌∷◌, Option, None, Some, Result, Ok, Err, bit_and, nat_lt, slice_get, if◌then◌else◌}
+use Rattle.std.specs.List.{list_any}
 use Rattle.rand_pcg.specs.Lcg.{Lcg, increment_of, started}
 use Rattle.rand_pcg.specs.Pcg.{multiplier_64, pcg32}
 use Rattle.ospf_base.specs.Masks.{mask_of}
@@ -55,6 +56,14 @@ is_network_of a (Some from) = bit_and a.0 (mask_of from.length) == network_part 
 abbrev pub loses_on : Option Addr → Option InterfaceAddress → Bool
 loses_on None from = true
 loses_on (Some a) from = is_network_of a from
+
+-- there are at an interface of this router
+abbrev pub loses_at : Option Addr → SlotValue → Bool
+loses_at network s = list_any (λ i. loses_on network (Some i.address)) s.config.interfaces.items
+
+-- there are at an interface of some router
+abbrev pub lose_somewhere : Option Addr → List SlotValue → Bool
+lose_somewhere network slots = list_any (loses_at network) slots
 
 -- of these deliveries what is kept, and the losses from then on
 unfoldable pub judged : Losses → List WorldEvent → List WorldEvent × Losses

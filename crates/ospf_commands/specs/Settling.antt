@@ -84,20 +84,16 @@ NeverStillFor rounds (now ∷ passed) =
     (IsStillFor rounds (now ∷ passed) → ⊥) × NeverStillFor rounds passed
 
 -- what is printed of it: the round of the last change, and how many more changed nothing
-abbrev pub round_text : (rounds : ℕ) → Text
-round_text rounds = codes "settled in round " ++ decimal rounds
-
--- the rest of its line
-abbrev pub still_line : (still : ℕ) → Text
-still_line still = codes "; " ++ decimal still ++ codes " more changed nothing\n"
-
--- the whole line
 abbrev pub settled_line : (rounds still : ℕ) → Text
-settled_line rounds still = round_text rounds ++ still_line still
+settled_line rounds still =
+    codes "settled in round " ++ decimal rounds
+    ++ (codes "; " ++ decimal still ++ codes " more changed nothing\n")
 
--- the line where that has not come
-abbrev pub unsettled_line : (rounds : ℕ) → Text
-unsettled_line rounds = codes "not settled by round " ++ decimal rounds ++ codes "\n"
+-- where that has not come: by which round, and how many in a row are to change nothing
+abbrev pub unsettled_line : (rounds still : ℕ) → Text
+unsettled_line rounds still =
+    codes "not settled by round " ++ decimal rounds
+    ++ (codes ": " ++ decimal still ++ codes " in a row are to change nothing\n")
 
 -- rounds, at most so many, up to the first behind which nothing has changed for so many; or there
 -- is none such; or a round is refused; or there is no room for what is seen
@@ -126,6 +122,6 @@ pub data Settles (most : ℕ) (s : Simulation) (answer : Answer) (text : Text) (
       → text ≡ settled_line (rounds - longest_dead s) (longest_dead s)
       → s' ≡ record now { is_settled = true } → Settles most s answer text s'
   has_not_settled : Passes most (longest_dead s) s (Ok None) s' → answer ≡ Ok tt
-      → text ≡ unsettled_line most → Settles most s answer text s'
+      → text ≡ unsettled_line most (longest_dead s) → Settles most s answer text s'
   has_ended : (f : WorldFault) → Passes most (longest_dead s) s (Err f) s' → answer ≡ Err f
       → text ≡ [] → Settles most s answer text s'

@@ -1,12 +1,12 @@
 //! Commands that are done.
 
-ghost use Rattle.std.specs.Prelude.{◌≡◌, IfErr, IfOk, Ok, OnErr, Some};
+ghost use Rattle.std.specs.Prelude.{◌≡◌, IfErr, IfOk, Ok, OnErr};
 ghost use Rattle.ospf_files.specs.Streams.{IsOutputCut};
-ghost use Rattle.ospf_commands.specs.Commands.{EventComesAbout, IsDone, IsDoneBegun, ManyHappen};
+ghost use Rattle.ospf_commands.specs.Commands.{EventComesAbout, IsDone, IsDoneBegun, Loses, ManyHappen};
 
 use crate::asked::{say, show_datagrams, show_drops, show_router, show_walk, show_why};
 use crate::judge::judge;
-use crate::losses::Losses;
+use crate::losses::{Losses, lose_somewhere};
 use crate::many::run_many;
 use crate::rounds::{run_batches, run_events, run_rounds};
 use crate::settle::settle;
@@ -21,8 +21,7 @@ use std::io::Write;
 /// Does what a command asks for, and prints what it is to print. The answer is why it is refused,
 /// if it is. A watch is told of each event, and how far rounds have come.
 ///
-/// `Failure` where memory runs out or the stream fails: then a beginning of
-/// what it is to print was written.
+/// `Failure` where memory runs out or the stream fails: a beginning of what it prints was written.
 pub fn run_command<O: Write, V: Watch>(
     simulation: &mut Simulation,
     command: &Command,
@@ -106,11 +105,13 @@ fn run_at_many<V: Watch>(
     run_many(&mut simulation.world, many, watch, alloc)
 }
 
-// Has these losses from here on.
+// Has these losses from here on, if an interface is on their network.
 fn lose(simulation: &mut Simulation, losses: Losses) -> Result<(), WorldFault>
-    ensures answer { result ≡ Ok tt }
-    ensures losses { simulation.new ≡ record simulation.old { losses = Some losses } }
+    ensures { Loses losses simulation.old result simulation.new }
 {
+    if !lose_somewhere(losses.network, simulation.world.slots()) {
+        return Err(WorldFault::NoLink);
+    }
     simulation.losses = Some(losses);
     Ok(())
 }

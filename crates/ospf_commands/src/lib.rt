@@ -1,9 +1,7 @@
 //! What the commands of a script do in a network of routers, and what they print.
 //!
-//! `run_command` runs one on a `Simulation`: what each does stands in `specs/Commands`, what it
-//! prints in `specs/Shown` and `specs/Judged`. `round_losing` is a round of a world but for what
-//! `Losses` lose, which is not delivered (`specs/Losses`). `agreement_law` says what it comes to
-//! that routers agree (`specs/Agreement`).
+//! `run_command` runs one on a `Simulation` (`specs/Commands`, `specs/Shown`, `specs/Judged`), and
+//! `round_losing` a round with `Losses` (`specs/Losses`); `agreement_law` is of `specs/Agreement`.
 #![tactic(auto)]
 
 mod agreement;

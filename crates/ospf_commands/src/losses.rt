@@ -1,11 +1,11 @@
 //! Deliveries that are lost by chance.
 
 ghost use Rattle.std.specs.Prelude.{◌≡◌, ◌++◌, [], IfOk, OnOk};
-ghost use Rattle.ospf_commands.specs.Losses.{is_lost, is_network_of, kept_offer, kept_offers, loses_on};
+ghost use Rattle.ospf_commands.specs.Losses.{is_lost, is_network_of, kept_offer, kept_offers, lose_somewhere, loses_at, loses_on};
 
 use ospf_base::{Addr, mask_of};
 use ospf_config::InterfaceAddress;
-use ospf_world::{WorldEvent, network_of};
+use ospf_world::{Slot, WorldEvent, network_of};
 use rand_core::utils::NextWord;
 use rand_pcg::Lcg64Xsh32;
 use std::alloc::{AllocError, Global};
@@ -22,9 +22,8 @@ impl Losses {
     ghost use Rattle.std.specs.Prelude.{◌≡◌, IfOk, OnErr};
     ghost use Rattle.ospf_commands.specs.Losses.{judged, kept_from, losses_of};
 
-    /// So many in a hundred are lost, all from a hundred on: by the words of the generator of this
-    /// number, a word a delivery. Where an address is given, deliveries alone of datagrams that are
-    /// sent on the network that holds it, and no word is drawn for others.
+    /// So many in a hundred are lost, all from a hundred on, each by a word of the generator of
+    /// this number. With an address only what is sent on its network is: no other draws a word.
     pub fn new(percent: u8, number: u64, network: Option<Addr>) -> Losses
         ensures { result ≡ losses_of percent number network }
     {
@@ -106,6 +105,21 @@ fn is_lost(percent: u8, word: u32) -> bool
     ensures { result ≡ is_lost percent word }
 {
     word % 100 < u32::from(percent)
+}
+
+// Whether there may be losses at an interface of some router.
+pub(crate) fn lose_somewhere(network: Option<Addr>, slots: &[Slot]) -> bool
+    ensures { result ≡ lose_somewhere network slots.now }
+{
+    slots.iter().any(|slot| loses_at(network, slot))
+}
+
+// Whether there may be at one of this router.
+fn loses_at(network: Option<Addr>, slot: &Slot) -> bool
+    ensures { result ≡ loses_at network slot.now }
+{
+    let all = &slot.config().interfaces;
+    all.iter().any(|i| loses_on(network, Some(i.address)))
 }
 
 // Whether there are losses on the network that an interface sends to.

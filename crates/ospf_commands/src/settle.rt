@@ -2,7 +2,7 @@
 
 ghost use Rattle.std.specs.Prelude.{◌≡◌, ◌≤◌, IfErr, IfOk, OnErr, false, fold, string_bytes};
 ghost use Rattle.ospf_commands.specs.Printed.{IsPrinted, IsPrintedBegun};
-ghost use Rattle.ospf_commands.specs.Settling.{Passes, Settles, longer, longer_in, round_text, settled_line, still_line, unsettled_line};
+ghost use Rattle.ospf_commands.specs.Settling.{Passes, Settles, longer, longer_in, settled_line, unsettled_line};
 ghost use Rattle.ospf_files.specs.Streams.{IsOutputCut};
 
 use crate::rounds::run_round;
@@ -18,9 +18,8 @@ use std::io::Write;
 // How many datagrams a round offers at most.
 const SETTLING_OFFERS: u64 = 1_000_000;
 
-// Rounds, at most so many, until nothing that is seen has changed for as many as the
-// longest RouterDeadInterval has seconds. How many it took is printed; where that fails,
-// a beginning of it was written.
+// Rounds, at most so many, until nothing that is seen has changed for as many as the longest
+// RouterDeadInterval has seconds. How many it took is printed, or a beginning of that.
 pub(crate) fn settle<O: Write, V: Watch>(
     simulation: &mut Simulation,
     most: u64,
@@ -47,7 +46,7 @@ pub(crate) fn settle<O: Write, V: Watch>(
             Ok(Ok(()))
         }
         Ok(None) => {
-            let line = unsettled_line(alloc, most)?;
+            let line = unsettled_line(alloc, most, still)?;
             streams.write(out, &line)?;
             Ok(Ok(()))
         }
@@ -116,29 +115,18 @@ fn longer_in(longest: u64, interfaces: &[Interface]) -> u64
 fn settled_line(alloc: Global, rounds: u64, still: u64) -> Result<String, AllocError>
     ensures { IfOk result (λ line. string_bytes line ≡ settled_line rounds still) }
 {
-    let mut line = round_text(alloc, rounds)?;
-    let rest = still_line(alloc, still)?;
+    let mut line = format!(in alloc; "settled in round {rounds}")?;
+    let rest = format!(in alloc; "; {still} more changed nothing\n")?;
     line.push_str(&rest)?;
     Ok(line)
 }
 
-// The round of the last change.
-fn round_text(alloc: Global, rounds: u64) -> Result<String, AllocError>
-    ensures { IfOk result (λ text. string_bytes text ≡ round_text rounds) }
+// The line of rounds behind which it did not, and how many in a row are to change nothing.
+fn unsettled_line(alloc: Global, rounds: u64, still: u64) -> Result<String, AllocError>
+    ensures { IfOk result (λ line. string_bytes line ≡ unsettled_line rounds still) }
 {
-    format!(in alloc; "settled in round {rounds}")
-}
-
-// How many more changed nothing.
-fn still_line(alloc: Global, still: u64) -> Result<String, AllocError>
-    ensures { IfOk result (λ line. string_bytes line ≡ still_line still) }
-{
-    format!(in alloc; "; {still} more changed nothing\n")
-}
-
-// The line of rounds behind which it did not.
-fn unsettled_line(alloc: Global, rounds: u64) -> Result<String, AllocError>
-    ensures { IfOk result (λ line. string_bytes line ≡ unsettled_line rounds) }
-{
-    format!(in alloc; "not settled by round {rounds}\n")
+    let mut line = format!(in alloc; "not settled by round {rounds}")?;
+    let rest = format!(in alloc; ": {still} in a row are to change nothing\n")?;
+    line.push_str(&rest)?;
+    Ok(line)
 }

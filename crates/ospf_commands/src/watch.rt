@@ -2,8 +2,7 @@
 
 use ospf_world::EventWatch;
 
-/// Is told how far a line of the script has come, and of each event. What it makes of it is its own
-/// affair: the simulation learns nothing of it.
+/// Is told how far a line of the script has come, and of each event; the simulation learns nothing.
 pub trait Watch: EventWatch {
     /// So many of the rounds of a line are done, and one more begins.
     fn begins_round(&mut self, done: u64, count: u64);

@@ -1,5 +1,5 @@
 -- What is expected of a router, and what is printed where it is not so.
-use Rattle.std.specs.Prelude.{◌≡◌, ◌⊎◌, ℕ, ◌==◌, ◌&&◌, Bool, true, false, not, List, [], ◌++◌, All, Any, Contains, IsTrue, Option, None, Some, codes}
+use Rattle.std.specs.Prelude.{◌≡◌, ◌⊎◌, ◌<◌, ℕ, ◌==◌, ◌&&◌, Bool, true, false, not, List, [], ◌++◌, All, Any, Contains, IsTrue, Option, None, Some, codes}
 use Rattle.std.specs.List.{list_any}
 use Rattle.ospf_area.specs.State.{AreaValue, LinkValue}
 use Rattle.ospf_base.specs.declared.ids.RouterId.{RouterId}
@@ -62,11 +62,11 @@ unfoldable pub IsRouteAt : Prefix → ℕ → List NextHop → Route → Type 0
 IsRouteAt prefix cost hops route =
     IsTrue (is_route_to prefix route) × (route.cost ≡ cost) × HasHops hops route.hops
 
--- the router has the other one as a Full neighbour; no neighbour on a link; a route of
--- this cost by these hops; no route
+-- the router has the other one as a Full neighbour; a link with no neighbour; a route of this
+-- cost by these hops; no route
 abbrev pub IsMet : Wanted → RouterValue → Type 0
 IsMet (wanted.Full other) x = IsTrue (has_full other x.area)
-IsMet (wanted.NoNeighbour link) x = neighbours_on x.area link ≡ []
+IsMet (wanted.NoNeighbour link) x = (link < x.links) × (neighbours_on x.area link ≡ [])
 IsMet (wanted.Route prefix cost hops) x = Any (IsRouteAt prefix cost hops.items) x.table
 IsMet (wanted.NoRoute prefix) x = IsTrue (not (list_any (is_route_to prefix) x.table))
 

@@ -23,7 +23,9 @@ pub fn is_met(wanted: &Wanted, router: &Router) -> bool
 {
     match wanted {
         Wanted::Full { other } => has_full(router, *other),
-        Wanted::NoNeighbour { link } => router.neighbours(*link).is_empty(),
+        Wanted::NoNeighbour { link } => {
+            router.has_link(*link) && router.neighbours(*link).is_empty()
+        }
         Wanted::Route { prefix, cost, hops } => {
             has_route(router.table().routes(), *prefix, *cost, hops)
         }

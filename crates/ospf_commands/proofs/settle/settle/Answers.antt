@@ -55,11 +55,11 @@ returns-in_ok-write-in-Ok-Some-clause-settles g c =
 
 pub returns-in_err-line-in-Ok-None-clause-begun : goal.returns-in_err-line-in-Ok-None-clause-begun
 returns-in_err-line-in-Ok-None-clause-begun g c =
-    let so : Settles c.args.most (record c.args.simulation.now { is_settled = false }) (Ok tt) (unsettled_line c.args.most) c.pass_rounds.new.simulation =
+    let so : Settles c.args.most (record c.args.simulation.now { is_settled = false }) (Ok tt) (unsettled_line c.args.most c.longest_dead-still.result) c.pass_rounds.new.simulation =
     unsettled_so c.args.most c.longest_dead-still.result (record c.args.simulation.now { is_settled = false }) c.pass_rounds.new.simulation c.pass_rounds.result (c.longest_dead-still.ensures ∙ ap (fold longer_in 0) c.slots.ensures)
     (c.in-Ok-None.is ∙ ap (λ (o : Option ℕ). Ok o) c.in-Ok-None.field-0-is) c.pass_rounds.ensures in
     let begun : IsPrintedBegun (λ (given : Answer) (text : Text). Settles c.args.most (record c.args.simulation.now { is_settled = false }) given text c.pass_rounds.new.simulation) (g.O.Write.contents c.args.out.now) (g.O.Write.contents c.args.out.now) =
-    record { answer = Ok tt; text = (unsettled_line c.args.most); is_so = so; begun = nothing_begun _ _ } in
+    record { answer = Ok tt; text = (unsettled_line c.args.most c.longest_dead-still.result); is_so = so; begun = nothing_begun _ _ } in
     whatever _ begun
 
 pub returns-in_err-line-in-Ok-None-clause-cut : goal.returns-in_err-line-in-Ok-None-clause-cut
@@ -67,13 +67,13 @@ returns-in_err-line-in-Ok-None-clause-cut g c = for_memory c.from_residual-in_er
 
 pub returns-in_err-write-in-Ok-None-clause-begun : goal.returns-in_err-write-in-Ok-None-clause-begun
 returns-in_err-write-in-Ok-None-clause-begun g c =
-    let so : Settles c.args.most (record c.args.simulation.now { is_settled = false }) (Ok tt) (unsettled_line c.args.most) c.pass_rounds.new.simulation =
+    let so : Settles c.args.most (record c.args.simulation.now { is_settled = false }) (Ok tt) (unsettled_line c.args.most c.longest_dead-still.result) c.pass_rounds.new.simulation =
     unsettled_so c.args.most c.longest_dead-still.result (record c.args.simulation.now { is_settled = false }) c.pass_rounds.new.simulation c.pass_rounds.result (c.longest_dead-still.ensures ∙ ap (fold longer_in 0) c.slots.ensures)
     (c.in-Ok-None.is ∙ ap (λ (o : Option ℕ). Ok o) c.in-Ok-None.field-0-is) c.pass_rounds.ensures in
-    let same : c.deref-in-Ok-None.result.now ≡ (unsettled_line c.args.most) = c.deref-in-Ok-None.ensures ∙ c.in_ok-line-in-Ok-None.ensures in
+    let same : c.deref-in-Ok-None.result.now ≡ (unsettled_line c.args.most c.longest_dead-still.result) = c.deref-in-Ok-None.ensures ∙ c.in_ok-line-in-Ok-None.ensures in
     let begun : IsPrintedBegun (λ (given : Answer) (text : Text). Settles c.args.most (record c.args.simulation.now { is_settled = false }) given text c.pass_rounds.new.simulation) (g.O.Write.contents c.args.out.now) (g.O.Write.contents c.write-in-Ok-None.new.out) = record {
       answer = Ok tt;
-      text = (unsettled_line c.args.most);
+      text = (unsettled_line c.args.most c.longest_dead-still.result);
       is_so = so;
       begun = subst (IsBegun (g.O.Write.contents c.args.out.now) (g.O.Write.contents c.write-in-Ok-None.new.out)) same c.in_err-write-in-Ok-None.ensures.begun;
     } in
@@ -81,12 +81,12 @@ returns-in_err-write-in-Ok-None-clause-begun g c =
 
 pub returns-in_ok-write-in-Ok-None-clause-settles : goal.returns-in_ok-write-in-Ok-None-clause-settles
 returns-in_ok-write-in-Ok-None-clause-settles g c =
-    let so : Settles c.args.most (record c.args.simulation.now { is_settled = false }) (Ok tt) (unsettled_line c.args.most) c.pass_rounds.new.simulation =
+    let so : Settles c.args.most (record c.args.simulation.now { is_settled = false }) (Ok tt) (unsettled_line c.args.most c.longest_dead-still.result) c.pass_rounds.new.simulation =
     unsettled_so c.args.most c.longest_dead-still.result (record c.args.simulation.now { is_settled = false }) c.pass_rounds.new.simulation c.pass_rounds.result (c.longest_dead-still.ensures ∙ ap (fold longer_in 0) c.slots.ensures)
     (c.in-Ok-None.is ∙ ap (λ (o : Option ℕ). Ok o) c.in-Ok-None.field-0-is) c.pass_rounds.ensures in
-    let same : c.deref-in-Ok-None.result.now ≡ (unsettled_line c.args.most) = c.deref-in-Ok-None.ensures ∙ c.in_ok-line-in-Ok-None.ensures in
+    let same : c.deref-in-Ok-None.result.now ≡ (unsettled_line c.args.most c.longest_dead-still.result) = c.deref-in-Ok-None.ensures ∙ c.in_ok-line-in-Ok-None.ensures in
     record {
-      text = (unsettled_line c.args.most);
+      text = (unsettled_line c.args.most c.longest_dead-still.result);
       is_so = so;
       written = subst (Appends (g.O.Write.contents c.args.out.now) (g.O.Write.contents c.write-in-Ok-None.new.out)) same c.in_ok-write-in-Ok-None.ensures.written;
     }
