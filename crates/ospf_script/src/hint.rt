@@ -48,7 +48,7 @@ fn write_names<W: Write>(f: &mut Formatter<W>, word: &[u8]) -> fmt::Result
 {
     write_word(f, word)?;
     f.write_str(
-        ": no command; there are start, stop, tick, up, down, deliver, cut, mend, round, batch, random, settle, neighbours, listing, table, walk, floor, say, why, datagrams, drops, loss, expect, label",
+        ": no command; there are start, stop, tick, up, down, deliver, cut, mend, round, batch, random, settle, neighbours, listing, table, walk, floor, say, why, datagrams, drops, loss, expect, label; alone each but say tells its form",
     )
 }
 

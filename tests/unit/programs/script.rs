@@ -409,7 +409,7 @@ fn unreadable(rt: HostRuntime) {
     }
 }
 
-const NAMES: &str = "start, stop, tick, up, down, deliver, cut, mend, round, batch, random, settle, neighbours, listing, table, walk, floor, say, why, datagrams, drops, loss, expect, label";
+const NAMES: &str = "start, stop, tick, up, down, deliver, cut, mend, round, batch, random, settle, neighbours, listing, table, walk, floor, say, why, datagrams, drops, loss, expect, label; alone each but say tells its form";
 
 #[test]
 fn hints(rt: HostRuntime) -> Result<(), Fail> {
