@@ -58,7 +58,8 @@ meaning_text fault.Mtu =
     codes
     "the one of the smaller MTU drops the other's Database Descriptions: they never become Full (section 10.6)"
 meaning_text fault.Mask =
-    codes "their networks overlap and are two: neither hears the other (sections 8.2 and 10.5)"
+    codes
+    "their networks overlap and are two: on a broadcast network neither hears the other; over a point-to-point link they may become Full, and each tells its own (sections 8.2 and 10.5)"
 meaning_text fault.Crowded =
     codes "each end takes the first router that it hears for its only neighbour (section 8.2)"
 meaning_text fault.NoDr =
@@ -71,9 +72,9 @@ meaning_text fault.Delay =
     codes
     "what one sends comes back older than it is known: they may never become Full, and send to each other without end (sections 13.1 and 13.3)"
 meaning_text fault.SamePort = codes "a port is opened once: `run` ends where it is opened again"
-meaning_text fault.Astray = codes "in `run` packets of another network are dropped (section 8.2)"
+meaning_text fault.Astray = codes "in `run` broadcast interfaces drop its packets (section 8.2)"
 meaning_text (fault.Nowhere peer) = codes "no router of these files hears what is sent there"
-meaning_text fault.Apart = codes "the area falls apart: what is here has no route there"
+meaning_text fault.Apart = codes "over these networks the area falls apart: no route leads there"
 meaning_text fault.Unheard = codes "in `run` they never become neighbours (section 10.5)"
 
 -- the port of an interface, if it has one

@@ -111,7 +111,7 @@ impl AreaFault {
                 "the one of the smaller MTU drops the other's Database Descriptions: they never become Full (section 10.6)"
             }
             AreaFault::Mask => {
-                "their networks overlap and are two: neither hears the other (sections 8.2 and 10.5)"
+                "their networks overlap and are two: on a broadcast network neither hears the other; over a point-to-point link they may become Full, and each tells its own (sections 8.2 and 10.5)"
             }
             AreaFault::Crowded => {
                 "each end takes the first router that it hears for its only neighbour (section 8.2)"
@@ -128,9 +128,9 @@ impl AreaFault {
                 "what one sends comes back older than it is known: they may never become Full, and send to each other without end (sections 13.1 and 13.3)"
             }
             AreaFault::SamePort => "a port is opened once: `run` ends where it is opened again",
-            AreaFault::Astray => "in `run` packets of another network are dropped (section 8.2)",
+            AreaFault::Astray => "in `run` broadcast interfaces drop its packets (section 8.2)",
             AreaFault::Nowhere(_) => "no router of these files hears what is sent there",
-            AreaFault::Apart => "the area falls apart: what is here has no route there",
+            AreaFault::Apart => "over these networks the area falls apart: no route leads there",
             AreaFault::Unheard => "in `run` they never become neighbours (section 10.5)",
         }
     }

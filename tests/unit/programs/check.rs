@@ -358,7 +358,7 @@ fn prints_what_is_wrong_in_an_area_as_json(rt: HostRuntime) -> Result<(), Fail> 
         \"meaning\":\"each drops the other's Hellos: they never become neighbours (section 10.5)\",\"note\":false,\
         \"other\":{\"file\":\"a.toml\",\"interface\":0,\"key\":\"hello\",\"value\":10}},\
         {\"code\":\"A18 Apart\",\"here\":{\"file\":\"b.toml\",\"interface\":null,\"key\":\"router_id\",\"value\":\"2.2.2.2\"},\
-        \"meaning\":\"the area falls apart: what is here has no route there\",\"note\":false,\
+        \"meaning\":\"over these networks the area falls apart: no route leads there\",\"note\":false,\
         \"other\":{\"file\":\"a.toml\",\"interface\":null,\"key\":\"router_id\",\"value\":\"1.1.1.1\"}}]\n"
     );
     assert!(rt; outcome.err.is_empty());

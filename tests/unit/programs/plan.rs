@@ -554,7 +554,7 @@ fn explains_a_fault(rt: HostRuntime) -> Result<(), Fail> {
     let told = told_of(rt.alloc(), &files, Telling::Explained);
     assert_eq!(rt;
         told.err.as_slice(),
-        b"b.toml: A5 Hello: interface 0: hello 5, a.toml: interface 0: hello 10\n  each drops the other's Hellos: they never become neighbours (section 10.5)\nb.toml: A18 Apart: router_id 2.2.2.2, a.toml: router_id 1.1.1.1\n  the area falls apart: what is here has no route there\n".as_slice()
+        b"b.toml: A5 Hello: interface 0: hello 5, a.toml: interface 0: hello 10\n  each drops the other's Hellos: they never become neighbours (section 10.5)\nb.toml: A18 Apart: router_id 2.2.2.2, a.toml: router_id 1.1.1.1\n  over these networks the area falls apart: no route leads there\n".as_slice()
     );
     assert_eq!(rt; told.status, Status::Refused);
     Ok(())
