@@ -13,14 +13,14 @@ use crate::others::{Described, Others};
 use crate::tables::Tables;
 use ospf_base::{Addr, RouterId};
 use ospf_config::Interface;
-use ospf_files::{Failure, NamedFile};
-use ospf_journal::{DroppedAt, Seen};
+use ospf_files::{Failure, NamedFile, tell_unwritten};
+use ospf_journal::{DroppedAt, RouterChange, Seen};
 use ospf_neighbour::NeighbourState;
 use ospf_records::write_header;
-use ospf_run::{Config, Drops, Router, Sent, Step, Tap};
+use ospf_run::{Config, Drops, Ending, Router, Sent, Step, Tap};
 use ospf_step::{DropCounts, count_dropped, none_dropped_on};
 use std::alloc::{AllocError, Global};
-use std::io::Write;
+use std::io::{self, Write};
 use std::mem;
 use std::sync::{Arc, Mutex, Wait};
 use std::time::Clock;
@@ -33,16 +33,20 @@ const MOST_LINKS: usize = 1 << 16;
 pub struct Noted<F: Write + Drop, T: Write + Drop, O: Write + Drop> {
     /// How many ticks the run has, if one is the last.
     pub of: Option<u64>,
-    /// Where what is sent is captured, if it is.
+    /// Where what is sent is captured, if it is, and the name of that file.
     pub capture: Option<F>,
+    pub pcap: Option<String>,
     /// Where messages go, and how far the run has come.
     pub line: StatusLine<T>,
-    /// Where tables are printed while the routers run, if they are.
+    /// Where tables are printed while the routers run, if they are, and what ends the run where
+    /// they cannot be printed any more.
     pub tables: Option<Tables<O>>,
+    pub ending: Option<Ending>,
     /// Whether it is counted what the routers drop.
     pub drops: bool,
-    /// Where a journal is written, if one is.
+    /// Where a journal is written, if one is, and the name of that file.
     pub journal: Option<Journal<F>>,
+    pub log: Option<String>,
 }
 
 /// What is noted of one router. The notes of all routers of a run share a
@@ -76,7 +80,8 @@ impl<R: Wait + Clock + Copy + Drop, F: Write + Drop, T: Write + Drop, O: Write +
     T,
     O,
 > {
-    /// The notes of a run, which note this. The capture's head is written.
+    /// The notes of a run, which note this. The capture's head is written. That a file cannot be
+    /// written is told where messages go, as soon as it is known.
     ///
     /// `AllocError` where memory runs out.
     pub fn new(
@@ -84,28 +89,11 @@ impl<R: Wait + Clock + Copy + Drop, F: Write + Drop, T: Write + Drop, O: Write +
         alloc: Global,
         noted: Noted<F, T, O>,
     ) -> Result<Notes<R, F, T, O>, AllocError> {
-        let Noted {
-            of,
-            capture,
-            line,
-            tables,
-            drops,
-            journal,
-        } = noted;
-        let (captures, shows, logs) = (capture.is_some(), line.has_terminal(), journal.is_some());
-        let every = tables.as_ref().map(|it| it.every());
-        let mut shared = Shared {
-            capture: Capture::new(capture),
-            tables,
-            journal,
-            failure: None,
-            line,
-            drops: Vec::new(alloc),
-            ticks: 0,
-            full: 0,
-            running: 0,
-        };
-        shared.capture.write(Ok(capture_head(alloc)?));
+        let (of, drops, shows) = (noted.of, noted.drops, noted.line.has_terminal());
+        let (captures, logs) = (noted.capture.is_some(), noted.journal.is_some());
+        let every = noted.tables.as_ref().map(|it| it.every());
+        let mut shared = Shared::new(alloc, noted);
+        shared.capture(Ok(capture_head(alloc)?));
         let shared = share(shared, alloc)?;
         Ok(Notes {
             rt,
@@ -171,9 +159,7 @@ impl<R: Wait + Clock + Copy + Drop, F: Write + Drop, T: Write + Drop, O: Write +
             }
         }
         let mut all = self.shared.lock(&self.rt);
-        if let Some(journal) = &mut all.journal {
-            journal.write(self.alloc, self.ticks, self.teller.router, changes);
-        }
+        all.log(self.alloc, self.ticks, self.teller.router, changes);
     }
 
     // Tells of a neighbour that describes an LSA which the router refuses, once.
@@ -261,7 +247,7 @@ impl<R: Wait + Clock + Copy + Drop, F: Write + Drop, T: Write + Drop, O: Write +
         }
         let mut all = self.shared.lock(&self.rt);
         let record = record_of(&self.rt, sent, self.alloc);
-        all.capture.write(record);
+        all.capture(record);
     }
 
     fn ends(&mut self) {
@@ -281,10 +267,16 @@ impl<R: Wait + Clock + Copy + Drop, F: Write + Drop, T: Write + Drop, O: Write +
 #[derive(Drop)]
 struct Shared<F: Write + Drop, T: Write + Drop, O: Write + Drop> {
     capture: Capture<F>,
+    // The name of its file.
+    pcap: Option<String>,
     // `None` where no tables are printed, or no more.
     tables: Option<Tables<O>>,
+    // What ends the run then.
+    ending: Option<Ending>,
     // `None` where no journal is written.
     journal: Option<Journal<F>>,
+    // The name of its file.
+    log: Option<String>,
     // Why tables are printed no more, or some drops are not kept.
     failure: Option<Failure>,
     line: StatusLine<T>,
@@ -297,6 +289,24 @@ struct Shared<F: Write + Drop, T: Write + Drop, O: Write + Drop> {
 }
 
 impl<F: Write + Drop, T: Write + Drop, O: Write + Drop> Shared<F, T, O> {
+    // What is shared of what is to be noted, before anything is.
+    fn new(alloc: Global, noted: Noted<F, T, O>) -> Shared<F, T, O> {
+        Shared {
+            capture: Capture::new(noted.capture),
+            pcap: noted.pcap,
+            tables: noted.tables,
+            ending: noted.ending,
+            journal: noted.journal,
+            log: noted.log,
+            failure: None,
+            line: noted.line,
+            drops: Vec::new(alloc),
+            ticks: 0,
+            full: 0,
+            running: 0,
+        }
+    }
+
     // A router took its tick of this number, and has so many Full
     // neighbours in place of so many before.
     fn note<C: Clock>(
@@ -321,7 +331,35 @@ impl<F: Write + Drop, T: Write + Drop, O: Write + Drop> Shared<F, T, O> {
         }
     }
 
-    // Prints the table of a router that has taken so many ticks, up to the first that fails.
+    // Writes a record into the capture. That it is written no more is told once.
+    fn capture(&mut self, record: Result<Vec<u8>, io::Error>) {
+        let was_written = self.capture.is_written();
+        self.capture.write(record);
+        if was_written && !self.capture.is_written() {
+            tell_lost(&self.pcap, &mut self.line);
+        }
+    }
+
+    // Writes what changed of a router into the journal. That it is written no more is told once.
+    fn log(
+        &mut self,
+        alloc: Global,
+        ticks: u64,
+        router: RouterId,
+        changes: Result<Vec<RouterChange>, AllocError>,
+    ) {
+        let Some(journal) = &mut self.journal else {
+            return;
+        };
+        let was_written = journal.is_written();
+        journal.write(alloc, ticks, router, changes);
+        if was_written && !journal.is_written() {
+            tell_lost(&self.log, &mut self.line);
+        }
+    }
+
+    // Prints the table of a router that has taken so many ticks, up to the first that fails: the
+    // run ends with it.
     fn print_table(&mut self, alloc: Global, id: RouterId, ticks: u64, router: &Router) {
         let Some(tables) = &mut self.tables else {
             return;
@@ -330,6 +368,9 @@ impl<F: Write + Drop, T: Write + Drop, O: Write + Drop> Shared<F, T, O> {
         if let Err(failure) = tables.print(alloc, id, ticks, router) {
             self.tables = None;
             self.failure = Some(failure);
+            if let Some(ending) = &self.ending {
+                ending.tell();
+            }
         }
     }
 
@@ -372,8 +413,18 @@ impl<F: Write + Drop, T: Write + Drop, O: Write + Drop> Shared<F, T, O> {
     }
 }
 
-// What is told of one router: by its Router ID, by the name of its file, and of LSAs of
-// other types if it refuses them.
+// Tells that a file of this name is written no more.
+fn tell_lost<T: Write + Drop>(name: &Option<String>, line: &mut StatusLine<T>) {
+    let Some(name) = name else {
+        return;
+    };
+    let messages = line.messages();
+    let _ = tell_unwritten(name, messages);
+    let _ = messages.flush();
+}
+
+// What is told of one router: by its Router ID, by the name of its file, and of LSAs that it
+// refuses.
 #[derive(Drop)]
 struct Teller {
     router: RouterId,
@@ -392,11 +443,7 @@ impl Teller {
     }
 
     fn new(alloc: Global, file: &NamedFile, config: &Config) -> Result<Teller, AllocError> {
-        let others = if config.passes_over {
-            None
-        } else {
-            Some(Others::new(alloc))
-        };
+        let others = Some(Others::new(alloc, config.passes_over));
         let file = String::from_str(alloc, &file.name)?;
         Ok(Teller {
             router: config.router_id,

@@ -1,13 +1,17 @@
 //! Neighbours that describe LSAs which their router refuses.
 
-use ospf_base::RouterId;
+ghost use Rattle.std.specs.Prelude.{◌≡◌};
+ghost use Rattle.ospf_notes.specs.Others.{is_refused};
+
+use ospf_base::{NETWORK_LSA, ROUTER_LSA, RouterId};
 use ospf_exchange::is_other;
 use ospf_packet::{Body, Packet};
 use ospf_run::Router;
 use std::alloc::Global;
 use std::collections::BTreeSet;
 
-/// An LSA of LS type 3, 4 or 5 that a Database Description has described (RFC 2328, section 10.6).
+/// An LSA of an LS type that the router refuses, which a Database Description has described
+/// (RFC 2328, section 10.6).
 #[derive(Clone, Copy)]
 pub(crate) struct Described {
     pub link: usize,
@@ -17,7 +21,7 @@ pub(crate) struct Described {
 
 impl Described {
     // The first one of a packet, if it is a Database Description that has one.
-    fn first_of(link: usize, packet: &[u8]) -> Option<Described> {
+    fn first_of(link: usize, packet: &[u8], passes_over: bool) -> Option<Described> {
         let Ok(packet) = Packet::read(packet) else {
             return None;
         };
@@ -25,7 +29,7 @@ impl Described {
         let Body::Description(_, mut headers) = body else {
             return None;
         };
-        let other = headers.find(|header| is_other(header.kind))?;
+        let other = headers.find(|header| is_refused(header.kind, passes_over))?;
         Some(Described {
             link,
             neighbour: router,
@@ -43,9 +47,11 @@ impl Described {
     }
 }
 
-/// What a router that refuses such LSAs was told of them, neighbour for neighbour.
+/// What a router was told of LSAs that it refuses, neighbour for neighbour.
 #[derive(Drop)]
 pub(crate) struct Others {
+    // Whether it passes LSAs of LS types 3, 4 and 5 over.
+    passes_over: bool,
     // Of the packet that came in last.
     heard: Option<Described>,
     // The links and neighbours that are told of.
@@ -54,8 +60,9 @@ pub(crate) struct Others {
 
 impl Others {
     /// None yet.
-    pub(crate) fn new(alloc: Global) -> Others {
+    pub(crate) fn new(alloc: Global, passes_over: bool) -> Others {
         Others {
+            passes_over,
             heard: None,
             told: BTreeSet::new(alloc),
         }
@@ -63,7 +70,7 @@ impl Others {
 
     /// A packet has come in.
     pub(crate) fn hears(&mut self, link: usize, packet: &[u8]) {
-        self.heard = Described::first_of(link, packet);
+        self.heard = Described::first_of(link, packet, self.passes_over);
     }
 
     /// What is to be told after a step: the LSA of the packet that came in last, where a neighbour
@@ -77,4 +84,12 @@ impl Others {
         let _ = self.told.insert(neighbour);
         Some(heard)
     }
+}
+
+// Whether a router refuses LSAs of an LS type: all but router-LSAs and network-LSAs, and those that
+// it passes over.
+fn is_refused(kind: u8, passes_over: bool) -> bool
+    ensures { result ≡ is_refused passes_over kind }
+{
+    kind != ROUTER_LSA && kind != NETWORK_LSA && !(passes_over && is_other(kind))
 }

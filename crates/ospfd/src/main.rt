@@ -327,7 +327,6 @@ fn run_noted<
     rt: &R,
     settings: &Settings,
     files: &[NamedFile],
-    written: Written<'_>,
     noted: Noted<F, T, P>,
     out: &mut O,
     err: &mut E,
@@ -335,22 +334,10 @@ fn run_noted<
     let alloc = rt.alloc();
     let notes = Notes::new(*rt, alloc, noted)?;
     let status = run_text(rt, alloc, settings, files, &notes, out, err);
-    let unwritten = unless(notes.is_written(), written.pcap);
-    let unlogged = unless(notes.is_logged(), written.log);
-    for name in [unwritten, unlogged] {
-        if let Some(name) = name {
-            let _ = tell_unwritten(name, err);
-        }
-    }
-    if unwritten.is_some() || unlogged.is_some() {
+    if !notes.is_written() || !notes.is_logged() {
         return Ok(Status::Stream);
     }
     Ok(status_after(status, notes.failure(), err))
-}
-
-// The name, unless its file could be written.
-fn unless(is_written: bool, name: Option<&str>) -> Option<&str> {
-    if is_written { None } else { name }
 }
 
 // How a run ends whose notes met this failure, which is told unless something else was told before.
@@ -396,17 +383,37 @@ fn end_of_input<R: Threads, I: Read + Send + Drop + 'static>(
     }
 }
 
+// What ends a run before its last tick: the end of the input where that is asked for, or else,
+// where tables are printed, that they cannot be any more.
+fn ending_of<R: AllocGlobal + Threads, I: Read + Send + Drop + 'static>(
+    rt: &R,
+    job: &RunJob,
+    input: I,
+) -> io::Result<Option<Ending>> {
+    if job.until_eof {
+        return Ok(Some(end_of_input(rt, rt.alloc(), input)?));
+    }
+    if job.every.is_some() {
+        return Ok(Some(Ending::new(rt.alloc())?));
+    }
+    Ok(None)
+}
+
+// Another one of an ending, if there is one.
+fn another(ending: &Option<Ending>) -> io::Result<Option<Ending>> {
+    match ending {
+        Some(ending) => Ok(Some(ending.another()?)),
+        None => Ok(None),
+    }
+}
+
 // What is asked for of a run.
 fn settings_of<R: AllocGlobal + Threads, I: Read + Send + Drop + 'static>(
     rt: &R,
     job: RunJob,
     input: I,
 ) -> io::Result<(Settings, Vec<String>)> {
-    let ending = if job.until_eof {
-        Some(end_of_input(rt, rt.alloc(), input)?)
-    } else {
-        None
-    };
+    let ending = ending_of(rt, &job, input)?;
     Ok((
         Settings {
             ticks: job.ticks,
@@ -460,10 +467,13 @@ where
     let noted = Noted {
         of: settings.ticks,
         capture,
+        pcap,
         line,
         tables: tables_of(rt, every, printer)?,
+        ending: another(&settings.ending)?,
         drops: settings.drops,
         journal,
+        log,
     };
-    run_noted(rt, &settings, &files, written, noted, out, err)
+    run_noted(rt, &settings, &files, noted, out, err)
 }
