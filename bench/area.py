@@ -1,13 +1,12 @@
 #!/usr/bin/env python3
 """Prints an area made at random, as LSAs in hexadecimal, one a line.
 
-  area.py ROUTERS SEED
-
 Routers 1.0.0.1, 1.0.0.2 and so on in a connected graph of point-to-point links, four a router on average, with metrics
 1 to 20 and the /30 of each link as a stub at both ends; a network of three to five routers for every 20 routers; a /32
 and a /24 of each router's own. The root, 192.0.2.1, has a link to each of the first two routers. The same words give
 the same bytes.
 """
+import argparse
 import random
 import struct
 import sys
@@ -111,6 +110,8 @@ def text(count, seed, **made):
 
 
 if __name__ == "__main__":
-    if len(sys.argv) != 3:
-        sys.exit(__doc__)
-    sys.stdout.write(text(int(sys.argv[1]), int(sys.argv[2])))
+    words = argparse.ArgumentParser(description=__doc__, formatter_class=argparse.RawDescriptionHelpFormatter)
+    words.add_argument("routers", type=int, metavar="ROUTERS", help="how many routers, beside the root")
+    words.add_argument("seed", type=int, metavar="SEED", help="a number; another one gives another area")
+    given = words.parse_args()
+    sys.stdout.write(text(given.routers, given.seed))

@@ -1,9 +1,6 @@
 #!/usr/bin/env python3
 """Times simulated areas: lines, a ring, links by chance and broadcast networks of routers that come up, and events by chance.
 
-usage: bench/areas.py [PROGRAM [COUNT..]]
-       bench/areas.py --settled [PROGRAM [COUNT..]]
-
 With COUNT it is a line of so many routers, for each, and nothing else. With `--settled` areas of links by chance come to agree, of 200,
 500 and 1,000 routers or of each COUNT; then one link goes down and comes up, and nothing happens for a while. It tells the processor
 time that each took, without the end of the process, and the peak of memory so far. So it does of as many routers in pairs.
@@ -11,6 +8,7 @@ time that each took, without the end of the process, and the peak of memory so f
 A router's steps are its ticks and the datagrams that come to it. On lines and rings each datagram comes to one router, on the broadcast network one to all is counted
 as often as it is heard, and of events by chance each is one.
 """
+import argparse
 import os
 import random
 import struct
@@ -157,12 +155,16 @@ def line(count):
 
 
 def main():
-    if sys.argv[1:2] == ["--settled"]:
-        program = os.path.abspath(sys.argv[2]) if len(sys.argv) > 2 else proved.program()
-        settled(program, [int(word) for word in sys.argv[3:]] or SETTLED)
+    words = argparse.ArgumentParser(description=__doc__, formatter_class=argparse.RawDescriptionHelpFormatter)
+    words.add_argument("--settled", action="store_true", help="areas that come to agree")
+    words.add_argument("program", metavar="PROGRAM", nargs="?", help="the program; else the one that was proved")
+    words.add_argument("counts", metavar="COUNT", nargs="*", type=int, help="how many routers")
+    given = words.parse_args()
+    program = os.path.abspath(given.program) if given.program else proved.program()
+    if given.settled:
+        settled(program, given.counts or SETTLED)
         return
-    program = os.path.abspath(sys.argv[1]) if len(sys.argv) > 1 else proved.program()
-    areas = [line(int(word)) for word in sys.argv[2:]]
+    areas = [line(count) for count in given.counts]
     if not areas:
         areas = [line(count) for count in (2, 10, 100)]
         areas.append(("a ring of 50", configs(50, [(k, (k + 1) % 50) for k in range(50)])))
@@ -174,7 +176,7 @@ def main():
         heard = sum(count - 1 if name.startswith("a broadcast") and to == ALL_ROUTERS else 1 for to in sent)
         steps = heard + ROUNDS * count
         print(f"{name}: {ROUNDS} rounds in {took:.2f} s, {steps} steps, {steps / took:,.0f} a second", flush=True)
-    if len(sys.argv) < 3:
+    if not given.counts:
         took, _ = run(program, line(10)[1], "random 7 100000")
         print(f"100,000 events by chance over a line of 10: {took:.2f} s, {100000 / took:,.0f} a second")
 

@@ -1,11 +1,10 @@
 #!/usr/bin/env python3
 """Runs a command, such as .ci/run, and tells what the checks of each crate took meanwhile, in seconds of processor time.
 
-usage: bench/checks.py COMMAND WORD..
-
 It looks at the processes of the machine every second, so a check of less than some seconds is told too low or not at all. What the
 command prints goes where it goes; the table comes behind it.
 """
+import argparse
 import collections
 import os
 import subprocess
@@ -43,10 +42,12 @@ def look(seen):
 
 
 def main():
-    if len(sys.argv) < 2:
-        sys.exit("usage: bench/checks.py COMMAND WORD..")
+    words = argparse.ArgumentParser(description=__doc__, formatter_class=argparse.RawDescriptionHelpFormatter)
+    words.add_argument("command", metavar="COMMAND", help="what is run")
+    words.add_argument("words", metavar="WORD", nargs=argparse.REMAINDER, help="its words")
+    given = words.parse_args()
     seen, took = {}, collections.Counter()
-    child = subprocess.Popen(sys.argv[1:])
+    child = subprocess.Popen([given.command, *given.words])
     while child.poll() is None:
         look(seen)
         time.sleep(SECONDS_OF_A_LOOK)

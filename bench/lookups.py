@@ -2,6 +2,7 @@
 """Times lookups in the shared table: one to three readers, alone and beside a writer that publishes in a loop, whole tables of which
 nothing changed, or changes of ten routes there and back. It prints the nanoseconds of a lookup.
 """
+import argparse
 import subprocess
 import tempfile
 
@@ -21,6 +22,7 @@ def nanoseconds(program, routes, readers, publishes):
 
 
 def main():
+    argparse.ArgumentParser(description=__doc__, formatter_class=argparse.RawDescriptionHelpFormatter).parse_args()
     with tempfile.TemporaryDirectory() as place:
         program = build(place, "lookups", "ospf_fib", ["1", "1", "1", "alone"])
         for routes in ROUTES:

@@ -4,7 +4,8 @@ import subprocess
 import sys
 
 HERE = os.path.dirname(os.path.abspath(__file__))
-BUILT = os.path.join(HERE, "..", "crates", "ospfd", "out", "ospfd")
+TOP = os.path.dirname(HERE)
+BUILT = os.path.join(TOP, "crates", "ospfd", "out", "ospfd")
 
 
 def program():
@@ -14,4 +15,6 @@ def program():
     told = subprocess.run([BUILT, "--version"], stdout=subprocess.PIPE, text=True, check=True).stdout
     if "(proved)" not in told:
         sys.exit(f"this wants the proved program, and that is {told.strip()}")
+    if subprocess.run([os.path.join(TOP, "tools", "is-current"), BUILT], check=False).returncode:
+        sys.exit("this wants the proved program, and that is of other sources than those that are here: run rt ci (or .ci/run) first")
     return BUILT

@@ -2,6 +2,7 @@
 """Counts and times an idle tick of a router, and an Update with an LSA that it has, also while another one waits at MaxAge for
 acknowledgments, by the clock and by valgrind.
 """
+import argparse
 import re
 import subprocess
 import tempfile
@@ -35,6 +36,7 @@ def counts(program, size):
 
 
 def main():
+    argparse.ArgumentParser(description=__doc__, formatter_class=argparse.RawDescriptionHelpFormatter).parse_args()
     with tempfile.TemporaryDirectory() as place:
         program = build(place, "steps", "ospf_router", ["2", "2", "10", "1", "1", "1"])
         for size in SIZES:

@@ -1,5 +1,6 @@
 #!/usr/bin/env python3
 """Counts the instructions of a tick of the database while no entry is due, by valgrind."""
+import argparse
 import re
 import subprocess
 import tempfile
@@ -17,6 +18,7 @@ def instructions(program, entries, ticks):
 
 
 def main():
+    argparse.ArgumentParser(description=__doc__, formatter_class=argparse.RawDescriptionHelpFormatter).parse_args()
     with tempfile.TemporaryDirectory() as place:
         program = build(place, "ticks", "ospf_lsdb", ["1", "1"])
         for entries in ENTRIES:

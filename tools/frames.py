@@ -108,14 +108,14 @@ class Fragments:
         self.bytes -= part.bytes
         return part
 
-    def forget(self, now, room):
-        """Makes room: packets that wait for too long are given up, and the oldest where there are too many or too large ones."""
-        while self.parts:
-            key, oldest = next(iter(self.parts.items()))
-            if now - oldest.began < self.SECONDS and len(self.parts) < self.PACKETS and self.bytes + room <= self.BYTES:
-                return
-            self.take_out(key)
-            self.lost += 1
+    def forget(self, now, key, room):
+        """Makes room for a fragment: packets that wait for too long are given up, and the oldest others where they are too large, or one
+        too many for a new one."""
+        for other, part in list(self.parts.items()):
+            is_too_much = self.bytes + room > self.BYTES or key not in self.parts and len(self.parts) >= self.PACKETS
+            if now - part.began >= self.SECONDS or other != key and is_too_much:
+                self.take_out(other)
+                self.lost += 1
 
     def add(self, ip, now):
         """The body of the packet that this fragment makes whole; None where some are missing yet."""
@@ -124,7 +124,7 @@ class Fragments:
         if ip.offset + len(ip.body) > LONGEST:
             raise Dropped("longer than a router sends")
         key = ip.source, ip.destination, ip.identifier
-        self.forget(now, len(ip.body))
+        self.forget(now, key, len(ip.body))
         part = self.parts.setdefault(key, Part(now))
         if part.pieces.get(ip.offset) == ip.body:
             return None

@@ -1,33 +1,72 @@
-"""LSAs as bytes: what the tools share that write them for `ospfd table`, a line of hexadecimal digits each."""
+"""LSAs as bytes: what the tools share that write them for `ospfd table`, a line of hexadecimal digits each; and their streams."""
+import argparse
 import collections
+import errno
 import os
+import re
+import socket
 import struct
 import sys
 
 HEADER = 20
 MAX_AGE = 3600
 MAX_AGE_DIFF = 900
+MAX_NUMBER = 0x7FFFFFFF
 ROUTER, NETWORK = 1, 2
 KINDS = {ROUTER: "router", NETWORK: "network"}
 # As ospfd ends where its input is refused, and where a file or a stream failed.
 REFUSED, NOT_READ = 3, 5
+NONE_FOUND = "no LSA was found"
+
+
+def tell(line):
+    """A line on standard error; that nobody reads it does not matter."""
+    try:
+        if sys.stderr is not None:
+            print(line, file=sys.stderr, flush=True)
+    except OSError:
+        pass
 
 
 def end(status, line):
     """Ends with a line on standard error."""
-    print(line, file=sys.stderr)
+    tell(line)
     sys.exit(status)
+
+
+def put(text):
+    """A text on standard output; what is not written ends the tool."""
+    if sys.stdout is None:
+        end(NOT_READ, "standard output: not written")
+    # Not by the stream: an unbuffered one loses what a pipe does not take at once.
+    left = memoryview(text.encode("utf-8", "replace"))
+    try:
+        while left:
+            left = left[os.write(sys.stdout.fileno(), left):]
+    except OSError as error:
+        end(NOT_READ, f"standard output: not written: {error.strerror}")
 
 
 def read(name):
     """The bytes of a file, or of standard input where its name is -."""
     try:
+        if name == "-" and sys.stdin is None:
+            raise OSError(errno.EBADF, os.strerror(errno.EBADF))
         if name == "-":
             return sys.stdin.buffer.read()
         with open(name, "rb") as file:
             return file.read()
     except OSError as error:
         return end(NOT_READ, f"{name}: not read: {error.strerror}")
+
+
+def area_of(word):
+    """An area as four numbers, of a word that has it so, or as a number."""
+    try:
+        is_number = re.fullmatch("[0-9]{1,10}", word)
+        return socket.inet_ntoa(struct.pack(">I", int(word)) if is_number else socket.inet_pton(socket.AF_INET, word))
+    except (OSError, ValueError, struct.error):
+        raise argparse.ArgumentTypeError(f"{word}: no area, as 0.0.0.1 or 1") from None
 
 
 def has_right_sum(lsa):
@@ -54,6 +93,12 @@ def is_newer(a, b):
     return age + MAX_AGE_DIFF < other
 
 
+def has_wrapped(known, lsa):
+    """Whether an instance stands behind the flushed one of the greatest number, where numbers begin again (RFC 2328, section 12.1.6)."""
+    age, number = struct.unpack_from(">H", known)[0], known[12:16]
+    return age >= MAX_AGE and number == struct.pack(">I", MAX_NUMBER) and lsa[12:16] != number
+
+
 class Found:
     """The newest instance of each LSA that was found, area for area, and what was left out, counted by its reason."""
 
@@ -70,35 +115,32 @@ class Found:
         if not has_right_sum(lsa):
             return self.leave("LSAs with a wrong checksum")
         newest = self.areas.setdefault(area, {})
-        if key_of(lsa) in newest:
+        known = newest.get(key_of(lsa))
+        if known is not None:
             self.leave("older or repeated instances")
-            if not is_newer(lsa, newest[key_of(lsa)]):
+            if not is_newer(lsa, known) and not has_wrapped(known, lsa):
                 return None
         newest[key_of(lsa)] = lsa
         return None
 
     def area(self, wanted):
         """The LSAs of the area that is wanted, or of the only one. Two areas have LSAs of one key, so they are never mixed."""
+        seen = ", ".join(sorted(self.areas))
+        if wanted is not None and self.areas and wanted not in self.areas:
+            end(REFUSED, f"no area {wanted}: there {'is' if len(self.areas) == 1 else 'are'} {seen}")
         if wanted is not None:
             return self.areas.get(wanted, {})
         if len(self.areas) > 1:
-            end(REFUSED, f"several areas: {', '.join(sorted(self.areas))}: say which one with --area")
+            end(REFUSED, f"several areas: {seen}: say which one with --area")
         return next(iter(self.areas.values()), {})
 
     def write(self, wanted):
         """Writes the LSAs in the order of their keys, and tells what there was."""
         for reason, count in sorted(self.left.items()):
-            print(f"left out: {count} {reason}", file=sys.stderr)
+            tell(f"left out: {count} {reason}")
         newest = self.area(wanted)
         counts = ", ".join(f"{sum(1 for key in newest if key[0] == kind)} {word}-LSAs" for kind, word in KINDS.items())
-        try:
-            for key in sorted(newest):
-                print(newest[key].hex())
-            sys.stdout.flush()
-        except OSError as error:
-            # What is still in the stream is not tried again as Python ends.
-            os.dup2(os.open(os.devnull, os.O_WRONLY), sys.stdout.fileno())
-            end(NOT_READ, f"standard output: not written: {error.strerror}")
-        print(f"written: {counts}", file=sys.stderr)
+        put("".join(f"{newest[key].hex()}\n" for key in sorted(newest)))
+        tell(f"written: {counts}")
         if not newest:
-            end(REFUSED, "no LSA was found")
+            end(REFUSED, NONE_FOUND)
