@@ -1,6 +1,7 @@
 pub mod OfferFacts
 pub mod PlaceFacts
 pub mod TickFacts
+pub mod ToldFacts
 mod WorldFacts
 pub mod ComesFacts
 pub mod RunFacts

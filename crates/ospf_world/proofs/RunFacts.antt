@@ -3,7 +3,7 @@ use Rattle.std.proofs.Common.{◌≡◌, ◌++◌, ◌+◌, ◌<◌, ℕ, List, 
 use Rattle.std.proofs.lemmas.List.{take_more}
 use Rattle.std.proofs.lemmas.Option.{slice_get-get_or}
 use Rattle.ospf_headline.specs.Headline.{Headline, IsReached}
-use Rattle.ospf_headline.specs.Runs.{GoesOver, IsRun, RunsOn, is_memory}
+use Rattle.ospf_headline.specs.Runs.{EventRule, GoesOver, IsRun, RunsOn, is_memory}
 use Rattle.ospf_headline.specs.World.{Comes, RunsEvents, World}
 use Rattle.ospf_headline.specs.declared.event.WorldEvent.{WorldEvent}
 use Rattle.ospf_headline.specs.declared.event.WorldFault.{WorldFault}
@@ -14,12 +14,12 @@ use Rattle.ospf_world.specs.Does.{Does}
 use Rattle.ospf_world.specs.Worlds.{SameSettings, WorldValue, world_of}
 use Rattle.ospf_world.proofs.ComesFacts.{does_comes}
 
-RunsOn-more : (events : List WorldEvent) (event : WorldEvent) (w : WorldValue) (n : ℕ) (mid : WorldValue) (m : ℕ) (w' : WorldValue) (n' : ℕ) → RunsOn Does events w n mid m → GoesOver Does event mid m w' n' → RunsOn Does (events ++ event ∷ []) w n w' n'
-RunsOn-more [] event w n mid m w' n' (same, count) goes = (w', n', subst (λ m. GoesOver Does event w m w' n') count (subst (λ v. GoesOver Does event v m w' n') same goes), (refl, refl))
-RunsOn-more (e ∷ events) event w n mid m w' n' (v, k, first, rest) goes = (v, k, first, RunsOn-more events event v k mid m w' n' rest goes)
+RunsOn-more : {W : Type 0} (Rule : EventRule W) (events : List WorldEvent) (event : WorldEvent) (w : W) (n : ℕ) (mid : W) (m : ℕ) (w' : W) (n' : ℕ) → RunsOn Rule events w n mid m → GoesOver Rule event mid m w' n' → RunsOn Rule (events ++ event ∷ []) w n w' n'
+RunsOn-more Rule [] event w n mid m w' n' (same, count) goes = (w', n', subst (λ m. GoesOver Rule event w m w' n') count (subst (λ v. GoesOver Rule event v m w' n') same goes), (refl, refl))
+RunsOn-more Rule (e ∷ events) event w n mid m w' n' (v, k, first, rest) goes = (v, k, first, RunsOn-more Rule events event v k mid m w' n' rest goes)
 
-RunsOn-next : (events : List WorldEvent) (i : ℕ) (d : WorldEvent) (w mid w' : WorldValue) (n m n' : ℕ) → i < length events → RunsOn Does (take i events) w n mid m → GoesOver Does (get_or events i d) mid m w' n' → RunsOn Does (take (i + 1) events) w n w' n'
-RunsOn-next events i d w mid w' n m n' within runs goes = subst (λ es. RunsOn Does es w n w' n') (sym (take_more events i d within)) (RunsOn-more (take i events) (get_or events i d) w n mid m w' n' runs goes)
+RunsOn-next : {W : Type 0} (Rule : EventRule W) (events : List WorldEvent) (i : ℕ) (d : WorldEvent) (w mid w' : W) (n m n' : ℕ) → i < length events → RunsOn Rule (take i events) w n mid m → GoesOver Rule (get_or events i d) mid m w' n' → RunsOn Rule (take (i + 1) events) w n w' n'
+RunsOn-next Rule events i d w mid w' n m n' within runs goes = subst (λ es. RunsOn Rule es w n w' n') (sym (take_more events i d within)) (RunsOn-more Rule (take i events) (get_or events i d) w n mid m w' n' runs goes)
 
 take_all : (events : List WorldEvent) (n : ℕ) → length events ≤ n → take n events ≡ events
 take_all [] zero all = refl
@@ -37,17 +37,17 @@ memory_is fault.NotRunning is = absurd (cc is)
 memory_is fault.SameRouter is = absurd (cc is)
 memory_is fault.Floor is = absurd (cc is)
 
-pub done : (events : List WorldEvent) (i n : ℕ) (w w' : WorldValue) → length events ≤ i → RunsOn Does (take i events) w 0 w' n → IsRun Does events w (Ok n) w'
-done events i n w w' all runs = IsRun.Done n (subst (λ es. RunsOn Does es w 0 w' n) (take_all events i all) runs) refl
+pub done : {W : Type 0} (Rule : EventRule W) (events : List WorldEvent) (i n : ℕ) (w w' : W) → length events ≤ i → RunsOn Rule (take i events) w 0 w' n → IsRun Rule events w (Ok n) w'
+done Rule events i n w w' all runs = IsRun.Done n (subst (λ es. RunsOn Rule es w 0 w' n) (take_all events i all) runs) refl
 
-pub ends_early : (events : List WorldEvent) (i n : ℕ) (d : WorldEvent) (f : WorldFault) (result : Result (Unit {0}) WorldFault) (w mid w' : WorldValue) → i < length events → RunsOn Does (take i events) w 0 mid n → Does (get_or events i d) mid result w' → result ≡ Err f → is_memory f ≡ true → IsRun Does events w (Err f) w'
-ends_early events i n d f result w mid w' within runs does is memory = let (stopped, same) = memory_is f memory in IsRun.EndsEarly i n (get_or events i d) mid stopped runs (slice_get-get_or events i d within) (subst (λ r. Does (get_or events i d) mid r w') (is ∙ ap (λ f. Err f) same) does) (ap (λ f. Err f) same)
+pub ends_early : {W : Type 0} (Rule : EventRule W) (events : List WorldEvent) (i n : ℕ) (d : WorldEvent) (f : WorldFault) (result : Result (Unit {0}) WorldFault) (w mid w' : W) → i < length events → RunsOn Rule (take i events) w 0 mid n → Rule (get_or events i d) mid result w' → result ≡ Err f → is_memory f ≡ true → IsRun Rule events w (Err f) w'
+ends_early Rule events i n d f result w mid w' within runs does is memory = let (stopped, same) = memory_is f memory in IsRun.EndsEarly i n (get_or events i d) mid stopped runs (slice_get-get_or events i d within) (subst (λ r. Rule (get_or events i d) mid r w') (is ∙ ap (λ f. Err f) same) does) (ap (λ f. Err f) same)
 
-pub goes_ok : (events : List WorldEvent) (i : ℕ) (d : WorldEvent) (w mid w' : WorldValue) (m n' : ℕ) (result : Result (Unit {0}) WorldFault) → i < length events → RunsOn Does (take i events) w 0 mid m → Does (get_or events i d) mid result w' → result ≡ Ok tt → n' ≡ m → RunsOn Does (take (i + 1) events) w 0 w' n'
-goes_ok events i d w mid w' m n' result within runs does is same = RunsOn-next events i d w mid w' 0 m n' within runs (GoesOver.IsTaken (subst (λ r. Does (get_or events i d) mid r w') is does) same)
+pub goes_ok : {W : Type 0} (Rule : EventRule W) (events : List WorldEvent) (i : ℕ) (d : WorldEvent) (w mid w' : W) (m n' : ℕ) (result : Result (Unit {0}) WorldFault) → i < length events → RunsOn Rule (take i events) w 0 mid m → Rule (get_or events i d) mid result w' → result ≡ Ok tt → n' ≡ m → RunsOn Rule (take (i + 1) events) w 0 w' n'
+goes_ok Rule events i d w mid w' m n' result within runs does is same = RunsOn-next Rule events i d w mid w' 0 m n' within runs (GoesOver.IsTaken (subst (λ r. Rule (get_or events i d) mid r w') is does) same)
 
-pub goes_err : (events : List WorldEvent) (i : ℕ) (d : WorldEvent) (w mid w' : WorldValue) (m n' : ℕ) (f : WorldFault) (result : Result (Unit {0}) WorldFault) → i < length events → RunsOn Does (take i events) w 0 mid m → Does (get_or events i d) mid result w' → result ≡ Err f → is_memory f ≡ false → n' ≡ m + 1 → RunsOn Does (take (i + 1) events) w 0 w' n'
-goes_err events i d w mid w' m n' f result within runs does is none same = RunsOn-next events i d w mid w' 0 m n' within runs (GoesOver.IsRefused f (subst (λ r. Does (get_or events i d) mid r w') is does) none same)
+pub goes_err : {W : Type 0} (Rule : EventRule W) (events : List WorldEvent) (i : ℕ) (d : WorldEvent) (w mid w' : W) (m n' : ℕ) (f : WorldFault) (result : Result (Unit {0}) WorldFault) → i < length events → RunsOn Rule (take i events) w 0 mid m → Rule (get_or events i d) mid result w' → result ≡ Err f → is_memory f ≡ false → n' ≡ m + 1 → RunsOn Rule (take (i + 1) events) w 0 w' n'
+goes_err Rule events i d w mid w' m n' f result within runs does is none same = RunsOn-next Rule events i d w mid w' 0 m n' within runs (GoesOver.IsRefused f (subst (λ r. Rule (get_or events i d) mid r w') is does) none same)
 
 pub same_on : (w mid w' : WorldValue) → SameSettings w mid → SameSettings mid w' → SameSettings w w'
 same_on w mid w' a b = record { configs = b.configs ∙ a.configs; offered = b.offered ∙ a.offered }

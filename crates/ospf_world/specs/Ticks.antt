@@ -5,6 +5,7 @@ use Rattle.ospf_headline.specs.declared.event.WorldEvent.{WorldEvent}
 use Rattle.ospf_headline.specs.declared.event.WorldEvent.TheVariants.{Start, Stop, Tick, LinkUp, LinkDown, Deliver}
 use Rattle.ospf_headline.specs.declared.event.WorldFault.{WorldFault}
 use Rattle.ospf_router.specs.Steps.{is_dropped}
+use Rattle.ospf_world.specs.Worlds.{WorldValue, world_of}
 use Rattle.ospf_world.specs.declared.ticks.Ticked.{Ticked}
 
 -- a tick that is not refused
@@ -32,3 +33,7 @@ TicksBy (event ∷ events) w ticks w' ticks' =
 -- some events did
 abbrev pub TicksOn : World → List Ticked → World → List Ticked → Type 0
 TicksOn w ticks w' ticks' = (events : List WorldEvent) × TicksBy events w ticks w' ticks'
+
+-- so it is of two worlds in code
+abbrev pub TicksGoOn : WorldValue → WorldValue → Type 0
+TicksGoOn w w' = TicksOn (world_of w) w.ticks (world_of w') w'.ticks

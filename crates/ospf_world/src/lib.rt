@@ -4,8 +4,8 @@
 //! `World::step` takes an event, `World::run` a list of them. `World::round` is a tick of each
 //! router that runs, and then offers what was sent (RFC 2328, section 8.1), `World::random` draws
 //! events by chance, and `World::walk` goes along next hops. An `EventWatch` is told of each event.
-//! What an event does stands in `specs/Does`, whom a datagram is offered to in `specs/Offers`, and
-//! what chance draws in `specs/Draws`.
+//! What an event does stands in `specs/Does`, whom a datagram is offered to in `specs/Offers`, what
+//! a watch is told in `specs/Watching`, and what chance draws in `specs/Draws`.
 //!
 //! A law stands here that needs whole routers: that there are networks of which the laws speak
 //! (`some_router_works`), of which one is shown event by event.

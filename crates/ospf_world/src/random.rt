@@ -6,7 +6,8 @@ ghost use Rattle.ospf_headline.specs.Headline.{Headline, IsReached};
 ghost use Rattle.ospf_router.specs.Steps.{is_dropped};
 ghost use Rattle.ospf_world.specs.Random.{IsRandom, Meets};
 ghost use Rattle.ospf_world.specs.Sounds.{IsSoundBetween};
-ghost use Rattle.ospf_world.specs.Ticks.{TicksOn};
+ghost use Rattle.ospf_world.specs.Ticks.{TicksGoOn};
+ghost use Rattle.ospf_world.specs.Watching.{Told};
 ghost use Rattle.ospf_world.specs.Worlds.{SameSettings, world_of};
 ghost use Rattle.rand_pcg.specs.Lcg.{increment_of, started};
 ghost use Rattle.rand_pcg.specs.Pcg.{multiplier_64};
@@ -40,8 +41,7 @@ impl World {
         ensures reached { IsReached is_dropped (world_of self.new) }
         ensures headline { Headline (world_of self.old) (world_of self.new) }
         ensures sound { IsSoundBetween (world_of self.old) (world_of self.new) }
-        ensures ticks { TicksOn (world_of self.old) self.old.ticks (world_of self.new)
-            self.new.ticks }
+        ensures ticks { TicksGoOn self.old self.new }
     {
         self.draw_events_watched(generator, count, &mut Unwatched, alloc)
     }
@@ -56,8 +56,9 @@ impl World {
         watch: &mut W,
         alloc: Global,
     ) -> Result<(), WorldFault>
-        // What happens by chance, how far the generator has come, and what stays.
+        // What happens, what the watch is told, how far the generator has come, and what stays.
         ensures random { IsRandom count generator.old self.old result self.new }
+        ensures told { Told W.comes_gives W.came_gives (self.old, watch.old) (self.new, watch.new) }
         ensures drawn { OnOk result (generator.new ≡ drawn_past count generator.old) }
         ensures stopped { OnErr result ((n : ℕ) × (n ≤ count)
             × (generator.new ≡ drawn_past n generator.old)) }
@@ -66,8 +67,7 @@ impl World {
         ensures reached { IsReached is_dropped (world_of self.new) }
         ensures headline { Headline (world_of self.old) (world_of self.new) }
         ensures sound { IsSoundBetween (world_of self.old) (world_of self.new) }
-        ensures ticks { TicksOn (world_of self.old) self.old.ticks (world_of self.new)
-            self.new.ticks }
+        ensures ticks { TicksGoOn self.old self.new }
     {
         // For the proof.
         headline();
@@ -96,8 +96,7 @@ impl World {
         ensures reached { IsReached is_dropped (world_of self.new) }
         ensures headline { Headline (world_of self.old) (world_of self.new) }
         ensures sound { IsSoundBetween (world_of self.old) (world_of self.new) }
-        ensures ticks { TicksOn (world_of self.old) self.old.ticks (world_of self.new)
-            self.new.ticks }
+        ensures ticks { TicksGoOn self.old self.new }
     {
         let mut generator = Lcg64Xsh32::new(number, 0);
         self.draw_events(&mut generator, count, alloc)
@@ -128,22 +127,16 @@ impl World {
         alloc: Global,
     ) -> Result<(), WorldFault>
         ensures meets { Meets event self.old result self.new }
+        ensures told { Told W.comes_gives W.came_gives (self.old, watch.old) (self.new, watch.new) }
         ensures same { SameSettings self.old self.new }
-        ensures ticks { TicksOn (world_of self.old) self.old.ticks (world_of self.new)
-            self.new.ticks }
+        ensures ticks { TicksGoOn self.old self.new }
     {
         let Some(event) = event else {
             return Ok(());
         };
         match self.step_watched(event, watch, alloc) {
-            Ok(()) => Ok(()),
-            Err(fault) => {
-                if is_memory(&fault) {
-                    Err(fault)
-                } else {
-                    Ok(())
-                }
-            }
+            Err(fault) if is_memory(&fault) => Err(fault),
+            _ => Ok(()),
         }
     }
 }

@@ -5,7 +5,8 @@ ghost use Rattle.ospf_headline.specs.Headline.{Headline, IsReached};
 ghost use Rattle.ospf_router.specs.Steps.{is_dropped};
 ghost use Rattle.ospf_world.specs.Rounds.{AreNextOffers, AreOffered, IsRound, IsRoundOf, OffersNext, slot_ticks, ticks};
 ghost use Rattle.ospf_world.specs.Sounds.{IsSoundBetween};
-ghost use Rattle.ospf_world.specs.Ticks.{TicksOn};
+ghost use Rattle.ospf_world.specs.Ticks.{TicksGoOn};
+ghost use Rattle.ospf_world.specs.Watching.{Told};
 ghost use Rattle.ospf_world.specs.Worlds.{world_of};
 
 use crate::watch::{EventWatch, Unwatched};
@@ -31,8 +32,7 @@ impl World {
         ensures reached { IsReached is_dropped (world_of self.new) }
         ensures headline { Headline (world_of self.old) (world_of self.new) }
         ensures sound { IsSoundBetween (world_of self.old) (world_of self.new) }
-        ensures ticks { TicksOn (world_of self.old) self.old.ticks (world_of self.new)
-            self.new.ticks }
+        ensures ticks { TicksGoOn self.old self.new }
     {
         self.round_of(MOST_OFFERS, alloc)
     }
@@ -49,8 +49,7 @@ impl World {
         ensures reached { IsReached is_dropped (world_of self.new) }
         ensures headline { Headline (world_of self.old) (world_of self.new) }
         ensures sound { IsSoundBetween (world_of self.old) (world_of self.new) }
-        ensures ticks { TicksOn (world_of self.old) self.old.ticks (world_of self.new)
-            self.new.ticks }
+        ensures ticks { TicksGoOn self.old self.new }
     {
         self.round_watched(most, &mut Unwatched, alloc)
     }
@@ -64,14 +63,14 @@ impl World {
         watch: &mut W,
         alloc: Global,
     ) -> Result<(), WorldFault>
-        // What happens in a round.
+        // What happens in a round, and what the watch is told.
         ensures round { IsRoundOf most self.old result self.new }
+        ensures told { Told W.comes_gives W.came_gives (self.old, watch.old) (self.new, watch.new) }
         // What holds of every network holds of this one again, and its log of ticks goes on.
         ensures reached { IsReached is_dropped (world_of self.new) }
         ensures headline { Headline (world_of self.old) (world_of self.new) }
         ensures sound { IsSoundBetween (world_of self.old) (world_of self.new) }
-        ensures ticks { TicksOn (world_of self.old) self.old.ticks (world_of self.new)
-            self.new.ticks }
+        ensures ticks { TicksGoOn self.old self.new }
     {
         // For the proof.
         headline();
@@ -95,8 +94,8 @@ impl World {
         alloc: Global,
     ) -> Result<(), WorldFault>
         ensures offered { AreOffered most self.old result self.new }
-        ensures ticks { TicksOn (world_of self.old) self.old.ticks (world_of self.new)
-            self.new.ticks }
+        ensures told { Told W.comes_gives W.came_gives (self.old, watch.old) (self.new, watch.new) }
+        ensures ticks { TicksGoOn self.old self.new }
     {
         for i in 0..most {
             match self.offer_next(watch, alloc) {
@@ -115,8 +114,8 @@ impl World {
         alloc: Global,
     ) -> Result<bool, WorldFault>
         ensures offers { OffersNext self.old result self.new }
-        ensures ticks { TicksOn (world_of self.old) self.old.ticks (world_of self.new)
-            self.new.ticks }
+        ensures told { Told W.comes_gives W.came_gives (self.old, watch.old) (self.new, watch.new) }
+        ensures ticks { TicksGoOn self.old self.new }
     {
         match self.next_offers(alloc) {
             Ok(Some(offers)) => {

@@ -1,6 +1,6 @@
 //! Walks along next hops, from router to router.
 
-ghost use Rattle.std.specs.Prelude.{◌≡◌, ◌≢◌, ◌↔◌, ◌<◌, ◌%◌, ℕ, None, Some, IfOk, IsTrue, drop, is_some, length, slice_get};
+ghost use Rattle.std.specs.Prelude.{◌≡◌, ◌≢◌, ◌<◌, ◌%◌, ℕ, None, Some, IfOk, drop, is_some, length, slice_get};
 ghost use Rattle.ospf_edges.specs.Listed.{advertisements_of};
 ghost use Rattle.ospf_graph.specs.Walk.{HasLinkFor, IsNext};
 ghost use Rattle.ospf_graph.specs.declared.hop.NextHop.TheVariants as hops;
@@ -73,10 +73,7 @@ impl World {
     fn has_router(&self, router: RouterId) -> bool
         ensures { result ≡ is_some (member (world_of self.now) router) }
     {
-        match self.router(router) {
-            Ok(_) => true,
-            Err(fault) => !is_no_router(fault),
-        }
+        self.place(router).is_some()
     }
 
     // The walk, from a router of the world.
@@ -140,13 +137,6 @@ impl World {
         let hop = hop_in(route, choice);
         leg_over(router, at, &hop, route.cost)
     }
-}
-
-// The fault says that there is no such router.
-fn is_no_router(fault: WorldFault) -> bool
-    ensures { IsTrue result ↔ (fault ≡ WorldFault.NoRouter) }
-{
-    matches!(fault, WorldFault::NoRouter)
 }
 
 // The choice at a router: 0 where it is missing.

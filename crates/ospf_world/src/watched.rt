@@ -8,7 +8,8 @@ ghost use Rattle.ospf_headline.specs.World.{Comes};
 ghost use Rattle.ospf_router.specs.Steps.{is_dropped};
 ghost use Rattle.ospf_world.specs.Does.{Does};
 ghost use Rattle.ospf_world.specs.Sounds.{IsSoundBetween};
-ghost use Rattle.ospf_world.specs.Ticks.{TicksOn, ticked_by};
+ghost use Rattle.ospf_world.specs.Ticks.{TicksGoOn, ticked_by};
+ghost use Rattle.ospf_world.specs.Watching.{DoesTold};
 ghost use Rattle.ospf_world.specs.Worlds.{SameSettings, world_of};
 
 use crate::watch::EventWatch;
@@ -17,8 +18,8 @@ use ospf_headline::{WorldEvent, WorldFault, headline, runs_lead_on, soundness};
 use std::alloc::Global;
 
 impl World {
-    /// What an event names happens to the router that it names, as by
-    /// `step`. A watch is told of it.
+    /// What an event names happens to the router that it names, as by `step`. A watch is told of it
+    /// before and after it.
     ///
     /// The faults are those of `step`.
     pub fn step_watched<W: EventWatch>(
@@ -27,8 +28,10 @@ impl World {
         watch: &mut W,
         alloc: Global,
     ) -> Result<(), WorldFault>
-        // What happens, and what stays.
+        // What happens, what the watch is told, and what stays.
         ensures does { Does event self.old result self.new }
+        ensures told { DoesTold W.comes_gives W.came_gives event (self.old, watch.old) result
+            (self.new, watch.new) }
         ensures comes { Comes is_dropped event (world_of self.old) result (world_of self.new) }
         ensures same { SameSettings self.old self.new }
         // What holds of every network holds of this one again, and its log of ticks goes on.
@@ -53,15 +56,16 @@ impl World {
         watch: &mut W,
         alloc: Global,
     ) -> Result<usize, WorldFault>
-        // What happens, and what stays.
+        // What happens, what the watch is told, and what stays.
         ensures run { IsRun Does events.now self.old result self.new }
+        ensures told { IsRun (DoesTold W.comes_gives W.came_gives) events.now
+            (self.old, watch.old) result (self.new, watch.new) }
         ensures same { SameSettings self.old self.new }
         // What holds of every network holds of this one again, and its log of ticks goes on.
         ensures reached { IsReached is_dropped (world_of self.new) }
         ensures headline { Headline (world_of self.old) (world_of self.new) }
         ensures sound { IsSoundBetween (world_of self.old) (world_of self.new) }
-        ensures ticks { TicksOn (world_of self.old) self.old.ticks (world_of self.new)
-            self.new.ticks }
+        ensures ticks { TicksGoOn self.old self.new }
     {
         // For the proof.
         headline();

@@ -9,7 +9,7 @@ ghost use Rattle.ospf_router.specs.Steps.{is_dropped};
 ghost use Rattle.ospf_world.specs.Does.{Does};
 ghost use Rattle.ospf_world.specs.Rounds.{offers_of, sending_address};
 ghost use Rattle.ospf_world.specs.Sounds.{IsSoundBetween};
-ghost use Rattle.ospf_world.specs.Ticks.{TicksOn, ticked_by};
+ghost use Rattle.ospf_world.specs.Ticks.{TicksGoOn, ticked_by};
 ghost use Rattle.ospf_world.specs.Worlds.{Lends, Opens, SameSettings, is_slot_of, place_of, world_of};
 
 use crate::parts::Parts;
@@ -94,8 +94,7 @@ impl World {
         ensures reached { IsReached is_dropped (world_of self.new) }
         ensures headline { Headline (world_of self.old) (world_of self.new) }
         ensures sound { IsSoundBetween (world_of self.old) (world_of self.new) }
-        ensures ticks { TicksOn (world_of self.old) self.old.ticks (world_of self.new)
-            self.new.ticks }
+        ensures ticks { TicksGoOn self.old self.new }
     {
         self.run_watched(events, &mut Unwatched, alloc)
     }

@@ -12,6 +12,7 @@ mod acknowledged;
 mod collisions;
 mod random;
 mod restarts;
+mod watched;
 
 const NOBODY: RouterId = RouterId(0x0909_0909);
 

@@ -24,7 +24,7 @@ fn is_issued_alike(one: &Issued, other: &Issued) -> bool {
 }
 
 // Whether the three logs have the same entries.
-fn are_alike(one: &World, other: &World) -> bool {
+pub(super) fn are_alike(one: &World, other: &World) -> bool {
     let (a, b) = (one.datagrams(), other.datagrams());
     let sent = a.len() == b.len() && a.iter().zip(b).all(|(a, b)| is_sent_alike(a, b));
     let (a, b) = (one.issued(), other.issued());

@@ -3,6 +3,7 @@ use Rattle.ospf_router.specs.Steps.{is_dropped}
 use Rattle.ospf_world.specs.Worlds.{world_of}
 use Rattle.ospf_world.proofs.RandomFacts.{drawn_all, drawn_more, random_done, random_ends, random_leads, random_more, reached_on, same_on}
 use Rattle.ospf_world.proofs.TickFacts.{sound_between, ticks_further, ticks_nowhere}
+use Rattle.ospf_world.proofs.ToldFacts.{told_further, told_nowhere}
 use Rattle.ospf_world.proofs.world.World.draw_events_watched.Goals as goal
 
 pub returns-in-Err-clause-random : goal.returns-in-Err-clause-random
@@ -26,6 +27,7 @@ loop-i-preserved g c = record {
   drawn = drawn_more c.loop-i.i c.args.generator.now c.loop-i.generator c.draw-words.new.generator c.draw-words.result c.draw-words.ensures c.loop-i.invariant.drawn;
   same = same_on c.args.self.now c.loop-i.self c.meet.new.self c.loop-i.invariant.same c.meet.ensures.same;
   ticks = ticks_further _ _ _ _ _ _ c.loop-i.invariant.ticks c.meet.ensures.ticks;
+  told = told_further _ _ _ _ _ c.loop-i.invariant.told c.meet.ensures.told;
 }
 
 pub returns-clause-random : goal.returns-clause-random
@@ -60,6 +62,7 @@ loop-i-init g c = record {
   drawn = refl;
   same = record { configs = refl; offered = refl };
   ticks = ticks_nowhere _ _ _ _ refl refl;
+  told = told_nowhere _ _ _ _ refl;
 }
 
 pub returns-clause-drawn : goal.returns-clause-drawn
@@ -68,3 +71,6 @@ returns-clause-drawn g c = drawn_all c.args.count c.loop-i.i c.args.generator.no
 pub returns-in-Err-clause-stopped : goal.returns-in-Err-clause-stopped
 returns-in-Err-clause-stopped g c =
     (c.loop-i.i + 1, omega (arith, c.loop-i-test.true), drawn_more c.loop-i.i c.args.generator.now c.loop-i.generator c.draw-words.new.generator c.draw-words.result c.draw-words.ensures c.loop-i.invariant.drawn)
+
+pub returns-in-Err-clause-told : goal.returns-in-Err-clause-told
+returns-in-Err-clause-told g c = told_further _ _ _ _ _ c.loop-i.invariant.told c.meet.ensures.told

@@ -1,10 +1,11 @@
-use Rattle.std.proofs.Common.{subst, List}
+use Rattle.std.proofs.Common.{refl, rules, subst, List}
 use Rattle.ospf_headline.specs.declared.event.WorldEvent.{WorldEvent}
 use Rattle.ospf_headline.specs.Runs.{IsRun}
 use Rattle.ospf_world.specs.Does.{Does}
-use Rattle.ospf_world.specs.Ticks.{TicksOn}
-use Rattle.ospf_world.specs.Worlds.{WorldValue, world_of}
+use Rattle.ospf_world.specs.Ticks.{TicksGoOn}
+use Rattle.ospf_world.specs.Worlds.{WorldValue}
 use Rattle.ospf_world.proofs.RoundFacts.{next_ends, next_taken}
+use Rattle.ospf_world.proofs.ToldFacts.{run_told, told_counts, told_nowhere}
 use Rattle.ospf_world.proofs.world.World.offer_next.Goals as goal
 
 pub returns-in-Ok-clause-offers : goal.returns-in-Ok-clause-offers
@@ -18,7 +19,19 @@ returns-in-Ok-Some-clause-offers g c =
     next_ends c.args.self.now c.pass_one.new.self c.run_watched.new.self c.in-Ok-Some.offers.items c.run_watched.result c.in-Err-run_watched.fault (rw c.in-Ok-Some.field-0-is at c.in-Ok-Some.ensures) c.pass_one.ensures run c.in-Err-run_watched.is
 
 pub returns-in-Ok-clause-ticks : goal.returns-in-Ok-clause-ticks
-returns-in-Ok-clause-ticks g c = subst (λ (v : WorldValue). TicksOn (world_of v) v.ticks (world_of c.run_watched.new.self) c.run_watched.new.self.ticks) c.pass_one.ensures c.run_watched.ensures.ticks
+returns-in-Ok-clause-ticks g c = subst (λ (v : WorldValue). TicksGoOn v c.run_watched.new.self) c.pass_one.ensures c.run_watched.ensures.ticks
 
 pub returns-in-Ok-Some-clause-ticks : goal.returns-in-Ok-Some-clause-ticks
-returns-in-Ok-Some-clause-ticks g c = subst (λ (v : WorldValue). TicksOn (world_of v) v.ticks (world_of c.run_watched.new.self) c.run_watched.new.self.ticks) c.pass_one.ensures c.run_watched.ensures.ticks
+returns-in-Ok-Some-clause-ticks g c = subst (λ (v : WorldValue). TicksGoOn v c.run_watched.new.self) c.pass_one.ensures c.run_watched.ensures.ticks
+
+pub returns-in-Ok-clause-told : goal.returns-in-Ok-clause-told
+returns-in-Ok-clause-told g c = search (rules, run_told, told_counts)
+
+pub returns-in-Ok-Some-clause-told : goal.returns-in-Ok-Some-clause-told
+returns-in-Ok-Some-clause-told g c = search (rules, run_told, told_counts)
+
+pub returns-in-Ok-None-clause-told : goal.returns-in-Ok-None-clause-told
+returns-in-Ok-None-clause-told g c = told_nowhere _ _ _ _ refl
+
+pub returns-clause-told : goal.returns-clause-told
+returns-clause-told g c = told_nowhere _ _ _ _ refl
