@@ -113,10 +113,14 @@ abbrev pub item_number : Items → ℕ
 item_number no_items = 0
 item_number (item d ds) = 1 + item_number ds
 
--- the value in words; of a text past ASCII no more than that there are some
+-- a text in quotes, with its escapes; of one past ASCII no more than that it is some text
+abbrev pub IsQuotedText : List ℕ → List ℕ → Type 0
+IsQuotedText s text = IfSome (debug_str s) (λ quoted. text ≡ quoted)
+
+-- the value in words
 abbrev pub IsValueText : Data → List ℕ → Type 0
 IsValueText (integer z) text = text ≡ signed_decimal z
-IsValueText (string s) text = IfSome (debug_str s) (λ quoted. text ≡ quoted)
+IsValueText (string s) text = IsQuotedText s text
 IsValueText (array ds) text = text ≡ codes "a list of " ++ decimal (item_number ds)
 IsValueText d text = text ≡ codes "a " ++ type_name d
 
@@ -134,7 +138,7 @@ is_bare_byte b = is_ascii_alphanumeric b || (b == 95 || b == 45)
 abbrev pub IsKeyText : List ℕ → List ℕ → Type 0
 IsKeyText key text = elim (list_all is_bare_byte key) [
   | true ↦ text ≡ key
-  | false ↦ IfSome (debug_str key) (λ quoted. text ≡ quoted)
+  | false ↦ IsQuotedText key text
 ]
 
 -- the place of a key: the number of its interface, if any, what belongs there and what stood there
@@ -193,7 +197,7 @@ AreInterfacePlaces n before t fault.SamePrefix es =
     (codes "a prefix and an address that no interface before has")) es
 AreInterfacePlaces n before t fault.DeadNotOverHello es =
     IsPlaceWhere (IsDeadNotOverHello t)
-    (IsKeyPlace (Some n) t (codes "dead") (codes "more than `hello`")) es
+    (IsKeyPlace (Some n) t (codes "dead") (codes "more than `hello` (by default 40 and 10)")) es
 AreInterfacePlaces n before t fault.Unknown es =
     ArePlacesOf (IsOtherKey interface_keys) (IsUnknownPlace (Some n) t) (keys_of t) es
 AreInterfacePlaces n before t f es =

@@ -227,7 +227,7 @@ fn add_interface(
                 number,
                 table,
                 "dead",
-                "more than `hello`",
+                "more than `hello` (by default 40 and 10)",
                 holds,
             )
         }

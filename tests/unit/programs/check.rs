@@ -288,7 +288,7 @@ fn explains_all_faults(rt: HostRuntime) -> Result<(), Fail> {
         \x20 C4 Range: interface 1: port: 0, or 1024 to 65535, wanted, 5 found\n\
         \x20 C5 ZeroCost: interface 0: cost: 1 to 65535 wanted, 0 found\n\
         \x20 C6 SamePrefix: interface 1: address: a prefix and an address that no interface before has wanted, \"10.0.0.2/30\" found\n\
-        \x20 C7 DeadNotOverHello: interface 1: dead: more than `hello` wanted, 10 found\n\
+        \x20 C7 DeadNotOverHello: interface 1: dead: more than `hello` (by default 40 and 10) wanted, 10 found\n\
         \x20 C8 Unknown: colour: a known key wanted, \"red\" found\n\
         \x20 C8 Unknown: interface 1: colour: a known key wanted, 1 found\n";
     assert!(rt; told.err.as_slice() == wanted.as_bytes());

@@ -401,7 +401,11 @@ fn explains_keys(rt: HostRuntime) -> Result<(), Fail> {
         ),
         (
             "dead = 10\n",
-            "interface 0: dead: more than `hello` wanted, 10 found\n",
+            "interface 0: dead: more than `hello` (by default 40 and 10) wanted, 10 found\n",
+        ),
+        (
+            "hello = 50\n",
+            "interface 0: dead: more than `hello` (by default 40 and 10) wanted, nothing found\n",
         ),
         (
             "colour = \"red\"\n",
@@ -437,7 +441,7 @@ fn explains_all_faults_in_order(rt: HostRuntime) -> Result<(), Fail> {
     let alloc = rt.alloc();
     let rows = [
         ("", ""),
-        ("dead = 10\n", "C7 DeadNotOverHello: interface 0: dead: more than `hello` wanted, 10 found\n"),
+        ("dead = 10\n", "C7 DeadNotOverHello: interface 0: dead: more than `hello` (by default 40 and 10) wanted, 10 found\n"),
         (
             "mtu = \"big\"\ncolour = 1\nport = 7\n",
             "C3 Type: interface 0: mtu: 576 to 9000 wanted, \"big\" found\n\
