@@ -1,12 +1,12 @@
 pub mod Parts
 pub mod Plain
-pub mod Leading
+pub mod OneValue
+pub mod Prefixes
 pub mod Hopping
+pub mod Leading
 pub mod NoEvent
 pub mod Unspelled
 pub mod Zeros
-pub mod OneValue
-pub mod Prefixes
 pub mod Expecting
 pub mod OneCommand
 pub mod Named

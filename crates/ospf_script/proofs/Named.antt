@@ -1,7 +1,7 @@
--- The name that a word is, looked for among all names.
-use Rattle.std.proofs.Common.{◌≡◌, refl, ap, inl, inr, ◌||◌, ◌⊎◌, cond, Bool, true, false, List, [], ◌∷◌, Option, None, Some, codes}
+-- The name that a word is, looked for among all names, which are text.
+use Rattle.std.proofs.Common.{rules, ◌≡◌, refl, sym, subst, ap, inl, inr, ◌||◌, ◌⊎◌, cond, Bool, true, false, List, [], ◌∷◌, Option, None, Some, codes}
 use Rattle.std.specs.List.{find}
-use Rattle.std.specs.Str.{bytes_eq}
+use Rattle.std.specs.Str.{IsUtf8, bytes_eq}
 use Rattle.std.proofs.lemmas.Slice.Eq.{bytes_eq-Decides}
 use Rattle.ospf_script.specs.Names.{IsWordOf, all_names, is_word_of, name_in, command_name_text}
 use Rattle.ospf_script.specs.Words.{Text}
@@ -40,3 +40,20 @@ none_among word (n ∷ ns) not = passed_by (is_word_of word n) n (find (is_word_
 -- of a word that is no name none is
 pub no_name : (word : Text) → ((n : Name) → IsWordOf word n → ⊥) → name_in word ≡ None
 no_name word not = none_among word all_names not
+
+-- ---- names are text
+
+-- the names of commands are text
+pub names_are_text : (name : Name) → IsUtf8 (command_name_text name)
+names_are_text (name.Show view.Neighbours) = search rules
+names_are_text (name.Show view.Listing) = search rules
+names_are_text (name.Show view.Table) = search rules
+names_are_text (name.Show view.Floor) = search rules
+names_are_text _ = search rules
+
+american_is_text : IsUtf8 (codes "neighbors")
+american_is_text = search rules
+
+pub words_are_text : (word : Text) (n : Name) → IsWordOf word n → IsUtf8 word
+words_are_text word (name.Show view.Neighbours) is = elim is [ inl british ↦ subst IsUtf8 (sym british) (names_are_text (name.Show view.Neighbours)) | inr american ↦ subst IsUtf8 (sym american) american_is_text ]
+words_are_text word n is = subst IsUtf8 (sym is) (names_are_text n)

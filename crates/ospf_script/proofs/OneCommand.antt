@@ -6,9 +6,9 @@ use Rattle.ospf_base.specs.declared.ids.Addr.{Addr}
 use Rattle.ospf_base.specs.declared.ids.RouterId.{RouterId}
 use Rattle.ospf_headline.specs.declared.event.WorldEvent.{WorldEvent}
 use Rattle.ospf_headline.specs.declared.event.WorldEvent.TheVariants as event
-use Rattle.ospf_script.specs.Commands.{AreDatagramWords, AreNumbers, AreRoundWords, BeginsWalk, IsAddressAlone, IsAll, IsCountAlone, IsDelivery, IsLossWords, IsRouterAlone, IsRouterAndLink, IsStart, IsSwitch, IsWalkWords, IsWhy, TakesWords, TakesEventWords, TakesMany, name_of_command, name_of_event, name_of_many, no_floor}
+use Rattle.ospf_script.specs.Commands.{AreDatagramWords, AreNumbers, AreRoundWords, BeginsWalk, IsAddressAlone, IsAll, IsCountAlone, IsDelivery, IsLossWords, IsRouterAlone, IsRouterAndLink, IsStart, IsSwitch, IsWalkWords, IsWhy, TakesWords, TakesEventWords, TakesMany, name_of_command, name_of_event, name_of_many}
 use Rattle.ospf_script.specs.Laws.{IsOneCommand, WordsSpellOneCommand}
-use Rattle.ospf_script.specs.Values.{IsDecimal, IsFloor, IsRouterWord}
+use Rattle.ospf_script.specs.Values.{IsDecimal, IsFloor, IsRouterWord, no_floor}
 use Rattle.ospf_script.specs.Words.{Text}
 use Rattle.ospf_script.specs.declared.command.Command.{Command}
 use Rattle.ospf_script.specs.declared.command.Command.TheVariants as command
@@ -213,6 +213,7 @@ takes_one ws (command.Datagrams r i) (command.Datagrams s j) e h k =
     let all = datagrams_one ws r s i j h k in
     let one = all.0 in let two = all.1 in cc
 takes_one ws (command.Drops r) (command.Drops s) e h k = ap command.Drops (router_alone_one ws r s h k)
+takes_one ws (command.Lsas r) (command.Lsas s) e h k = ap command.Lsas (router_alone_one ws r s h k)
 takes_one ws (command.Loss p m i) (command.Loss q n j) e h k =
     let all = loss_one ws p q m n i j h k in
     let one = all.0 in let two = all.1 in let three = all.2 in cc

@@ -1,5 +1,5 @@
 -- What spells a value is ASCII, and so is text.
-use Rattle.std.proofs.Common.{rules, ◌≡◌, ◌<◌, ◌≤◌, ◌^◌, ℕ, List, [], ◌∷◌, codes, length, Option, Some, None, IfNone, Result, Ok, Err, IfErr, IsErrAnd, arith, subst, sym, inl, inr}
+use Rattle.std.proofs.Common.{◌≡◌, ◌<◌, ◌≤◌, ◌^◌, ℕ, List, [], ◌∷◌, codes, length, Option, Some, None, IfNone, Result, Ok, Err, IfErr, IsErrAnd, arith, subst, sym}
 use Rattle.std.specs.Char.{digit_value}
 use Rattle.std.specs.Str.{IsAscii, IsUtf8}
 use Rattle.std.specs.Str.Parse.{AllDigits, digits_value}
@@ -9,11 +9,7 @@ use Rattle.std.proofs.lemmas.Fmt.{IsAscii-decimal}
 use Rattle.std.proofs.lemmas.Str.{IsAscii-append, IsUtf8-from_ascii}
 use Rattle.std.proofs.lemmas.Str.Ascii.{IsAscii-nil, IsAscii-cons}
 use Rattle.ospf_base.specs.Text.{IsDottedNumber}
-use Rattle.ospf_script.specs.Names.{IsWordOf, command_name_text}
-use Rattle.ospf_script.specs.Words.{Finds, Text}
-use Rattle.ospf_script.specs.declared.command.View.TheVariants as view
-use Rattle.ospf_script.specs.declared.name.Name.{Name}
-use Rattle.ospf_script.specs.declared.name.Name.TheVariants as name
+use Rattle.ospf_script.specs.Words.{Finds}
 
 pub if_none : {A : Type 0} (o : Option A) (P : Type 0) → P → IfNone o P
 if_none None P p = p
@@ -62,18 +58,3 @@ eight_digits_fit ds digits eight =
     let below : digits_value 16 ds < 16 ^ length ds = digits_value-lt 16 ds digits in
     let P : ℕ → Type 0 = λ n. digits_value 16 ds < 16 ^ n in
     subst P eight below
-
--- the names of commands are text
-pub names_are_text : (name : Name) → IsUtf8 (command_name_text name)
-names_are_text (name.Show view.Neighbours) = search rules
-names_are_text (name.Show view.Listing) = search rules
-names_are_text (name.Show view.Table) = search rules
-names_are_text (name.Show view.Floor) = search rules
-names_are_text _ = search rules
-
-american_is_text : IsUtf8 (codes "neighbors")
-american_is_text = search rules
-
-pub words_are_text : (word : Text) (n : Name) → IsWordOf word n → IsUtf8 word
-words_are_text word (name.Show view.Neighbours) is = elim is [ inl british ↦ subst IsUtf8 (sym british) (names_are_text (name.Show view.Neighbours)) | inr american ↦ subst IsUtf8 (sym american) american_is_text ]
-words_are_text word n is = subst IsUtf8 (sym is) (names_are_text n)

@@ -1,15 +1,13 @@
 -- A word spells one prefix at most, whose parts stand around its first slash.
-use Rattle.std.proofs.Common.{◌≡◌, ◌≢◌, ℕ, zero, suc, ◌<◌, [], ◌∷◌, ◌++◌, length, get_or, decimal, codes, Option, Bor, refl, sym, ap, ◌∙◌, subst, arith}
+use Rattle.std.proofs.Common.{◌≡◌, ℕ, ◌∷◌, Option, Bor, sym, ap, ◌∙◌, subst, arith}
 use Rattle.std.specs.Net.Grammar.{IsNumber}
 use Rattle.std.specs.Option.{MatchOption}
 use Rattle.std.specs.Prelude.{bit_and}
 use Rattle.std.specs.Str.{IsUtf8}
-use Rattle.std.specs.Str.Parse.{AllDigits, digits_value}
+use Rattle.std.specs.Str.Parse.{digits_value}
 use Rattle.std.proofs.lemmas.Bool.Decides.{nat_tests}
-use Rattle.std.proofs.lemmas.Fmt.{decimal_is_IsNumeral}
 use Rattle.std.proofs.lemmas.Str.{IsAscii-append, IsUtf8-from_ascii}
 use Rattle.std.proofs.lemmas.Str.Ascii.{IsAscii-cons}
-use Rattle.std.proofs.lemmas.Str.Parse.{digit_from_value}
 use Rattle.std.proofs.lemmas.Str.Pattern.{IsSplitOnceResult, split_after}
 use Rattle.ospf_base.specs.Masks.{mask_of}
 use Rattle.ospf_base.specs.Text.{IsDottedNumber}

@@ -1,7 +1,7 @@
 -- What is printed of a command is read as that command again.
-use Rattle.std.proofs.Common.{◌≡◌, ◌≢◌, ◌<◌, ◌≤◌, ◌^◌, ◌+◌, ◌-◌, ◌/◌, ◌%◌, ◌==◌, ◌&&◌, ℕ, ℤ, zero, suc, Bool, true, false, not, cond, List, [], ◌∷◌, ◌++◌, length, length-append, map, replicate, get_or, codes, decimal, flat_map, Option, Some, None, append_assoc, append-nil, refl, sym, ap, ◌∙◌, subst, inl, inr, arith}
+use Rattle.std.proofs.Common.{◌≡◌, ◌≢◌, ◌<◌, ◌≤◌, ◌^◌, ◌+◌, ◌-◌, ◌/◌, ◌%◌, ◌==◌, ◌&&◌, ℕ, ℤ, zero, suc, Bool, true, false, not, cond, List, [], ◌∷◌, ◌++◌, length, length-append, map, replicate, codes, decimal, flat_map, Option, Some, None, append_assoc, append-nil, refl, sym, ap, ◌∙◌, subst, inl, inr, arith}
 use Rattle.std.specs.Fmt.{digits, digits_onto, digit_glyph}
-use Rattle.std.specs.Int.{w32, cast_signed, cast_unsigned, to_be_bytes}
+use Rattle.std.specs.Int.{w32, cast_signed, cast_unsigned}
 use Rattle.std.specs.List.{AllZip, filter, slice_split, onto_first}
 use Rattle.std.specs.Net.Grammar.{IsNumber}
 use Rattle.std.specs.Char.{digit_value}
@@ -19,13 +19,16 @@ use Rattle.ospf_base.specs.declared.prefix.Prefix.{Prefix}
 use Rattle.ospf_graph.specs.Text.{hop_text}
 use Rattle.ospf_graph.specs.declared.hop.NextHop.{NextHop}
 use Rattle.ospf_graph.specs.declared.hop.NextHop.TheVariants.{Attached, PointToPoint, Lan}
-use Rattle.ospf_script.specs.Commands.{AreDatagramWords, AreNumbers, AreRoundWords, BeginsWalk, IsAddressAlone, IsCountAlone, IsDelivery, IsLossWords, IsOne, IsRouterAlone, IsRouterAndLink, IsThree, IsTwo, IsWhy, SpellsCommand, TakesEventWords, TakesMany, TakesWords, no_floor, spaced}
+use Rattle.ospf_script.specs.Commands.{AreDatagramWords, AreNumbers, AreRoundWords, BeginsWalk, IsAddressAlone, IsCountAlone, IsDelivery, IsLossWords, IsOne, IsRouterAlone, IsRouterAndLink, IsThree, IsTwo, IsWhy, SpellsCommand, TakesEventWords, TakesMany, TakesWords, spaced}
 use Rattle.ospf_headline.specs.declared.event.WorldEvent.{WorldEvent}
 use Rattle.ospf_headline.specs.declared.event.WorldEvent.TheVariants as event
-use Rattle.ospf_script.specs.Expected.{BeginsRoute, IsExpected, IsWanted, SpellsArrival}
+use Rattle.ospf_neighbour.specs.Text.{state_text}
+use Rattle.ospf_neighbour.specs.declared.machine.NeighbourState.{NeighbourState}
+use Rattle.ospf_neighbour.specs.declared.machine.NeighbourState.TheVariants as state
+use Rattle.ospf_script.specs.Expected.{AreElected, BeginsRoute, IsExpected, IsWanted, SpellsArrival}
 use Rattle.ospf_script.specs.Laws.{PrintedIsSpelled}
 use Rattle.ospf_script.specs.Texts.{choices_text, command_text, floor_text, hexadecimal, spaced_hops_text}
-use Rattle.ospf_script.specs.Values.{IsAddress, IsDecimal, IsFloor, IsHopWord, IsPercent, IsPrefix, IsRouterWord}
+use Rattle.ospf_script.specs.Values.{IsAddress, IsDecimal, IsFloor, IsHopWord, IsPercent, IsPrefix, IsRouterWord, no_floor}
 use Rattle.ospf_script.specs.Words.{Text, is_space, is_word, line_words}
 use Rattle.ospf_script.specs.declared.command.Command.{Command}
 use Rattle.ospf_script.specs.declared.command.Command.TheVariants as command
@@ -516,9 +519,19 @@ loss_again ws percent number (Some address) h =
 
 -- ---- what is expected
 
-full_small : (ws : List Text) (r q : RouterId) → IsWanted r (wanted.Full q) ws → (r.0 < 2 ^ 32) × (q.0 < 2 ^ 32)
-full_small (w ∷ a ∷ b ∷ []) r q h = (h.1.1, h.2.1)
-full_small ws r q h = absurd h
+neighbour_small : (ws : List Text) (r q : RouterId) (s : NeighbourState) → IsWanted r (wanted.Neighbour q s) ws → (r.0 < 2 ^ 32) × (q.0 < 2 ^ 32)
+neighbour_small (w ∷ a ∷ b ∷ []) r q s h = (h.1.1, h.2.1)
+neighbour_small (w ∷ a ∷ b ∷ c ∷ []) r q s h = (h.1.1, h.2.1)
+neighbour_small ws r q s h = absurd h
+
+elected_small : (ws : List Text) (dr : Addr) (backup : Option Addr) → AreElected ws dr backup → dr.0 < 2 ^ 32
+elected_small (a ∷ []) dr None h = h.1
+elected_small (a ∷ b ∷ []) dr (Some backup) h = h.0.1
+elected_small ws dr backup h = absurd h
+
+backup_small : (ws : List Text) (dr backup : Addr) → AreElected ws dr (Some backup) → backup.0 < 2 ^ 32
+backup_small (a ∷ b ∷ []) dr backup h = h.1.1
+backup_small ws dr backup h = absurd h
 
 alone_small : (ws : List Text) (r : RouterId) (n : ℕ) → IsWanted r (wanted.NoNeighbour n) ws → (r.0 < 2 ^ 32) × (n < 2 ^ 64)
 alone_small (v ∷ w ∷ a ∷ b ∷ []) r n h = (h.2.1, h.3.1)
@@ -535,13 +548,51 @@ route_small ws r p cost rest h = absurd h
 expect : IsWord (codes "expect")
 expect = word (codes "expect") (omega arith) refl
 
-wanted_again : (ws : List Text) (r : RouterId) (w : Wanted) → IsWanted r w ws → Again (command.Expect (expected.Router r w))
-wanted_again ws r (wanted.Full q) h =
-    let small = full_small ws r q h in
-    by_words (command.Expect (expected.Router r (wanted.Full q))) (codes "expect" ∷ codes "full" ∷ number_text r.0 ∷ number_text q.0 ∷ [])
+-- a neighbour in a state that is not printed as `full`
+in_state : (r q : RouterId) (s : NeighbourState) → r.0 < 2 ^ 32 → q.0 < 2 ^ 32 → IsWord (state_text s)
+    → command_text (command.Expect (expected.Router r (wanted.Neighbour q s)))
+    ≡ codes "expect neighbour " ++ number_text r.0 ++ codes " " ++ number_text q.0 ++ codes " " ++ state_text s
+    → Again (command.Expect (expected.Router r (wanted.Neighbour q s)))
+in_state r q s hr hq last e =
+    by_words (command.Expect (expected.Router r (wanted.Neighbour q s)))
+    (codes "expect" ∷ codes "neighbour" ∷ number_text r.0 ∷ number_text q.0 ∷ state_text s ∷ [])
+    (e ∙ three (codes "expect neighbour ") (number_text r.0) (number_text q.0) (state_text s))
+    (expect, (word (codes "neighbour") (omega arith) refl, (dots r.0, (dots q.0, (last, tt)))))
+    (refl, (inl refl, router_spelled r hr, router_spelled q hq, refl))
+
+neighbour_again : (r q : RouterId) (s : NeighbourState) → r.0 < 2 ^ 32 → q.0 < 2 ^ 32 → Again (command.Expect (expected.Router r (wanted.Neighbour q s)))
+neighbour_again r q state.Full hr hq =
+    by_words (command.Expect (expected.Router r (wanted.Neighbour q state.Full))) (codes "expect" ∷ codes "full" ∷ number_text r.0 ∷ number_text q.0 ∷ [])
     (two (codes "expect full ") (number_text r.0) (number_text q.0))
     (expect, (word (codes "full") (omega arith) refl, (dots r.0, (dots q.0, tt))))
-    (refl, (refl, router_spelled r small.0, router_spelled q small.1))
+    (refl, (refl, router_spelled r hr, router_spelled q hq, refl))
+neighbour_again r q state.Down hr hq = in_state r q state.Down hr hq (word (codes "Down") (omega arith) refl) refl
+neighbour_again r q state.Init hr hq = in_state r q state.Init hr hq (word (codes "Init") (omega arith) refl) refl
+neighbour_again r q state.TwoWay hr hq = in_state r q state.TwoWay hr hq (word (codes "2-Way") (omega arith) refl) refl
+neighbour_again r q state.ExStart hr hq = in_state r q state.ExStart hr hq (word (codes "ExStart") (omega arith) refl) refl
+neighbour_again r q state.Exchange hr hq = in_state r q state.Exchange hr hq (word (codes "Exchange") (omega arith) refl) refl
+neighbour_again r q state.Loading hr hq = in_state r q state.Loading hr hq (word (codes "Loading") (omega arith) refl) refl
+
+dr_again : (r : RouterId) (n : ℕ) (ws : List Text) (dr : Addr) (backup : Option Addr) → r.0 < 2 ^ 32 → n < 2 ^ 64 → AreElected ws dr backup
+    → Again (command.Expect (expected.Router r (wanted.Dr n dr backup)))
+dr_again r n ws dr None hr hn h =
+    by_words (command.Expect (expected.Router r (wanted.Dr n dr None))) (codes "expect" ∷ codes "dr" ∷ number_text r.0 ∷ decimal n ∷ number_text dr.0 ∷ [])
+    (append-nil (codes "expect dr " ++ number_text r.0 ++ codes " " ++ decimal n ++ codes " " ++ number_text dr.0)
+    ∙ three (codes "expect dr ") (number_text r.0) (decimal n) (number_text dr.0))
+    (expect, (word (codes "dr") (omega arith) refl, (dots r.0, (decimal_word n hn, (dots dr.0, tt)))))
+    (refl, (refl, router_spelled r hr, decimal_spelled n hn, address_spelled dr (elected_small ws dr None h)))
+dr_again r n ws dr (Some backup) hr hn h =
+    by_words (command.Expect (expected.Router r (wanted.Dr n dr (Some backup))))
+    (codes "expect" ∷ codes "dr" ∷ number_text r.0 ∷ decimal n ∷ number_text dr.0 ∷ number_text backup.0 ∷ [])
+    (tail3 (codes "expect dr ") (number_text r.0) (decimal n) (number_text dr.0) (32 ∷ number_text backup.0)
+    ∙ ap (λ (l : Text). codes "expect dr " ++ (number_text r.0 ++ 32 ∷ (decimal n ++ 32 ∷ (number_text dr.0 ++ 32 ∷ l)))) (sym (append-nil (number_text backup.0))))
+    (expect, (word (codes "dr") (omega arith) refl, (dots r.0, (decimal_word n hn, (dots dr.0, (dots backup.0, tt))))))
+    (refl, (refl, router_spelled r hr, decimal_spelled n hn, (address_spelled dr (elected_small ws dr (Some backup) h), address_spelled backup (backup_small ws dr backup h))))
+
+wanted_again : (ws : List Text) (r : RouterId) (w : Wanted) → IsWanted r w ws → Again (command.Expect (expected.Router r w))
+wanted_again ws r (wanted.Neighbour q s) h = let small = neighbour_small ws r q s h in neighbour_again r q s small.0 small.1
+wanted_again (w ∷ a ∷ b ∷ ws) r (wanted.Dr n dr backup) h = dr_again r n ws dr backup h.1.1 h.2.1 h.3
+wanted_again ws r (wanted.Dr n dr backup) h = absurd h
 wanted_again ws r (wanted.NoNeighbour n) h =
     let small = alone_small ws r n h in
     by_words (command.Expect (expected.Router r (wanted.NoNeighbour n))) (codes "expect" ∷ codes "no" ∷ codes "neighbour" ∷ number_text r.0 ∷ decimal n ∷ [])
@@ -626,6 +677,8 @@ again ws (command.Why r n q) all h = why_again ws r n q h
 again ws (command.Datagrams r most) all h = datagrams_again ws r most h
 again ws (command.Drops r) all h =
     named (command.Drops r) (codes "drops") r.0 (word (codes "drops") (omega arith) refl) refl (refl, router_spelled r (router_small ws r h))
+again ws (command.Lsas r) all h =
+    named (command.Lsas r) (codes "lsas") r.0 (word (codes "lsas") (omega arith) refl) refl (refl, router_spelled r (router_small ws r h))
 again ws (command.Loss percent number network) all h = loss_again ws percent number network h
 again ws (command.Expect e) all h = expected_again ws e h
 again ws (command.Label is_on) all h = label_again is_on

@@ -103,6 +103,12 @@ no_drops ws h (command.Many m) is = subst IsOfEvents is.0 (many_name m)
 no_drops ws h (command.Drops router) is = h router is.1
 no_drops ws h c is = let e = is.0 in cc
 
+pub no_lsas : (ws : List Text) → ((router : RouterId) → IsRouterAlone ws router → ⊥) → IsNone names.Lsas ws
+no_lsas ws h (command.Event e) is = subst IsOfEvents is.0 (event_name e)
+no_lsas ws h (command.Many m) is = subst IsOfEvents is.0 (many_name m)
+no_lsas ws h (command.Lsas router) is = h router is.1
+no_lsas ws h c is = let e = is.0 in cc
+
 pub no_loss : (ws : List Text) → ((found : ℕ × ℕ × Option Addr) → IsLossWords ws found.0 found.1 found.2 → ⊥) → IsNone names.Loss ws
 no_loss ws h (command.Event e) is = subst IsOfEvents is.0 (event_name e)
 no_loss ws h (command.Many m) is = subst IsOfEvents is.0 (many_name m)
@@ -134,36 +140,37 @@ not_why ws two three router link (Some neighbour) h = h
 
 -- ---- names of words
 
--- a name is known by its length and its first letter
+-- a name is known by its length and its first two letters
 key : Text → ℕ
-key text = 256 * length text + get_or text 0 0
+key text = 65536 * get_or text 1 0 + (256 * length text + get_or text 0 0)
 
 by_key : ℕ → Name
 by_key n =
-    if n == 1395 then names.Start else
-    if n == 1139 then names.Stop else
-    if n == 1140 then names.Tick else
-    if n == 629 then names.Up else
-    if n == 1124 then names.Down else
-    if n == 1892 then names.Deliver else
-    if n == 1394 then names.Round else
-    if n == 1378 then names.Batch else
-    if n == 1650 then names.Random else
-    if n == 867 then names.Cut else
-    if n == 1133 then names.Mend else
-    if n == 1651 then names.Settle else
-    if n == 1388 then names.Label else
-    if n == 2670 then (names.Show view.Neighbours) else
-    if n == 1900 then (names.Show view.Listing) else
-    if n == 1396 then (names.Show view.Table) else
-    if n == 1143 then names.Walk else
-    if n == 883 then names.Say else
-    if n == 887 then names.Why else
-    if n == 2404 then names.Datagrams else
-    if n == 1380 then names.Drops else
-    if n == 1132 then names.Loss else
-    if n == 1637 then names.Expect else
-    if n == 2414 then (names.Show view.Neighbours) else
+    if n == 7603571 then names.Start else
+    if n == 7603315 then names.Stop else
+    if n == 6882420 then names.Tick else
+    if n == 7340661 then names.Up else
+    if n == 7275620 then names.Down else
+    if n == 6621028 then names.Deliver else
+    if n == 7275890 then names.Round else
+    if n == 6358370 then names.Batch else
+    if n == 6358642 then names.Random else
+    if n == 7668579 then names.Cut else
+    if n == 6620269 then names.Mend else
+    if n == 6620787 then names.Settle else
+    if n == 6358380 then names.Label else
+    if n == 6621806 then (names.Show view.Neighbours) else
+    if n == 6883180 then (names.Show view.Listing) else
+    if n == 6358388 then (names.Show view.Table) else
+    if n == 6358135 then names.Walk else
+    if n == 6357875 then names.Say else
+    if n == 6816631 then names.Why else
+    if n == 6359396 then names.Datagrams else
+    if n == 7472484 then names.Drops else
+    if n == 7537772 then names.Lsas else
+    if n == 7275628 then names.Loss else
+    if n == 7865957 then names.Expect else
+    if n == 6621550 then (names.Show view.Neighbours) else
     (names.Show view.Floor)
 
 -- the name that a word is is found by the word
@@ -190,6 +197,7 @@ found_by_key word names.Say is = ap (λ text. by_key (key text)) is
 found_by_key word names.Why is = ap (λ text. by_key (key text)) is
 found_by_key word names.Datagrams is = ap (λ text. by_key (key text)) is
 found_by_key word names.Drops is = ap (λ text. by_key (key text)) is
+found_by_key word names.Lsas is = ap (λ text. by_key (key text)) is
 found_by_key word names.Loss is = ap (λ text. by_key (key text)) is
 found_by_key word names.Expect is = ap (λ text. by_key (key text)) is
 found_by_key word (names.Show view.Neighbours) is = elim is [ inl british ↦ ap (λ text. by_key (key text)) british | inr american ↦ ap (λ text. by_key (key text)) american ]

@@ -1,6 +1,5 @@
 -- Which words spell which command.
 use Rattle.std.specs.Prelude.{◌≡◌, ◌⊎◌, ⊤, ℕ, ℤ, List, [], ◌∷◌, ◌++◌, Bool, true, false, codes, flat_map, string_bytes, Option, None, Some}
-use Rattle.std.specs.Int.{w32, cast_signed}
 use Rattle.std.specs.List.{AllZip}
 use Rattle.ospf_base.specs.declared.ids.Addr.{Addr}
 use Rattle.ospf_base.specs.declared.ids.RouterId.{RouterId}
@@ -8,7 +7,7 @@ use Rattle.ospf_headline.specs.declared.event.WorldEvent.{WorldEvent}
 use Rattle.ospf_headline.specs.declared.event.WorldEvent.TheVariants as event
 use Rattle.ospf_script.specs.Expected.{IsExpected, IsLongRoute}
 use Rattle.ospf_script.specs.Names.{IsWordOf, command_name_text}
-use Rattle.ospf_script.specs.Values.{AreManySpelled, IsAddress, IsDecimal, IsFloor, IsPercent, IsRouterWord}
+use Rattle.ospf_script.specs.Values.{AreManySpelled, IsAddress, IsDecimal, IsFloor, IsPercent, IsRouterWord, no_floor}
 use Rattle.ospf_base.specs.Text.{IsBlank}
 use Rattle.ospf_script.specs.Words.{Text, line_words}
 use Rattle.ospf_script.specs.declared.command.Command.{Command}
@@ -85,10 +84,6 @@ abbrev pub IsLossWords : List Text → ℕ → ℕ → Option Addr → Type 0
 IsLossWords ws percent number None = IsTwo (λ a b. IsPercent a percent × IsDecimal 64 b number) ws
 IsLossWords ws percent number (Some address) =
     IsThree (λ a b c. IsPercent a percent × IsDecimal 64 b number × IsAddress c address) ws
-
--- the floor that is none: each LS sequence number is above it (RFC 2328, section 12.1.6)
-abbrev pub no_floor : ℤ
-no_floor = cast_signed w32 0x80000000
 
 -- with no floor, or with one
 abbrev pub IsStart : List Text → RouterId → ℕ → ℤ → Type 0
@@ -185,6 +180,7 @@ name_of_command (command.Say text) = name.Say
 name_of_command (command.Why router link neighbour) = name.Why
 name_of_command (command.Datagrams router most) = name.Datagrams
 name_of_command (command.Drops router) = name.Drops
+name_of_command (command.Lsas router) = name.Lsas
 name_of_command (command.Loss percent number network) = name.Loss
 name_of_command (command.Expect expected) = name.Expect
 name_of_command (command.Label is_on) = name.Label
@@ -203,6 +199,7 @@ TakesWords (command.Say text) ws = string_bytes text ≡ spaced ws
 TakesWords (command.Why router link neighbour) ws = IsWhy ws router link neighbour
 TakesWords (command.Datagrams router most) ws = AreDatagramWords ws router most
 TakesWords (command.Drops router) ws = IsRouterAlone ws router
+TakesWords (command.Lsas router) ws = IsRouterAlone ws router
 TakesWords (command.Loss percent number network) ws = IsLossWords ws percent number network
 TakesWords (command.Expect expected) ws = IsExpected ws expected
 TakesWords (command.Label is_on) ws = IsSwitch ws is_on

@@ -1,18 +1,38 @@
 -- Which words say what is expected.
 use Rattle.std.specs.Prelude.{◌≡◌, ◌⊎◌, ℕ, Option, None, Some, List, [], ◌∷◌, codes}
 use Rattle.std.specs.List.{AllZip}
+use Rattle.ospf_base.specs.declared.ids.Addr.{Addr}
 use Rattle.ospf_base.specs.declared.ids.RouterId.{RouterId}
 use Rattle.ospf_base.specs.declared.prefix.Prefix.{Prefix}
 use Rattle.ospf_script.specs.Values.{AreManySpelled, IsAddress, IsDecimal, IsHopWord, IsPrefix, IsRouterWord}
 use Rattle.ospf_script.specs.Words.{Text}
+use Rattle.ospf_neighbour.specs.Text.{state_text}
+use Rattle.ospf_neighbour.specs.declared.machine.NeighbourState.{NeighbourState}
+use Rattle.ospf_neighbour.specs.declared.machine.NeighbourState.TheVariants.{Full}
 use Rattle.ospf_script.specs.declared.expected.Expected.{Expected}
 use Rattle.ospf_script.specs.declared.expected.Expected.TheVariants.{Router, Walk, Agree, Settled}
 use Rattle.ospf_script.specs.declared.expected.Wanted.{Wanted}
-use Rattle.ospf_script.specs.declared.expected.Wanted.TheVariants.{Full, NoNeighbour, Route, NoRoute}
+use Rattle.ospf_script.specs.declared.expected.Wanted.TheVariants.{Neighbour, NoNeighbour, Dr, Route, NoRoute}
 
 -- the word `neighbour`, in either spelling
 abbrev pub IsNeighbour : Text → Type 0
 IsNeighbour word = (word ≡ codes "neighbour") ⊎ (word ≡ codes "neighbor")
+
+-- the name of a neighbour's state, as it is printed (RFC 2328, section 10.1)
+abbrev pub IsStateWord : Text → NeighbourState → Type 0
+IsStateWord word state = word ≡ state_text state
+
+-- a Router ID and the number of one of its links, and then other words
+abbrev pub BeginsLink : List Text → RouterId → ℕ → List Text → Type 0
+BeginsLink (a ∷ b ∷ ws) router link rest =
+    IsRouterWord a router × IsDecimal 64 b link × (ws ≡ rest)
+BeginsLink _ router link rest = ⊥
+
+-- the address of a Designated Router, and of a Backup, where one is given (section 9)
+abbrev pub AreElected : List Text → Addr → Option Addr → Type 0
+AreElected (a ∷ []) dr None = IsAddress a dr
+AreElected (a ∷ b ∷ []) dr (Some backup) = IsAddress a dr × IsAddress b backup
+AreElected _ dr backup = ⊥
 
 -- the word `arrived`, and a cost, where one is given
 abbrev pub SpellsArrival : List Text → Option ℕ → Type 0
@@ -28,10 +48,14 @@ BeginsRoute _ router prefix cost rest = ⊥
 
 -- the words behind `expect` where something is wanted of a router
 abbrev pub IsWanted : RouterId → Wanted → List Text → Type 0
-IsWanted router (Full other) (w ∷ a ∷ b ∷ []) =
-    (w ≡ codes "full") × IsRouterWord a router × IsRouterWord b other
+IsWanted router (Neighbour other state) (w ∷ a ∷ b ∷ []) =
+    (w ≡ codes "full") × IsRouterWord a router × IsRouterWord b other × (state ≡ Full)
+IsWanted router (Neighbour other state) (w ∷ a ∷ b ∷ c ∷ []) =
+    IsNeighbour w × IsRouterWord a router × IsRouterWord b other × IsStateWord c state
 IsWanted router (NoNeighbour link) (v ∷ w ∷ a ∷ b ∷ []) =
     (v ≡ codes "no") × IsNeighbour w × IsRouterWord a router × IsDecimal 64 b link
+IsWanted router (Dr link dr backup) (w ∷ a ∷ b ∷ ws) =
+    (w ≡ codes "dr") × IsRouterWord a router × IsDecimal 64 b link × AreElected ws dr backup
 IsWanted router (Route prefix cost hops) (w ∷ ws) =
     (w ≡ codes "route") × (rest : List Text) × BeginsRoute ws router prefix cost rest
     × AllZip IsHopWord rest hops.items

@@ -5,6 +5,5 @@ pub mod Names
 pub mod Expected
 pub mod Commands
 pub mod Texts
-pub mod Hints
 pub mod Views
 pub mod Laws

@@ -30,6 +30,7 @@ command_name_text name.Say = codes "say"
 command_name_text name.Why = codes "why"
 command_name_text name.Datagrams = codes "datagrams"
 command_name_text name.Drops = codes "drops"
+command_name_text name.Lsas = codes "lsas"
 command_name_text name.Loss = codes "loss"
 command_name_text name.Expect = codes "expect"
 command_name_text name.Label = codes "label"
@@ -52,7 +53,8 @@ all_names =
     ∷ name.Round ∷ name.Batch
     ∷ name.Random ∷ name.Settle ∷ name.Show view.Neighbours ∷ name.Show view.Listing
     ∷ name.Show view.Table ∷ name.Show view.Floor ∷ name.Walk
-    ∷ name.Say ∷ name.Why ∷ name.Datagrams ∷ name.Drops ∷ name.Loss ∷ name.Expect ∷ name.Label ∷ []
+    ∷ name.Say ∷ name.Why ∷ name.Datagrams ∷ name.Drops ∷ name.Lsas ∷ name.Loss ∷ name.Expect
+    ∷ name.Label ∷ []
 
 -- the name that a word is, if it is one
 abbrev pub name_in : Text → Option Name

@@ -10,6 +10,8 @@ use Rattle.ospf_graph.specs.declared.hop.NextHop.{NextHop}
 use Rattle.ospf_headline.specs.declared.event.WorldEvent.{WorldEvent}
 use Rattle.ospf_headline.specs.declared.event.WorldEvent.TheVariants as event
 use Rattle.ospf_script.specs.Words.{Text}
+use Rattle.ospf_neighbour.specs.Text.{state_text}
+use Rattle.ospf_neighbour.specs.declared.machine.NeighbourState.TheVariants as state
 use Rattle.ospf_script.specs.declared.command.Command.{Command}
 use Rattle.ospf_script.specs.declared.command.Command.TheVariants as command
 use Rattle.ospf_script.specs.declared.command.Many.{Many}
@@ -19,7 +21,7 @@ use Rattle.ospf_script.specs.declared.command.View.TheVariants as view
 use Rattle.ospf_script.specs.declared.expected.Expected.{Expected}
 use Rattle.ospf_script.specs.declared.expected.Expected.TheVariants.{Router, Walk, Agree, Settled}
 use Rattle.ospf_script.specs.declared.expected.Wanted.{Wanted}
-use Rattle.ospf_script.specs.declared.expected.Wanted.TheVariants.{Full, NoNeighbour, Route, NoRoute}
+use Rattle.ospf_script.specs.declared.expected.Wanted.TheVariants.{Neighbour, NoNeighbour, Dr, Route, NoRoute}
 
 -- hexadecimal digits in lower case, with zeros in front where they are fewer than this
 unfoldable pub hexadecimal : ℕ → ℕ → Text
@@ -44,10 +46,17 @@ given_text text_of (Some value) = codes " " ++ text_of value
 
 -- what is wanted of a router, with the name of its command
 abbrev pub wanted_text : RouterId → Wanted → Text
-wanted_text router (Full other) =
+wanted_text router (Neighbour other state.Full) =
     codes "expect full " ++ number_text router.0 ++ codes " " ++ number_text other.0
+wanted_text router (Neighbour other state) =
+    codes "expect neighbour " ++ number_text router.0 ++ codes " " ++ number_text other.0
+    ++ codes " " ++ state_text state
 wanted_text router (NoNeighbour link) =
     codes "expect no neighbour " ++ number_text router.0 ++ codes " " ++ decimal link
+wanted_text router (Dr link dr backup) =
+    codes "expect dr " ++ number_text router.0 ++ codes " " ++ decimal link ++ codes " "
+    ++ number_text dr.0
+    ++ given_text (λ (address : Addr). number_text address.0) backup
 wanted_text router (Route prefix cost hops) =
     codes "expect route " ++ number_text router.0 ++ codes " " ++ prefix_text prefix ++ codes " "
     ++ decimal cost ++ spaced_hops_text hops.items
@@ -113,6 +122,7 @@ command_text (command.Why router link neighbour) =
 command_text (command.Datagrams router most) =
     codes "datagrams " ++ number_text router.0 ++ given_text decimal most
 command_text (command.Drops router) = codes "drops " ++ number_text router.0
+command_text (command.Lsas router) = codes "lsas " ++ number_text router.0
 command_text (command.Loss percent number network) =
     codes "loss " ++ decimal percent ++ codes " " ++ decimal number
     ++ given_text (λ (address : Addr). number_text address.0) network

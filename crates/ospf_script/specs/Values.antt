@@ -28,6 +28,10 @@ pub record IsFloor (word : Text) (floor : ℤ) : Type 0 where
   pub eight : length word ≡ 8
   pub floor_is : floor ≡ cast_signed w32 bits
 
+-- the floor that is none: each LS sequence number is above it (RFC 2328, section 12.1.6)
+abbrev pub no_floor : ℤ
+no_floor = cast_signed w32 0x80000000
+
 -- the number that a dotted text spells
 abbrev pub IsDotted32 : Text → ℕ → Type 0
 IsDotted32 word n = IsDottedNumber word n × (n < 2 ^ 32)

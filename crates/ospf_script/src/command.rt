@@ -70,6 +70,10 @@ pub enum Command {
     Drops {
         router: RouterId,
     },
+    /// `lsas R`: the LSAs that the router lists are printed, with what each says.
+    Lsas {
+        router: RouterId,
+    },
     /// `loss PERCENT NUMBER [ADDRESS]`: of a hundred deliveries so many are lost from here
     /// on, by chance, by the generator of this number; on the network that holds the
     /// address alone where one is given.

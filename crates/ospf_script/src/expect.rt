@@ -3,17 +3,18 @@
 ghost use Rattle.std.specs.Prelude.{◌≡◌, ◌∷◌, ℕ, List, codes, IfErr, IfNone, IfOk, IfSome};
 ghost use Rattle.ospf_base.specs.declared.ids.RouterId.{RouterId};
 ghost use Rattle.ospf_base.specs.declared.prefix.Prefix.{Prefix};
-ghost use Rattle.ospf_script.specs.Expected.{BeginsRoute, SpellsArrival, IsExpected, IsLongRoute, IsOfRoute};
+ghost use Rattle.ospf_script.specs.Expected.{AreElected, BeginsLink, BeginsRoute, IsExpected, IsLongRoute, IsNeighbour, IsOfRoute, IsStateWord, SpellsArrival};
 ghost use Rattle.ospf_script.specs.Words.{Finds, Text, line_words};
 ghost use Rattle.ospf_script.specs.declared.expected.Expected.{Expected};
 
 use crate::expected::{Expected, Wanted};
 use crate::fault::CommandFault;
-use crate::spelled::values_in;
-use crate::values::{number_of, prefix_of, router_of, text_of};
+use crate::several::values_in;
+use crate::values::{address_of, number_of, prefix_of, router_of, text_of};
 use crate::walk::ends_in;
-use crate::words::{first_word, is_alone, three_words, two_words};
-use ospf_base::{Prefix, RouterId};
+use crate::words::{first_word, is_alone, one_word, three_words, two_words};
+use ospf_base::{Addr, Prefix, RouterId};
+use ospf_neighbour::NeighbourState;
 use std::alloc::Global;
 
 // What the words of a text expect. Memory is told to be missing only where
@@ -47,6 +48,8 @@ fn plain_in(text: &[u8]) -> Option<Expected>
     let (word, rest) = first_word(text)?;
     match text_of(word)? {
         "full" => full_in(rest),
+        "neighbour" | "neighbor" => neighbour_in(rest),
+        "dr" => dr_in(rest),
         "no" => absent_in(rest),
         "walk" => arrival_in(rest),
         _ => None,
@@ -59,8 +62,74 @@ fn full_in(text: &[u8]) -> Option<Expected>
 {
     let (router, other) = two_words(text)?;
     let (router, other) = (router_of(router)?, router_of(other)?);
-    let wanted = Wanted::Full { other };
+    let state = NeighbourState::Full;
+    let wanted = Wanted::Neighbour { other, state };
     Some(Expected::Router { router, wanted })
+}
+
+// What `neighbour`, in either spelling, and the words behind it expect.
+fn neighbour_in(text: &[u8]) -> Option<Expected>
+    ensures some { IfSome result (λ expected. (word : Text) → IsNeighbour word →
+        IsExpected (word ∷ line_words text.now) expected) }
+    ensures none { IfNone result ((word : Text) (expected : Expected) → IsNeighbour word →
+        IsExpected (word ∷ line_words text.now) expected → ⊥) }
+{
+    let (router, other, state) = three_words(text)?;
+    let (router, other) = (router_of(router)?, router_of(other)?);
+    let state = state_of(state)?;
+    let wanted = Wanted::Neighbour { other, state };
+    Some(Expected::Router { router, wanted })
+}
+
+// The state of a neighbour that a word is.
+fn state_of(word: &[u8]) -> Option<NeighbourState>
+    ensures { Finds result (IsStateWord word.now) }
+{
+    let state = match text_of(word)? {
+        "Down" => NeighbourState::Down,
+        "Init" => NeighbourState::Init,
+        "2-Way" => NeighbourState::TwoWay,
+        "ExStart" => NeighbourState::ExStart,
+        "Exchange" => NeighbourState::Exchange,
+        "Loading" => NeighbourState::Loading,
+        "Full" => NeighbourState::Full,
+        _ => return None,
+    };
+    Some(state)
+}
+
+// What `dr` and the words behind it expect.
+fn dr_in(text: &[u8]) -> Option<Expected>
+    ensures { Finds result (IsExpected (codes "dr" ∷ line_words text.now)) }
+{
+    let (router, link, rest) = link_in(text)?;
+    let (dr, backup) = elected_in(rest)?;
+    let wanted = Wanted::Dr { link, dr, backup };
+    Some(Expected::Router { router, wanted })
+}
+
+// A Router ID and a link, and what stands behind them.
+fn link_in(text: &[u8]) -> Option<(RouterId, usize, &[u8])>
+    ensures some { IfSome result (λ found. BeginsLink (line_words text.now) found.0 found.1
+        (line_words found.2.now)) }
+    ensures none { IfNone result ((router : RouterId) (link : ℕ) (rest : List Text) →
+        BeginsLink (line_words text.now) router link rest → ⊥) }
+{
+    let (router, rest) = first_word(text)?;
+    let (link, rest) = first_word(rest)?;
+    Some((router_of(router)?, number_of(link)? as usize, rest))
+}
+
+// The address of a Designated Router, and of a Backup, where one is given.
+fn elected_in(text: &[u8]) -> Option<(Addr, Option<Addr>)>
+    ensures { Finds result (λ found. AreElected (line_words text.now) found.0 found.1) }
+{
+    if let Some(dr) = one_word(text) {
+        return Some((address_of(dr)?, None));
+    }
+    let (dr, backup) = two_words(text)?;
+    let dr = address_of(dr)?;
+    Some((dr, Some(address_of(backup)?)))
 }
 
 // What `route` and the words behind it expect.

@@ -2,6 +2,7 @@
 
 use ospf_base::{Addr, Prefix, RouterId};
 use ospf_graph::NextHop;
+use ospf_neighbour::NeighbourState;
 
 /// What is expected, of one router or of all.
 #[derive(Debug, PartialEq, Eq, Drop)]
@@ -28,13 +29,22 @@ pub enum Expected {
 /// What is wanted of a router.
 #[derive(Debug, PartialEq, Eq, Drop)]
 pub enum Wanted {
-    /// `full R S`: it has the other one as a Full neighbour.
-    Full {
+    /// `neighbour R S STATE`, or `full R S` of Full: it has the other one as a neighbour in
+    /// exactly this state, on whichever link (RFC 2328, section 10.1).
+    Neighbour {
         other: RouterId,
+        state: NeighbourState,
     },
     /// `no neighbour R LINK`: it has no neighbour on the link.
     NoNeighbour {
         link: usize,
+    },
+    /// `dr R LINK ADDRESS [BACKUP]`: the interface of the link has this Designated Router, by its
+    /// address, 0.0.0.0 for none, and this Backup, where one is given (section 9).
+    Dr {
+        link: usize,
+        dr: Addr,
+        backup: Option<Addr>,
     },
     /// `route R PREFIX COST [HOP..]`: it has a route of this cost to the prefix; where hops
     /// are given, by these and no other.

@@ -1,6 +1,8 @@
 //! The lines of a script of the simulator, read.
 //!
 //! `Command::read` reads a line, and which words spell which command stands in `specs/Commands`.
+//! Words stand between spaces (`specs/Words`); `router_of`, `number_of` and others tell the value
+//! that a word spells (`specs/Values`), and `None` where it spells none.
 #![tactic(auto)]
 
 mod command;
@@ -8,11 +10,11 @@ mod events;
 mod expect;
 mod expected;
 mod fault;
-mod hint;
 mod laws;
 mod name;
 mod read;
 mod say;
+mod several;
 mod shapes;
 mod show;
 mod spelled;
@@ -23,8 +25,13 @@ mod words;
 pub use crate::command::{Command, Many, View};
 pub use crate::expected::{Expected, Wanted};
 pub use crate::fault::CommandFault;
-pub use crate::hint::Hint;
 pub use crate::laws::{printed_is_spelled, words_spell_one_command};
+pub use crate::name::Name;
 pub use crate::show::{FloorShown, WantedShown};
-pub use crate::values::floor_of;
+pub use crate::spelled::Spelled;
+pub use crate::values::{
+    address_of, floor_of, number_of, number_up_to, parts_at, percent_of, prefix_of, router_of,
+    text_of,
+};
+pub use crate::words::{first_word, is_alone, one_word, three_words, two_words};
 pub use ospf_headline::WorldEvent;

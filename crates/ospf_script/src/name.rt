@@ -3,9 +3,9 @@
 use crate::command::View;
 use crate::values::text_of;
 
-// The word that a command begins with.
-#[derive(Clone, Copy)]
-pub(crate) enum Name {
+/// The word that a command begins with.
+#[derive(Clone, Copy, Debug, PartialEq, Eq)]
+pub enum Name {
     Start,
     Stop,
     Tick,
@@ -24,6 +24,7 @@ pub(crate) enum Name {
     Why,
     Datagrams,
     Drops,
+    Lsas,
     Loss,
     Expect,
     Label,
@@ -33,8 +34,8 @@ impl Name {
     ghost use Rattle.ospf_script.specs.Names.{IsWordOf};
     ghost use Rattle.ospf_script.specs.Words.{Finds};
 
-    // The name that a word is, if it is one.
-    pub(crate) fn read(word: &[u8]) -> Option<Name>
+    /// The name that a word is, if it is one.
+    pub fn read(word: &[u8]) -> Option<Name>
         ensures { Finds result (IsWordOf word.now) }
     {
         let name = match text_of(word)? {
@@ -59,6 +60,7 @@ impl Name {
             "why" => Name::Why,
             "datagrams" => Name::Datagrams,
             "drops" => Name::Drops,
+            "lsas" => Name::Lsas,
             "loss" => Name::Loss,
             "expect" => Name::Expect,
             "label" => Name::Label,

@@ -111,6 +111,9 @@ fn of_name(name: Name, text: &[u8]) -> Option<Command>
         Name::Drops => Some(Command::Drops {
             router: router_in(text)?,
         }),
+        Name::Lsas => Some(Command::Lsas {
+            router: router_in(text)?,
+        }),
         Name::Label => Some(Command::Label {
             is_on: switch_in(text)?,
         }),

@@ -9,6 +9,7 @@ use crate::expected::{Expected, Wanted};
 use ospf_base::RouterId;
 use ospf_graph::NextHop;
 use ospf_headline::WorldEvent;
+use ospf_neighbour::NeighbourState;
 use std::fmt::{self, Display, Formatter, Write};
 
 /// A number as a floor is printed: eight hexadecimal digits, in two's complement.
@@ -62,6 +63,7 @@ impl Display for Command {
                 write!(f, "datagrams {router}{}", Given(*most))
             }
             Command::Drops { router } => write!(f, "drops {router}"),
+            Command::Lsas { router } => write!(f, "lsas {router}"),
             Command::Loss {
                 percent,
                 number,
@@ -115,8 +117,17 @@ impl Display for WantedShown<'_> {
     fn fmt<W: Write>(&self, f: &mut Formatter<W>) -> fmt::Result {
         let router = self.router;
         match self.wanted {
-            Wanted::Full { other } => write!(f, "expect full {router} {other}"),
+            Wanted::Neighbour {
+                other,
+                state: NeighbourState::Full,
+            } => write!(f, "expect full {router} {other}"),
+            Wanted::Neighbour { other, state } => {
+                write!(f, "expect neighbour {router} {other} {state}")
+            }
             Wanted::NoNeighbour { link } => write!(f, "expect no neighbour {router} {link}"),
+            Wanted::Dr { link, dr, backup } => {
+                write!(f, "expect dr {router} {link} {dr}{}", Given(*backup))
+            }
             Wanted::Route { prefix, cost, hops } => {
                 write!(f, "expect route {router} {prefix} {cost}")?;
                 write_hops(f, hops)

@@ -1,26 +1,21 @@
-//! Words that spell a value each.
+//! Values that a word may spell.
 
-ghost use Rattle.std.specs.Prelude.{◌≡◌, ◌↔◌, IfOk, IfErr, IsTrue};
-ghost use Rattle.std.specs.List.{AllZip};
-ghost use Rattle.ospf_script.specs.Values.{AreManySpelled, AreSomeSpelled, IsDecimal, IsHopWord};
-ghost use Rattle.ospf_script.specs.Words.{Finds, Text, line_words};
+ghost use Rattle.ospf_script.specs.Values.{IsDecimal, IsHopWord};
+ghost use Rattle.ospf_script.specs.Words.{Finds, Text};
 
-use crate::fault::CommandFault;
 use crate::values::{address_of, number_up_to, parts_at, router_of};
-use crate::words::first_word;
 use ospf_graph::NextHop;
-use std::alloc::Global;
 
-// What a word may spell.
-pub(crate) trait Spelled: Copy {
+/// What a word may spell.
+pub trait Spelled: Copy {
     ghost is_spelled: { Text → Self → Type 0 };
 
-    // The value that a word spells.
+    /// The value that a word spells; `None` of a word that spells none.
     fn of_word(word: &[u8]) -> Option<Self>
         ensures { Finds result (is_spelled word.now) };
 }
 
-// A number of 32 bits.
+/// A number of 32 bits, in decimal digits.
 impl Spelled for u32 {
     ghost is_spelled = { IsDecimal 32 };
 
@@ -29,7 +24,7 @@ impl Spelled for u32 {
     }
 }
 
-// A next hop.
+/// A next hop, as a routing table is printed with it.
 impl Spelled for NextHop {
     ghost is_spelled = { IsHopWord };
 
@@ -50,43 +45,4 @@ impl Spelled for NextHop {
             address,
         })
     }
-}
-
-// The values that the words of a text spell. Memory is told to be missing
-// only where each word spells one.
-pub(crate) fn values_in<V: Spelled>(alloc: Global, text: &[u8]) -> Result<Vec<V>, CommandFault>
-    ensures ok { IfOk result (λ values. AllZip V.is_spelled (line_words text.now)
-        values.items) }
-    ensures not_values { IfErr result (λ e. e ≡ CommandFault.NotACommand →
-        AreSomeSpelled V.is_spelled (line_words text.now) → ⊥) }
-    ensures memory { IfErr result (λ e. e ≡ CommandFault.Memory →
-        AreManySpelled V.is_spelled (line_words text.now)) }
-{
-    let mut values = Vec::new(alloc);
-    let mut rest = text;
-    while let Some((word, behind)) = first_word(rest) {
-        let value = V::of_word(word).ok_or(CommandFault::NotACommand)?;
-        if values.push(value).is_err() {
-            if are_spelled::<V>(behind) {
-                return Err(CommandFault::Memory);
-            }
-            return Err(CommandFault::NotACommand);
-        }
-        rest = behind;
-    }
-    Ok(values)
-}
-
-// Whether each word of a text spells a value.
-fn are_spelled<V: Spelled>(text: &[u8]) -> bool
-    ensures { IsTrue result ↔ AreSomeSpelled V.is_spelled (line_words text.now) }
-{
-    let mut rest = text;
-    while let Some((word, behind)) = first_word(rest) {
-        match V::of_word(word) {
-            Some(_) => rest = behind,
-            None => return false,
-        }
-    }
-    true
 }

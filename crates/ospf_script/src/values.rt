@@ -21,7 +21,7 @@ const MOST_PERCENT: u64 = 100;
 const MOST_LENGTH: u64 = 32;
 
 /// The floor of LS sequence numbers that a word spells: eight hexadecimal digits, of
-/// either case, in two's complement.
+/// either case, in two's complement (RFC 2328, section 12.1.6); `None` of another word.
 pub fn floor_of(word: &[u8]) -> Option<i32>
     ensures some { IfSome result (IsFloor word.now) }
     ensures none { IfNone result ((floor : ℤ) → IsFloor word.now floor → ⊥) }
@@ -35,22 +35,24 @@ pub fn floor_of(word: &[u8]) -> Option<i32>
     }
 }
 
-// The Router ID that a word spells.
-pub(crate) fn router_of(word: &[u8]) -> Option<RouterId>
+/// The Router ID that a word spells: four decimal numbers with dots between, none with a zero in
+/// front; `None` of another word.
+pub fn router_of(word: &[u8]) -> Option<RouterId>
     ensures { Finds result (IsRouterWord word.now) }
 {
     Some(RouterId(address_of(word)?.0))
 }
 
-// The address that a word spells.
-pub(crate) fn address_of(word: &[u8]) -> Option<Addr>
+/// The address that a word spells, written as a Router ID is; `None` of another word.
+pub fn address_of(word: &[u8]) -> Option<Addr>
     ensures { Finds result (IsAddress word.now) }
 {
     text_of(word)?.parse::<Addr>().ok()
 }
 
-// The prefix that a word spells.
-pub(crate) fn prefix_of(word: &[u8]) -> Option<Prefix>
+/// The prefix that a word spells: an address, a slash, and how many of its bits count, at most 32,
+/// behind which none is set; `None` of another word.
+pub fn prefix_of(word: &[u8]) -> Option<Prefix>
     ensures { Finds result (IsPrefix word.now) }
 {
     let (dotted, digits) = text_of(word)?.split_once('/')?;
@@ -62,8 +64,8 @@ pub(crate) fn prefix_of(word: &[u8]) -> Option<Prefix>
     Some(Prefix { address, length })
 }
 
-// The parts of a word before and behind the first byte of this value.
-pub(crate) fn parts_at(word: &[u8], byte: u8) -> Option<(&[u8], &[u8])>
+/// The parts of a word before and behind the first byte of this value; `None` where there is none.
+pub fn parts_at(word: &[u8], byte: u8) -> Option<(&[u8], &[u8])>
     ensures some { IfSome result (λ parts. (word.now ≡ parts.0.now ++ byte ∷ parts.1.now)
         × All (λ b. b ≢ byte) parts.0.now) }
     ensures none { IfNone result (All (λ b. b ≢ byte) word.now) }
@@ -73,15 +75,15 @@ pub(crate) fn parts_at(word: &[u8], byte: u8) -> Option<(&[u8], &[u8])>
     Some((front, behind))
 }
 
-// How many of a hundred a word spells.
-pub(crate) fn percent_of(word: &[u8]) -> Option<u8>
+/// How many of a hundred a word spells, in decimal digits; `None` of another word.
+pub fn percent_of(word: &[u8]) -> Option<u8>
     ensures { Finds result (IsPercent word.now) }
 {
     Some(number_up_to(word, MOST_PERCENT)? as u8)
 }
 
-// The number of 64 bits that a word spells.
-pub(crate) fn number_of(word: &[u8]) -> Option<u64>
+/// The number of 64 bits that a word spells, in decimal digits; `None` of another word.
+pub fn number_of(word: &[u8]) -> Option<u64>
     ensures { Finds result (IsDecimal 64 word.now) }
 {
     if has_plus(word) {
@@ -90,8 +92,8 @@ pub(crate) fn number_of(word: &[u8]) -> Option<u64>
     text_of(word)?.parse::<u64>().ok()
 }
 
-// The number that a word spells, up to this one.
-pub(crate) fn number_up_to(word: &[u8], most: u64) -> Option<u64>
+/// The number that a word spells, in decimal digits, where it is at most this one; else `None`.
+pub fn number_up_to(word: &[u8], most: u64) -> Option<u64>
     ensures { Finds result (λ n. IsNumber 10 word.now n × (n ≤ most)) }
 {
     let number = number_of(word)?;
@@ -108,8 +110,8 @@ fn has_plus(word: &[u8]) -> bool
     word.first() == Some(&b'+')
 }
 
-// A word as text, where it is some.
-pub(crate) fn text_of(word: &[u8]) -> Option<&str>
+/// A word as text; `None` where it is not UTF-8.
+pub fn text_of(word: &[u8]) -> Option<&str>
     ensures some { IfSome result (λ text. text.now ≡ word.now) }
     ensures none { IfNone result (IsUtf8 word.now → ⊥) }
 {

@@ -7,7 +7,7 @@ ghost use Rattle.ospf_script.specs.Commands.{BeginsWalk, IsLongWalk, IsWalkWords
 ghost use Rattle.ospf_script.specs.Words.{Text, line_words};
 
 use crate::fault::CommandFault;
-use crate::spelled::values_in;
+use crate::several::values_in;
 use crate::values::{address_of, router_of};
 use crate::words::first_word;
 use ospf_base::{Addr, RouterId};

@@ -7,8 +7,8 @@ ghost use Rattle.ospf_script.specs.Words.{Text, is_space, line_words};
 
 use ospf_files::place_of;
 
-// The first word of a text, and what stands behind it; `None` of a blank text.
-pub(crate) fn first_word(text: &[u8]) -> Option<(&[u8], &[u8])>
+/// The first word of a text, and what stands behind it; `None` of a blank text.
+pub fn first_word(text: &[u8]) -> Option<(&[u8], &[u8])>
     ensures word { IfSome result (λ found. line_words text.now ≡ found.0.now
         ∷ line_words found.1.now) }
     ensures shorter { IfSome result (λ found. length found.1.now < length text.now) }
@@ -23,8 +23,8 @@ pub(crate) fn first_word(text: &[u8]) -> Option<(&[u8], &[u8])>
     Some(from.split_at(length))
 }
 
-// The word of a text that has one alone.
-pub(crate) fn one_word(text: &[u8]) -> Option<&[u8]>
+/// The word of a text that has one alone; `None` of another text.
+pub fn one_word(text: &[u8]) -> Option<&[u8]>
     ensures some { IfSome result (λ word. line_words text.now ≡ word.now ∷ []) }
     ensures none { IfNone result ((word : Text) → line_words text.now ≡ word ∷ [] → ⊥) }
 {
@@ -32,15 +32,15 @@ pub(crate) fn one_word(text: &[u8]) -> Option<&[u8]>
     first_word(rest).is_none().then_some(word)
 }
 
-// Whether a text has this word alone.
-pub(crate) fn is_alone(text: &[u8], word: &str) -> bool
+/// Whether a text has this word alone.
+pub fn is_alone(text: &[u8], word: &str) -> bool
     ensures { IsTrue result ↔ (line_words text.now ≡ word.now ∷ []) }
 {
     one_word(text) == Some(word.as_bytes())
 }
 
-// The words of a text that has two.
-pub(crate) fn two_words(text: &[u8]) -> Option<(&[u8], &[u8])>
+/// The words of a text that has two; `None` of another text.
+pub fn two_words(text: &[u8]) -> Option<(&[u8], &[u8])>
     ensures some { IfSome result (λ found. line_words text.now ≡ found.0.now ∷ found.1.now ∷ []) }
     ensures none { IfNone result ((first second : Text) → line_words text.now ≡ first ∷ second
         ∷ [] →
@@ -51,8 +51,8 @@ pub(crate) fn two_words(text: &[u8]) -> Option<(&[u8], &[u8])>
     Some((first, second))
 }
 
-// The words of a text that has three.
-pub(crate) fn three_words(text: &[u8]) -> Option<(&[u8], &[u8], &[u8])>
+/// The words of a text that has three; `None` of another text.
+pub fn three_words(text: &[u8]) -> Option<(&[u8], &[u8], &[u8])>
     ensures some { IfSome result (λ found. line_words text.now
         ≡ found.0.now ∷ found.1.now ∷ found.2.now ∷ []) }
     ensures none { IfNone result ((first second third : Text) →

@@ -7,8 +7,7 @@ use Rattle.ospf_config.specs.declared.interface.Interface.{Interface}
 use Rattle.ospf_files.specs.Listed.{AreConfigs, AreFilesRead}
 use Rattle.ospf_files.specs.declared.files.NamedFile.{NamedFile}
 use Rattle.ospf_flood.specs.Rules.{max_sequence_number}
-use Rattle.ospf_script.specs.Commands.{no_floor}
-use Rattle.ospf_script.specs.Values.{IsFloor}
+use Rattle.ospf_script.specs.Values.{IsFloor, no_floor}
 use Rattle.ospf_udp.specs.declared.plan.Plan.{Plan}
 
 -- ---- the floor

@@ -5,9 +5,10 @@ use ospf_files::{first_line, lines};
 use ospf_graph::NextHop;
 use ospf_neighbour::NeighbourState;
 use ospf_script::{
-    Command, CommandFault, Expected, FloorShown, Hint, Many, View, Wanted, WorldEvent,
+    Command, CommandFault, Expected, FloorShown, Many, View, Wanted, WorldEvent,
     words_spell_one_command,
 };
+use ospf_sim::Hint;
 use ospf_views::{ListedShown, NeighbourShown, RefusalShown, WalkShown};
 use std::alloc::Global;
 use std::process::Abort;
@@ -178,6 +179,7 @@ fn asking(rt: HostRuntime) -> Result<(), Fail> {
     let sent = |most: Option<u64>| Command::Datagrams { router: ONE, most };
     spells(&rt, alloc, "datagrams 1.1.1.1", &sent(None), "datagrams 1.1.1.1")?;
     spells(&rt, alloc, " drops 1.1.1.1", &Command::Drops { router: ONE }, "drops 1.1.1.1")?;
+    spells(&rt, alloc, "lsas  1.1.1.1 ", &Command::Lsas { router: ONE }, "lsas 1.1.1.1")?;
     spells(&rt, alloc, "datagrams  1.1.1.1 05", &sent(Some(5)), "datagrams 1.1.1.1 5")?;
     Ok(())
 }
@@ -216,9 +218,11 @@ fn wants(wanted: Wanted) -> Expected {
 #[test]
 fn expecting(rt: HostRuntime) -> Result<(), Fail> {
     let alloc = rt.alloc();
-    let full = wants(Wanted::Full { other: TWO });
+    let full = || stands(NeighbourState::Full);
     let line = "expect full 1.1.1.1 2.2.2.2";
-    expects(&rt, alloc, line, full, line)?;
+    expects(&rt, alloc, line, full(), line)?;
+    expects(&rt, alloc, "expect neighbour 1.1.1.1 2.2.2.2 Full", full(), line)?;
+    expects(&rt, alloc, " expect neighbor  1.1.1.1 2.2.2.2 Full ", full(), line)?;
     let alone = || wants(Wanted::NoNeighbour { link: 3 });
     let line = "expect no neighbour 1.1.1.1 3";
     expects(&rt, alloc, line, alone(), line)?;
@@ -237,6 +241,50 @@ fn expecting(rt: HostRuntime) -> Result<(), Fail> {
     };
     let line = "expect no route 1.1.1.1 0.0.0.0/0";
     expects(&rt, alloc, line, wants(Wanted::NoRoute { prefix }), line)?;
+    Ok(())
+}
+
+// The second router is expected to be a neighbour of the first one in this state.
+fn stands(state: NeighbourState) -> Expected {
+    wants(Wanted::Neighbour { other: TWO, state })
+}
+
+#[test]
+fn expecting_states(rt: HostRuntime) -> Result<(), Fail> {
+    let alloc = rt.alloc();
+    let states = [
+        ("Down", NeighbourState::Down),
+        ("Init", NeighbourState::Init),
+        ("2-Way", NeighbourState::TwoWay),
+        ("ExStart", NeighbourState::ExStart),
+        ("Exchange", NeighbourState::Exchange),
+        ("Loading", NeighbourState::Loading),
+    ];
+    for (word, state) in states {
+        let printed = format!(in alloc; "expect neighbour 1.1.1.1 2.2.2.2 {word}")?;
+        let line = format!(in alloc; " expect  neighbor 1.1.1.1 2.2.2.2 {word} ")?;
+        expects(&rt, alloc, &printed, stands(state), &printed)?;
+        expects(&rt, alloc, &line, stands(state), &printed)?;
+    }
+    Ok(())
+}
+
+#[test]
+fn expecting_elections(rt: HostRuntime) -> Result<(), Fail> {
+    let alloc = rt.alloc();
+    let elected = |dr: Addr, backup: Option<Addr>| {
+        wants(Wanted::Dr { link: 3, dr, backup })
+    };
+    let (third, second) = (Addr(0x0a01_0003), Addr(0x0a01_0002));
+    let line = "expect dr 1.1.1.1 3 10.1.0.3";
+    expects(&rt, alloc, line, elected(third, None), line)?;
+    let line = "expect dr 1.1.1.1 3 10.1.0.3 10.1.0.2";
+    expects(&rt, alloc, line, elected(third, Some(second)), line)?;
+    let (line, printed) = (
+        " expect dr  1.1.1.1 03 10.1.0.3 0.0.0.0 ",
+        "expect dr 1.1.1.1 3 10.1.0.3 0.0.0.0",
+    );
+    expects(&rt, alloc, line, elected(third, Some(Addr(0))), printed)?;
     Ok(())
 }
 
@@ -292,7 +340,7 @@ fn expecting_of_all(rt: HostRuntime) -> Result<(), Fail> {
 }
 
 // Each is refused for one reason.
-const UNREADABLE: [&[u8]; 104] = [
+const UNREADABLE: [&[u8]; 122] = [
     b"cut",
     b"cut all",
     b"cut 10.0.0",
@@ -333,6 +381,9 @@ const UNREADABLE: [&[u8]; 104] = [
     b"drops",
     b"drops all",
     b"drops 1.1.1.1 0",
+    b"lsas",
+    b"lsas all",
+    b"lsas 1.1.1.1 1.1.1.1",
     b"loss 30",
     b"loss 101 7",
     b"loss 30 x",
@@ -341,6 +392,21 @@ const UNREADABLE: [&[u8]; 104] = [
     b"expect",
     b"expect full 1.1.1.1",
     b"expect Full 1.1.1.1 2.2.2.2",
+    b"expect full 1.1.1.1 2.2.2.2 Full",
+    b"expect neighbour 1.1.1.1 2.2.2.2",
+    b"expect neighbour 1.1.1.1 2.2.2.2 TwoWay",
+    b"expect neighbour 1.1.1.1 2.2.2.2 2-way",
+    b"expect neighbour 1.1.1.1 2.2.2.2 full",
+    b"expect neighbour 1.1.1.1 2.2.2.2 \xff",
+    b"expect neighbour 1.1.1.1 2.2.2 Full",
+    b"expect neighbours 1.1.1.1 2.2.2.2 Full",
+    b"expect neighbour 1.1.1.1 2.2.2.2 Full Full",
+    b"expect dr 1.1.1.1 0",
+    b"expect DR 1.1.1.1 0 10.1.0.3",
+    b"expect dr 1.1.1.1 x 10.1.0.3",
+    b"expect dr 1.1.1.1 0 10.1.0",
+    b"expect dr 1.1.1.1 0 10.1.0.3 none",
+    b"expect dr 1.1.1.1 0 10.1.0.3 10.1.0.2 10.1.0.1",
     b"expect no neighbours 1.1.1.1 0",
     b"expect route 1.1.1.1 10.0.0.4/30",
     b"expect route 1.1.1.1 10.0.0.5/30 12",
@@ -409,12 +475,12 @@ fn unreadable(rt: HostRuntime) {
     }
 }
 
-const NAMES: &str = "start, stop, tick, up, down, deliver, cut, mend, round, batch, random, settle, neighbours, listing, table, walk, floor, say, why, datagrams, drops, loss, expect, label; alone each but say tells its form";
+const NAMES: &str = "start, stop, tick, up, down, deliver, cut, mend, round, batch, random, settle, neighbours, listing, table, walk, floor, say, why, datagrams, drops, lsas, loss, expect, label; alone each but say tells its form";
 
 #[test]
 fn hints(rt: HostRuntime) -> Result<(), Fail> {
     let alloc = rt.alloc();
-    let forms: [(&[u8], &str); 18] = [
+    let forms: [(&[u8], &str); 19] = [
         (b"cut all", "cut ADDRESS"),
         (b"mend", "mend ADDRESS"),
         (b"batch x", "batch COUNT"),
@@ -424,10 +490,11 @@ fn hints(rt: HostRuntime) -> Result<(), Fail> {
         (b"why", "why R LINK [NEIGHBOUR]"),
         (b"datagrams", "datagrams R [MOST]"),
         (b"drops 1.1.1.1 0", "drops R"),
+        (b"lsas all", "lsas R"),
         (b"loss 101 7", "loss PERCENT NUMBER [ADDRESS]"),
         (
             b"expect fully",
-            "expect full R S, expect no neighbour R LINK, expect route R PREFIX COST [HOP..], expect no route R PREFIX, expect walk R ADDRESS arrived [COST], expect agree, or expect settled",
+            "expect full R S, expect neighbour R S STATE, expect no neighbour R LINK, expect dr R LINK ADDRESS [BACKUP], expect route R PREFIX COST [HOP..], expect no route R PREFIX, expect walk R ADDRESS arrived [COST], expect agree, or expect settled",
         ),
         (b"tick", "tick R"),
         (b" start  1.1.1.1 ", "start R DD [FLOOR], or start all"),

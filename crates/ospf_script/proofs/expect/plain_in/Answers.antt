@@ -1,4 +1,4 @@
-use Rattle.std.proofs.Common.{◌∙◌}
+use Rattle.std.proofs.Common.{◌∙◌, inl, inr}
 use Rattle.std.proofs.lemmas.Bool.{iff_false}
 use Rattle.ospf_script.proofs.Expecting.{only_known, only_text}
 use Rattle.ospf_script.proofs.Plain.{if_none}
@@ -19,5 +19,7 @@ returns-in_default-clause-none c =
     let settled = iff_false c.is_alone-2.ensures c.if-is_alone-2.false in
     let text = rw c.in_ok-text_of.was at c.text_of.ensures.some in
     rw first
-    (only_known _ _ (λ e. agree (first ∙ e)) (λ e. settled (first ∙ e)) (λ e. c.in_default.not-full (text ∙ e)) (λ e. c.in_default.not-no (text ∙ e))
+    (only_known _ _ (λ e. agree (first ∙ e)) (λ e. settled (first ∙ e)) (λ e. c.in_default.not-full (text ∙ e))
+    (λ is. elim is [ inl british ↦ c.in_default.not-neighbour (text ∙ british) | inr american ↦ c.in_default.not-neighbor (text ∙ american) ])
+    (λ e. c.in_default.not-dr (text ∙ e)) (λ e. c.in_default.not-no (text ∙ e))
     (λ e. c.in_default.not-walk (text ∙ e)))

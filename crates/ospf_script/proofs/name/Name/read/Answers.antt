@@ -1,5 +1,6 @@
 use Rattle.std.proofs.Common.{rules}
-use Rattle.ospf_script.proofs.Plain.{finds_none, words_are_text}
+use Rattle.ospf_script.proofs.Plain.{finds_none}
+use Rattle.ospf_script.proofs.Named.{words_are_text}
 use Rattle.ospf_script.proofs.name.Name.read.Goals as goal
 
 pub returns-in_err-text_of : goal.returns-in_err-text_of

@@ -1,7 +1,7 @@
 use Rattle.std.proofs.Common.{[], ◌∷◌, ◌++◌, rules}
 use Rattle.ospf_script.specs.Words.{line_words}
 use Rattle.ospf_script.proofs.Leading.{leads_on, leads_to_end}
-use Rattle.ospf_script.proofs.spelled.are_spelled.Goals as goal
+use Rattle.ospf_script.proofs.several.are_spelled.Goals as goal
 
 pub loop-word-preserved : goal.loop-word-preserved
 loop-word-preserved g c = (

@@ -1,7 +1,7 @@
 use Rattle.std.proofs.Common.{rules}
 use Rattle.ospf_script.specs.Words.{line_words}
 use Rattle.ospf_script.proofs.Leading.{leads_to_end, leads_to_many}
-use Rattle.ospf_script.proofs.spelled.values_in.Goals as goal
+use Rattle.ospf_script.proofs.several.values_in.Goals as goal
 
 pub returns-then-are_spelled-clause-memory : goal.returns-then-are_spelled-clause-memory
 returns-then-are_spelled-clause-memory g c = λ e.
