@@ -295,6 +295,8 @@ path_said route ms =
 
 change_said : (c : RouterChange) → 44 ∷ (change_members c ++ codes "}") ≡ members_text true (router_change_data c)
 unfolding escape_byte
+change_said change.Started = refl
+change_said change.Stopped = refl
 change_said (change.Dropped d) =
     ap (λ (l : List ℕ). 44 ∷ l) (three (codes "\"event\":\"dropped\",\"link\":") (decimal d.link) (cause_members d) (codes "}"))
     ∙ ap (λ (l : List ℕ). codes ",\"event\":\"dropped\",\"link\":" ++ (decimal d.link ++ l)) (cause_said d no_members)

@@ -21,6 +21,23 @@ use Rattle.ospf_journal.specs.declared.seen.SeenIface.{SeenIface}
 use Rattle.ospf_journal.specs.declared.seen.SeenNeighbour.{SeenNeighbour}
 use Rattle.ospf_journal.specs.declared.seen.SeenOwn.{SeenOwn}
 
+-- ---- starts and stops
+
+-- a router with these links runs: one that runs has links, and of one that does not none is seen
+abbrev pub runs_with : List SeenLinkValue → Bool
+runs_with links = not (length links == 0)
+
+-- that it has started, or stopped
+abbrev pub run_change_of : (before now : Bool) → List RouterChange
+run_change_of false true = change.Started ∷ []
+run_change_of true false = change.Stopped ∷ []
+run_change_of false false = []
+run_change_of true true = []
+
+-- if it has
+abbrev pub run_change : (before now : List SeenLinkValue) → List RouterChange
+run_change before now = run_change_of (runs_with before) (runs_with now)
+
 -- ---- neighbours
 
 -- the places of a neighbour's states in their order (RFC 2328, section 10.1)
@@ -193,11 +210,11 @@ abbrev pub drop_change : Option DroppedAt → List RouterChange
 drop_change None = []
 drop_change (Some dropped) = change.Dropped dropped ∷ []
 
--- all but the routes: the datagram that is dropped, the neighbours whose state is another one, link
--- by link, then the interfaces, and then the own LSAs
+-- all but the routes: that the router has started or stopped, the datagram that is dropped, the
+-- neighbours whose state is another one, link by link, then the interfaces, and then the own LSAs
 abbrev pub standing_changes : (before now : SeenValue) → Option DroppedAt → List RouterChange
 standing_changes before now dropped =
-    drop_change dropped
+    run_change before.links now.links ++ drop_change dropped
     ++ links_changes before.links now.links (max (length before.links) (length now.links))
     ++ ifaces_changes before.links now.links (max (length before.links) (length now.links))
     ++ own_changes before.own now.own

@@ -27,6 +27,10 @@ own_lsa_data key ms =
 
 -- the members of what changed, the first of which names it
 abbrev pub router_change_data : RouterChange → Members
+router_change_data change.Started =
+    text_member (codes "event") (codes "started") no_members
+router_change_data change.Stopped =
+    text_member (codes "event") (codes "stopped") no_members
 router_change_data (change.Dropped d) =
     text_member (codes "event") (codes "dropped")
     (member (codes "link") (number (unsigned d.link))

@@ -48,6 +48,8 @@ neighbour_on link q =
 
 -- what changed
 abbrev pub change_text : RouterChange → List ℕ
+change_text change.Started = codes "started"
+change_text change.Stopped = codes "stopped"
 change_text (change.Dropped d) =
     codes "link " ++ decimal d.link ++ codes " dropped " ++ dropped_text d.cause ++ codes " "
     ++ number_text d.source.0

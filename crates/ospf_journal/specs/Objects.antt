@@ -69,6 +69,8 @@ path_members route =
 
 -- the members of what changed, the first of which names it
 abbrev pub change_members : RouterChange → List ℕ
+change_members change.Started = codes "\"event\":\"started\""
+change_members change.Stopped = codes "\"event\":\"stopped\""
 change_members (change.Dropped d) =
     codes "\"event\":\"dropped\",\"link\":" ++ decimal d.link ++ cause_members d
 change_members (change.Neighbour link router before now) =

@@ -18,6 +18,10 @@ pub struct DroppedAt {
 /// One change of a router.
 #[derive(Debug, Drop)]
 pub enum RouterChange {
+    /// The router runs from now on.
+    Started,
+    /// It runs no more.
+    Stopped,
     /// A datagram was dropped.
     Dropped(DroppedAt),
     /// The state of a neighbour on a link is another one; one that is not there is Down.

@@ -41,6 +41,8 @@ impl Display for RouterChange {
 
     fn fmt<W: Write>(&self, f: &mut Formatter<W>) -> fmt::Result {
         match self {
+            RouterChange::Started => f.write_str("started"),
+            RouterChange::Stopped => f.write_str("stopped"),
             RouterChange::Dropped(d) => write!(
                 f,
                 "link {} dropped {} {}",

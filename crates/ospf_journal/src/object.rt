@@ -1,7 +1,7 @@
 //! The lines of a journal as JSON objects.
 
 ghost use Rattle.std.specs.Fmt.{WritesOnOk};
-ghost use Rattle.std.specs.Prelude.{◌++◌};
+ghost use Rattle.std.specs.Prelude.{◌++◌, codes};
 ghost use Rattle.ospf_journal.specs.Objects.{cause_members, change_members, elected_members, iface_states_members, moment_members, number_member, own_members, path_members, prefix_member, router_member, states_members};
 
 use crate::change::{DroppedAt, RouterChange};
@@ -49,6 +49,8 @@ fn write_change<W: Write>(f: &mut Formatter<W>, change: &RouterChange) -> fmt::R
     ensures { WritesOnOk W.Write.write_str_gives f.old result (change_members change.now) f.new }
 {
     match change {
+        RouterChange::Started => f.write_str("\"event\":\"started\""),
+        RouterChange::Stopped => f.write_str("\"event\":\"stopped\""),
         RouterChange::Dropped(d) => {
             write!(f, "\"event\":\"dropped\",\"link\":{}", d.link)?;
             write_cause(f, d)
@@ -75,10 +77,7 @@ fn write_change<W: Write>(f: &mut Formatter<W>, change: &RouterChange) -> fmt::R
             f.write_str("\"event\":\"flushed\"")?;
             write_numbered(f, key, *number)
         }
-        RouterChange::Removed { key } => {
-            f.write_str("\"event\":\"removed\"")?;
-            write_own(f, key)
-        }
+        RouterChange::Removed { key } => write_removed(f, key),
         RouterChange::Route(route) => {
             f.write_str("\"event\":\"route\"")?;
             write_route(f, route)
@@ -166,6 +165,15 @@ fn write_numbered<W: Write>(f: &mut Formatter<W>, key: &LsaKey, number: i32) -> 
 {
     write_own(f, key)?;
     write_number(f, number)
+}
+
+// An own LSA that leaves the database.
+fn write_removed<W: Write>(f: &mut Formatter<W>, key: &LsaKey) -> fmt::Result
+    ensures { WritesOnOk W.Write.write_str_gives f.old result
+        (codes "\"event\":\"removed\"" ++ own_members key.now) f.new }
+{
+    f.write_str("\"event\":\"removed\"")?;
+    write_own(f, key)
 }
 
 // The kind and the Link State ID of an own LSA.

@@ -5,7 +5,7 @@ ghost use Rattle.std.specs.Option.{option_copied};
 ghost use Rattle.ospf_journal.specs.Seen.{is_flushed_in, seen_iface, seen_link, seen_links, seen_neighbour, seen_own, seen_owns};
 
 use crate::change::{DroppedAt, RouterChange};
-use crate::told::{lead, push_drop, push_ifaces, push_neighbours, push_own};
+use crate::told::{lead, push_drop, push_ifaces, push_neighbours, push_own, push_run};
 use ospf_area::{Area, AreaLink, Numbering};
 use ospf_base::{Addr, LsaKey, MAX_AGE, RouterId};
 use ospf_iface::{Iface, IfaceState};
@@ -158,6 +158,7 @@ impl Seen {
         ensures err { OnErr result (self.new ≡ self.old) }
     {
         let mut changes = Vec::new(alloc);
+        push_run(&mut changes, &self.links, &standing.links)?;
         push_drop(&mut changes, dropped)?;
         push_neighbours(&mut changes, &self.links, &standing.links)?;
         push_ifaces(&mut changes, &self.links, &standing.links)?;

@@ -3,7 +3,7 @@
 ghost use Rattle.ospf_spf.specs.Changes.{IsChangeBefore, PutsHops, edited};
 ghost use Rattle.std.specs.Prelude.{◌≡◌, ◌++◌, All, AllPairs, IfOk, OnErr, OnOk, flat_map, length, map, max};
 ghost use Rattle.std.specs.Option.{option_copied};
-ghost use Rattle.ospf_journal.specs.Changes.{LeadsAlong, change_of_own, drop_change, flushed_before, gone_change, held_before, iface_change, iface_on, iface_place, ifaces_changes, is_issued, is_same_iface, issued_before, link_changes, links_changes, own_as, own_changes, route_change, seen_as, seen_on, seen_state, standing_change, state_change, state_place};
+ghost use Rattle.ospf_journal.specs.Changes.{LeadsAlong, change_of_own, drop_change, flushed_before, gone_change, held_before, iface_change, iface_on, iface_place, ifaces_changes, is_issued, is_same_iface, issued_before, link_changes, links_changes, own_as, own_changes, route_change, run_change, runs_with, seen_as, seen_on, seen_state, standing_change, state_change, state_place};
 
 use crate::change::{DroppedAt, RouterChange};
 use crate::seen::{SeenIface, SeenLink, SeenNeighbour, SeenOwn};
@@ -12,6 +12,29 @@ use ospf_iface::IfaceState;
 use ospf_neighbour::NeighbourState;
 use ospf_spf::{self as spf, RouteTable};
 use std::alloc::{AllocError, Global};
+
+/// Adds that the router has started or stopped, if it has.
+pub(crate) fn push_run(
+    changes: &mut Vec<RouterChange>,
+    before: &[SeenLink],
+    now: &[SeenLink],
+) -> Result<(), AllocError>
+    ensures { OnOk result (changes.new.items ≡ changes.old.items ++ run_change before.now now.now) }
+{
+    match (runs(before), runs(now)) {
+        (false, true) => changes.push(RouterChange::Started)?,
+        (true, false) => changes.push(RouterChange::Stopped)?,
+        _ => {}
+    }
+    Ok(())
+}
+
+// Whether a router of these links runs: of one that does not none is seen.
+fn runs(links: &[SeenLink]) -> bool
+    ensures { result ≡ runs_with links.now }
+{
+    !links.is_empty()
+}
 
 /// Adds the datagram that was dropped, if one was.
 pub(crate) fn push_drop(

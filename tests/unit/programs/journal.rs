@@ -55,6 +55,8 @@ fn network() -> LsaKey {
 #[test]
 fn each_change_is_printed(rt: HostRuntime) -> Result<(), Fail> {
     let alloc = rt.alloc();
+    assert_eq!(rt; both(&RouterChange::Started, alloc)?.as_str(), "1204 1.1.1.1 started\n{\"tick\":1204,\"router\":\"1.1.1.1\",\"event\":\"started\"}");
+    assert_eq!(rt; both(&RouterChange::Stopped, alloc)?.as_str(), "1204 1.1.1.1 stopped\n{\"tick\":1204,\"router\":\"1.1.1.1\",\"event\":\"stopped\"}");
     let dropped = RouterChange::Dropped(DroppedAt {
         link: 0,
         source: THERE,
@@ -133,7 +135,7 @@ fn a_link_is_followed(rt: HostRuntime) -> Result<(), Fail> {
     let mut world = two_on_a_link(alloc)?;
     let mut seen = Seen::nothing(alloc);
     let begins = said(&mut world, &mut seen, start(FIRST, 1), alloc)?;
-    assert_eq!(rt; begins.as_str(), "");
+    assert_eq!(rt; begins.as_str(), "0 1.1.1.1 started\n");
     let (router, link) = (FIRST, 0);
     let up = said(&mut world, &mut seen, WorldEvent::LinkUp { router, link }, alloc)?;
     assert_eq!(rt; up.as_str(), "0 1.1.1.1 link 0 interface Down Point-to-point dr 0.0.0.0 backup 0.0.0.0\n0 1.1.1.1 issued router 1.1.1.1 80000001\n0 1.1.1.1 route 10.0.0.0/30 10 attached\n");
@@ -170,7 +172,7 @@ fn an_end_is_told(rt: HostRuntime) -> Result<(), Fail> {
     let same = seen.follow(world.router(FIRST)?, None, alloc)?;
     assert_eq!(rt; same.len(), 0);
     let changes = seen.end(alloc)?;
-    assert_eq!(rt; lines(7, &changes, alloc)?.as_str(), "7 1.1.1.1 link 0 interface Point-to-point Down dr 0.0.0.0 backup 0.0.0.0\n7 1.1.1.1 no route 10.0.0.0/30\n");
+    assert_eq!(rt; lines(7, &changes, alloc)?.as_str(), "7 1.1.1.1 stopped\n7 1.1.1.1 link 0 interface Point-to-point Down dr 0.0.0.0 backup 0.0.0.0\n7 1.1.1.1 no route 10.0.0.0/30\n");
     Ok(())
 }
 
