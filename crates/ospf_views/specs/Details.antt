@@ -1,9 +1,10 @@
--- What differs, where a datagram is dropped for what it says (RFC 2328, sections 10.5 and 10.6).
+-- What differs, where a datagram is dropped for what it says (RFC 2328, sections 8.2, 10.5, 10.6).
 use Rattle.std.specs.Prelude.{◌==◌, ◌&&◌, not, ℕ, List, ◌++◌, Option, None, Some, bit_and, codes, decimal, nat_lt, slice_get, if◌then◌else◌}
 use Rattle.ospf_adjacency.specs.Adjacency.{is_broadcast}
 use Rattle.ospf_area.specs.State.{AreaValue, LinkValue}
 use Rattle.ospf_base.specs.Constants.{router_options}
 use Rattle.ospf_base.specs.Text.{number_text}
+use Rattle.ospf_base.specs.declared.ids.AreaId.{AreaId}
 use Rattle.ospf_iface.specs.declared.machine.Iface.{Iface}
 use Rattle.ospf_packet.specs.Meaning.{BodyMeaning, Meaning, hello, description, request, update, acknowledgment}
 use Rattle.ospf_packet.specs.declared.body.Description.{Description}
@@ -37,24 +38,27 @@ body_detail l (request entries) = None
 body_detail l (update lsas) = None
 body_detail l (acknowledgment headers) = None
 
--- of what a datagram says that comes on a link, the first field that does
--- not fit the link, if there is one
-abbrev pub packet_detail : LinkValue → Option Meaning → Option Detail
-packet_detail l None = None
-packet_detail l (Some m) = body_detail l m.body
+-- of what a packet says that comes on a link in this area, the first field that does not fit: the
+-- area (8.2), or one of the body
+abbrev pub said_detail : AreaId → LinkValue → Meaning → Option Detail
+said_detail area l m =
+    if m.area.0 == area.0 then body_detail l m.body else Some (detail.Area m.area area)
 
 -- what differs, where there is the link and a packet was read
-abbrev pub link_detail : Option LinkValue → Option Meaning → Option Detail
-link_detail None m = None
-link_detail (Some l) m = packet_detail l m
+abbrev pub link_detail : AreaId → Option LinkValue → Option Meaning → Option Detail
+link_detail area None m = None
+link_detail area (Some l) None = None
+link_detail area (Some l) (Some m) = said_detail area l m
 
 -- on a link of a router that may have stopped
 abbrev pub detail_on : Option AreaValue → ℕ → Option Meaning → Option Detail
 detail_on None link m = None
-detail_on (Some s) link m = link_detail (slice_get s.links link) m
+detail_on (Some s) link m = link_detail s.area (slice_get s.links link) m
 
 -- the field, and what stands there and here
 abbrev pub detail_text : Detail → List ℕ
+detail_text (detail.Area there here) =
+    codes "area " ++ number_text there.0 ++ codes " there, " ++ number_text here.0 ++ codes " here"
 detail_text (detail.HelloInterval there here) =
     codes "HelloInterval " ++ decimal there ++ codes " there, " ++ decimal here ++ codes " here"
 detail_text (detail.DeadInterval there here) =

@@ -3,6 +3,5 @@ pub mod Shown
 pub mod Waits
 pub mod Details
 pub mod Drops
-pub mod Expectations
 pub mod Offered
 pub mod Datagrams

@@ -141,6 +141,12 @@ abbrev pub why_text : ℕ → LinkValue → Option RouterId → List ℕ
 why_text link l None = link_why link l
 why_text link l (Some q) = one_why link l q (neighbour_of l.neighbours q)
 
+-- the interface of a link of a router that may have stopped; none where there is no such link
+abbrev pub interface_of : Option AreaValue → ℕ → Option (List ℕ)
+interface_of None link = None
+interface_of (Some s) link =
+    option_map (λ (l : LinkValue). interface_line link l.iface) (slice_get s.links link)
+
 -- of a link of a router that may have stopped; none where there is no such link
 abbrev pub why_of : Option AreaValue → ℕ → Option RouterId → Option (List ℕ)
 why_of None link q = None

@@ -1,13 +1,13 @@
 //! Which field of a datagram does not fit.
 
-ghost use Rattle.std.specs.Prelude.{◌≡◌};
+ghost use Rattle.std.specs.Prelude.{◌≡◌, Some};
 ghost use Rattle.ospf_packet.specs.PacketOf.{packet_of};
-ghost use Rattle.ospf_packet.specs.Said.{body_said};
-ghost use Rattle.ospf_views.specs.Details.{body_detail, detail_on, hello_detail, mtu_detail, packet_detail};
+ghost use Rattle.ospf_packet.specs.Said.{body_said, said};
+ghost use Rattle.ospf_views.specs.Details.{body_detail, detail_on, hello_detail, link_detail, mtu_detail, said_detail};
 
 use ospf_adjacency::is_broadcast;
 use ospf_area::AreaLink;
-use ospf_base::Addr;
+use ospf_base::{Addr, AreaId};
 use ospf_iface::{Iface, OPTIONS};
 use ospf_packet::{Body, Description, Hello, Packet};
 use ospf_router::Router;
@@ -16,6 +16,8 @@ use std::fmt::{self, Display, Formatter, Write};
 /// A field that does not fit: what it is in the datagram, and what it is here.
 #[derive(Clone, Copy, Debug, PartialEq, Eq)]
 pub enum Detail {
+    /// The Area ID.
+    Area(AreaId, AreaId),
     /// In ticks.
     HelloInterval(u16, u16),
     /// RouterDeadInterval, in ticks.
@@ -37,6 +39,7 @@ impl Display for Detail {
 
     fn fmt<W: Write>(&self, f: &mut Formatter<W>) -> fmt::Result {
         match self {
+            Detail::Area(there, here) => write!(f, "area {there} there, {here} here"),
             Detail::HelloInterval(there, here) => {
                 write!(f, "HelloInterval {there} there, {here} here")
             }
@@ -53,23 +56,35 @@ impl Display for Detail {
     }
 }
 
-/// The first field of a datagram that does not fit the link: of a Hello where it has to agree (RFC
-/// 2328, section 10.5), of a Database Description its MTU (10.6); else `None`. It takes no memory.
+/// The first field of a datagram that does not fit the link: of any the area (RFC 2328, section
+/// 8.2), of a Hello what has to agree (10.5), of a Database Description its MTU (10.6); else
+/// `None`. It takes no memory.
 pub fn detail_of(router: &Router, link: usize, bytes: &[u8]) -> Option<Detail>
     ensures { result ≡ detail_on router.now.area link (packet_of bytes.now) }
 {
     let area = router.area()?;
     let there = area.links.get(link)?;
-    detail_at(there, bytes)
+    detail_at(area.area, there, bytes)
 }
 
-// On a link that is there.
-fn detail_at(link: &AreaLink, bytes: &[u8]) -> Option<Detail>
-    ensures { result ≡ packet_detail link.now (packet_of bytes.now) }
+// On a link that is there, in this area.
+fn detail_at(area: AreaId, link: &AreaLink, bytes: &[u8]) -> Option<Detail>
+    ensures { result ≡ link_detail area (Some link.now) (packet_of bytes.now) }
 {
     match Packet::read(bytes) {
-        Ok(packet) => body_detail(link, &packet.body),
+        Ok(packet) => said_detail(area, link, &packet),
         Err(_) => None,
+    }
+}
+
+// By what a packet says.
+fn said_detail(area: AreaId, link: &AreaLink, packet: &Packet<'_>) -> Option<Detail>
+    ensures { result ≡ said_detail area link.now (said packet.now) }
+{
+    if packet.area.0 == area.0 {
+        body_detail(link, &packet.body)
+    } else {
+        Some(Detail::Area(packet.area, area))
     }
 }
 

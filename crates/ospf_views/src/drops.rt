@@ -2,7 +2,9 @@
 
 ghost use Rattle.std.specs.Fmt.{WritesOnOk};
 ghost use Rattle.std.specs.Prelude.{◌≡◌, IfOk, string_bytes};
-ghost use Rattle.ospf_views.specs.Drops.{detail_for, detail_words, drop_reason, reason_line};
+ghost use Rattle.ospf_packet.specs.PacketOf.{packet_of};
+ghost use Rattle.ospf_views.specs.Details.{detail_on};
+ghost use Rattle.ospf_views.specs.Drops.{detail_for, detail_words, drop_reason, dropped_detail, reason_line};
 
 use crate::detail::{Detail, detail_of};
 use ospf_area::Sent;
@@ -49,11 +51,19 @@ pub fn drop_reason(
 {
     match dropped_of(router, link, sent.source, sent.destination, &sent.bytes) {
         Some(cause) => {
-            let detail = detail_for(cause, detail_of(router, link, &sent.bytes));
+            let detail = dropped_detail(router, link, cause, &sent.bytes);
             reason_line(alloc, sent.source, cause, detail)
         }
         None => Ok(String::new(alloc)),
     }
+}
+
+/// The field for which a router dropped a datagram that came on a link, where the cause is one that
+/// a field explains. It takes no memory.
+pub fn dropped_detail(router: &Router, link: usize, cause: Dropped, bytes: &[u8]) -> Option<Detail>
+    ensures { result ≡ dropped_detail router.now.area link cause (packet_of bytes.now) }
+{
+    detail_for(cause, detail_of(router, link, bytes))
 }
 
 // The field, where the cause is one that it may explain.
@@ -61,7 +71,7 @@ fn detail_for(cause: Dropped, detail: Option<Detail>) -> Option<Detail>
     ensures { result ≡ detail_for cause detail }
 {
     match cause {
-        Dropped::HelloMismatch | Dropped::State => detail,
+        Dropped::Area | Dropped::HelloMismatch | Dropped::State => detail,
         _ => None,
     }
 }

@@ -1,12 +1,11 @@
 //! Lines that show a router: neighbours, listing, routes, floor, and why it stands as it does.
 //! `write_view` writes what `ospfd sim` and `run` print, `why` what a link or neighbour waits for,
-//! `drop_reason` why a datagram is dropped, `is_met` whether a router is as it is expected to be.
+//! `drop_reason` why a datagram is dropped.
 #![tactic(auto)]
 
 mod datagrams;
 mod detail;
 mod drops;
-mod expectations;
 mod headed;
 mod offered;
 mod shown;
@@ -15,10 +14,9 @@ mod waits;
 
 pub use crate::datagrams::datagram_lines;
 pub use crate::detail::{Detail, detail_of};
-pub use crate::drops::drop_reason;
-pub use crate::expectations::{is_met, unmet_line, write_unmet};
+pub use crate::drops::{drop_reason, dropped_detail};
 pub use crate::headed::write_shown;
 pub use crate::offered::why_lines;
 pub use crate::shown::{ListedShown, NeighbourShown, RefusalShown, WalkShown};
 pub use crate::views::{add_view, heading, write_view};
-pub use crate::waits::{WhyLink, WhyRouter, why};
+pub use crate::waits::{WhyLink, WhyRouter, interface_line, why};

@@ -2,7 +2,7 @@
 
 ghost use Rattle.std.specs.Fmt.{WritesOnOk};
 ghost use Rattle.std.specs.Prelude.{◌≡◌, IfOk, flat_map, option_map, string_bytes, take};
-ghost use Rattle.ospf_views.specs.Waits.{asked_text, acknowledgement_waits, acknowledgements_line, alone_waits, exchange_waits, full_waits, interface_line, neighbour_why, neighbours_why, request_line, request_waits, requested_text, requests_line, retransmission_line, stands_line, state_waits, two_way_waits, type_text, why_of, why_text};
+ghost use Rattle.ospf_views.specs.Waits.{asked_text, acknowledgement_waits, acknowledgements_line, alone_waits, exchange_waits, full_waits, interface_line, interface_of, neighbour_why, neighbours_why, request_line, request_waits, requested_text, requests_line, retransmission_line, stands_line, state_waits, two_way_waits, type_text, why_of, why_text};
 
 use crate::shown::ListedShown;
 use ospf_area::AreaLink;
@@ -36,6 +36,52 @@ pub fn why(
     match area.links.get(link) {
         Some(there) => Ok(Some(why_on(link, there, neighbour, alloc)?)),
         None => Ok(None),
+    }
+}
+
+/// The interface of a link, as the first line of `why`; `None` for no such link, or no more.
+///
+/// `AllocError` where memory runs out.
+pub fn interface_line(
+    router: &Router,
+    link: usize,
+    alloc: Global,
+) -> Result<Option<String>, AllocError>
+    ensures { IfOk result (λ said. option_map string_bytes said
+        ≡ interface_of router.now.area link) }
+{
+    let Some(area) = router.area() else {
+        return Ok(None);
+    };
+    match area.links.get(link) {
+        Some(there) => Ok(Some(interface_on(link, &there.iface, alloc)?)),
+        None => Ok(None),
+    }
+}
+
+// Of a link that is there.
+fn interface_on(number: usize, iface: &Iface, alloc: Global) -> Result<String, AllocError>
+    ensures { IfOk result (λ said. string_bytes said ≡ interface_line number iface.now) }
+{
+    let shown = InterfaceShown { number, iface };
+    format!(in alloc; "{shown}")
+}
+
+// An interface, by the number of its link.
+#[derive(Clone, Copy)]
+struct InterfaceShown<'a> {
+    number: usize,
+    iface: &'a Iface,
+}
+
+impl Display for InterfaceShown<'_> {
+    ghost use Rattle.std.specs.Prelude.{Some};
+    ghost use Rattle.ospf_views.specs.Waits.{interface_line};
+
+    ghost output = { λ shown. Some (interface_line shown.number shown.iface.now) };
+
+    fn fmt<W: Write>(&self, f: &mut Formatter<W>) -> fmt::Result {
+        write_interface(f, self.number, self.iface)
     }
 }
 
