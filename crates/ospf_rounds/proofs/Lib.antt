@@ -1,0 +1,4 @@
+pub mod BatchFacts
+pub mod LossFacts
+pub mod KeepFacts
+pub mod Manys

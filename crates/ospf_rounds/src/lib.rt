@@ -1,0 +1,23 @@
+//! Many events of a world at once: batches, rounds with losses, and events at many routers.
+//!
+//! `batch` is a tick of each router that runs, and then, wave after wave, what waits, router by
+//! router (`specs/Batches`). A round of `ospf_world` hands datagrams over in the order in which
+//! they were sent, each to another router; here a router takes all that waits for it at once, so
+//! that its memory is at hand. `Losses` draws which deliveries are lost, and `round_losing` is a
+//! round without these (`specs/Losses`). `run_many` has events come about at all routers, or at all
+//! interfaces of a network (`specs/Many`).
+#![tactic(auto)]
+
+mod batches;
+mod losing;
+mod losses;
+mod many;
+mod queues;
+
+pub use crate::batches::{MOST_WAVES, batch};
+pub use crate::losing::round_losing;
+pub use crate::losses::{Losses, is_network_of, lose_somewhere};
+pub use crate::many::run_many;
+pub use ospf_headline::{WorldEvent, WorldFault};
+pub use ospf_script::Many;
+pub use ospf_world::{EventWatch, World};
