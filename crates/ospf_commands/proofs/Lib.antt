@@ -1,9 +1,6 @@
 pub mod Chances
 pub mod Done
 pub mod Lent
-pub mod Manys
-pub mod LossFacts
-pub mod KeepFacts
 pub mod Leading
 pub mod Settling
 pub mod Apart
@@ -11,3 +8,4 @@ pub mod Same
 pub mod Headers
 pub mod Agreed
 pub mod Kept
+pub mod Among

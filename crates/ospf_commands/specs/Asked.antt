@@ -2,12 +2,16 @@
 use Rattle.std.specs.Prelude.{◌≡◌, ℕ, List, [], Ok, Err, Option, None, Some, String, false, is_some, true, unwrap_or}
 use Rattle.std.specs.List.{find}
 use Rattle.std.specs.declared.alloc.Global.{Global}
+use Rattle.ospf_area.specs.State.{AreaValue}
 use Rattle.ospf_base.specs.declared.ids.Addr.{Addr}
 use Rattle.ospf_base.specs.declared.ids.RouterId.{RouterId}
 use Rattle.ospf_headline.specs.declared.event.WorldFault.{WorldFault}
 use Rattle.ospf_headline.specs.declared.event.WorldFault.TheVariants as fault
+use Rattle.ospf_edges.specs.Listed.{advertisements_of}
+use Rattle.ospf_inspect.specs.Lines.{AreLines}
+use Rattle.ospf_inspect.specs.Lsas.{SaysOfLsa}
 use Rattle.ospf_journal.specs.Counted.{drop_lines}
-use Rattle.ospf_router.specs.Routers.{RouterValue}
+use Rattle.ospf_router.specs.Routers.{RouterValue, listing_of}
 use Rattle.ospf_script.specs.Words.{Text}
 use Rattle.ospf_script.specs.declared.command.View.{View}
 use Rattle.ospf_views.specs.Shown.{shown_lines}
@@ -70,6 +74,20 @@ pub data AreDatagramsShown (r : RouterId) (most : Option ℕ) (s : Simulation) (
       → AreDatagramsShown r most s answer text
   are_not_shown : (f : WorldFault) → IsNotLent s.world r f → answer ≡ Err f → text ≡ []
       → AreDatagramsShown r most s answer text
+
+-- what the LSAs say that a router lists, which may have stopped: of each its lines, in order
+abbrev pub AreLsasOf : Option AreaValue → Text → Type 0
+AreLsasOf area text =
+    AreLines (SaysOfLsa (advertisements_of (listing_of area))) (listing_of area) text
+
+-- that of a router that runs is printed; or there is no room to know it; or it is said why the
+-- router cannot be asked
+pub data AreLsasShown (r : RouterId) (s : Simulation) (answer : Answer) (text : Text) : Type 0 where
+  lsas_are_shown : (x : RouterValue) → LendsRouter s.world r x → answer ≡ Ok tt
+      → AreLsasOf x.area text → AreLsasShown r s answer text
+  no_room_for_lsas : answer ≡ Err (fault.Memory false) → text ≡ [] → AreLsasShown r s answer text
+  lsas_are_not_shown : (f : WorldFault) → IsNotLent s.world r f → answer ≡ Err f → text ≡ []
+      → AreLsasShown r s answer text
 
 -- the router of a Router ID, running or not, if there is one
 abbrev pub slot_at : WorldValue → RouterId → Option SlotValue

@@ -6,16 +6,16 @@ use Rattle.ospf_script.specs.Words.{Text}
 use Rattle.ospf_script.specs.declared.command.Command.{Command}
 use Rattle.ospf_script.specs.declared.command.Command.TheVariants as command
 use Rattle.ospf_script.specs.declared.command.Many.{Many}
-use Rattle.ospf_commands.specs.Asked.{AreDatagramsShown, AreDropsShown, IsTextSaid, IsViewShown, IsWalked, IsWhyAnswered}
+use Rattle.ospf_commands.specs.Asked.{AreDatagramsShown, AreDropsShown, AreLsasShown, IsTextSaid, IsViewShown, IsWalked, IsWhyAnswered}
 use Rattle.ospf_commands.specs.Judged.{JudgedSo}
-use Rattle.ospf_commands.specs.Losses.{lose_somewhere, losses_of}
-use Rattle.ospf_commands.specs.Many.{ComesAbout}
+use Rattle.ospf_rounds.specs.Losses.{lose_somewhere, losses_of}
+use Rattle.ospf_rounds.specs.Many.{ComesAbout}
 use Rattle.ospf_commands.specs.Printed.{IsPrinted, IsPrintedBegun}
 use Rattle.ospf_commands.specs.Rounds.{AreBatches, AreRounds, most_of}
 use Rattle.ospf_commands.specs.Settling.{Settles}
 use Rattle.ospf_commands.specs.Simulations.{Answer, moved}
 use Rattle.ospf_commands.specs.Worlds.{EventDoes, IsRandomRun, WorldValue}
-use Rattle.ospf_commands.specs.declared.losses.Losses.{Losses}
+use Rattle.ospf_rounds.specs.declared.losses.Losses.{Losses}
 use Rattle.ospf_commands.specs.declared.simulation.Simulation.{Simulation}
 
 -- an event comes about
@@ -58,6 +58,7 @@ DoesCommand (command.Why r link neighbour) s answer text s' =
 DoesCommand (command.Datagrams r most) s answer text s' =
     AreDatagramsShown r most s answer text × (s' ≡ s)
 DoesCommand (command.Drops r) s answer text s' = AreDropsShown r s answer text × (s' ≡ s)
+DoesCommand (command.Lsas r) s answer text s' = AreLsasShown r s answer text × (s' ≡ s)
 DoesCommand (command.Loss percent number network) s answer text s' =
     Loses (losses_of percent number network) s answer s' × (text ≡ [])
 DoesCommand (command.Expect e) s answer text s' = JudgedSo e s s' answer text

@@ -1,12 +1,11 @@
 pub mod Worlds
-pub mod Losses
 pub mod Simulations
 pub mod Printed
 pub mod Rounds
-pub mod Many
 pub mod Settling
 pub mod Shown
 pub mod Asked
+pub mod Expectations
 pub mod Judged
 pub mod Agreement
 pub mod Commands

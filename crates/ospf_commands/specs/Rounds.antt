@@ -1,10 +1,10 @@
 -- Rounds of a simulation, and events by chance.
 use Rattle.std.specs.Prelude.{◌≡◌, ℕ, suc, Ok, Err, Option, None, Some}
 use Rattle.ospf_headline.specs.declared.event.WorldFault.{WorldFault}
-use Rattle.ospf_commands.specs.Losses.{IsLosingRound}
+use Rattle.ospf_rounds.specs.Losses.{IsLosingRound}
 use Rattle.ospf_commands.specs.Simulations.{Answer, moved}
 use Rattle.ospf_commands.specs.Worlds.{IsBatch, IsRoundOf, WorldValue, most_offers}
-use Rattle.ospf_commands.specs.declared.losses.Losses.{Losses}
+use Rattle.ospf_rounds.specs.declared.losses.Losses.{Losses}
 use Rattle.ospf_commands.specs.declared.simulation.Simulation.{Simulation}
 
 -- how many datagrams a round offers at most: as many as the line says, or as a

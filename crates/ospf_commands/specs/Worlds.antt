@@ -12,7 +12,7 @@ use Rattle.ospf_world.specs.Worlds.{IsLent, world_of}
 use Rattle.ospf_world.specs.declared.walk.Walk.{Walk}
 use Rattle.rand_pcg.specs.Lcg.{increment_of, started}
 use Rattle.rand_pcg.specs.Pcg.{multiplier_64}
-pub use Rattle.ospf_batches.specs.Batches.{IsBatch}
+pub use Rattle.ospf_rounds.specs.Batches.{IsBatch}
 pub use Rattle.ospf_world.specs.Rounds.{IsRoundOf, most_offers}
 pub use Rattle.ospf_world.specs.Worlds.{SlotValue, WorldValue}
 

@@ -1,19 +1,21 @@
 //! What is asked of routers, and printed.
 
-ghost use Rattle.std.specs.Prelude.{IfErr, IfOk, OnErr};
+ghost use Rattle.std.specs.Prelude.{IfErr, IfOk, OnErr, string_bytes};
 ghost use Rattle.ospf_files.specs.Streams.{IsOutputCut};
-ghost use Rattle.ospf_commands.specs.Asked.{AreDatagramsShown, AreDropsShown, IsTextSaid, IsViewShown, IsWalked, IsWhyAnswered};
+ghost use Rattle.ospf_commands.specs.Asked.{AreDatagramsShown, AreDropsShown, AreLsasOf, AreLsasShown, IsTextSaid, IsViewShown, IsWalked, IsWhyAnswered};
 ghost use Rattle.ospf_commands.specs.Printed.{IsPrinted, IsPrintedBegun};
 
 use crate::show::{said_line, write_walked};
 use crate::simulation::Simulation;
 use ospf_base::{Addr, RouterId};
 use ospf_files::{FailedStreams, Failure};
+use ospf_inspect::lsas_text;
 use ospf_journal::drop_lines;
+use ospf_router::Router;
 use ospf_script::View;
 use ospf_views::{datagram_lines, why_lines, write_shown};
 use ospf_world::WorldFault;
-use std::alloc::Global;
+use std::alloc::{AllocError, Global};
 use std::io::Write;
 
 // How many datagrams are shown where it is not said.
@@ -38,7 +40,7 @@ pub(crate) fn say<O: Write>(
 }
 
 // Prints what a line asks of a router, if that runs; where that fails, a beginning of it.
-pub(crate) fn show_router<O: Write>(
+pub(crate) fn show<O: Write>(
     simulation: &Simulation,
     view: View,
     router: RouterId,
@@ -172,4 +174,37 @@ pub(crate) fn show_drops<O: Write>(
     let lines = drop_lines(alloc, slot.drops())?;
     streams.write(out, &lines)?;
     Ok(Ok(()))
+}
+
+// Prints what the LSAs say that a router that runs lists; where that fails, a beginning of it.
+pub(crate) fn show_lsas<O: Write>(
+    simulation: &Simulation,
+    router: RouterId,
+    out: &mut O,
+    alloc: Global,
+    streams: &mut FailedStreams,
+) -> Result<Result<(), WorldFault>, Failure>
+    ensures shown { IfOk result (λ answer. IsPrinted (AreLsasShown router simulation.now) answer
+        (O.contents out.old) (O.contents out.new)) }
+    ensures begun { OnErr result (IsPrintedBegun (AreLsasShown router simulation.now)
+        (O.contents out.old) (O.contents out.new)) }
+    ensures cut { IfErr result (IsOutputCut streams.new) }
+{
+    let lent = match simulation.world.router(router) {
+        Ok(lent) => lent,
+        Err(fault) => return Ok(Err(fault)),
+    };
+    let Ok(lines) = lsa_lines(alloc, lent) else {
+        return Ok(Err(WorldFault::Memory { stopped: false }));
+    };
+    streams.write(out, &lines)?;
+    Ok(Ok(()))
+}
+
+// What the LSAs say that a router lists.
+fn lsa_lines(alloc: Global, router: &Router) -> Result<String, AllocError>
+    ensures { IfOk result (λ lines. AreLsasOf router.now.area (string_bytes lines)) }
+{
+    let listing = router.listing(alloc)?;
+    lsas_text(alloc, &listing)
 }

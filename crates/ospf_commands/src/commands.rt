@@ -4,15 +4,14 @@ ghost use Rattle.std.specs.Prelude.{◌≡◌, IfErr, IfOk, Ok, OnErr};
 ghost use Rattle.ospf_files.specs.Streams.{IsOutputCut};
 ghost use Rattle.ospf_commands.specs.Commands.{EventComesAbout, IsDone, IsDoneBegun, Loses, ManyHappen};
 
-use crate::asked::{say, show_datagrams, show_drops, show_router, show_walk, show_why};
+use crate::asked::{say, show, show_datagrams, show_drops, show_lsas, show_walk, show_why};
 use crate::judge::judge;
-use crate::losses::{Losses, lose_somewhere};
-use crate::many::run_many;
 use crate::rounds::{run_batches, run_events, run_rounds};
 use crate::settle::settle;
 use crate::simulation::Simulation;
 use crate::watch::Watch;
 use ospf_files::{FailedStreams, Failure};
+use ospf_rounds::{Losses, lose_somewhere, run_many};
 use ospf_script::{Command, Many};
 use ospf_world::{WorldEvent, WorldFault};
 use std::alloc::Global;
@@ -48,9 +47,7 @@ pub fn run_command<O: Write, V: Watch>(
             Ok(run_events(simulation, *number, *count, alloc, watch))
         }
         Command::Settle { most } => settle(simulation, *most, out, alloc, watch, streams),
-        Command::Show { view, router } => {
-            show_router(simulation, *view, *router, out, alloc, streams)
-        }
+        Command::Show { view, router } => show(simulation, *view, *router, out, alloc, streams),
         Command::Walk {
             from,
             address,
@@ -69,6 +66,7 @@ pub fn run_command<O: Write, V: Watch>(
             show_datagrams(simulation, *router, *most, out, alloc, streams)
         }
         Command::Drops { router } => show_drops(simulation, *router, out, alloc, streams),
+        Command::Lsas { router } => show_lsas(simulation, *router, out, alloc, streams),
         Command::Loss {
             percent,
             number,

@@ -6,16 +6,16 @@ ghost use Rattle.ospf_commands.specs.Printed.{IsPrinted, IsPrintedBegun};
 ghost use Rattle.ospf_commands.specs.Shown.{walk_line};
 ghost use Rattle.ospf_files.specs.Streams.{IsOutputCut};
 ghost use Rattle.ospf_script.specs.declared.expected.Expected.TheVariants as expected;
-ghost use Rattle.ospf_views.specs.Expectations.{unmet_line};
+ghost use Rattle.ospf_commands.specs.Expectations.{unmet_line};
 
 use crate::agreement::apart;
+use crate::expectations::{is_met, unmet_line, write_unmet};
 use crate::show::walk_line;
 use crate::simulation::Simulation;
 use ospf_base::{Addr, RouterId};
 use ospf_files::{FailedStreams, Failure};
 use ospf_headline::WalkEnd;
 use ospf_script::{Expected, Wanted};
-use ospf_views::{is_met, unmet_line, write_unmet};
 use ospf_world::{Walk, WorldFault};
 use std::alloc::{AllocError, Global};
 use std::fmt::{self, Display, Formatter};

@@ -1,17 +1,16 @@
 //! What the commands of a script do in a network of routers, and what they print.
 //!
-//! `run_command` runs one on a `Simulation` (`specs/Commands`, `specs/Shown`, `specs/Judged`), and
-//! `round_losing` a round with `Losses` (`specs/Losses`); `agreement_law` is of `specs/Agreement`.
+//! `run_command` runs one on a `Simulation` (`specs/Commands`, `specs/Shown`, `specs/Judged`);
+//! `is_met` judges what a line expects of a router (`specs/Expectations`), and `agreement_law` is
+//! of `specs/Agreement`.
 #![tactic(auto)]
 
 mod agreement;
 mod asked;
 mod commands;
+mod expectations;
 mod judge;
 mod laws;
-mod losing;
-mod losses;
-mod many;
 mod rounds;
 mod settle;
 mod show;
@@ -20,8 +19,7 @@ mod simulation;
 mod watch;
 
 pub use crate::commands::run_command;
+pub use crate::expectations::{is_met, unmet_line, write_unmet};
 pub use crate::laws::agreement_law;
-pub use crate::losing::round_losing;
-pub use crate::losses::Losses;
 pub use crate::simulation::Simulation;
 pub use crate::watch::Watch;

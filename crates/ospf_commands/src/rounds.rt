@@ -5,10 +5,9 @@ ghost use Rattle.ospf_commands.specs.Commands.{SomeHappen};
 ghost use Rattle.ospf_commands.specs.Rounds.{AreBatches, AreRounds, IsOneRound, most_of};
 ghost use Rattle.ospf_commands.specs.Worlds.{IsRandomRun};
 
-use crate::losing::round_losing;
 use crate::simulation::Simulation;
 use crate::watch::Watch;
-use ospf_batches::batch;
+use ospf_rounds::{batch, round_losing};
 use ospf_world::{MOST_OFFERS, World, WorldFault};
 use rand_pcg::Lcg64Xsh32;
 use std::alloc::Global;

@@ -170,16 +170,17 @@ pub(crate) const SIM_HELP: &str = "Lines of a script:
                               from here on so many of a hundred are lost, by the
                               number; on the network of the address alone
   random NUMBER COUNT         so many events, drawn by the number
-  neighbours R, listing R, table R, floor R
+  neighbours R, listing R, lsas R, table R, floor R
                               what the router knows is printed
   why R LINK [NEIGHBOUR]      what a link waits for is printed
   datagrams R [MOST]          the last datagrams that a round offers to it
   drops R                     how many it has dropped, by link and cause
   walk R ADDRESS CHOICE..     the walk from R to ADDRESS is printed
   label on, label off         whether a line above it says what is printed
-  expect full R S, expect no neighbour R LINK,
-  expect route R PREFIX COST [HOP..], expect no route R PREFIX,
-  expect walk R ADDRESS arrived [COST], expect agree, expect settled
+  expect full R S, expect neighbour R S STATE, expect no neighbour R LINK,
+  expect dr R LINK ADDRESS [BACKUP], expect route R PREFIX COST [HOP..],
+  expect no route R PREFIX, expect walk R ADDRESS arrived [COST],
+  expect agree, expect settled
                               where it is otherwise, that is printed
   say WORD..                  the words are printed; from # on is a comment
 With `-` as SCRIPT each line of standard input is answered before the next is read,

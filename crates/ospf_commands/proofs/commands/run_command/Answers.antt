@@ -1,5 +1,5 @@
 use Rattle.ospf_script.specs.declared.command.Command.TheVariants as command
-use Rattle.ospf_commands.specs.Asked.{AreDatagramsShown, AreDropsShown, IsViewShown, IsWhyAnswered}
+use Rattle.ospf_commands.specs.Asked.{AreDatagramsShown, AreDropsShown, AreLsasShown, IsViewShown, IsWhyAnswered}
 use Rattle.ospf_commands.proofs.Done.{asked_begun, asked_done, begun_as, done_as}
 use Rattle.ospf_commands.proofs.commands.run_command.Goals as goal
 
@@ -12,12 +12,12 @@ returns-in-Settle-clause-begun g c = begun_as _ (command.Settle c.in-Settle.most
 pub returns-in-Show-clause-done : goal.returns-in-Show-clause-done
 returns-in-Show-clause-done g c =
     done_as _ (command.Show c.in-Show.view c.in-Show.router) _ _ _ _ _ c.in-Show.is
-    (asked_done (IsViewShown c.in-Show.view c.in-Show.router) _ _ _ _ c.show_router.ensures.shown)
+    (asked_done (IsViewShown c.in-Show.view c.in-Show.router) _ _ _ _ c.show.ensures.shown)
 
 pub returns-in-Show-clause-begun : goal.returns-in-Show-clause-begun
 returns-in-Show-clause-begun g c =
     begun_as _ (command.Show c.in-Show.view c.in-Show.router) _ _ _ _ _ c.in-Show.is
-    (asked_begun (IsViewShown c.in-Show.view c.in-Show.router) _ _ _ _ c.show_router.ensures.begun)
+    (asked_begun (IsViewShown c.in-Show.view c.in-Show.router) _ _ _ _ c.show.ensures.begun)
 
 pub returns-in-Walk-clause-done : goal.returns-in-Walk-clause-done
 returns-in-Walk-clause-done g c =
@@ -60,3 +60,13 @@ pub returns-in-Drops-clause-begun : goal.returns-in-Drops-clause-begun
 returns-in-Drops-clause-begun g c =
     begun_as _ (command.Drops c.in-Drops.router) _ _ _ _ _ c.in-Drops.is
     (asked_begun (AreDropsShown c.in-Drops.router) _ _ _ _ c.show_drops.ensures.begun)
+
+pub returns-in-Lsas-clause-done : goal.returns-in-Lsas-clause-done
+returns-in-Lsas-clause-done g c =
+    done_as _ (command.Lsas c.in-Lsas.router) _ _ _ _ _ c.in-Lsas.is
+    (asked_done (AreLsasShown c.in-Lsas.router) _ _ _ _ c.show_lsas.ensures.shown)
+
+pub returns-in-Lsas-clause-begun : goal.returns-in-Lsas-clause-begun
+returns-in-Lsas-clause-begun g c =
+    begun_as _ (command.Lsas c.in-Lsas.router) _ _ _ _ _ c.in-Lsas.is
+    (asked_begun (AreLsasShown c.in-Lsas.router) _ _ _ _ c.show_lsas.ensures.begun)

@@ -4,7 +4,7 @@ use Rattle.ospf_files.proofs.Cut.{for_memory}
 use Rattle.ospf_files.proofs.Written.{nothing_begun, whatever}
 use Rattle.ospf_files.specs.Streams.{IsBegun, IsOutputCut, no_room}
 use Rattle.ospf_script.specs.declared.expected.Expected.TheVariants as expected
-use Rattle.ospf_views.specs.Expectations.{unmet_line}
+use Rattle.ospf_commands.specs.Expectations.{unmet_line}
 use Rattle.ospf_commands.specs.Judged.{AreFirstToDiffer, JudgedSo, apart_line, they_differ}
 use Rattle.ospf_commands.specs.Printed.{IsPrintedBegun}
 use Rattle.ospf_commands.specs.Worlds.{SlotValue}

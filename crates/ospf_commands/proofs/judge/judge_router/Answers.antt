@@ -4,7 +4,7 @@ use Rattle.ospf_files.proofs.Written.{nothing_written, whatever}
 use Rattle.ospf_script.specs.declared.expected.Expected.TheVariants as expected
 use Rattle.ospf_commands.specs.Judged.{IsJudged, JudgedSo, is_as_expected, is_not_asked, is_otherwise}
 use Rattle.ospf_commands.specs.Printed.{IsPrintedBegun}
-use Rattle.ospf_views.specs.Expectations.{IsMet, unmet_lines}
+use Rattle.ospf_commands.specs.Expectations.{IsMet, unmet_lines}
 use Rattle.ospf_commands.proofs.Lent.{lent, not_lent}
 use Rattle.ospf_commands.proofs.judge.judge_router.Goals as goal
 

@@ -3,7 +3,7 @@ use Rattle.std.specs.Io.KnownBytes.{Appends}
 use Rattle.ospf_files.proofs.Cut.{for_memory}
 use Rattle.ospf_files.specs.Streams.{IsOutputCut, no_room}
 use Rattle.ospf_script.specs.declared.expected.Expected.TheVariants as expected
-use Rattle.ospf_views.specs.Expectations.{unmet_line}
+use Rattle.ospf_commands.specs.Expectations.{unmet_line}
 use Rattle.ospf_commands.specs.Judged.{IsOfSettling}
 use Rattle.ospf_commands.proofs.judge.judge_settling.Goals as goal
 

@@ -4,7 +4,7 @@ use Rattle.ospf_files.proofs.Cut.{for_memory}
 use Rattle.ospf_files.proofs.Written.{nothing_begun, nothing_written, whatever}
 use Rattle.ospf_files.specs.Streams.{IsBegun, IsOutputCut, no_room}
 use Rattle.ospf_script.specs.declared.expected.Expected.TheVariants as expected
-use Rattle.ospf_views.specs.Expectations.{unmet_line}
+use Rattle.ospf_commands.specs.Expectations.{unmet_line}
 use Rattle.ospf_commands.specs.Judged.{JudgedSo, arrives, has_arrived, has_not_arrived, is_no_walk}
 use Rattle.ospf_commands.specs.Printed.{IsPrintedBegun}
 use Rattle.ospf_commands.specs.Shown.{walk_line}

@@ -4,7 +4,7 @@ use Rattle.ospf_commands.specs.Asked.{IsViewShown, is_not_shown, is_shown}
 use Rattle.ospf_commands.specs.Printed.{IsPrintedBegun}
 use Rattle.ospf_views.specs.Shown.{shown_lines}
 use Rattle.ospf_commands.proofs.Lent.{lent, not_lent}
-use Rattle.ospf_commands.proofs.asked.show_router.Goals as goal
+use Rattle.ospf_commands.proofs.asked.show.Goals as goal
 
 pub returns-in_err-write_shown-in-Ok-clause-begun : goal.returns-in_err-write_shown-in-Ok-clause-begun
 returns-in_err-write_shown-in-Ok-clause-begun g c =
