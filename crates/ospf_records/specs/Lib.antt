@@ -11,3 +11,4 @@ pub mod Graph
 pub mod GraphLaws
 pub mod Drawings
 pub mod Files
+pub mod Journals

@@ -1,12 +1,13 @@
-//! What a simulation leaves in files: a capture of what all routers sent, and a
-//! drawing of what one of them lists.
+//! What routers leave in files: a capture of what they sent, a drawing of what one of them lists,
+//! and a journal.
 //!
-//! `capture` makes a file as Wireshark and tcpdump open it: libpcap's classic format, each
-//! packet as an IP packet of protocol 89 (RFC 791 and RFC 2328, appendix A.1). `write_header`
-//! begins one, `write_datagram` adds a packet, and a `Recorder` what a network has sent since it
-//! did so last. `drawing` prints what a router lists: a `Graph` is a listing in the language of
-//! Graphviz's `dot` (`specs/Graph`). `write_records` writes the files that are wanted. What is
-//! captured, and when, stands in `specs/Captures`, how in `specs/Pcap` and `specs/Ip`.
+//! `capture` makes a file as Wireshark and tcpdump open it: libpcap's classic format, each packet
+//! as an IP packet of protocol 89 (RFC 791 and RFC 2328, appendix A.1). `write_header` begins one,
+//! `write_datagram` adds a packet, and a `Recorder` what a network has sent since it did so last.
+//! `drawing` prints what a router lists: a `Graph` is a listing in the language of Graphviz's `dot`
+//! (`specs/Graph`). `write_records` writes the files that are wanted. What is captured, and when,
+//! stands in `specs/Captures`, how in `specs/Pcap` and `specs/Ip`. A `Journal` writes the lines of
+//! `ospf_journal` to a file (`specs/Journals`).
 #![tactic(auto)]
 
 mod arrows;
@@ -21,6 +22,7 @@ mod fault;
 mod files;
 mod graph;
 mod graph_laws;
+mod journal;
 mod moment;
 mod nodes;
 mod recorder;
@@ -36,6 +38,7 @@ pub use crate::fault::CaptureFault;
 pub use crate::files::write_records;
 pub use crate::graph::Graph;
 pub use crate::graph_laws::{names_tell_apart, prefixes_are_drawn};
+pub use crate::journal::Journal;
 pub use crate::moment::Moment;
 pub use crate::nodes::Under;
 pub use crate::recorder::Recorder;
