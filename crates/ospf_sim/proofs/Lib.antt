@@ -5,3 +5,4 @@ pub mod Cuts
 pub mod Pieces
 pub mod Sessions
 pub mod Consoles
+pub mod EventFacts

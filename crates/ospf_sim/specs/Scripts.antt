@@ -4,7 +4,7 @@ use Rattle.std.specs.Io.KnownBytes.{Appends}
 use Rattle.ospf_headline.specs.Text.{world_fault_text}
 use Rattle.ospf_headline.specs.declared.event.WorldFault.{WorldFault}
 use Rattle.ospf_script.specs.Commands.{IsUnreadable, SpellsCommand}
-use Rattle.ospf_script.specs.Hints.{hint_text}
+use Rattle.ospf_sim.specs.Hints.{hint_text}
 use Rattle.ospf_files.specs.Lines.{numbered_from}
 use Rattle.ospf_files.specs.Streams.{Written}
 use Rattle.ospf_base.specs.Text.{IsBlank}

@@ -3,15 +3,23 @@
 //!
 //! `sim_text` runs a script in a network of routers that files configure (`specs/Simulations`), and
 //! `console_text` the lines that are given at a console (`specs/Consoles`). What each command does
-//! stands in `specs/Commands` of `ospf_commands`.
+//! stands in `specs/Commands` of `ospf_commands`. `Events` and `Recording` write the journal and
+//! the capture of a simulation as it goes; what an event adds to the journal stands in
+//! `specs/Followed`.
 #![tactic(auto)]
 
 mod configs;
 mod console;
+mod events;
+mod hint;
+mod recording;
 mod script;
 mod text;
 
 pub use crate::console::{Console, console_text};
+pub use crate::events::Events;
+pub use crate::hint::Hint;
+pub use crate::recording::Recording;
 pub use crate::text::{Simulated, sim_text};
 pub use ospf_commands::{Simulation, Watch};
 pub use ospf_world::{EventWatch, World, WorldEvent, WorldFault};

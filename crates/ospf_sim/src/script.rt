@@ -6,9 +6,10 @@ ghost use Rattle.ospf_files.specs.Streams.{written_on};
 ghost use Rattle.ospf_sim.specs.Begun.{IsEventAnswerCut, IsLineCut, IsScriptCut, IsTellingCut};
 ghost use Rattle.ospf_sim.specs.Scripts.{LineComes, ScriptComes, hint_line, not_a_command_line, world_refusal_line, told_of, unreadable_line};
 
+use crate::hint::Hint;
 use ospf_commands::{Simulation, Watch, run_command};
 use ospf_files::{FailedStreams, Failure, Line, lines};
-use ospf_script::{Command, CommandFault, Hint};
+use ospf_script::{Command, CommandFault};
 use ospf_views::RefusalShown;
 use ospf_world::WorldFault;
 use std::alloc::{AllocError, Global};

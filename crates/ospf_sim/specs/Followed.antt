@@ -1,0 +1,158 @@
+-- What the journal of a simulation makes of the events that it is told of.
+use Rattle.std.specs.Prelude.{◌≡◌, ◌≢◌, ◌+◌, ◌-◌, ◌^◌, ◌&&◌, ℕ, Bool, true, false, List, Option, None, Some, Result, is_some, max, min, option_map, slice_get, unwrap_or, if◌then◌else◌}
+use Rattle.std.specs.BTreeMap.{is_at}
+use Rattle.std.specs.Map.{lookup}
+use Rattle.std.specs.Ordering.{nat_cmp}
+use Rattle.std.specs.Result.{is_ok}
+use Rattle.std.specs.Io.KnownBytes.{Appends}
+use Rattle.ospf_base.specs.declared.ids.RouterId.{RouterId}
+use Rattle.ospf_files.specs.Streams.{IsBegun}
+use Rattle.ospf_headline.specs.Running.{delivery}
+use Rattle.ospf_headline.specs.Slots.{router_in}
+use Rattle.ospf_headline.specs.World.{Running, router_at}
+use Rattle.ospf_headline.specs.declared.event.WorldEvent.{WorldEvent}
+use Rattle.ospf_headline.specs.declared.event.WorldEvent.TheVariants.{Start, Stop, Tick, LinkUp, LinkDown, Deliver}
+use Rattle.ospf_headline.specs.declared.event.WorldFault.{WorldFault}
+use Rattle.ospf_headline.specs.declared.logs.Datagram.{Datagram}
+use Rattle.ospf_journal.specs.Causes.{cause_of}
+use Rattle.ospf_journal.specs.Changes.{AreChanges}
+use Rattle.ospf_journal.specs.Seen.{SeenValue, nothing_seen, seen_links, seen_owns}
+use Rattle.ospf_journal.specs.declared.change.DroppedAt.{DroppedAt}
+use Rattle.ospf_journal.specs.declared.change.RouterChange.{RouterChange}
+use Rattle.ospf_world.specs.Watching.{ComesRule}
+use Rattle.ospf_world.specs.Worlds.{WorldValue, world_of}
+use Rattle.ospf_records.specs.Journals.{JournalValue, entries_text}
+
+-- ---- what is kept
+
+-- of a router: what was seen of it, and how many ticks it has taken, as far as 64 bits go
+pub record FollowedRouter : Type 0 where
+  pub seen : SeenValue
+  pub ticks : ℕ
+
+-- of one that no event has named yet
+abbrev pub not_followed : FollowedRouter
+not_followed = record { seen = nothing_seen; ticks = 0 }
+
+-- of the router of this Router ID, by what is kept of each
+abbrev pub followed_in : List (RouterId × FollowedRouter) → RouterId → FollowedRouter
+followed_in routers q =
+    unwrap_or (lookup (is_at (λ k. nat_cmp q.0 k.0)) routers) not_followed
+
+-- of a simulation: the journal, where one is written; what is kept of each router; what the
+-- delivery that comes next is dropped for; and the most ticks that a router has taken
+pub record EventsValue : Type 0 where
+  pub journal : Option JournalValue
+  pub routers : List (RouterId × FollowedRouter)
+  pub dropped : Option DroppedAt
+  pub most_ticks : ℕ
+
+-- of one of its routers
+abbrev pub followed_of : EventsValue → RouterId → FollowedRouter
+followed_of e q = followed_in e.routers q
+
+-- ---- before an event
+
+-- what a router that runs so, if it does, drops a datagram for that was sent and comes on a link
+abbrev pub delivery_drop : ℕ → Option Datagram → Option Running → Option DroppedAt
+delivery_drop link None x = None
+delivery_drop link (Some g) x =
+    option_map (λ cause. record { link = link; source = g.sent.source; cause = cause })
+    (cause_of (delivery link g) (option_map (λ x. x.state) x))
+
+-- what the step of an event is dropped for: only a delivery is
+abbrev pub drop_coming : WorldValue → WorldEvent → Option DroppedAt
+drop_coming w (Start q dd floor) = None
+drop_coming w (Stop q) = None
+drop_coming w (Tick q) = None
+drop_coming w (LinkUp q link) = None
+drop_coming w (LinkDown q link) = None
+drop_coming w (Deliver d q link) =
+    delivery_drop link (slice_get w.logs.datagrams d) (router_at (world_of w) q)
+
+-- an event comes: it is looked up what it is dropped for, where a journal is written
+abbrev pub LooksAhead : ComesRule EventsValue
+LooksAhead w event before after =
+    after
+    ≡ record before {
+      dropped = if is_some before.journal then drop_coming w event else before.dropped;
+    }
+
+-- ---- behind an event
+
+-- what is seen of a router that runs so, if it does
+abbrev pub seen_running : Option Running → SeenValue
+seen_running None = nothing_seen
+seen_running (Some x) = record {
+  links = seen_links (Some x.state);
+  own = seen_owns (Some x.state);
+  table = x.table;
+}
+
+-- what is seen of a router of a world
+abbrev pub seen_in : WorldValue → RouterId → SeenValue
+seen_in w q = seen_running (router_at (world_of w) q)
+
+-- the drop that is told of a router of a world: of one that does not run, none
+abbrev pub drop_seen : WorldValue → RouterId → Option DroppedAt → Option DroppedAt
+drop_seen w q dropped = if is_some (router_at (world_of w) q) then dropped else None
+
+-- the drop of an event: of one that was refused, none
+abbrev pub drop_taken : Result (Unit {0}) WorldFault → Option DroppedAt → Option DroppedAt
+drop_taken answer dropped = if is_ok answer then dropped else None
+
+-- it is a tick
+abbrev pub is_tick : WorldEvent → Bool
+is_tick (Start q dd floor) = false
+is_tick (Stop q) = false
+is_tick (Tick q) = true
+is_tick (LinkUp q link) = false
+is_tick (LinkDown q link) = false
+is_tick (Deliver d q link) = false
+
+-- how many ticks its router has taken then: one more by a tick that was not refused
+abbrev pub ticks_then : WorldEvent → Result (Unit {0}) WorldFault → ℕ → ℕ
+ticks_then event answer ticks =
+    if is_tick event && is_ok answer then min (ticks + 1) (2 ^ 64 - 1) else ticks
+
+-- the journal goes on by these changes of a router, each with this tick: they stand there, or a
+-- beginning of them and it is not written; one that is not written stays
+pub record JournalGoesOn (tick : ℕ) (q : RouterId) (changes : List RouterChange)
+    (before after : JournalValue) : Type 0 where
+  pub settings : after.is_json ≡ before.is_json
+  pub written : after.is_written ≡ true
+      → Appends before.contents after.contents (entries_text before.is_json tick q changes)
+  pub begun : IsBegun before.contents after.contents (entries_text before.is_json tick q changes)
+  pub ended : before.is_written ≡ false → after ≡ before
+
+-- of the router that an event names, what is seen and its ticks are as they now are; what changed
+-- of it, with the drop, goes into the journal, with the most ticks that a router has taken
+pub record IsJournalled (w : WorldValue) (event : WorldEvent)
+    (answer : Result (Unit {0}) WorldFault) (before after : EventsValue) (j j' : JournalValue)
+    : Type 0 where
+  pub seen : (followed_of after (router_in event)).seen ≡ seen_in w (router_in event)
+  pub ticks : (followed_of after (router_in event)).ticks
+      ≡ ticks_then event answer (followed_of before (router_in event)).ticks
+  pub most : after.most_ticks ≡ max before.most_ticks (followed_of after (router_in event)).ticks
+  pub changes : List RouterChange
+  pub are_changes : AreChanges (followed_of before (router_in event)).seen
+      (seen_in w (router_in event))
+      (drop_seen w (router_in event) (drop_taken answer before.dropped)) changes
+  pub goes_on : JournalGoesOn after.most_ticks (router_in event) changes j j'
+
+-- the routers that an event does not name stay
+abbrev pub OthersStay : WorldEvent → EventsValue → EventsValue → Type 0
+OthersStay event before after =
+    (q : RouterId) → q ≢ router_in event → followed_of after q ≡ followed_of before q
+
+-- an event has come to this: where no journal is written nothing changes. Where one is, what
+-- changed goes into it; or memory ran out, and it is not written from then on
+pub data FollowsEvent (w : WorldValue) (event : WorldEvent) (answer : Result (Unit {0}) WorldFault)
+    (before after : EventsValue) : Type 0 where
+  NoJournal : before.journal ≡ None → after ≡ before → FollowsEvent w event answer before after
+  Journalled : (j j' : JournalValue) → before.journal ≡ Some j → after.journal ≡ Some j'
+      → after.dropped ≡ None → OthersStay event before after
+      → IsJournalled w event answer before after j j' → FollowsEvent w event answer before after
+  NoMemory : (j : JournalValue) → before.journal ≡ Some j
+      → after.journal ≡ Some (record j { is_written = false }) → after.dropped ≡ None
+      → OthersStay event before after → FollowsEvent w event answer before after

@@ -1,0 +1,312 @@
+//! The journal of a simulation.
+
+ghost use Rattle.std.specs.Prelude.{◌≡◌, ◌≢◌, None, Some, IfOk, OnErr, OnOk, option_map};
+ghost use Rattle.ospf_base.specs.declared.ids.RouterId.{RouterId};
+ghost use Rattle.ospf_headline.specs.Running.{delivery};
+ghost use Rattle.ospf_headline.specs.Slots.{router_in};
+ghost use Rattle.ospf_headline.specs.World.{router_at};
+ghost use Rattle.ospf_headline.specs.declared.event.WorldEvent.TheVariants.{Deliver};
+ghost use Rattle.ospf_journal.specs.Causes.{cause_of};
+ghost use Rattle.ospf_journal.specs.Changes.{AreChanges};
+ghost use Rattle.ospf_step.specs.Step.Event.{Datagram};
+ghost use Rattle.ospf_sim.specs.Followed.{drop_coming, drop_seen, drop_taken, followed_in, not_followed, seen_in, ticks_then};
+ghost use Rattle.ospf_world.specs.Worlds.{world_of};
+
+use ospf_base::RouterId;
+use ospf_journal::{Dropped, DroppedAt, RouterChange, Seen, dropped_of};
+use ospf_records::Journal;
+use ospf_router::{Router, Sent};
+use ospf_world::{EventWatch, World, WorldEvent, WorldFault};
+use std::alloc::{AllocError, Global};
+use std::collections::BTreeMap;
+use std::io::Write;
+use std::marker::Model;
+
+/// Writes a journal of the routers of a simulation, if one is wanted. The tick of a line is
+/// the most that a router has taken by then, so that lines of routers that started at
+/// several times are told apart by it.
+#[derive(Drop)]
+pub struct Events<F: Write + Drop> {
+    alloc: Global,
+    journal: Option<Journal<F>>,
+    routers: BTreeMap<RouterId, Followed>,
+    // What the delivery that comes next is dropped for.
+    dropped: Option<DroppedAt>,
+    // The most ticks that a router has taken.
+    most_ticks: u64,
+}
+
+impl<F: Write + Drop> Model for Events<F> {
+    ghost use Rattle.ospf_sim.specs.Followed.{EventsValue};
+
+    ghost Value = { EventsValue };
+
+    ghost view = { λ e. record {
+      journal = e.journal;
+      routers = e.routers.entries;
+      dropped = e.dropped;
+      most_ticks = e.most_ticks;
+    } };
+}
+
+impl<F: Write + Drop> Events<F> {
+    ghost use Rattle.std.specs.Prelude.{◌≡◌, IfNone, IfSome, None, true};
+    ghost use Rattle.ospf_base.specs.declared.ids.RouterId.{RouterId};
+    ghost use Rattle.ospf_sim.specs.Followed.{followed_of, not_followed};
+
+    /// Nothing has happened yet.
+    pub fn new(alloc: Global, journal: Option<Journal<F>>) -> Events<F>
+        ensures journal { result.journal ≡ journal }
+        ensures routers { (q : RouterId) → followed_of result q ≡ not_followed }
+        ensures dropped { result.dropped ≡ None }
+        ensures most_ticks { result.most_ticks ≡ 0 }
+    {
+        Events {
+            alloc,
+            journal,
+            routers: BTreeMap::new(alloc),
+            dropped: None,
+            most_ticks: 0,
+        }
+    }
+
+    /// Whether all could be written so far.
+    pub fn is_written(&self) -> bool
+        ensures some { IfSome self.now.journal (λ journal. result ≡ journal.is_written) }
+        ensures none { IfNone self.now.journal (result ≡ true) }
+    {
+        match &self.journal {
+            Some(journal) => journal.is_written(),
+            None => true,
+        }
+    }
+}
+
+impl<F: Write + Drop> EventWatch for Events<F> {
+    ghost use Rattle.ospf_sim.specs.Followed.{FollowsEvent, LooksAhead};
+
+    ghost comes_gives = { λ w event old new. LooksAhead w event old new };
+
+    ghost came_gives = { λ w event answer old new. FollowsEvent w event answer old new };
+
+    fn comes(&mut self, world: &World, event: &WorldEvent) {
+        if self.journal.is_some() {
+            self.dropped = drop_coming(world, event);
+        }
+    }
+
+    fn came(&mut self, world: &World, event: &WorldEvent, answer: &Result<(), WorldFault>) {
+        let Some(journal) = &mut self.journal else {
+            return;
+        };
+        let (alloc, router) = (self.alloc, event.router());
+        let dropped = self.dropped.take();
+        let changes = follow(&mut self.routers, world, event, answer, dropped, alloc);
+        self.most_ticks = self.most_ticks.max(ticks_of(&self.routers, router));
+        journal.write(alloc, self.most_ticks, router, changes);
+    }
+}
+
+// What is kept of a router.
+#[derive(Drop)]
+struct Followed {
+    seen: Seen,
+    ticks: u64,
+}
+
+impl Model for Followed {
+    ghost use Rattle.ospf_sim.specs.Followed.{FollowedRouter};
+
+    ghost Value = { FollowedRouter };
+
+    ghost view = { λ f. record { seen = f.seen; ticks = f.ticks } };
+}
+
+impl Followed {
+    // No event has named it yet.
+    fn nothing(alloc: Global) -> Followed
+        ensures { result ≡ not_followed }
+    {
+        Followed {
+            seen: Seen::nothing(alloc),
+            ticks: 0,
+        }
+    }
+
+    // What changed of it by an event there, with what that was dropped for.
+    fn follow(
+        &mut self,
+        world: &World,
+        event: &WorldEvent,
+        answer: &Result<(), WorldFault>,
+        dropped: Option<DroppedAt>,
+        alloc: Global,
+    ) -> Result<Vec<RouterChange>, AllocError>
+        ensures changes { IfOk result (λ changes. AreChanges self.old.seen
+            (seen_in world.now (router_in event.now))
+            (drop_seen world.now (router_in event.now) (drop_taken answer.now dropped))
+            changes.items) }
+        ensures seen { OnOk result (self.new.seen ≡ seen_in world.now (router_in event.now)) }
+        ensures ticks { self.new.ticks ≡ ticks_then event.now answer.now self.old.ticks }
+    {
+        self.ticks = ticks_then(event, answer, self.ticks);
+        let dropped = drop_taken(answer, dropped);
+        go_to(&mut self.seen, world, event.router(), dropped, alloc)
+    }
+}
+
+// What changed of the router that an event names.
+fn follow(
+    routers: &mut BTreeMap<RouterId, Followed>,
+    world: &World,
+    event: &WorldEvent,
+    answer: &Result<(), WorldFault>,
+    dropped: Option<DroppedAt>,
+    alloc: Global,
+) -> Result<Vec<RouterChange>, AllocError>
+    ensures changes { IfOk result (λ changes. AreChanges
+        (followed_in routers.old.entries (router_in event.now)).seen
+        (seen_in world.now (router_in event.now))
+        (drop_seen world.now (router_in event.now) (drop_taken answer.now dropped))
+        changes.items) }
+    ensures seen { OnOk result ((followed_in routers.new.entries (router_in event.now)).seen
+        ≡ seen_in world.now (router_in event.now)) }
+    ensures ticks { OnOk result ((followed_in routers.new.entries (router_in event.now)).ticks
+        ≡ ticks_then event.now answer.now
+        (followed_in routers.old.entries (router_in event.now)).ticks) }
+    ensures others { (q : RouterId) → q ≢ router_in event.now →
+        followed_in routers.new.entries q ≡ followed_in routers.old.entries q }
+{
+    let router = event.router();
+    let mut followed = take(routers, router, alloc);
+    let changes = followed.follow(world, event, answer, dropped, alloc);
+    put(routers, router, followed)?;
+    changes
+}
+
+// Takes out what is kept of a router.
+fn take(routers: &mut BTreeMap<RouterId, Followed>, router: RouterId, alloc: Global) -> Followed
+    ensures taken { result ≡ followed_in routers.old.entries router }
+    ensures others { (q : RouterId) → q ≢ router →
+        followed_in routers.new.entries q ≡ followed_in routers.old.entries q }
+{
+    match routers.remove(&router) {
+        Some(followed) => followed,
+        None => Followed::nothing(alloc),
+    }
+}
+
+// Puts in what is kept of a router.
+fn put(
+    routers: &mut BTreeMap<RouterId, Followed>,
+    router: RouterId,
+    followed: Followed,
+) -> Result<(), AllocError>
+    ensures kept { OnOk result (followed_in routers.new.entries router ≡ followed) }
+    ensures others { (q : RouterId) → q ≢ router →
+        followed_in routers.new.entries q ≡ followed_in routers.old.entries q }
+{
+    match routers.insert(router, followed) {
+        Ok(_) => Ok(()),
+        Err(_) => Err(AllocError),
+    }
+}
+
+// How many ticks a router has taken.
+fn ticks_of(routers: &BTreeMap<RouterId, Followed>, router: RouterId) -> u64
+    ensures { result ≡ (followed_in routers.now.entries router).ticks }
+{
+    match routers.get(&router) {
+        Some(followed) => followed.ticks,
+        None => 0,
+    }
+}
+
+// What changed of a router in a world since it was seen. It is seen as it is from now on.
+fn go_to(
+    seen: &mut Seen,
+    world: &World,
+    router: RouterId,
+    dropped: Option<DroppedAt>,
+    alloc: Global,
+) -> Result<Vec<RouterChange>, AllocError>
+    ensures changes { IfOk result (λ changes. AreChanges seen.old (seen_in world.now router)
+        (drop_seen world.now router dropped) changes.items) }
+    ensures seen { OnOk result (seen.new ≡ seen_in world.now router) }
+{
+    match world.router(router) {
+        Ok(router) => seen.follow(router, dropped, alloc),
+        Err(_) => seen.end(alloc),
+    }
+}
+
+// How many ticks a router of so many has taken behind an event there.
+fn ticks_then(event: &WorldEvent, answer: &Result<(), WorldFault>, ticks: u64) -> u64
+    ensures { result ≡ ticks_then event.now answer.now ticks }
+{
+    match (event, answer) {
+        (WorldEvent::Tick { .. }, Ok(())) => ticks.saturating_add(1),
+        _ => ticks,
+    }
+}
+
+// The drop of an event, which is none where it was refused.
+fn drop_taken(answer: &Result<(), WorldFault>, dropped: Option<DroppedAt>) -> Option<DroppedAt>
+    ensures { result ≡ drop_taken answer.now dropped }
+{
+    match answer {
+        Ok(()) => dropped,
+        Err(_) => None,
+    }
+}
+
+// What a delivery will be dropped for, if it is.
+fn drop_coming(world: &World, event: &WorldEvent) -> Option<DroppedAt>
+    ensures { result ≡ drop_coming world.now event.now }
+{
+    match event {
+        WorldEvent::Deliver {
+            datagram,
+            router,
+            link,
+        } => delivery_drop(world, *datagram, *router, *link),
+        _ => None,
+    }
+}
+
+// What a router will drop a datagram for that comes on a link, if it will.
+fn delivery_drop(world: &World, datagram: usize, router: RouterId, link: usize) -> Option<DroppedAt>
+    ensures { result ≡ drop_coming world.now (Deliver datagram router link) }
+{
+    let datagram = world.datagrams().get(datagram)?;
+    let cause = cause_of(world, router, link, datagram)?;
+    Some(DroppedAt {
+        link,
+        source: datagram.sent.source,
+        cause,
+    })
+}
+
+// Why it will.
+fn cause_of(
+    world: &World,
+    router: RouterId,
+    link: usize,
+    datagram: &ospf_world::Datagram,
+) -> Option<Dropped>
+    ensures { result ≡ cause_of (delivery link datagram.now)
+        (option_map (λ x. x.state) (router_at (world_of world.now) router)) }
+{
+    let Ok(router) = world.router(router) else {
+        return None;
+    };
+    cause_in(router, link, &datagram.sent)
+}
+
+// Why this router will.
+fn cause_in(router: &Router, link: usize, sent: &Sent) -> Option<Dropped>
+    ensures { result ≡ cause_of (Datagram link sent.now.source sent.now.destination
+        sent.now.bytes) router.now.area }
+{
+    dropped_of(router, link, sent.source, sent.destination, &sent.bytes)
+}
