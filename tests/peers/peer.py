@@ -20,21 +20,21 @@ def checksum(data):
     return ~total & 0xFFFF
 
 
-def packet(kind, router, body):
-    """A packet of the backbone with null authentication."""
-    head = struct.pack(">BBHIIHH", 2, kind, 24 + len(body), number(router), 0, 0, 0)
+def packet(kind, router, body, area="0.0.0.0", authentication=0):
+    """A packet of this area with this AuType, which is 0 for null authentication."""
+    head = struct.pack(">BBHIIHH", 2, kind, 24 + len(body), number(router), number(area), 0, authentication)
     summed = checksum(head + body)
     return head[:12] + struct.pack(">H", summed) + head[14:] + bytes(8) + body
 
 
-def hello(router, mask, heard):
-    """A Hello with the intervals of section C.3's samples, that has heard these routers."""
-    body = struct.pack(">IHBBIII", number(mask), 10, OPTIONS, 1, 40, 0, 0)
-    return packet(HELLO, router, body + b"".join(socket.inet_aton(one) for one in heard))
+def hello(router, mask, heard, interval=10, **header_fields):
+    """A Hello with the intervals of section C.3's samples, or this HelloInterval, that has heard these routers."""
+    body = struct.pack(">IHBBIII", number(mask), interval, OPTIONS, 1, 40, 0, 0)
+    return packet(HELLO, router, body + b"".join(socket.inet_aton(one) for one in heard), **header_fields)
 
 
-def description(router, flags, sequence, headers=()):
-    body = struct.pack(">HBBI", 1500, OPTIONS, flags, sequence)
+def description(router, flags, sequence, headers=(), mtu=1500):
+    body = struct.pack(">HBBI", mtu, OPTIONS, flags, sequence)
     return packet(DESCRIPTION, router, body + b"".join(headers))
 
 

@@ -1,5 +1,5 @@
-pub mod Journals
 pub mod Tables
 pub mod Drops
 pub mod Capturing
+pub mod Misfits
 pub mod Others

@@ -1,25 +1,26 @@
 //! What is kept and shown of routers while they run: a capture of what they send, their
 //! tables from time to time, what they drop, a line on a terminal, and messages of
-//! neighbours whose LSAs a router refuses.
+//! neighbours whose LSAs a router refuses and of packets that do not fit it.
 
 ghost use Rattle.std.specs.Prelude.{◌≡◌, IfOk};
 ghost use Rattle.ospf_records.specs.Pcap.{file_header};
 
 use crate::capture::{Capture, record_of};
 use crate::dropped::{Heard, dropped_in};
-use crate::journal::Journal;
 use crate::line::StatusLine;
-use crate::others::{Described, Others};
+use crate::misfits::{MisfitShown, Misfits};
+use crate::others::{DescribedShown, Others};
 use crate::tables::Tables;
 use ospf_base::{Addr, RouterId};
 use ospf_config::Interface;
 use ospf_files::{Failure, NamedFile, tell_unwritten};
 use ospf_journal::{DroppedAt, RouterChange, Seen};
 use ospf_neighbour::NeighbourState;
-use ospf_records::write_header;
+use ospf_records::{Journal, write_header};
 use ospf_run::{Config, Drops, Ending, Router, Sent, Step, Tap};
 use ospf_step::{DropCounts, count_dropped, none_dropped_on};
 use std::alloc::{AllocError, Global};
+use std::fmt::Display;
 use std::io::{self, Write};
 use std::mem;
 use std::sync::{Arc, Mutex, Wait};
@@ -135,6 +136,7 @@ impl<R: Wait + Clock + Copy + Drop, F: Write + Drop, T: Write + Drop, O: Write +
     fn follow(&mut self, router: &Router, step: &Step) {
         self.tell_others(router);
         let dropped = dropped_in(step, self.heard.take());
+        self.tell_misfit(router, dropped);
         if let (Some(counts), Some(at)) = (&mut self.counts, dropped) {
             count_dropped(counts, Some(at.link), Some(at.cause));
         }
@@ -169,9 +171,20 @@ impl<R: Wait + Clock + Copy + Drop, F: Write + Drop, T: Write + Drop, O: Write +
             None => None,
         };
         if let Some(described) = due {
+            let file = &self.teller.file;
             let mut all = self.shared.lock(&self.rt);
-            all.tell(&self.teller.file, described);
+            all.tell(DescribedShown { file, described });
         }
+    }
+
+    // Tells of a packet that the router dropped for how it or its sender is set, once.
+    fn tell_misfit(&mut self, router: &Router, dropped: Option<DroppedAt>) {
+        let Some(misfit) = self.teller.misfits.due(router, dropped) else {
+            return;
+        };
+        let file = &self.teller.file;
+        let mut all = self.shared.lock(&self.rt);
+        all.tell(MisfitShown { file, misfit });
     }
 
     // Prints the router's table, where one is due after this tick.
@@ -234,6 +247,7 @@ impl<R: Wait + Clock + Copy + Drop, F: Write + Drop, T: Write + Drop, O: Write +
         if let Some(others) = &mut self.teller.others {
             others.hears(link, packet);
         }
+        self.teller.misfits.hears(packet);
         self.heard = Some(Heard { link, source });
     }
 
@@ -389,18 +403,10 @@ impl<F: Write + Drop, T: Write + Drop, O: Write + Drop> Shared<F, T, O> {
         }
     }
 
-    // Tells that a neighbour of the router of this file describes an LSA that the router refuses.
-    fn tell(&mut self, file: &str, described: Described) {
-        let Described {
-            link,
-            neighbour,
-            kind,
-        } = described;
+    // Tells a line.
+    fn tell<D: Display + Drop>(&mut self, line: D) {
         let messages = self.line.messages();
-        let _ = writeln!(
-            messages,
-            "{file}: link {link}: {neighbour} describes an LSA of type {kind}: this area has what this router does not take (other_lsas)"
-        );
+        let _ = writeln!(messages, "{line}");
         let _ = messages.flush();
     }
 
@@ -423,13 +429,14 @@ fn tell_lost<T: Write + Drop>(name: &Option<String>, line: &mut StatusLine<T>) {
     let _ = messages.flush();
 }
 
-// What is told of one router: by its Router ID, by the name of its file, and of LSAs that it
-// refuses.
+// What is told of one router: by its Router ID, by the name of its file, of LSAs that it refuses,
+// and of packets that do not fit it.
 #[derive(Drop)]
 struct Teller {
     router: RouterId,
     file: String,
     others: Option<Others>,
+    misfits: Misfits,
 }
 
 impl Teller {
@@ -439,6 +446,7 @@ impl Teller {
             router: RouterId(0),
             file: String::new(alloc),
             others: None,
+            misfits: Misfits::new(alloc),
         }
     }
 
@@ -449,6 +457,7 @@ impl Teller {
             router: config.router_id,
             file,
             others,
+            misfits: Misfits::new(alloc),
         })
     }
 }

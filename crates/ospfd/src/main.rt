@@ -10,10 +10,10 @@ use ospf_files::{
     FailedStreams, Failure, NamedFile, Status, read_file, read_files, tell_unwritten,
 };
 use ospf_inspect::inspect_text;
-use ospf_notes::{Events, Journal, Noted, Notes, Recording, StatusLine, Tables};
-use ospf_records::write_records;
+use ospf_notes::{Noted, Notes, StatusLine, Tables};
+use ospf_records::{Journal, write_records};
 use ospf_run::{Ending, Settings, run_text};
-use ospf_sim::{Console, Simulated, Watch, console_text, sim_text};
+use ospf_sim::{Console, Events, Recording, Simulated, Watch, console_text, sim_text};
 use ospf_table::table_text;
 use ospf_udp::prepare;
 use ospf_words::{CheckJob, Job, JobFault, RunJob, SimJob, job, not_text};

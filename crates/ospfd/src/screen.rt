@@ -1,8 +1,8 @@
 //! How far a simulation, or the failures of an area, have come, on a terminal.
 
 use ospf_failures::Progress;
-use ospf_notes::{Events, Recording, StatusLine};
-use ospf_sim::{EventWatch, Watch, World, WorldEvent, WorldFault};
+use ospf_notes::StatusLine;
+use ospf_sim::{EventWatch, Events, Recording, Watch, World, WorldEvent, WorldFault};
 use std::io::Write;
 use std::rt::Runtime;
 use std::time::Clock;
