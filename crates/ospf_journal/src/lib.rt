@@ -23,4 +23,5 @@ pub use crate::laws::objects_are_json;
 pub use crate::line::{JournalLine, iface_text};
 pub use crate::object::Object;
 pub use crate::seen::{Seen, SeenIface, SeenNeighbour, SeenOwn};
+pub use crate::told::state_place;
 pub use ospf_step::Dropped;

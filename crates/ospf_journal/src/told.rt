@@ -227,8 +227,9 @@ fn push_state(
     Ok(())
 }
 
-// The place of a state among the states of a neighbour.
-fn state_place(state: NeighbourState) -> u8
+/// The place of a state among those of a neighbour, in their order, from 0 (RFC 2328, section
+/// 10.1).
+pub fn state_place(state: NeighbourState) -> u8
     ensures { result ≡ state_place state }
 {
     match state {
