@@ -1,4 +1,5 @@
 pub mod BatchFacts
 pub mod LossFacts
+pub mod ProgressFacts
 pub mod KeepFacts
 pub mod Manys

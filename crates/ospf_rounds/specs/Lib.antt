@@ -1,3 +1,4 @@
 pub mod Batches
 pub mod Losses
 pub mod Many
+pub mod Progress

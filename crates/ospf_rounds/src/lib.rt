@@ -5,7 +5,8 @@
 //! they were sent, each to another router; here a router takes all that waits for it at once, so
 //! that its memory is at hand. `Losses` draws which deliveries are lost, and `round_losing` is a
 //! round without these (`specs/Losses`). `run_many` has events come about at all routers, or at all
-//! interfaces of a network (`specs/Many`).
+//! interfaces of a network (`specs/Many`). A `Watch` is told of each event, and how far a line of a
+//! script has come (`specs/Progress`).
 #![tactic(auto)]
 
 mod batches;
@@ -13,11 +14,13 @@ mod losing;
 mod losses;
 mod many;
 mod queues;
+mod watch;
 
 pub use crate::batches::{MOST_WAVES, batch};
 pub use crate::losing::round_losing;
 pub use crate::losses::{Losses, is_network_of, lose_somewhere};
 pub use crate::many::run_many;
+pub use crate::watch::Watch;
 pub use ospf_headline::{WorldEvent, WorldFault};
 pub use ospf_script::Many;
 pub use ospf_world::{EventWatch, World};

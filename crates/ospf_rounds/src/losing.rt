@@ -6,6 +6,7 @@ ghost use Rattle.ospf_router.specs.Steps.{is_dropped};
 ghost use Rattle.ospf_rounds.specs.Losses.{AreNextKept, AreOfferedBut, IsLosingRound, LosesNext};
 ghost use Rattle.ospf_world.specs.Sounds.{IsSoundBetween};
 ghost use Rattle.ospf_world.specs.Ticks.{TicksOn};
+ghost use Rattle.ospf_world.specs.Watching.{Told};
 ghost use Rattle.ospf_world.specs.Worlds.{world_of};
 
 use crate::losses::Losses;
@@ -24,8 +25,9 @@ pub fn round_losing<W: EventWatch>(
     watch: &mut W,
     alloc: Global,
 ) -> Result<(), WorldFault>
-    // What happens in a round with losses, and how far these have come.
+    // What happens in a round with losses, how far these have come, and what the watch is told.
     ensures round { IsLosingRound most losses.old world.old result world.new losses.new }
+    ensures told { Told W.comes_gives W.came_gives (world.old, watch.old) (world.new, watch.new) }
     // What holds of every network holds of this one again, and its log of ticks goes on.
     ensures reached { IsReached is_dropped (world_of world.new) }
     ensures headline { Headline (world_of world.old) (world_of world.new) }
@@ -56,6 +58,7 @@ fn offer_but<W: EventWatch>(
     alloc: Global,
 ) -> Result<(), WorldFault>
     ensures offered { AreOfferedBut most world.old losses.old result world.new losses.new }
+    ensures told { Told W.comes_gives W.came_gives (world.old, watch.old) (world.new, watch.new) }
     ensures ticks { TicksOn (world_of world.old) world.old.ticks (world_of world.new)
         world.new.ticks }
 {
@@ -77,6 +80,7 @@ fn offer_kept<W: EventWatch>(
     alloc: Global,
 ) -> Result<bool, WorldFault>
     ensures offers { LosesNext losses.old world.old result world.new losses.new }
+    ensures told { Told W.comes_gives W.came_gives (world.old, watch.old) (world.new, watch.new) }
     ensures ticks { TicksOn (world_of world.old) world.old.ticks (world_of world.new)
         world.new.ticks }
 {

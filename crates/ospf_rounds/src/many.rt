@@ -3,6 +3,7 @@
 ghost use Rattle.std.specs.Prelude.{◌≡◌, ◌++◌, IfOk, OnOk, flat_map};
 ghost use Rattle.std.specs.List.{enumerate_from};
 ghost use Rattle.ospf_rounds.specs.Many.{ComesAbout, config_events, events_on, is_meant, link_event, many_of};
+ghost use Rattle.ospf_world.specs.Watching.{Told};
 
 use crate::losses::is_network_of;
 use ospf_base::{NO_FLOOR, RouterId};
@@ -24,7 +25,8 @@ pub fn run_many<V: EventWatch>(
     watch: &mut V,
     alloc: Global,
 ) -> Result<(), WorldFault>
-    ensures { ComesAbout many world.old result world.new }
+    ensures comes { ComesAbout many world.old result world.new }
+    ensures told { Told V.comes_gives V.came_gives (world.old, watch.old) (world.new, watch.new) }
 {
     let Ok(events) = events_of(many, world.slots(), alloc) else {
         return Err(WorldFault::Memory { stopped: false });

@@ -1,6 +1,7 @@
 use Rattle.std.proofs.Common.{refl, rules}
 use Rattle.ospf_rounds.proofs.LossFacts.{loses_end, loses_last, loses_more}
 use Rattle.ospf_world.proofs.TickFacts.{ticks_further, ticks_nowhere}
+use Rattle.ospf_world.proofs.ToldFacts.{told_further, told_nowhere}
 use Rattle.ospf_rounds.proofs.losing.offer_but.Goals as goal
 
 pub returns-in-Ok-false-clause-offered : goal.returns-in-Ok-false-clause-offered
@@ -13,6 +14,7 @@ pub loop-i-preserved : goal.loop-i-preserved
 loop-i-preserved g c = record {
   comes = loses_more c.args.most c.loop-i.i c.args.world.now c.loop-i.world c.offer_kept.new.world c.args.losses.now c.loop-i.losses c.offer_kept.new.losses c.offer_kept.result c.in-Ok-true.field-0 c.loop-i-test.true c.offer_kept.ensures.offers c.in-Ok-true.is c.in-Ok-true.field-0-test c.loop-i.invariant.comes;
   ticks = ticks_further _ _ _ _ _ _ c.loop-i.invariant.ticks c.offer_kept.ensures.ticks;
+  told = told_further _ _ _ _ _ c.loop-i.invariant.told c.offer_kept.ensures.told;
 }
 
 pub returns-in-Ok-false-clause-ticks : goal.returns-in-Ok-false-clause-ticks
@@ -25,4 +27,11 @@ pub loop-i-init : goal.loop-i-init
 loop-i-init g c = record {
   comes = search rules;
   ticks = ticks_nowhere _ _ _ _ refl refl;
+  told = told_nowhere _ _ _ _ refl;
 }
+
+pub returns-in-Ok-false-clause-told : goal.returns-in-Ok-false-clause-told
+returns-in-Ok-false-clause-told g c = told_further _ _ _ _ _ c.loop-i.invariant.told c.offer_kept.ensures.told
+
+pub returns-in-Err-clause-told : goal.returns-in-Err-clause-told
+returns-in-Err-clause-told g c = told_further _ _ _ _ _ c.loop-i.invariant.told c.offer_kept.ensures.told

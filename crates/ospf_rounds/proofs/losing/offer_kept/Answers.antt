@@ -1,9 +1,10 @@
-use Rattle.std.proofs.Common.{subst, List}
+use Rattle.std.proofs.Common.{refl, rules, subst, List}
 use Rattle.ospf_headline.specs.declared.event.WorldEvent.{WorldEvent}
 use Rattle.ospf_headline.specs.Runs.{IsRun}
 use Rattle.ospf_world.specs.Does.{Does}
 use Rattle.ospf_world.specs.Ticks.{TicksOn}
 use Rattle.ospf_world.specs.Worlds.{WorldValue, world_of}
+use Rattle.ospf_world.proofs.ToldFacts.{run_told, told_counts, told_nowhere}
 use Rattle.ospf_rounds.proofs.LossFacts.{kept_ends, kept_taken}
 use Rattle.ospf_rounds.proofs.losing.offer_kept.Goals as goal
 
@@ -22,3 +23,15 @@ returns-in-Ok-clause-ticks g c = subst (λ (v : WorldValue). TicksOn (world_of v
 
 pub returns-in-Ok-Some-clause-ticks : goal.returns-in-Ok-Some-clause-ticks
 returns-in-Ok-Some-clause-ticks g c = subst (λ (v : WorldValue). TicksOn (world_of v) v.ticks (world_of c.run_watched.new.self) c.run_watched.new.self.ticks) c.pass_one.ensures c.run_watched.ensures.ticks
+
+pub returns-in-Ok-clause-told : goal.returns-in-Ok-clause-told
+returns-in-Ok-clause-told g c = search (rules, run_told, told_counts)
+
+pub returns-in-Ok-Some-clause-told : goal.returns-in-Ok-Some-clause-told
+returns-in-Ok-Some-clause-told g c = search (rules, run_told, told_counts)
+
+pub returns-in-Ok-None-clause-told : goal.returns-in-Ok-None-clause-told
+returns-in-Ok-None-clause-told g c = told_nowhere _ _ _ _ refl
+
+pub returns-clause-told : goal.returns-clause-told
+returns-clause-told g c = told_nowhere _ _ _ _ refl

@@ -1,10 +1,11 @@
-use Rattle.std.proofs.Common.{◌≡◌, [], ap, refl, ◌∙◌}
+use Rattle.std.proofs.Common.{◌≡◌, [], ap, refl, rules, ◌∙◌}
 use Rattle.ospf_router.specs.Steps.{is_dropped}
 use Rattle.ospf_world.specs.Rounds.{ticks}
 use Rattle.ospf_world.specs.Worlds.{world_of}
 use Rattle.ospf_world.proofs.RandomFacts.{reached_on}
 use Rattle.ospf_rounds.proofs.LossFacts.{losing_goes, losing_leads, losing_ticks_end}
 use Rattle.ospf_world.proofs.TickFacts.{sound_between, ticks_further, ticks_nowhere}
+use Rattle.ospf_world.proofs.ToldFacts.{run_told, told_further, told_nowhere}
 use Rattle.ospf_rounds.proofs.losing.round_losing.Goals as goal
 
 pub returns-in_default-clause-headline : goal.returns-in_default-clause-headline
@@ -43,3 +44,12 @@ returns-in-Ok-run_watched-clause-ticks g c = ticks_further _ _ _ _ _ _ c.run_wat
 
 pub returns-in_default-clause-ticks : goal.returns-in_default-clause-ticks
 returns-in_default-clause-ticks g c = ticks_nowhere _ _ _ _ refl refl
+
+pub returns-in-Ok-run_watched-clause-told : goal.returns-in-Ok-run_watched-clause-told
+returns-in-Ok-run_watched-clause-told g c = search (rules, run_told, told_further)
+
+pub returns-clause-told : goal.returns-clause-told
+returns-clause-told g c = search (rules, run_told)
+
+pub returns-in_default-clause-told : goal.returns-in_default-clause-told
+returns-in_default-clause-told g c = told_nowhere _ _ _ _ refl
