@@ -1,8 +1,9 @@
 -- What is printed of a router, of a walk, and of what a link waits for.
-use Rattle.std.specs.Prelude.{◌≡◌, ℕ, List, [], Ok, Err, Option, None, Some, String, false, is_some, true, unwrap_or}
+use Rattle.std.specs.Prelude.{◌≡◌, ◌++◌, ℕ, Bool, List, [], Ok, Err, Option, None, Some, String, codes, false, is_some, true, unwrap_or}
 use Rattle.std.specs.List.{find}
 use Rattle.std.specs.declared.alloc.Global.{Global}
 use Rattle.ospf_area.specs.State.{AreaValue}
+use Rattle.ospf_base.specs.Text.{number_text}
 use Rattle.ospf_base.specs.declared.ids.Addr.{Addr}
 use Rattle.ospf_base.specs.declared.ids.RouterId.{RouterId}
 use Rattle.ospf_headline.specs.declared.event.WorldFault.{WorldFault}
@@ -14,7 +15,7 @@ use Rattle.ospf_journal.specs.Counted.{drop_lines}
 use Rattle.ospf_router.specs.Routers.{RouterValue, listing_of}
 use Rattle.ospf_script.specs.Words.{Text}
 use Rattle.ospf_script.specs.declared.command.View.{View}
-use Rattle.ospf_views.specs.Shown.{shown_lines}
+use Rattle.ospf_views.specs.Shown.{headed, shown_lines}
 use Rattle.ospf_world.specs.Worlds.{is_slot_of}
 use Rattle.ospf_world.specs.declared.walk.Walk.{Walk}
 use Rattle.ospf_views.specs.Datagrams.{datagram_lines}
@@ -80,11 +81,20 @@ abbrev pub AreLsasOf : Option AreaValue → Text → Type 0
 AreLsasOf area text =
     AreLines (SaysOfLsa (advertisements_of (listing_of area))) (listing_of area) text
 
+-- the line above them: of which router they are
+abbrev pub lsas_heading : RouterId → Text
+lsas_heading r = codes "lsas of " ++ number_text r.0 ++ codes ": what each LSA says\n"
+
+-- what they say, below that line where labels are asked for
+abbrev pub AreLsasBelow : Bool → RouterId → Option AreaValue → Text → Type 0
+AreLsasBelow is_labelled r area text =
+    (lines : Text) × AreLsasOf area lines × (text ≡ headed is_labelled (lsas_heading r) lines)
+
 -- that of a router that runs is printed; or there is no room to know it; or it is said why the
 -- router cannot be asked
 pub data AreLsasShown (r : RouterId) (s : Simulation) (answer : Answer) (text : Text) : Type 0 where
   lsas_are_shown : (x : RouterValue) → LendsRouter s.world r x → answer ≡ Ok tt
-      → AreLsasOf x.area text → AreLsasShown r s answer text
+      → AreLsasBelow s.is_labelled r x.area text → AreLsasShown r s answer text
   no_room_for_lsas : answer ≡ Err (fault.Memory false) → text ≡ [] → AreLsasShown r s answer text
   lsas_are_not_shown : (f : WorldFault) → IsNotLent s.world r f → answer ≡ Err f → text ≡ []
       → AreLsasShown r s answer text

@@ -1,8 +1,8 @@
 //! What is asked of routers, and printed.
 
-ghost use Rattle.std.specs.Prelude.{IfErr, IfOk, OnErr, string_bytes};
+ghost use Rattle.std.specs.Prelude.{◌≡◌, IfErr, IfOk, OnErr, string_bytes};
 ghost use Rattle.ospf_files.specs.Streams.{IsOutputCut};
-ghost use Rattle.ospf_commands.specs.Asked.{AreDatagramsShown, AreDropsShown, AreLsasOf, AreLsasShown, IsTextSaid, IsViewShown, IsWalked, IsWhyAnswered};
+ghost use Rattle.ospf_commands.specs.Asked.{AreDatagramsShown, AreDropsShown, AreLsasBelow, AreLsasShown, IsTextSaid, IsViewShown, IsWalked, IsWhyAnswered, lsas_heading};
 ghost use Rattle.ospf_commands.specs.Printed.{IsPrinted, IsPrintedBegun};
 
 use crate::show::{said_line, write_walked};
@@ -80,6 +80,7 @@ pub(crate) fn show_walk<O: Write>(
         (IsWalked ends.0 ends.1 choices.now simulation.old simulation.new)
         (O.contents out.old) (O.contents out.new)) }
     ensures cut { IfErr result (IsOutputCut streams.new) }
+    ensures world { simulation.new.world ≡ simulation.old.world }
 {
     let (from, address) = ends;
     match simulation.world.walk(from, address, choices, alloc) {
@@ -194,17 +195,36 @@ pub(crate) fn show_lsas<O: Write>(
         Ok(lent) => lent,
         Err(fault) => return Ok(Err(fault)),
     };
-    let Ok(lines) = lsa_lines(alloc, lent) else {
+    let Ok(lines) = lsa_lines(alloc, simulation.is_labelled, router, lent) else {
         return Ok(Err(WorldFault::Memory { stopped: false }));
     };
     streams.write(out, &lines)?;
     Ok(Ok(()))
 }
 
-// What the LSAs say that a router lists.
-fn lsa_lines(alloc: Global, router: &Router) -> Result<String, AllocError>
-    ensures { IfOk result (λ lines. AreLsasOf router.now.area (string_bytes lines)) }
+// What the LSAs say that a router lists, below a line that says so, if labels are asked for.
+fn lsa_lines(
+    alloc: Global,
+    is_labelled: bool,
+    id: RouterId,
+    router: &Router,
+) -> Result<String, AllocError>
+    ensures { IfOk result (λ lines. AreLsasBelow is_labelled id router.now.area
+        (string_bytes lines)) }
 {
     let listing = router.listing(alloc)?;
-    lsas_text(alloc, &listing)
+    let lines = lsas_text(alloc, &listing)?;
+    if !is_labelled {
+        return Ok(lines);
+    }
+    let mut labelled = lsas_heading(alloc, id)?;
+    labelled.push_str(&lines)?;
+    Ok(labelled)
+}
+
+// The line above them.
+fn lsas_heading(alloc: Global, router: RouterId) -> Result<String, AllocError>
+    ensures { IfOk result (λ line. string_bytes line ≡ lsas_heading router) }
+{
+    format!(in alloc; "lsas of {router}: what each LSA says\n")
 }

@@ -3,15 +3,16 @@
 ghost use Rattle.std.specs.Prelude.{◌≡◌, IfErr, IfOk, Ok, OnErr};
 ghost use Rattle.ospf_files.specs.Streams.{IsOutputCut};
 ghost use Rattle.ospf_commands.specs.Commands.{EventComesAbout, IsDone, IsDoneBegun, Loses, ManyHappen};
+ghost use Rattle.ospf_rounds.specs.Progress.{ToldOn};
+ghost use Rattle.ospf_world.specs.Watching.{Told};
 
 use crate::asked::{say, show, show_datagrams, show_drops, show_lsas, show_walk, show_why};
 use crate::judge::judge;
 use crate::rounds::{run_batches, run_events, run_rounds};
 use crate::settle::settle;
 use crate::simulation::Simulation;
-use crate::watch::Watch;
 use ospf_files::{FailedStreams, Failure};
-use ospf_rounds::{Losses, lose_somewhere, run_many};
+use ospf_rounds::{Losses, Watch, lose_somewhere, run_many};
 use ospf_script::{Command, Many};
 use ospf_world::{WorldEvent, WorldFault};
 use std::alloc::Global;
@@ -35,6 +36,8 @@ pub fn run_command<O: Write, V: Watch>(
         (IsDoneBegun command.now simulation.old simulation.new (O.contents out.old)
         (O.contents out.new)) }
     ensures cut { IfErr result (IsOutputCut streams.new) }
+    ensures told { ToldOn V.comes_gives V.came_gives V.goes_on_gives
+        (simulation.old.world, watch.old) (simulation.new.world, watch.new) }
 {
     match command {
         Command::Event { event } => Ok(run_event(simulation, *event, watch, alloc)),
@@ -84,7 +87,9 @@ fn run_event<V: Watch>(
     watch: &mut V,
     alloc: Global,
 ) -> Result<(), WorldFault>
-    ensures { EventComesAbout event simulation.old result simulation.new }
+    ensures comes { EventComesAbout event simulation.old result simulation.new }
+    ensures told { Told V.comes_gives V.came_gives (simulation.old.world, watch.old)
+        (simulation.new.world, watch.new) }
 {
     simulation.is_settled = false;
     simulation.world.step_watched(event, watch, alloc)
@@ -97,7 +102,9 @@ fn run_at_many<V: Watch>(
     watch: &mut V,
     alloc: Global,
 ) -> Result<(), WorldFault>
-    ensures { ManyHappen many simulation.old result simulation.new }
+    ensures happen { ManyHappen many simulation.old result simulation.new }
+    ensures told { Told V.comes_gives V.came_gives (simulation.old.world, watch.old)
+        (simulation.new.world, watch.new) }
 {
     simulation.is_settled = false;
     run_many(&mut simulation.world, many, watch, alloc)
@@ -105,7 +112,8 @@ fn run_at_many<V: Watch>(
 
 // Has these losses from here on, if an interface is on their network.
 fn lose(simulation: &mut Simulation, losses: Losses) -> Result<(), WorldFault>
-    ensures { Loses losses simulation.old result simulation.new }
+    ensures loses { Loses losses simulation.old result simulation.new }
+    ensures world { simulation.new.world ≡ simulation.old.world }
 {
     if !lose_somewhere(losses.network, simulation.world.slots()) {
         return Err(WorldFault::NoLink);

@@ -5,7 +5,6 @@ ghost use Rattle.std.specs.List.{list_any};
 ghost use Rattle.std.specs.Io.KnownBytes.{Appends};
 ghost use Rattle.ospf_files.specs.Streams.{IsBegun, IsOutputCut};
 ghost use Rattle.ospf_commands.specs.Expectations.{AreAmong, HasElected, HasElectedAt, HasHops, IsAmong, IsMet, IsRouteAt, has_in_state, is_at_state, is_in_state, is_kept_by, is_route_to, is_state_down, is_with_id, keeps_router, some_has_in_state, standing_lines, unmet_line, unmet_lines, wanted_line};
-ghost use Rattle.ospf_journal.specs.Changes.{state_place};
 ghost use Rattle.ospf_views.specs.Waits.{interface_of};
 
 use ospf_area::AreaLink;
@@ -13,6 +12,7 @@ use ospf_base::{Addr, Prefix, RouterId};
 use ospf_files::{FailedStreams, Failure};
 use ospf_graph::{NextHop, Route};
 use ospf_iface::Iface;
+use ospf_journal::state_place;
 use ospf_neighbour::{Neighbour, NeighbourState};
 use ospf_router::Router;
 use ospf_script::{Expected, View, Wanted, WantedShown};
@@ -147,21 +147,6 @@ fn is_down(state: NeighbourState) -> bool
     match state {
         NeighbourState::Down => true,
         _ => false,
-    }
-}
-
-// The place of a state in their order (RFC 2328, section 10.1).
-fn state_place(state: NeighbourState) -> u8
-    ensures { result ≡ state_place state }
-{
-    match state {
-        NeighbourState::Down => 0,
-        NeighbourState::Init => 1,
-        NeighbourState::TwoWay => 2,
-        NeighbourState::ExStart => 3,
-        NeighbourState::Exchange => 4,
-        NeighbourState::Loading => 5,
-        NeighbourState::Full => 6,
     }
 }
 

@@ -50,6 +50,7 @@ pub(crate) fn judge<O: Write>(
         (JudgedSo expected.now simulation.old simulation.new)
         (O.contents out.old) (O.contents out.new)) }
     ensures cut { IfErr result (IsOutputCut streams.new) }
+    ensures world { simulation.new.world ≡ simulation.old.world }
 {
     match expected {
         Expected::Router { router, wanted } => {
@@ -79,6 +80,7 @@ fn judge_router<O: Write>(
     ensures begun { OnErr result (IsPrintedBegun (JudgedSo (expected.Router router wanted.now)
         simulation.old simulation.new) (O.contents out.old) (O.contents out.new)) }
     ensures cut { IfErr result (IsOutputCut streams.new) }
+    ensures world { simulation.new.world ≡ simulation.old.world }
 {
     let lent = match simulation.world.router(router) {
         Ok(lent) => lent,
@@ -109,6 +111,7 @@ fn judge_walk<O: Write>(
     ensures begun { OnErr result (IsPrintedBegun (JudgedSo (expected.Walk ends.0 ends.1 cost)
         simulation.old simulation.new) (O.contents out.old) (O.contents out.new)) }
     ensures cut { IfErr result (IsOutputCut streams.new) }
+    ensures world { simulation.new.world ≡ simulation.old.world }
 {
     let (from, address) = ends;
     let walk = match simulation.world.walk(from, address, &[], alloc) {
@@ -144,6 +147,7 @@ fn judge_agreement<O: Write>(
     ensures begun { OnErr result (IsPrintedBegun (JudgedSo expected.Agree simulation.old
         simulation.new) (O.contents out.old) (O.contents out.new)) }
     ensures cut { IfErr result (IsOutputCut streams.new) }
+    ensures world { simulation.new.world ≡ simulation.old.world }
 {
     match apart(simulation.world.slots(), alloc) {
         Ok(None) => Ok(Ok(())),
@@ -172,6 +176,7 @@ fn judge_settling<O: Write>(
     ensures begun { OnErr result (IsPrintedBegun (JudgedSo expected.Settled simulation.old
         simulation.new) (O.contents out.old) (O.contents out.new)) }
     ensures cut { IfErr result (IsOutputCut streams.new) }
+    ensures world { simulation.new.world ≡ simulation.old.world }
 {
     if simulation.is_settled {
         return Ok(Ok(()));

@@ -16,10 +16,9 @@ mod settle;
 mod show;
 mod sight;
 mod simulation;
-mod watch;
 
 pub use crate::commands::run_command;
 pub use crate::expectations::{is_met, unmet_line, write_unmet};
 pub use crate::laws::agreement_law;
 pub use crate::simulation::Simulation;
-pub use crate::watch::Watch;
+pub use ospf_rounds::Watch;

@@ -4,10 +4,11 @@ ghost use Rattle.std.specs.Prelude.{◌≡◌};
 ghost use Rattle.ospf_commands.specs.Commands.{SomeHappen};
 ghost use Rattle.ospf_commands.specs.Rounds.{AreBatches, AreRounds, IsOneRound, most_of};
 ghost use Rattle.ospf_commands.specs.Worlds.{IsRandomRun};
+ghost use Rattle.ospf_rounds.specs.Progress.{ToldOn};
+ghost use Rattle.ospf_world.specs.Watching.{Told};
 
 use crate::simulation::Simulation;
-use crate::watch::Watch;
-use ospf_rounds::{batch, round_losing};
+use ospf_rounds::{Watch, batch, round_losing};
 use ospf_world::{MOST_OFFERS, World, WorldFault};
 use rand_pcg::Lcg64Xsh32;
 use std::alloc::Global;
@@ -23,7 +24,9 @@ pub(crate) fn run_rounds<V: Watch>(
     alloc: Global,
     watch: &mut V,
 ) -> Result<(), WorldFault>
-    ensures { AreRounds (most_of most) count simulation.old result simulation.new }
+    ensures rounds { AreRounds (most_of most) count simulation.old result simulation.new }
+    ensures told { ToldOn V.comes_gives V.came_gives V.goes_on_gives
+        (simulation.old.world, watch.old) (simulation.new.world, watch.new) }
 {
     let most = most_of(most);
     for done in 0..count {
@@ -43,7 +46,9 @@ pub(crate) fn run_round<V: Watch>(
     alloc: Global,
     watch: &mut V,
 ) -> Result<(), WorldFault>
-    ensures { IsOneRound most simulation.old result simulation.new }
+    ensures round { IsOneRound most simulation.old result simulation.new }
+    ensures told { Told V.comes_gives V.came_gives (simulation.old.world, watch.old)
+        (simulation.new.world, watch.new) }
 {
     simulation.is_settled = false;
     let world = &mut simulation.world;
@@ -60,7 +65,9 @@ pub(crate) fn run_batches<V: Watch>(
     alloc: Global,
     watch: &mut V,
 ) -> Result<(), WorldFault>
-    ensures { AreBatches count simulation.old result simulation.new }
+    ensures batches { AreBatches count simulation.old result simulation.new }
+    ensures told { ToldOn V.comes_gives V.came_gives V.goes_on_gives
+        (simulation.old.world, watch.old) (simulation.new.world, watch.new) }
 {
     for done in 0..count {
         watch.begins_round(done, count);
@@ -81,7 +88,9 @@ pub(crate) fn run_events<V: Watch>(
     alloc: Global,
     watch: &mut V,
 ) -> Result<(), WorldFault>
-    ensures { SomeHappen number count simulation.old result simulation.new }
+    ensures happen { SomeHappen number count simulation.old result simulation.new }
+    ensures told { ToldOn V.comes_gives V.came_gives V.goes_on_gives
+        (simulation.old.world, watch.old) (simulation.new.world, watch.new) }
 {
     simulation.is_settled = false;
     draw(&mut simulation.world, number, count, alloc, watch)
@@ -103,7 +112,9 @@ fn draw<V: Watch>(
     alloc: Global,
     watch: &mut V,
 ) -> Result<(), WorldFault>
-    ensures { IsRandomRun number count world.old result world.new }
+    ensures random { IsRandomRun number count world.old result world.new }
+    ensures told { ToldOn V.comes_gives V.came_gives V.goes_on_gives
+        (world.old, watch.old) (world.new, watch.new) }
 {
     let mut generator = Lcg64Xsh32::new(number, 0);
     let mut done = 0;

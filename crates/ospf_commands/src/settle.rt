@@ -4,13 +4,14 @@ ghost use Rattle.std.specs.Prelude.{◌≡◌, ◌≤◌, IfErr, IfOk, OnErr, fa
 ghost use Rattle.ospf_commands.specs.Printed.{IsPrinted, IsPrintedBegun};
 ghost use Rattle.ospf_commands.specs.Settling.{Passes, Settles, longer, longer_in, settled_line, unsettled_line};
 ghost use Rattle.ospf_files.specs.Streams.{IsOutputCut};
+ghost use Rattle.ospf_rounds.specs.Progress.{ToldOn};
 
 use crate::rounds::run_round;
 use crate::sight::sight_of;
 use crate::simulation::Simulation;
-use crate::watch::Watch;
 use ospf_config::Interface;
 use ospf_files::{FailedStreams, Failure};
+use ospf_rounds::Watch;
 use ospf_world::{Slot, WorldFault};
 use std::alloc::{AllocError, Global};
 use std::io::Write;
@@ -35,6 +36,8 @@ pub(crate) fn settle<O: Write, V: Watch>(
         (record simulation.old { is_settled = false }) given text simulation.new)
         (O.contents out.old) (O.contents out.new)) }
     ensures cut { IfErr result (IsOutputCut streams.new) }
+    ensures told { ToldOn V.comes_gives V.came_gives V.goes_on_gives
+        (simulation.old.world, watch.old) (simulation.new.world, watch.new) }
 {
     simulation.is_settled = false;
     let still = longest_dead(simulation.world.slots());
@@ -62,7 +65,9 @@ fn pass_rounds<V: Watch>(
     alloc: Global,
     watch: &mut V,
 ) -> Result<Option<u64>, WorldFault>
-    ensures { Passes most still simulation.old result simulation.new }
+    ensures passes { Passes most still simulation.old result simulation.new }
+    ensures told { ToldOn V.comes_gives V.came_gives V.goes_on_gives
+        (simulation.old.world, watch.old) (simulation.new.world, watch.new) }
 {
     let Ok(mut seen) = sight_of(simulation.world.slots(), alloc) else {
         return Err(WorldFault::Memory { stopped: false });

@@ -1,5 +1,8 @@
+use Rattle.std.proofs.Common.{ap, refl}
+use Rattle.ospf_rounds.proofs.ProgressFacts.{on_events, on_nowhere, on_same_world}
 use Rattle.ospf_script.specs.declared.command.Command.TheVariants as command
 use Rattle.ospf_commands.specs.Asked.{AreDatagramsShown, AreDropsShown, AreLsasShown, IsViewShown, IsWhyAnswered}
+use Rattle.ospf_commands.specs.declared.simulation.Simulation.{Simulation}
 use Rattle.ospf_commands.proofs.Done.{asked_begun, asked_done, begun_as, done_as}
 use Rattle.ospf_commands.proofs.commands.run_command.Goals as goal
 
@@ -70,3 +73,39 @@ pub returns-in-Lsas-clause-begun : goal.returns-in-Lsas-clause-begun
 returns-in-Lsas-clause-begun g c =
     begun_as _ (command.Lsas c.in-Lsas.router) _ _ _ _ _ c.in-Lsas.is
     (asked_begun (AreLsasShown c.in-Lsas.router) _ _ _ _ c.show_lsas.ensures.begun)
+
+pub returns-in-Event-clause-told : goal.returns-in-Event-clause-told
+returns-in-Event-clause-told g c = on_events _ _ _ _ _ c.run_event.ensures.told
+
+pub returns-in-Many-clause-told : goal.returns-in-Many-clause-told
+returns-in-Many-clause-told g c = on_events _ _ _ _ _ c.run_at_many.ensures.told
+
+pub returns-in-Walk-clause-told : goal.returns-in-Walk-clause-told
+returns-in-Walk-clause-told g c = on_same_world _ _ _ _ _ _ c.show_walk.ensures.world
+
+pub returns-in-Loss-clause-told : goal.returns-in-Loss-clause-told
+returns-in-Loss-clause-told g c = on_same_world _ _ _ _ _ _ c.lose.ensures.world
+
+pub returns-in-Expect-clause-told : goal.returns-in-Expect-clause-told
+returns-in-Expect-clause-told g c = on_same_world _ _ _ _ _ _ c.judge.ensures.world
+
+pub returns-in-Label-clause-told : goal.returns-in-Label-clause-told
+returns-in-Label-clause-told g c = on_same_world _ _ _ _ _ _ (ap (λ (s : Simulation). s.world) c.label.ensures.labelled)
+
+pub returns-in-Show-clause-told : goal.returns-in-Show-clause-told
+returns-in-Show-clause-told g c = on_nowhere _ _ _ _ _ refl
+
+pub returns-in-Say-clause-told : goal.returns-in-Say-clause-told
+returns-in-Say-clause-told g c = on_nowhere _ _ _ _ _ refl
+
+pub returns-in-Why-clause-told : goal.returns-in-Why-clause-told
+returns-in-Why-clause-told g c = on_nowhere _ _ _ _ _ refl
+
+pub returns-in-Datagrams-clause-told : goal.returns-in-Datagrams-clause-told
+returns-in-Datagrams-clause-told g c = on_nowhere _ _ _ _ _ refl
+
+pub returns-in-Drops-clause-told : goal.returns-in-Drops-clause-told
+returns-in-Drops-clause-told g c = on_nowhere _ _ _ _ _ refl
+
+pub returns-in-Lsas-clause-told : goal.returns-in-Lsas-clause-told
+returns-in-Lsas-clause-told g c = on_nowhere _ _ _ _ _ refl

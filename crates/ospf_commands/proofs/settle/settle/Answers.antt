@@ -13,13 +13,13 @@ use Rattle.ospf_commands.proofs.settle.settle.Goals as goal
 pub overflow_sub-rounds : goal.overflow_sub-rounds
 overflow_sub-rounds g c =
     rounds_over_still c.args.most c.longest_dead-still.result (record c.args.simulation.now { is_settled = false }) c.pass_rounds.new.simulation c.pass_rounds.result c.in-Ok-Some.rounds
-    (c.in-Ok-Some.is ∙ ap (λ (o : Option ℕ). Ok o) c.in-Ok-Some.field-0-is) c.pass_rounds.ensures
+    (c.in-Ok-Some.is ∙ ap (λ (o : Option ℕ). Ok o) c.in-Ok-Some.field-0-is) c.pass_rounds.ensures.passes
 
 pub returns-in_err-line-in-Ok-Some-clause-begun : goal.returns-in_err-line-in-Ok-Some-clause-begun
 returns-in_err-line-in-Ok-Some-clause-begun g c =
     let so : Settles c.args.most (record c.args.simulation.now { is_settled = false }) (Ok tt) (settled_line (c.in-Ok-Some.rounds - c.longest_dead-still.result) c.longest_dead-still.result) (record c.pass_rounds.new.simulation { is_settled = true }) =
     settled_so c.args.most c.longest_dead-still.result (record c.args.simulation.now { is_settled = false }) c.pass_rounds.new.simulation c.pass_rounds.result c.in-Ok-Some.rounds (c.longest_dead-still.ensures ∙ ap (fold longer_in 0) c.slots.ensures)
-    (c.in-Ok-Some.is ∙ ap (λ (o : Option ℕ). Ok o) c.in-Ok-Some.field-0-is) c.pass_rounds.ensures in
+    (c.in-Ok-Some.is ∙ ap (λ (o : Option ℕ). Ok o) c.in-Ok-Some.field-0-is) c.pass_rounds.ensures.passes in
     let begun : IsPrintedBegun (λ (given : Answer) (text : Text). Settles c.args.most (record c.args.simulation.now { is_settled = false }) given text (record c.pass_rounds.new.simulation { is_settled = true })) (g.O.Write.contents c.args.out.now) (g.O.Write.contents c.args.out.now) =
     record { answer = Ok tt; text = (settled_line (c.in-Ok-Some.rounds - c.longest_dead-still.result) c.longest_dead-still.result); is_so = so; begun = nothing_begun _ _ } in
     whatever _ begun
@@ -31,7 +31,7 @@ pub returns-in_err-write-in-Ok-Some-clause-begun : goal.returns-in_err-write-in-
 returns-in_err-write-in-Ok-Some-clause-begun g c =
     let so : Settles c.args.most (record c.args.simulation.now { is_settled = false }) (Ok tt) (settled_line (c.in-Ok-Some.rounds - c.longest_dead-still.result) c.longest_dead-still.result) (record c.pass_rounds.new.simulation { is_settled = true }) =
     settled_so c.args.most c.longest_dead-still.result (record c.args.simulation.now { is_settled = false }) c.pass_rounds.new.simulation c.pass_rounds.result c.in-Ok-Some.rounds (c.longest_dead-still.ensures ∙ ap (fold longer_in 0) c.slots.ensures)
-    (c.in-Ok-Some.is ∙ ap (λ (o : Option ℕ). Ok o) c.in-Ok-Some.field-0-is) c.pass_rounds.ensures in
+    (c.in-Ok-Some.is ∙ ap (λ (o : Option ℕ). Ok o) c.in-Ok-Some.field-0-is) c.pass_rounds.ensures.passes in
     let same : c.deref.result.now ≡ (settled_line (c.in-Ok-Some.rounds - c.longest_dead-still.result) c.longest_dead-still.result) = c.deref.ensures ∙ c.in_ok-line-in-Ok-Some.ensures in
     let begun : IsPrintedBegun (λ (given : Answer) (text : Text). Settles c.args.most (record c.args.simulation.now { is_settled = false }) given text (record c.pass_rounds.new.simulation { is_settled = true })) (g.O.Write.contents c.args.out.now) (g.O.Write.contents c.write.new.out) = record {
       answer = Ok tt;
@@ -45,7 +45,7 @@ pub returns-in_ok-write-in-Ok-Some-clause-settles : goal.returns-in_ok-write-in-
 returns-in_ok-write-in-Ok-Some-clause-settles g c =
     let so : Settles c.args.most (record c.args.simulation.now { is_settled = false }) (Ok tt) (settled_line (c.in-Ok-Some.rounds - c.longest_dead-still.result) c.longest_dead-still.result) (record c.pass_rounds.new.simulation { is_settled = true }) =
     settled_so c.args.most c.longest_dead-still.result (record c.args.simulation.now { is_settled = false }) c.pass_rounds.new.simulation c.pass_rounds.result c.in-Ok-Some.rounds (c.longest_dead-still.ensures ∙ ap (fold longer_in 0) c.slots.ensures)
-    (c.in-Ok-Some.is ∙ ap (λ (o : Option ℕ). Ok o) c.in-Ok-Some.field-0-is) c.pass_rounds.ensures in
+    (c.in-Ok-Some.is ∙ ap (λ (o : Option ℕ). Ok o) c.in-Ok-Some.field-0-is) c.pass_rounds.ensures.passes in
     let same : c.deref.result.now ≡ (settled_line (c.in-Ok-Some.rounds - c.longest_dead-still.result) c.longest_dead-still.result) = c.deref.ensures ∙ c.in_ok-line-in-Ok-Some.ensures in
     record {
       text = (settled_line (c.in-Ok-Some.rounds - c.longest_dead-still.result) c.longest_dead-still.result);
@@ -57,7 +57,7 @@ pub returns-in_err-line-in-Ok-None-clause-begun : goal.returns-in_err-line-in-Ok
 returns-in_err-line-in-Ok-None-clause-begun g c =
     let so : Settles c.args.most (record c.args.simulation.now { is_settled = false }) (Ok tt) (unsettled_line c.args.most c.longest_dead-still.result) c.pass_rounds.new.simulation =
     unsettled_so c.args.most c.longest_dead-still.result (record c.args.simulation.now { is_settled = false }) c.pass_rounds.new.simulation c.pass_rounds.result (c.longest_dead-still.ensures ∙ ap (fold longer_in 0) c.slots.ensures)
-    (c.in-Ok-None.is ∙ ap (λ (o : Option ℕ). Ok o) c.in-Ok-None.field-0-is) c.pass_rounds.ensures in
+    (c.in-Ok-None.is ∙ ap (λ (o : Option ℕ). Ok o) c.in-Ok-None.field-0-is) c.pass_rounds.ensures.passes in
     let begun : IsPrintedBegun (λ (given : Answer) (text : Text). Settles c.args.most (record c.args.simulation.now { is_settled = false }) given text c.pass_rounds.new.simulation) (g.O.Write.contents c.args.out.now) (g.O.Write.contents c.args.out.now) =
     record { answer = Ok tt; text = (unsettled_line c.args.most c.longest_dead-still.result); is_so = so; begun = nothing_begun _ _ } in
     whatever _ begun
@@ -69,7 +69,7 @@ pub returns-in_err-write-in-Ok-None-clause-begun : goal.returns-in_err-write-in-
 returns-in_err-write-in-Ok-None-clause-begun g c =
     let so : Settles c.args.most (record c.args.simulation.now { is_settled = false }) (Ok tt) (unsettled_line c.args.most c.longest_dead-still.result) c.pass_rounds.new.simulation =
     unsettled_so c.args.most c.longest_dead-still.result (record c.args.simulation.now { is_settled = false }) c.pass_rounds.new.simulation c.pass_rounds.result (c.longest_dead-still.ensures ∙ ap (fold longer_in 0) c.slots.ensures)
-    (c.in-Ok-None.is ∙ ap (λ (o : Option ℕ). Ok o) c.in-Ok-None.field-0-is) c.pass_rounds.ensures in
+    (c.in-Ok-None.is ∙ ap (λ (o : Option ℕ). Ok o) c.in-Ok-None.field-0-is) c.pass_rounds.ensures.passes in
     let same : c.deref-in-Ok-None.result.now ≡ (unsettled_line c.args.most c.longest_dead-still.result) = c.deref-in-Ok-None.ensures ∙ c.in_ok-line-in-Ok-None.ensures in
     let begun : IsPrintedBegun (λ (given : Answer) (text : Text). Settles c.args.most (record c.args.simulation.now { is_settled = false }) given text c.pass_rounds.new.simulation) (g.O.Write.contents c.args.out.now) (g.O.Write.contents c.write-in-Ok-None.new.out) = record {
       answer = Ok tt;
@@ -83,7 +83,7 @@ pub returns-in_ok-write-in-Ok-None-clause-settles : goal.returns-in_ok-write-in-
 returns-in_ok-write-in-Ok-None-clause-settles g c =
     let so : Settles c.args.most (record c.args.simulation.now { is_settled = false }) (Ok tt) (unsettled_line c.args.most c.longest_dead-still.result) c.pass_rounds.new.simulation =
     unsettled_so c.args.most c.longest_dead-still.result (record c.args.simulation.now { is_settled = false }) c.pass_rounds.new.simulation c.pass_rounds.result (c.longest_dead-still.ensures ∙ ap (fold longer_in 0) c.slots.ensures)
-    (c.in-Ok-None.is ∙ ap (λ (o : Option ℕ). Ok o) c.in-Ok-None.field-0-is) c.pass_rounds.ensures in
+    (c.in-Ok-None.is ∙ ap (λ (o : Option ℕ). Ok o) c.in-Ok-None.field-0-is) c.pass_rounds.ensures.passes in
     let same : c.deref-in-Ok-None.result.now ≡ (unsettled_line c.args.most c.longest_dead-still.result) = c.deref-in-Ok-None.ensures ∙ c.in_ok-line-in-Ok-None.ensures in
     record {
       text = (unsettled_line c.args.most c.longest_dead-still.result);
@@ -94,6 +94,6 @@ returns-in_ok-write-in-Ok-None-clause-settles g c =
 pub returns-in-Err-clause-settles : goal.returns-in-Err-clause-settles
 returns-in-Err-clause-settles g c = record {
   text = [];
-  is_so = ended_so c.args.most c.longest_dead-still.result (record c.args.simulation.now { is_settled = false }) c.pass_rounds.new.simulation c.pass_rounds.result c.in-Err.fault (c.longest_dead-still.ensures ∙ ap (fold longer_in 0) c.slots.ensures) c.in-Err.is c.pass_rounds.ensures;
+  is_so = ended_so c.args.most c.longest_dead-still.result (record c.args.simulation.now { is_settled = false }) c.pass_rounds.new.simulation c.pass_rounds.result c.in-Err.fault (c.longest_dead-still.ensures ∙ ap (fold longer_in 0) c.slots.ensures) c.in-Err.is c.pass_rounds.ensures.passes;
   written = nothing_written _;
 }
