@@ -1,5 +1,5 @@
 -- Worlds of configurations, and what runs in them.
-use Rattle.std.proofs.Common.{ap, suc, length, [], ◌≡◌, ◌∙◌, sym, subst, refl, inr, ℕ, List, ◌∷◌, Bool, true, false, Option, None, Some, Result, Ok, Err, IfOk}
+use Rattle.std.proofs.Common.{ap, suc, length, [], ◌≡◌, ◌∙◌, sym, subst, refl, inr, ℕ, List, ◌∷◌, Bool, true, false, Option, None, Some, Result, Ok, Err, IfOk, IfSome}
 use Rattle.ospf_config.specs.declared.config.Config.{Config}
 use Rattle.ospf_files.specs.Files.{text_in}
 use Rattle.ospf_files.specs.Listed.{AreConfigs, AreFilesRead, ConfigsCome}
@@ -13,9 +13,11 @@ use Rattle.ospf_commands.specs.Worlds.{WorldValue}
 use Rattle.ospf_sim.specs.Scripts.{ScriptComes}
 use Rattle.ospf_commands.specs.declared.simulation.Simulation.{Simulation}
 use Rattle.ospf_sim.specs.declared.text.Simulated.{Simulated}
-use Rattle.ospf_sim.specs.Simulations.{ComesOfScript, IsNoWorld, IsNewOf, OpensWorld, WorldComes, same_router, status_of_script}
+use Rattle.ospf_sim.specs.Simulations.{ComesOfScript, IsNoWorld, IsNewOf, IsToldFrom, IsWorldOf, OpensWorld, WorldComes, same_router, status_of_script}
 use Rattle.ospf_commands.specs.Simulations.{begun_in}
 use Rattle.ospf_headline.specs.declared.event.WorldFault.{WorldFault}
+use Rattle.ospf_rounds.specs.Progress.{ProgressRule, ToldOn}
+use Rattle.ospf_world.specs.Watching.{CameRule, ComesRule}
 use Rattle.ospf_world.specs.Worlds as worlds
 use Rattle.ospf_world.specs.Worlds.{Begins, NoMemory, SameRouter, new_world}
 use Rattle.ospf_sim.specs.Twins.{AreTwinsTold}
@@ -106,3 +108,30 @@ pub is_new : (configs : List Config) (w : WorldValue) → worlds.Opens configs (
 is_new configs w (Begins apart same) = (apart, same_world w (new_world configs) (Ok w) refl same)
 is_new configs w (SameRouter twins same) = absurd (cc same)
 is_new configs w (NoMemory same) = absurd (cc same)
+
+world_found : (found : Option WorldValue) (start : WorldValue) (files : List NamedFile) (x y : Option (List ℕ)) → found ≡ Some start → WorldComes files found x y → IsWorldOf files start
+world_found None start files x y is comes = absurd (cc is)
+world_found (Some w) start files x y is comes = let one : w ≡ start = cc is in subst (IsWorldOf files) one comes.0
+
+-- from a new world on a watch was told of all that led to what is left
+pub told_from : {V : Type 0} (Comes : ComesRule V) (Came : CameRule V) (GoesOn : ProgressRule V) (found : Option WorldValue) (start : WorldValue) (files : List NamedFile) (begun end : Simulation)
+    (left : Option Simulation) (before after : V) (x y : Option (List ℕ)) → found ≡ Some start → WorldComes files found x y → begun ≡ begun_in start → left ≡ Some end
+    → ToldOn Comes Came GoesOn (begun.world, before) (end.world, after) → IfSome left (λ (end : Simulation). IsToldFrom Comes Came GoesOn files before end after)
+told_from {V} Comes Came GoesOn found start files begun end left before after x y is comes begins leaves told =
+    let from : IsToldFrom Comes Came GoesOn files before end after = record {
+      start = start;
+      starts = world_found found start files x y is comes;
+      told = subst (λ (s : Simulation). ToldOn Comes Came GoesOn (s.world, before) (end.world, after)) begins told;
+    } in
+    subst (λ (o : Option Simulation). IfSome o (λ (end : Simulation). IsToldFrom Comes Came GoesOn files before end after)) (sym leaves) from
+
+-- where nothing is left, nothing is said
+pub told_of_none : {V : Type 0} (Comes : ComesRule V) (Came : CameRule V) (GoesOn : ProgressRule V) (files : List NamedFile) (left : Option Simulation) (before after : V) → left ≡ None
+    → IfSome left (λ (end : Simulation). IsToldFrom Comes Came GoesOn files before end after)
+told_of_none {V} Comes Came GoesOn files left before after none =
+    subst (λ (o : Option Simulation). IfSome o (λ (end : Simulation). IsToldFrom Comes Came GoesOn files before end after)) (sym none) tt
+
+pub told_of_unread : {V : Type 0} (Comes : ComesRule V) (Came : CameRule V) (GoesOn : ProgressRule V) (files : List NamedFile) (result : Result Simulated Failure) (before after : V)
+    → IfOk result (λ (s : Simulated). s.left ≡ None) → IfOk result (λ (s : Simulated). IfSome s.left (λ (end : Simulation). IsToldFrom Comes Came GoesOn files before end after))
+told_of_unread Comes Came GoesOn files (Ok s) before after none = told_of_none Comes Came GoesOn files s.left before after none
+told_of_unread Comes Came GoesOn files (Err f) before after none = tt

@@ -8,12 +8,14 @@ use Rattle.ospf_files.specs.declared.files.NamedFile.{NamedFile}
 use Rattle.ospf_files.specs.declared.status.Status.{Status}
 use Rattle.ospf_files.specs.declared.status.Status.TheVariants as status
 use Rattle.ospf_files.specs.Lines.{numbered_from}
+use Rattle.ospf_rounds.specs.Progress.{ProgressRule, ToldOn}
 use Rattle.ospf_sim.specs.Twins.{AreTwinsTold}
 use Rattle.ospf_sim.specs.Scripts.{EndsEarly, IsScriptRun, ScriptComes}
 use Rattle.ospf_commands.specs.Simulations.{begun_in}
 use Rattle.ospf_commands.specs.Worlds.{WorldValue}
 use Rattle.ospf_commands.specs.declared.simulation.Simulation.{Simulation}
 use Rattle.ospf_config.specs.Configs.{ShareRouter}
+use Rattle.ospf_world.specs.Watching.{CameRule, ComesRule}
 use Rattle.ospf_world.specs.Worlds.{new_world}
 use Rattle.ospf_sim.specs.declared.text.Simulated.{Simulated}
 
@@ -95,3 +97,14 @@ abbrev pub ComesOfScript : Status → NamedFile → List NamedFile → Simulated
 ComesOfScript status.Done = IsSimulated
 ComesOfScript status.Refused = IsScriptRefused
 ComesOfScript _ = λ script files simulated old new. ⊤
+
+-- ---- watches
+
+-- from a world of the configurations in the files on, a watch was told of all that led to this one:
+-- of each event, and how far the lines had come
+pub record IsToldFrom {V : Type 0} (Comes : ComesRule V) (Came : CameRule V)
+    (GoesOn : ProgressRule V) (files : List NamedFile) (before : V) (end : Simulation) (after : V)
+    : Type 0 where
+  pub start : WorldValue
+  pub starts : IsWorldOf files start
+  pub told : ToldOn Comes Came GoesOn (start, before) (end.world, after)

@@ -1,13 +1,15 @@
 //! Lines that are answered one by one, as they are given.
 
-ghost use Rattle.std.specs.Prelude.{◌≡◌, ◌≢◌, ◌⊎◌, IfErr, IfOk, OnOk};
+ghost use Rattle.std.specs.Prelude.{◌≡◌, ◌≢◌, ◌⊎◌, IfErr, IfOk, IfSome, OnOk};
 ghost use Rattle.std.specs.Io.BufRead.{ends_with_byte};
 ghost use Rattle.ospf_files.specs.declared.files.NamedFile.{NamedFile};
 ghost use Rattle.ospf_files.specs.declared.streams.FailedStreams.{FailedStreams};
 ghost use Rattle.ospf_files.specs.Listed.{IsFirstUnread};
 ghost use Rattle.ospf_files.specs.Streams.{IsOfInput, written_on};
+ghost use Rattle.ospf_rounds.specs.Progress.{ToldOn};
 ghost use Rattle.ospf_sim.specs.Begun.{IsLineCut};
 ghost use Rattle.ospf_sim.specs.Consoles.{ConsoleComes, IsLineAnswered, IsConsoleCut, IsConsoleStopped, IsConsoled, IsNoConsole, IsPiece, IsAllAnswered, IsSessionCut, IsUnreadOf};
+ghost use Rattle.ospf_sim.specs.Simulations.{IsToldFrom};
 
 use crate::script::{run_line, tell_unreadable};
 use crate::text::{Simulated, end_failed, end_unread, left_of, new_world};
@@ -67,6 +69,9 @@ pub fn console_text<R: BufRead + Drop, O: Write, E: Write, V: Watch>(
         (failed : FailedStreams) × IsConsoleStopped (R.remaining console.entry.input)
         console.entry.prompt.now files.now result.left failed result.status old new }
     ensures not_words { result.status ≢ Status.Words }
+    // Of all that led to what is left the watch was told.
+    ensures told { IfSome result.left (λ end. IsToldFrom V.comes_gives V.came_gives V.goes_on_gives
+        files.now watch.old end watch.new) }
 {
     let mut streams = FailedStreams::none();
     match converse(alloc, console, files, out, err, watch, &mut streams) {
@@ -100,6 +105,9 @@ fn converse<R: BufRead + Drop, O: Write, E: Write, V: Watch>(
         IfOk result (λ s. s.status ≡ Status.Stream) }
     ensures unwritten { (file : NamedFile) → IsFirstUnread file files.now →
         O.contents out.new ≡ O.contents out.old }
+    // Of all that led to what is left the watch was told.
+    ensures told { IfOk result (λ s. IfSome s.left (λ end. IsToldFrom V.comes_gives V.came_gives
+        V.goes_on_gives files.now watch.old end watch.new)) }
     // A failure cuts it, and what is written is a beginning.
     ensures cut { let old = written_on (O.contents out.old) (E.contents err.old) in
         let new = written_on (O.contents out.new) (E.contents err.new) in
@@ -138,6 +146,8 @@ fn answer_lines<R: BufRead + Drop, O: Write, E: Write, V: Watch>(
         let new = written_on (O.contents out.new) (E.contents err.new) in
         IfErr result (IsSessionCut (R.remaining console.entry.input)
         console.entry.prompt.now simulation.old streams.new old new) }
+    ensures told { ToldOn V.comes_gives V.came_gives V.goes_on_gives
+        (simulation.old.world, watch.old) (simulation.new.world, watch.new) }
 {
     let Console { mut input, prompt } = console;
     let mut piece = Vec::new(alloc);
@@ -201,6 +211,8 @@ fn answer_line<O: Write, E: Write, V: Watch>(
         let new = written_on (O.contents out.new) (E.contents err.new) in
         IfErr result (IsLineCut line.now.number line.now.text.now
         simulation.old streams.new old new) }
+    ensures told { ToldOn V.comes_gives V.came_gives V.goes_on_gives
+        (simulation.old.world, watch.old) (simulation.new.world, watch.new) }
 {
     if run_line(simulation, line, out, err, alloc, watch, streams)? {
         Ok(())

@@ -3,6 +3,7 @@
 ghost use Rattle.std.specs.Prelude.{◌≡◌, [], IfErr, IfOk, OnOk, string_bytes};
 ghost use Rattle.std.specs.Io.KnownBytes.{Appends};
 ghost use Rattle.ospf_files.specs.Streams.{written_on};
+ghost use Rattle.ospf_rounds.specs.Progress.{ToldOn};
 ghost use Rattle.ospf_sim.specs.Begun.{IsEventAnswerCut, IsLineCut, IsScriptCut, IsTellingCut};
 ghost use Rattle.ospf_sim.specs.Scripts.{LineComes, ScriptComes, hint_line, not_a_command_line, world_refusal_line, told_of, unreadable_line};
 
@@ -32,6 +33,8 @@ pub(crate) fn run_script<O: Write, E: Write, V: Watch>(
     ensures cut { let old = written_on (O.contents out.old) (E.contents err.old) in
         let new = written_on (O.contents out.new) (E.contents err.new) in
         IfErr result (IsScriptCut script.now simulation.old streams.new old new) }
+    ensures told { ToldOn V.comes_gives V.came_gives V.goes_on_gives
+        (simulation.old.world, watch.old) (simulation.new.world, watch.new) }
 {
     let lines = lines(alloc, script)?;
     for line in &lines {
@@ -63,6 +66,8 @@ pub(crate) fn run_line<O: Write, E: Write, V: Watch>(
         let new = written_on (O.contents out.new) (E.contents err.new) in
         IfErr result (IsLineCut line.now.number line.now.text.now
         simulation.old streams.new old new) }
+    ensures told { ToldOn V.comes_gives V.came_gives V.goes_on_gives
+        (simulation.old.world, watch.old) (simulation.new.world, watch.new) }
 {
     match Command::read(alloc, line.text) {
         Ok(None) => Ok(true),

@@ -9,7 +9,7 @@ ghost use Rattle.ospf_files.specs.Listed.{AreFilesRead, IsFirstUnread};
 ghost use Rattle.ospf_files.specs.Status.{failure_line, failure_status};
 ghost use Rattle.ospf_files.specs.Streams.{IsBegun, IsErrorCut, IsTold, written_on};
 ghost use Rattle.ospf_sim.specs.Begun.{IsSimulationCut, IsOpeningCut, IsWorldCut};
-ghost use Rattle.ospf_sim.specs.Simulations.{ComesOfScript, IsScriptRefused, IsSimulated, OpensWorld, WorldComes, status_of_script};
+ghost use Rattle.ospf_sim.specs.Simulations.{ComesOfScript, IsScriptRefused, IsSimulated, IsToldFrom, OpensWorld, WorldComes, status_of_script};
 ghost use Rattle.ospf_sim.specs.Stopped.{IsStopped, IsScriptUnreadTold};
 ghost use Rattle.ospf_files.specs.Twins.{AreFirstTwins};
 ghost use Rattle.ospf_sim.specs.Twins.{AreTwinsTold};
@@ -87,6 +87,9 @@ pub fn sim_text<O: Write, E: Write, V: Watch>(
         (failed : FailedStreams)
         × IsStopped script.now files.now result.left failed result.status old new }
     ensures not_words { result.status ≢ Status.Words }
+    // Of all that led to what is left the watch was told.
+    ensures told { IfSome result.left (λ end. IsToldFrom V.comes_gives V.came_gives V.goes_on_gives
+        files.now watch.old end watch.new) }
 {
     let mut streams = FailedStreams::none();
     match simulate(alloc, script, files, out, err, watch, &mut streams) {
@@ -120,6 +123,9 @@ fn simulate<O: Write, E: Write, V: Watch>(
         IfOk result (λ s. s.status ≡ Status.Stream) }
     ensures unwritten { (file : NamedFile) → IsFirstUnread file (script.now ∷ files.now) →
         O.contents out.new ≡ O.contents out.old }
+    // Of all that led to what is left the watch was told.
+    ensures told { IfOk result (λ s. IfSome s.left (λ end. IsToldFrom V.comes_gives V.came_gives
+        V.goes_on_gives files.now watch.old end watch.new)) }
     // A failure cuts it, and what is written is a beginning.
     ensures cut { let old = written_on (O.contents out.old) (E.contents err.old) in
         let new = written_on (O.contents out.new) (E.contents err.new) in

@@ -40,6 +40,14 @@ impl<R: Runtime + Clock + Drop, T: Write + Drop, F: Write + Drop> Screen<R, T, F
 }
 
 impl<R: Runtime + Clock + Drop, T: Write + Drop, F: Write + Drop> EventWatch for Screen<R, T, F> {
+    ghost use Rattle.ospf_sim.specs.Followed.{FollowsEvent, LooksAhead};
+
+    // The journal is told of it, as it promises to be.
+    ghost comes_gives = { λ w event old new. LooksAhead w event old.events new.events };
+
+    ghost came_gives = { λ w event answer old new. FollowsEvent w event answer old.events
+        new.events };
+
     fn comes(&mut self, world: &World, event: &WorldEvent) {
         self.events.comes(world, event);
     }
@@ -51,6 +59,11 @@ impl<R: Runtime + Clock + Drop, T: Write + Drop, F: Write + Drop> EventWatch for
 }
 
 impl<R: Runtime + Clock + Drop, T: Write + Drop, F: Write + Drop> Watch for Screen<R, T, F> {
+    ghost use Rattle.std.specs.Prelude.{◌≡◌};
+
+    // The journal stays.
+    ghost goes_on_gives = { λ old new. new.events ≡ old.events };
+
     fn begins_round(&mut self, done: u64, count: u64) {
         if let Some(terminal) = self.line.begin(&self.rt) {
             let _ = write!(terminal, "\r\x1b[K{done} of {count} rounds");

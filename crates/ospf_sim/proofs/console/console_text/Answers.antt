@@ -2,6 +2,7 @@ use Rattle.std.proofs.Common.{inl, subst}
 use Rattle.ospf_files.specs.declared.status.Status.{Status}
 use Rattle.ospf_files.specs.Streams.{written_on}
 use Rattle.ospf_sim.specs.Consoles.{ConsoleComes, is_failure}
+use Rattle.ospf_sim.proofs.Worlds.{told_of_none}
 use Rattle.ospf_sim.proofs.Consoles.{console_unread}
 use Rattle.ospf_sim.proofs.console.console_text.Goals as goal
 
@@ -34,3 +35,6 @@ returns-in-Err-clause-stopped g c = λ _. (
     status_is = c.end_failed.ensures.status;
   }),
 )
+
+pub returns-in-Err-clause-told : goal.returns-in-Err-clause-told
+returns-in-Err-clause-told g c = told_of_none _ _ _ _ _ _ _ c.end_failed.ensures.left

@@ -5,7 +5,7 @@ use Rattle.ospf_files.specs.declared.status.Status.{Status}
 use Rattle.ospf_sim.specs.Consoles.{ConsoleComes, IsConsoleCut, IsNoConsole, in_unread, in_world}
 use Rattle.ospf_sim.proofs.Consoles.{consoled, session_cut, unread_of_told}
 use Rattle.ospf_sim.proofs.Files.{none_unread}
-use Rattle.ospf_sim.proofs.Worlds.{no_world_told}
+use Rattle.ospf_sim.proofs.Worlds.{no_world_told, told_from, told_of_none, told_of_unread}
 use Rattle.ospf_sim.proofs.console.converse.Goals as goal
 
 pub returns-in-Some-clause-stream : goal.returns-in-Some-clause-stream
@@ -61,3 +61,13 @@ returns-in-None-clause-comes g c =
 
 pub returns-in-None-clause-unread : goal.returns-in-None-clause-unread
 returns-in-None-clause-unread g c = λ file first. absurd (none_unread _ file c.in_default.ensures.none first)
+
+pub returns-in_ok-answer_lines-in-Some-2-clause-told : goal.returns-in_ok-answer_lines-in-Some-2-clause-told
+returns-in_ok-answer_lines-in-Some-2-clause-told g c =
+    told_from _ _ _ c.in_ok-world.field-0 c.in-Some-2.world _ _ _ _ _ _ _ _ c.in-Some-2.is c.in_ok-world.ensures.comes c.new-started.ensures c.left_of.ensures.left c.answer_lines.ensures.told
+
+pub returns-in-None-clause-told : goal.returns-in-None-clause-told
+returns-in-None-clause-told g c = told_of_none _ _ _ _ _ _ _ c.without.ensures.left
+
+pub returns-in-Some-clause-told : goal.returns-in-Some-clause-told
+returns-in-Some-clause-told g c = told_of_unread _ _ _ _ c.end_unread.result _ _ c.end_unread.ensures.left

@@ -1,7 +1,8 @@
-use Rattle.std.proofs.Common.{[], refl}
+use Rattle.std.proofs.Common.{[], refl, rules}
 use Rattle.ospf_files.proofs.Cut.{for_failure}
 use Rattle.ospf_files.proofs.Written.{nothing_written}
 use Rattle.ospf_files.specs.Streams.{written_on}
+use Rattle.ospf_rounds.proofs.ProgressFacts.{on_further, on_nowhere, on_word}
 use Rattle.ospf_sim.specs.Begun.{IsLineCut, in_print, no_room_for}
 use Rattle.ospf_sim.specs.Scripts.{is_passed_over}
 use Rattle.ospf_sim.proofs.Cuts.{refusal_cut}
@@ -43,3 +44,21 @@ returns-in_err-tell_answer-in-Ok-Some-clause-cut g c =
 
 pub returns-in-Err-Memory-clause-cut : goal.returns-in-Err-Memory-clause-cut
 returns-in-Err-Memory-clause-cut g c = no_room_for (c.in-Err-Memory.ensures.memory c.in-Err-Memory.field-0-is) refl
+
+pub returns-in-Ok-None-clause-told : goal.returns-in-Ok-None-clause-told
+returns-in-Ok-None-clause-told g c = search (rules, on_nowhere)
+
+pub returns-in_ok-tell_answer-in-Ok-Some-clause-told : goal.returns-in_ok-tell_answer-in-Ok-Some-clause-told
+returns-in_ok-tell_answer-in-Ok-Some-clause-told g c = search (rules, on_further, on_word)
+
+pub returns-in_err-tell_answer-in-Ok-Some-clause-told : goal.returns-in_err-tell_answer-in-Ok-Some-clause-told
+returns-in_err-tell_answer-in-Ok-Some-clause-told g c = search (rules, on_further, on_word)
+
+pub returns-in_err-answer-in-Ok-Some-clause-told : goal.returns-in_err-answer-in-Ok-Some-clause-told
+returns-in_err-answer-in-Ok-Some-clause-told g c = c.run_command.ensures.told
+
+pub returns-in-Err-NotACommand-clause-told : goal.returns-in-Err-NotACommand-clause-told
+returns-in-Err-NotACommand-clause-told g c = on_nowhere _ _ _ _ _ refl
+
+pub returns-in-Err-Memory-clause-told : goal.returns-in-Err-Memory-clause-told
+returns-in-Err-Memory-clause-told g c = on_nowhere _ _ _ _ _ refl

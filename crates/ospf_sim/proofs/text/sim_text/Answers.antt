@@ -2,6 +2,7 @@ use Rattle.std.proofs.Common.{inl, subst}
 use Rattle.ospf_files.specs.Streams.{written_on}
 use Rattle.ospf_sim.specs.Simulations.{ComesOfScript}
 use Rattle.ospf_sim.specs.Stopped.{is_failure}
+use Rattle.ospf_sim.proofs.Worlds.{told_of_none}
 use Rattle.ospf_sim.proofs.Files.{stopped_unread}
 use Rattle.ospf_sim.proofs.text.sim_text.Goals as goal
 
@@ -28,3 +29,6 @@ returns-in-Err-clause-stopped g c = λ _. (
     status_is = c.end_failed.ensures.status;
   }),
 )
+
+pub returns-in-Err-clause-told : goal.returns-in-Err-clause-told
+returns-in-Err-clause-told g c = told_of_none _ _ _ _ _ _ _ c.end_failed.ensures.left

@@ -8,7 +8,7 @@ use Rattle.ospf_sim.specs.Simulations.{ComesOfScript, IsScriptRefused}
 use Rattle.ospf_sim.specs.Begun.{IsSimulationCut, IsScriptCut, in_unread, in_world}
 use Rattle.ospf_sim.proofs.Cuts.{script_cut}
 use Rattle.ospf_sim.proofs.Files.{none_unread, unread_told}
-use Rattle.ospf_sim.proofs.Worlds.{found_runs, no_world_told, runs_to}
+use Rattle.ospf_sim.proofs.Worlds.{found_runs, no_world_told, runs_to, told_from, told_of_none, told_of_unread}
 use Rattle.ospf_commands.specs.declared.simulation.Simulation.{Simulation}
 use Rattle.ospf_sim.proofs.text.simulate.Goals as goal
 
@@ -66,3 +66,13 @@ returns-in-None-clause-comes g c =
 
 pub returns-in-None-clause-unread : goal.returns-in-None-clause-unread
 returns-in-None-clause-unread g c = λ file first. absurd (none_unread _ file c.in_default.ensures.none first)
+
+pub returns-in_ok-whole-in-Some-2-clause-told : goal.returns-in_ok-whole-in-Some-2-clause-told
+returns-in_ok-whole-in-Some-2-clause-told g c =
+    told_from _ _ _ c.in_ok-world.field-0 c.in-Some-2.world _ _ _ _ _ _ _ _ c.in-Some-2.is c.in_ok-world.ensures.comes c.new-started.ensures c.left_of.ensures.left c.run_script.ensures.told
+
+pub returns-in-None-clause-told : goal.returns-in-None-clause-told
+returns-in-None-clause-told g c = told_of_none _ _ _ _ _ _ _ c.without.ensures.left
+
+pub returns-in-Some-clause-told : goal.returns-in-Some-clause-told
+returns-in-Some-clause-told g c = told_of_unread _ _ _ _ c.end_unread.result _ _ c.end_unread.ensures.left
