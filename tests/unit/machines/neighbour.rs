@@ -1,6 +1,7 @@
 //! The table of the state machine, each pair of state and event, a neighbour's lists, and the neighbours of an interface.
 
 use super::made::key_of;
+use super::states::STATES;
 use super::wired::in_exchange;
 use ospf_base::{Addr, Age, Instance, Kind, LsaKey, RouterId};
 use ospf_lsa::LsaHeader;
@@ -11,16 +12,6 @@ use ospf_neighbour::{
 use std::alloc::Global;
 use std::fmt::Write;
 use std::test::Fail;
-
-const STATES: [NeighbourState; 7] = [
-    NeighbourState::Down,
-    NeighbourState::Init,
-    NeighbourState::TwoWay,
-    NeighbourState::ExStart,
-    NeighbourState::Exchange,
-    NeighbourState::Loading,
-    NeighbourState::Full,
-];
 
 const EVENTS: [NbrEvent; 13] = [
     NbrEvent::HelloReceived,

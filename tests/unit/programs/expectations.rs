@@ -1,6 +1,7 @@
 //! Whether a router is as it is expected to be, and what is printed where it is not.
 
 use super::made::{FIRST, SECOND};
+use super::states::STATES;
 use super::worlds::{OTHER, start, world_of};
 use ospf_base::Addr;
 use ospf_commands::{is_met, write_unmet};
@@ -14,16 +15,6 @@ use std::test::Fail;
 // The first router, alone on a network.
 const ALONE: &str =
     "router_id = \"1.1.1.1\"\narea = \"0.0.0.0\"\n[[interface]]\nkind = \"broadcast\"\naddress = \"10.1.0.1/24\"\ncost = 10\n";
-
-const STATES: [NeighbourState; 7] = [
-    NeighbourState::Down,
-    NeighbourState::Init,
-    NeighbourState::TwoWay,
-    NeighbourState::ExStart,
-    NeighbourState::Exchange,
-    NeighbourState::Loading,
-    NeighbourState::Full,
-];
 
 // What is printed of the first router where it is not as it is wanted to be.
 fn unmet(world: &World, wanted: Wanted, alloc: Global) -> Result<String, Fail> {
