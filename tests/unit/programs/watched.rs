@@ -4,6 +4,7 @@ use super::given::CONFIG;
 use ospf_files::{NamedFile, Status};
 use ospf_sim::{EventWatch, Watch, World, WorldEvent, WorldFault, sim_text};
 use std::alloc::{AllocError, Global};
+use std::process::Abort;
 use std::test::Fail;
 
 // What was told, how often.
@@ -62,8 +63,8 @@ impl Watch for Told {
     }
 }
 
-// What is told of a script in a network of one router.
-fn told_of(alloc: Global, script: &str) -> Result<Told, AllocError> {
+// What is told of a script in a network of one router, whose lines can all be read.
+fn told_of(rt: &impl Abort, alloc: Global, script: &str) -> Result<Told, AllocError> {
     let script = NamedFile {
         name: String::from_str(alloc, "script")?,
         bytes: Some(script.as_bytes().to_vec(alloc)?),
@@ -75,9 +76,7 @@ fn told_of(alloc: Global, script: &str) -> Result<Told, AllocError> {
     let (mut out, mut err) = (Vec::new(alloc), Vec::new(alloc));
     let mut told = NOTHING;
     let simulated = sim_text(alloc, &script, &files, &mut out, &mut err, &mut told);
-    if simulated.status != Status::Done {
-        told.lines = 0;
-    }
+    assert_eq!(rt; simulated.status, Status::Done);
     Ok(told)
 }
 
@@ -85,7 +84,7 @@ fn told_of(alloc: Global, script: &str) -> Result<Told, AllocError> {
 #[test]
 fn rounds_and_refusals(rt: HostRuntime) -> Result<(), Fail> {
     let script = "# a comment\n\nstart all\ntick 9.9.9.9\nround 3\nloss 50 1\nround 2\nbatch 4\n";
-    let told = told_of(rt.alloc(), script)?;
+    let told = told_of(&rt, rt.alloc(), script)?;
     let expected = Told {
         starts: 1,
         ticks: 10,
@@ -103,9 +102,9 @@ fn rounds_and_refusals(rt: HostRuntime) -> Result<(), Fail> {
 #[test]
 fn draws_and_questions(rt: HostRuntime) -> Result<(), Fail> {
     let alloc = rt.alloc();
-    let asked = told_of(alloc, "say hello\nlabel on\nexpect agree\ntable 1.1.1.1\n")?;
+    let asked = told_of(&rt, alloc, "say hello\nlabel on\nexpect agree\ntable 1.1.1.1\n")?;
     assert_eq!(rt; asked, Told { lines: 4, ..NOTHING });
-    let drawn = told_of(alloc, "random 5 10001\n")?;
+    let drawn = told_of(&rt, alloc, "random 5 10001\n")?;
     assert_eq!(rt; (drawn.draws, drawn.rounds, drawn.lines), (2, 0, 1));
     assert_eq!(rt; drawn.over, drawn.starts + drawn.ticks + drawn.others);
     assert!(rt; drawn.over <= 10_001 && 0 < drawn.over);
