@@ -13,6 +13,22 @@ use ospf_neighbour::NeighbourState;
 use ospf_spf::{self as spf, RouteTable};
 use std::alloc::{AllocError, Global};
 
+/// The place of a state among those of a neighbour, in their order, from 0 (RFC 2328, section
+/// 10.1).
+pub fn state_place(state: NeighbourState) -> u8
+    ensures { result ≡ state_place state }
+{
+    match state {
+        NeighbourState::Down => 0,
+        NeighbourState::Init => 1,
+        NeighbourState::TwoWay => 2,
+        NeighbourState::ExStart => 3,
+        NeighbourState::Exchange => 4,
+        NeighbourState::Loading => 5,
+        NeighbourState::Full => 6,
+    }
+}
+
 /// Adds that the router has started or stopped, if it has.
 pub(crate) fn push_run(
     changes: &mut Vec<RouterChange>,
@@ -225,22 +241,6 @@ fn push_state(
         })?;
     }
     Ok(())
-}
-
-/// The place of a state among those of a neighbour, in their order, from 0 (RFC 2328, section
-/// 10.1).
-pub fn state_place(state: NeighbourState) -> u8
-    ensures { result ≡ state_place state }
-{
-    match state {
-        NeighbourState::Down => 0,
-        NeighbourState::Init => 1,
-        NeighbourState::TwoWay => 2,
-        NeighbourState::ExStart => 3,
-        NeighbourState::Exchange => 4,
-        NeighbourState::Loading => 5,
-        NeighbourState::Full => 6,
-    }
 }
 
 // The neighbours of a link; none where there is no link.
