@@ -2,7 +2,7 @@
 import socket
 import struct
 
-HELLO, DESCRIPTION = 1, 2
+HELLO, DESCRIPTION, UPDATE = 1, 2, 4
 OPTIONS = 0x02
 INIT, MORE, MASTER = 4, 2, 1
 AT_RANDOM = 0x1234
@@ -36,6 +36,21 @@ def hello(router, mask, heard, interval=10, **header_fields):
 def description(router, flags, sequence, headers=(), mtu=1500):
     body = struct.pack(">HBBI", mtu, OPTIONS, flags, sequence)
     return packet(DESCRIPTION, router, body + b"".join(headers))
+
+
+def update(router, lsas):
+    return packet(UPDATE, router, struct.pack(">I", len(lsas)) + b"".join(lsas))
+
+
+def summed(lsa):
+    """An LSA with its LS checksum, Fletcher's of all but its age (RFC 905, annex B)."""
+    first = second = 0
+    for byte in lsa[2:16] + bytes(2) + lsa[18:]:
+        first = (first + byte) % 255
+        second = (second + first) % 255
+    high = ((len(lsa) - 17) * first - second) % 255 or 255
+    low = (-first - high) % 255 or 255
+    return lsa[:16] + bytes([high, low]) + lsa[18:]
 
 
 def header(kind, link_state_id, router):

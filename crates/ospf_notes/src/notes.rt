@@ -7,9 +7,11 @@ ghost use Rattle.ospf_records.specs.Pcap.{file_header};
 
 use crate::capture::{Capture, record_of};
 use crate::dropped::{Heard, dropped_in};
+use crate::faulty::Faulty;
 use crate::line::StatusLine;
 use crate::misfits::{MisfitShown, Misfits};
-use crate::others::{DescribedShown, Others};
+use crate::others::Others;
+use crate::refused::{RefusedLsa, RefusedShown};
 use crate::tables::Tables;
 use ospf_base::{Addr, RouterId};
 use ospf_config::Interface;
@@ -134,7 +136,10 @@ impl<R: Wait + Clock + Copy + Drop, F: Write + Drop, T: Write + Drop, O: Write +
 
     // What is noted of a step of the router.
     fn follow(&mut self, router: &Router, step: &Step) {
-        self.tell_others(router);
+        let other = self.teller.other_due(router);
+        self.tell_refused(other);
+        let faulty = self.teller.faulty.due(router);
+        self.tell_refused(faulty);
         let dropped = dropped_in(step, self.heard.take());
         self.tell_misfit(router, dropped);
         if let (Some(counts), Some(at)) = (&mut self.counts, dropped) {
@@ -164,17 +169,14 @@ impl<R: Wait + Clock + Copy + Drop, F: Write + Drop, T: Write + Drop, O: Write +
         all.log(self.alloc, self.ticks, self.teller.router, changes);
     }
 
-    // Tells of a neighbour that describes an LSA which the router refuses, once.
-    fn tell_others(&mut self, router: &Router) {
-        let due = match &mut self.teller.others {
-            Some(others) => others.due(router),
-            None => None,
+    // Tells of a neighbour that has an LSA which the router refuses, if one is to be told of.
+    fn tell_refused(&mut self, due: Option<RefusedLsa>) {
+        let Some(refused) = due else {
+            return;
         };
-        if let Some(described) = due {
-            let file = &self.teller.file;
-            let mut all = self.shared.lock(&self.rt);
-            all.tell(DescribedShown { file, described });
-        }
+        let file = &self.teller.file;
+        let mut all = self.shared.lock(&self.rt);
+        all.tell(RefusedShown { file, refused });
     }
 
     // Tells of a packet that the router dropped for how it or its sender is set, once.
@@ -247,6 +249,7 @@ impl<R: Wait + Clock + Copy + Drop, F: Write + Drop, T: Write + Drop, O: Write +
         if let Some(others) = &mut self.teller.others {
             others.hears(link, packet);
         }
+        self.teller.faulty.hears(link, packet);
         self.teller.misfits.hears(packet);
         self.heard = Some(Heard { link, source });
     }
@@ -436,6 +439,7 @@ struct Teller {
     router: RouterId,
     file: String,
     others: Option<Others>,
+    faulty: Faulty,
     misfits: Misfits,
 }
 
@@ -446,6 +450,7 @@ impl Teller {
             router: RouterId(0),
             file: String::new(alloc),
             others: None,
+            faulty: Faulty::new(alloc),
             misfits: Misfits::new(alloc),
         }
     }
@@ -457,8 +462,17 @@ impl Teller {
             router: config.router_id,
             file,
             others,
+            faulty: Faulty::new(alloc),
             misfits: Misfits::new(alloc),
         })
+    }
+
+    // What is to be told of an LSA of an LS type that the router refuses.
+    fn other_due(&mut self, router: &Router) -> Option<RefusedLsa> {
+        match &mut self.others {
+            Some(others) => others.due(router),
+            None => None,
+        }
     }
 }
 
