@@ -5,3 +5,4 @@ pub mod Details
 pub mod Drops
 pub mod Offered
 pub mod Datagrams
+pub mod Sight

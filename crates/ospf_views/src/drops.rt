@@ -3,7 +3,6 @@
 ghost use Rattle.std.specs.Fmt.{WritesOnOk};
 ghost use Rattle.std.specs.Prelude.{◌≡◌, IfOk, string_bytes};
 ghost use Rattle.ospf_packet.specs.PacketOf.{packet_of};
-ghost use Rattle.ospf_views.specs.Details.{detail_on};
 ghost use Rattle.ospf_views.specs.Drops.{detail_for, detail_words, drop_reason, dropped_detail, reason_line};
 
 use crate::detail::{Detail, detail_of};
