@@ -10,7 +10,7 @@ use Rattle.ospf_router.specs.Steps.{is_dropped}
 use Rattle.ospf_world.specs.Worlds.{WorldValue, is_slot_of, world_of}
 use Rattle.ospf_commands.specs.Agreement.{AgreedListTheSame, AgreedWalksMayArrive}
 use Rattle.ospf_commands.specs.Judged.{AllList, AreFirstToDiffer, IsFirstOther, ListsIfRuns, NoneRuns, all_list, both, none_runs, one_lists_otherwise, one_runs}
-use Rattle.ospf_commands.specs.Settling.{area_listed}
+use Rattle.ospf_views.specs.Sight.{area_listed}
 use Rattle.ospf_commands.specs.Worlds.{SlotValue}
 use Rattle.ospf_commands.proofs.Apart.{lists_if_stopped}
 use Rattle.ospf_commands.proofs.Headers.{same_instances}

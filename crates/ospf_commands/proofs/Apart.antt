@@ -5,7 +5,7 @@ use Rattle.ospf_headline.specs.World.{Running}
 use Rattle.ospf_router.specs.Routers.{RouterValue}
 use Rattle.ospf_world.specs.Worlds.{IsLent}
 use Rattle.ospf_commands.specs.Judged.{AreFirstToDiffer, IsFirstOther, ListsIfRuns, all_list, both, none_runs, one_lists_otherwise, one_runs}
-use Rattle.ospf_commands.specs.Settling.{area_listed}
+use Rattle.ospf_views.specs.Sight.{area_listed}
 use Rattle.ospf_commands.specs.Worlds.{SlotValue}
 
 -- a router that does not run is passed over

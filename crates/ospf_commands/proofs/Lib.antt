@@ -7,5 +7,4 @@ pub mod Apart
 pub mod Same
 pub mod Headers
 pub mod Agreed
-pub mod Kept
 pub mod Among

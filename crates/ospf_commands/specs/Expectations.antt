@@ -1,5 +1,5 @@
 -- What is expected of a router, and what is printed where it is not so.
-use Rattle.std.specs.Prelude.{◌≡◌, ◌⊎◌, ◌<◌, ℕ, ◌==◌, ◌&&◌, Bool, true, false, not, if◌then◌else◌, List, [], ◌++◌, All, Any, Contains, IsTrue, Option, None, Some, codes, slice_get, unwrap_or}
+use Rattle.std.specs.Prelude.{◌≡◌, ◌⊎◌, ℕ, ◌==◌, ◌&&◌, Bool, true, false, not, if◌then◌else◌, List, [], ◌++◌, All, Any, Contains, IsTrue, Option, None, Some, codes, slice_get, unwrap_or}
 use Rattle.std.specs.List.{list_any}
 use Rattle.std.specs.Option.{MatchOption}
 use Rattle.ospf_area.specs.State.{AreaValue, LinkValue}
@@ -13,7 +13,7 @@ use Rattle.ospf_journal.specs.Changes.{state_place}
 use Rattle.ospf_neighbour.specs.Neighbour.{NeighbourValue}
 use Rattle.ospf_neighbour.specs.declared.machine.NeighbourState.{NeighbourState}
 use Rattle.ospf_neighbour.specs.declared.machine.NeighbourState.TheVariants as neighbour
-use Rattle.ospf_router.specs.Routers.{RouterValue, neighbours_on}
+use Rattle.ospf_router.specs.Routers.{RouterValue}
 use Rattle.ospf_script.specs.Texts.{expected_text}
 use Rattle.ospf_script.specs.Words.{Text}
 use Rattle.ospf_script.specs.declared.expected.Expected.{Expected}
@@ -63,6 +63,15 @@ is_at_state other state area =
     if is_state_down state then not (is_kept_by other area)
     else some_has_in_state other state area
 
+-- a link has no neighbour
+unfoldable pub IsLonely : LinkValue → Type 0
+IsLonely link = link.neighbours ≡ []
+
+-- the link of this number is there, of a router that runs, and has none
+abbrev pub HasNoNeighbour : ℕ → Option AreaValue → Type 0
+HasNoNeighbour link None = ⊥
+HasNoNeighbour link (Some s) = MatchOption (slice_get s.links link) ⊥ IsLonely
+
 -- the interface has this Designated Router, and this Backup, where one is given (section 9)
 abbrev pub HasElected : Addr → Option Addr → Iface → Type 0
 HasElected dr None i = i.dr ≡ dr
@@ -100,7 +109,7 @@ IsRouteAt prefix cost hops route =
 -- Router and Backup; a route of this cost by these hops; no route
 abbrev pub IsMet : Wanted → RouterValue → Type 0
 IsMet (wanted.Neighbour other state) x = IsTrue (is_at_state other state x.area)
-IsMet (wanted.NoNeighbour link) x = (link < x.links) × (neighbours_on x.area link ≡ [])
+IsMet (wanted.NoNeighbour link) x = HasNoNeighbour link x.area
 IsMet (wanted.Dr link dr backup) x = HasElectedAt link dr backup x.area
 IsMet (wanted.Route prefix cost hops) x = Any (IsRouteAt prefix cost hops.items) x.table
 IsMet (wanted.NoRoute prefix) x = IsTrue (not (list_any (is_route_to prefix) x.table))

@@ -16,7 +16,7 @@ use Rattle.ospf_script.specs.declared.expected.Expected.TheVariants as expected
 use Rattle.ospf_script.specs.declared.expected.Wanted.{Wanted}
 use Rattle.ospf_commands.specs.Expectations.{IsMet, unmet_line, unmet_lines}
 use Rattle.ospf_world.specs.declared.walk.Walk.{Walk}
-use Rattle.ospf_commands.specs.Settling.{area_listed}
+use Rattle.ospf_views.specs.Sight.{area_listed}
 use Rattle.ospf_commands.specs.Shown.{walk_line}
 use Rattle.ospf_commands.specs.Simulations.{Answer}
 use Rattle.ospf_commands.specs.Worlds.{IsNotLent, IsWalkFrom, LendsRouter, SlotValue, WorldValue}

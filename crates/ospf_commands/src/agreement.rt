@@ -3,8 +3,8 @@
 ghost use Rattle.std.specs.Prelude.{◌≡◌, IfOk};
 ghost use Rattle.ospf_commands.specs.Judged.{AreFirstToDiffer, IsFirstOther, both};
 
-use crate::sight::listed_by;
 use ospf_base::RouterId;
+use ospf_views::listed_by;
 use ospf_world::Slot;
 use std::alloc::{AllocError, Global};
 

@@ -4,7 +4,7 @@ ghost use Rattle.std.specs.Prelude.{◌≡◌, ◌↔◌, [], Any, IfErr, IfOk, 
 ghost use Rattle.std.specs.List.{list_any};
 ghost use Rattle.std.specs.Io.KnownBytes.{Appends};
 ghost use Rattle.ospf_files.specs.Streams.{IsBegun, IsOutputCut};
-ghost use Rattle.ospf_commands.specs.Expectations.{AreAmong, HasElected, HasElectedAt, HasHops, IsAmong, IsMet, IsRouteAt, has_in_state, is_at_state, is_in_state, is_kept_by, is_route_to, is_state_down, is_with_id, keeps_router, some_has_in_state, standing_lines, unmet_line, unmet_lines, wanted_line};
+ghost use Rattle.ospf_commands.specs.Expectations.{AreAmong, HasElected, HasElectedAt, HasHops, HasNoNeighbour, IsAmong, IsLonely, IsMet, IsRouteAt, has_in_state, is_at_state, is_in_state, is_kept_by, is_route_to, is_state_down, is_with_id, keeps_router, some_has_in_state, standing_lines, unmet_line, unmet_lines, wanted_line};
 ghost use Rattle.ospf_views.specs.Waits.{interface_of};
 
 use ospf_area::AreaLink;
@@ -26,9 +26,7 @@ pub fn is_met(wanted: &Wanted, router: &Router) -> bool
 {
     match wanted {
         Wanted::Neighbour { other, state } => is_at_state(router, *other, *state),
-        Wanted::NoNeighbour { link } => {
-            router.has_link(*link) && router.neighbours(*link).is_empty()
-        }
+        Wanted::NoNeighbour { link } => has_no_neighbour(router, *link),
         Wanted::Dr { link, dr, backup } => has_elected_at(router, *link, *dr, *backup),
         Wanted::Route { prefix, cost, hops } => {
             has_route(router.table().routes(), *prefix, *cost, hops)
@@ -148,6 +146,26 @@ fn is_down(state: NeighbourState) -> bool
         NeighbourState::Down => true,
         _ => false,
     }
+}
+
+// Whether a link is there, with no neighbour.
+fn has_no_neighbour(router: &Router, link: usize) -> bool
+    ensures { IsTrue result ↔ HasNoNeighbour link router.now.area }
+{
+    let Some(area) = router.area() else {
+        return false;
+    };
+    match area.links.get(link) {
+        Some(there) => is_lonely(there),
+        None => false,
+    }
+}
+
+#[tactic(auto, unfolding(crate::specs::Expectations::IsLonely))]
+fn is_lonely(link: &AreaLink) -> bool
+    ensures { IsTrue result ↔ IsLonely link.now }
+{
+    link.neighbours.all().is_empty()
 }
 
 // Whether a link is there, with this Designated Router, and with this Backup, where one is given.

@@ -14,7 +14,6 @@ mod laws;
 mod rounds;
 mod settle;
 mod show;
-mod sight;
 mod simulation;
 
 pub use crate::commands::run_command;

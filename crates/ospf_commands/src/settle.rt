@@ -1,17 +1,18 @@
 //! Rounds until nothing changes any more.
 
-ghost use Rattle.std.specs.Prelude.{◌≡◌, ◌≤◌, IfErr, IfOk, OnErr, false, fold, string_bytes};
+ghost use Rattle.std.specs.Prelude.{◌≡◌, IfErr, IfOk, OnErr, false, fold, string_bytes};
 ghost use Rattle.ospf_commands.specs.Printed.{IsPrinted, IsPrintedBegun};
 ghost use Rattle.ospf_commands.specs.Settling.{Passes, Settles, longer, longer_in, settled_line, unsettled_line};
 ghost use Rattle.ospf_files.specs.Streams.{IsOutputCut};
+ghost use Rattle.ospf_originate.specs.Numbers.{min_ls_interval};
 ghost use Rattle.ospf_rounds.specs.Progress.{ToldOn};
 
 use crate::rounds::run_round;
-use crate::sight::sight_of;
 use crate::simulation::Simulation;
 use ospf_config::Interface;
 use ospf_files::{FailedStreams, Failure};
 use ospf_rounds::Watch;
+use ospf_views::sight_of;
 use ospf_world::{Slot, WorldFault};
 use std::alloc::{AllocError, Global};
 use std::io::Write;
@@ -19,8 +20,11 @@ use std::io::Write;
 // How many datagrams a round offers at most.
 const SETTLING_OFFERS: u64 = 1_000_000;
 
-// Rounds, at most so many, until nothing that is seen has changed for as many as the longest
-// RouterDeadInterval has seconds. How many it took is printed, or a beginning of that.
+// MinLSInterval, in seconds (RFC 2328, section 12.4).
+const MIN_LS_INTERVAL: u64 = 5;
+
+// Rounds, at most so many, until nothing that is seen has changed for as many as a router waits at
+// most before it does what is due. How many it took is printed, or a beginning of that.
 pub(crate) fn settle<O: Write, V: Watch>(
     simulation: &mut Simulation,
     most: u64,
@@ -40,7 +44,7 @@ pub(crate) fn settle<O: Write, V: Watch>(
         (simulation.old.world, watch.old) (simulation.new.world, watch.new) }
 {
     simulation.is_settled = false;
-    let still = longest_dead(simulation.world.slots());
+    let still = longest_wait(simulation.world.slots());
     match pass_rounds(simulation, most, still, alloc, watch) {
         Ok(Some(rounds)) => {
             simulation.is_settled = true;
@@ -94,11 +98,11 @@ fn pass_rounds<V: Watch>(
     Ok(None)
 }
 
-// The longest RouterDeadInterval of an interface, in seconds.
-fn longest_dead(slots: &[Slot]) -> u64
-    ensures { result ≡ fold longer_in 0 slots.now }
+// How long a router waits at most until it drops a neighbour, repeats itself or issues an LSA.
+fn longest_wait(slots: &[Slot]) -> u64
+    ensures { result ≡ fold longer_in min_ls_interval slots.now }
 {
-    let mut longest = 0;
+    let mut longest = MIN_LS_INTERVAL;
     for slot in slots {
         longest = longer_in(longest, &slot.config().interfaces);
     }
@@ -112,6 +116,7 @@ fn longer_in(longest: u64, interfaces: &[Interface]) -> u64
     let mut longest = longest;
     for interface in interfaces {
         longest = longest.max(u64::from(interface.dead));
+        longest = longest.max(u64::from(interface.retransmit));
     }
     longest
 }

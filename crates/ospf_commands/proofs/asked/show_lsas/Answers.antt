@@ -1,4 +1,4 @@
-use Rattle.std.proofs.Common.{◌≡◌, [], Ok, subst, sym, refl}
+use Rattle.std.proofs.Common.{[], Ok, subst, sym, refl}
 use Rattle.ospf_files.proofs.Written.{nothing_written, whatever}
 use Rattle.ospf_commands.specs.Asked.{AreLsasBelow, AreLsasShown, lsas_are_not_shown, lsas_are_shown, no_room_for_lsas}
 use Rattle.ospf_commands.specs.Printed.{IsPrintedBegun}

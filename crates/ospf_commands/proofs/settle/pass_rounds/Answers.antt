@@ -1,6 +1,7 @@
 use Rattle.std.proofs.Common.{◌≡◌, ◌∙◌, ap, refl, sym, subst, arith, ℕ, ◌+◌, ◌≤◌, Ok, Some, flat_map}
 use Rattle.ospf_rounds.proofs.ProgressFacts.{on_nowhere, word_then_events}
-use Rattle.ospf_commands.specs.Settling.{Passes, sight, slot_sight}
+use Rattle.ospf_commands.specs.Settling.{Passes, sight}
+use Rattle.ospf_views.specs.Sight.{slot_sight}
 use Rattle.ospf_commands.proofs.Settling.{Passed, ends_in_round, ends_settled, ends_unsettled, no_room_at_start, no_room_behind, passed_none, passed_other, passed_same}
 use Rattle.ospf_commands.proofs.Same.{are_not_same, are_same}
 use Rattle.ospf_commands.proofs.settle.pass_rounds.Goals as goal

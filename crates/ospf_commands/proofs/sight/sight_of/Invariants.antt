@@ -1,7 +1,0 @@
-use Rattle.std.proofs.Common.{◌≡◌, take}
-use Rattle.std.specs.Prelude.{flat_map}
-use Rattle.ospf_commands.specs.Settling.{slot_sight}
-use Rattle.ospf_commands.proofs.sight.sight_of.Given as goal
-
-abbrev pub invariant-loop-slot : goal.invariant-loop-slot
-invariant-loop-slot l = l.seen.items ≡ flat_map slot_sight (take l.slot-index l.slots)
