@@ -13,7 +13,7 @@ use Rattle.ospf_base.specs.Text.{IsDottedNumber, ReadsAddress, ReadsRouterId}
 use Rattle.ospf_base.specs.declared.ids.RouterId.{RouterId}
 use Rattle.ospf_base.specs.declared.ids.Addr.{Addr}
 use Rattle.ospf_words.specs.Job.{IsFaultOfNoValue, IsFaultOfValue, IsFaultOfWords}
-use Rattle.ospf_words.specs.Unasked.{HasForever, IsAllInJson, IsFirstWrong, IsJobIfAny, IsMoreInJson, IsMoreOfAll, IsNoAddress, IsNoJob, IsNoNumber, IsUnasked, IsUncounted, IsUnending, IsUnendingRun, IsWrongValue, LacksInPath, LacksInRun, LacksInSim}
+use Rattle.ospf_words.specs.Unasked.{HasForever, IsAllInJson, IsFirstWrong, IsForeverIn, IsJobIfAny, IsMoreInJson, IsMoreOfAll, IsNoAddress, IsNoJob, IsNoNumber, IsUnasked, IsUncounted, IsUnending, IsUnendingRun, IsWrongValue, LacksInPath, LacksInRun, LacksInSim}
 use Rattle.ospf_words.specs.Words.{AreChoices, IsFailuresForm, IsFlag, IsInspectJob, IsNumber, IsNumberIfAny, IsRunWith, IsTelling, Spell, command_app, endless_app, failures_form, lsas_asked, telling_of}
 use Rattle.ospf_files.specs.declared.telling.Telling.TheVariants as telling
 use Rattle.ospf_failures.specs.declared.answer.FailuresForm.{FailuresForm}
@@ -133,10 +133,10 @@ value_weaker P Q (fault.Words e) k h = absurd h
 value_weaker P Q (fault.Address w) k h = k (string_bytes w) h
 value_weaker P Q fault.Memory k h = tt
 
-pub value_uncounted : (words : List (List ℕ)) (f : JobFault) → IsFaultOfValue (IsWrongValue (subcommand_of command_app words)) f → IsUncounted words f
-value_uncounted words (fault.Words e) h = absurd h
-value_uncounted words (fault.Address w) h = h
-value_uncounted words fault.Memory h = tt
+pub value_uncounted : (words : List (List ℕ)) (f : JobFault) → fault_of command_app words ≡ [] → IsFaultOfValue (IsWrongValue (subcommand_of command_app words)) f → IsUncounted words f
+value_uncounted words (fault.Words e) none h = absurd h
+value_uncounted words (fault.Address w) none h = (none, h)
+value_uncounted words fault.Memory none h = tt
 
 -- the texts before a place, the one there and those after it
 split_at : (words : List (Bor (List ℕ))) (i : ℕ) (d : Bor (List ℕ)) → i < length words
@@ -193,25 +193,27 @@ wrong_value rows root w is_root one first = inl (record { rows = rows; table = r
 pub wrong_lookup : (rows : List Row) (w : List ℕ) → first_of (codes "lookup") rows ≡ Some w → IsNoAddress w → IsWrongValue (Some (codes "run", rows)) w
 wrong_lookup rows w has wrong = inr (inr (inr (record { rows = rows; run = refl; has_lookup = has; wrong = wrong })))
 
--- the router after `path` spells no address
-pub wrong_from : (rows : List Row) (from w : List ℕ) → first_of (codes "from") rows ≡ Some from
-    → ((w ≡ from) × (e : AddrParseError) × ReadsRouterId from (Err e)) → IsWrongValue (Some (codes "path", rows)) w
-wrong_from rows from w has h = inr (inr (inl (record {
-  rows = rows;
-  path = refl;
-  has_end = inl (has ∙ ap Some (sym h.0));
-  wrong = λ a is. h.2 (record { 0 = a.0 }) (subst (λ t. IsDottedNumber t a.0) h.0 is);
-})))
+-- the first wrong word is the first wrong value of `path`
+wrong_end : (rows : List Row) (from to w : List ℕ) → first_of (codes "from") rows ≡ Some from → first_of (codes "address") rows ≡ Some to
+    → IsFirstWrong (from ∷ to ∷ []) w → IsWrongValue (Some (codes "path", rows)) w
+wrong_end rows from to w has_from has_address first = inr (inr (inl (record { rows = rows; path = refl; from = from; has_from = has_from; address = to; has_address = has_address; first = first })))
 
--- the address after `path` spells none
-pub wrong_to : (rows : List Row) (to w : List ℕ) → first_of (codes "address") rows ≡ Some to
-    → ((w ≡ to) × (e : AddrParseError) × ReadsAddress to (Err e)) → IsWrongValue (Some (codes "path", rows)) w
-wrong_to rows to w has h = inr (inr (inl (record {
-  rows = rows;
-  path = refl;
-  has_end = inr (has ∙ ap Some (sym h.0));
+-- the router after `path` spells no address
+pub wrong_from : (rows : List Row) (from to w : List ℕ) → first_of (codes "from") rows ≡ Some from → first_of (codes "address") rows ≡ Some to
+    → ((w ≡ from) × (e : AddrParseError) × ReadsRouterId from (Err e)) → IsWrongValue (Some (codes "path", rows)) w
+wrong_from rows from to w has_from has_address h = wrong_end rows from to w has_from has_address (root_wrong from (to ∷ []) w h)
+
+-- the router spells one, and the address after it none
+pub wrong_to : (rows : List Row) (from : List ℕ) (r : RouterId) (to w : List ℕ) → first_of (codes "from") rows ≡ Some from → first_of (codes "address") rows ≡ Some to
+    → ReadsRouterId from (Ok r) → ((w ≡ to) × (e : AddrParseError) × ReadsAddress to (Err e)) → IsWrongValue (Some (codes "path", rows)) w
+wrong_to rows from r to w has_from has_address reads h = wrong_end rows from to w has_from has_address (address_wrong from r (to ∷ []) w reads (record {
+  before = [];
+  after = [];
+  texts_are = ap (λ t. t ∷ []) (sym h.0);
+  addresses = [];
+  spelled = tt;
   wrong = λ a is. h.2 a (subst (λ t. IsDottedNumber t a.0) h.0 is);
-})))
+}))
 
 -- the root after `failures` spells no address
 pub wrong_failing_root : (rows : List Row) (root w : List ℕ) → first_of (codes "root") rows ≡ Some root
@@ -475,10 +477,10 @@ forever_word words h = go words h.0 h.1 h.2 h.3 h.4
     go (v ∷ vs) (suc k) t below at is = let h = go vs k t (omega (arith, below)) at is in (suc h.0, h.1, omega (arith, h.2), h.3, h.4)
 
 -- what a run without a last tick is refused for
-pub unending_value : (words : List (List ℕ)) (f : JobFault) → IsFaultOfValue (IsWrongValue (subcommand_of endless_app words)) f → IsUnending words f
-unending_value words (fault.Words e) h = absurd h
-unending_value words (fault.Address w) h = h
-unending_value words fault.Memory h = tt
+pub unending_value : (words : List (List ℕ)) (f : JobFault) → fault_of endless_app words ≡ [] → IsForeverIn (subcommand_of endless_app words) → IsFaultOfValue (IsWrongValue (subcommand_of endless_app words)) f → IsUnending words f
+unending_value words (fault.Words e) none run h = absurd h
+unending_value words (fault.Address w) none run h = (none, run, h)
+unending_value words fault.Memory none run h = tt
 
 pub unending_refused : (words : List (List ℕ)) (f : JobFault) → fault_of endless_app words ≡ [] → IsUnendingRun (subcommand_of endless_app words)
     → IsFaultOfNoValue f → IsUnending words f

@@ -39,13 +39,15 @@ pub record IsWrongInFailures (entered : Option (Text × List Row)) (word : Text)
   pub has_root : first_of (codes "root") rows ≡ Some word
   pub wrong : IsNoAddress word
 
--- the router or the address after `path` spells none
+-- the first of the router and the address after `path` that spells none
 pub record IsWrongInPath (entered : Option (Text × List Row)) (word : Text) : Type 0 where
   pub rows : List Row
   pub path : entered ≡ Some (codes "path", rows)
-  pub has_end :
-      (first_of (codes "from") rows ≡ Some word) ⊎ (first_of (codes "address") rows ≡ Some word)
-  pub wrong : IsNoAddress word
+  pub from : Text
+  pub has_from : first_of (codes "from") rows ≡ Some from
+  pub address : Text
+  pub has_address : first_of (codes "address") rows ≡ Some address
+  pub first : IsFirstWrong (from ∷ address ∷ []) word
 
 -- what is to be looked up in a run spells no address
 pub record IsWrongInRun (entered : Option (Text × List Row)) (word : Text) : Type 0 where
@@ -136,18 +138,24 @@ IsJobIfAny entered (Some job) = IsJobOf entered job
 IsJobIfAny entered None = IsNoJob entered
 
 -- the words are refused for this, where the ticks of a run are a number: `clap` refuses them by an
--- error of this kind, or a value is no address
+-- error of this kind, or refuses nothing, and reads no job or a value that is no address
 abbrev pub IsUncounted : List Text → JobFault → Type 0
 IsUncounted words (fault.Words e) =
     IsAmong (kind_of e) (fault_of command_app words)
     ⊎ ((fault_of command_app words ≡ []) × IsNoJob (subcommand_of command_app words))
 IsUncounted words (fault.Address word) =
-    IsWrongValue (subcommand_of command_app words) (string_bytes word)
+    (fault_of command_app words ≡ [])
+    × IsWrongValue (subcommand_of command_app words) (string_bytes word)
 IsUncounted words fault.Memory = ⊤
 
 -- `forever` is among the words
 abbrev pub HasForever : List Text → Type 0
 HasForever = Any (λ w. w ≡ codes "forever")
+
+-- a run is entered with `forever` in place of its ticks
+abbrev pub IsForeverIn : Option (Text × List Row) → Type 0
+IsForeverIn entered =
+    (rows : List Row) × (entered ≡ Some (codes "run", rows)) × HasTicks rows None
 
 -- a run without a last tick is entered, and it lacks something
 pub record IsUnendingRun (entered : Option (Text × List Row)) : Type 0 where
@@ -157,20 +165,16 @@ pub record IsUnendingRun (entered : Option (Text × List Row)) : Type 0 where
   pub lacks : LacksInRun rows
 
 -- the words are refused for this, where any word may stand in place of the ticks: `forever` is
--- among them and `clap` refuses them by an error of this kind, a run without a last tick lacks
--- something, or a value is no address
+-- among them and `clap` refuses them by an error of this kind, or it refuses nothing, and a run
+-- without a last tick lacks something, or has a value that is no address
 abbrev pub IsUnending : List Text → JobFault → Type 0
 IsUnending words (fault.Words e) =
     (HasForever words × IsAmong (kind_of e) (fault_of endless_app words))
     ⊎ ((fault_of endless_app words ≡ []) × IsUnendingRun (subcommand_of endless_app words))
 IsUnending words (fault.Address word) =
-    IsWrongValue (subcommand_of endless_app words) (string_bytes word)
+    (fault_of endless_app words ≡ []) × IsForeverIn (subcommand_of endless_app words)
+    × IsWrongValue (subcommand_of endless_app words) (string_bytes word)
 IsUnending words fault.Memory = ⊤
-
--- a run is entered with `forever` in place of its ticks
-abbrev pub IsForeverIn : Option (Text × List Row) → Type 0
-IsForeverIn entered =
-    (rows : List Row) × (entered ≡ Some (codes "run", rows)) × HasTicks rows None
 
 -- no run without a last tick is asked for: `forever` is not among the words, or `clap` reads it
 -- elsewhere

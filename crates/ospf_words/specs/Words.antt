@@ -444,10 +444,9 @@ IsEndlessIn entered j =
 abbrev pub IsEndless : List Text → Job → Type 0
 IsEndless words = IsEndlessIn (subcommand_of endless_app words)
 
--- the job is what `clap` reads in the words, with ticks that are a number, or without a last one
+-- `clap` refuses nothing of the words and reads the job in them, where the ticks of a run are a
+-- number, or where any word may stand in their place, and the job is a run without a last one
 abbrev pub IsAsked : List Text → Job → Type 0
-IsAsked words j = IsJobOf (subcommand_of command_app words) j ⊎ IsEndless words j
-
--- `clap` refuses nothing of them in one of these readings
-abbrev pub IsAccepted : List Text → Type 0
-IsAccepted words = (fault_of command_app words ≡ []) ⊎ (fault_of endless_app words ≡ [])
+IsAsked words j =
+    ((fault_of command_app words ≡ []) × IsJobOf (subcommand_of command_app words) j)
+    ⊎ ((fault_of endless_app words ≡ []) × IsEndless words j)

@@ -175,7 +175,7 @@ pub(crate) const SIM_HELP: &str = "Lines of a script:
   why R LINK [NEIGHBOUR]      what a link waits for is printed
   datagrams R [MOST]          the last datagrams that a round offers to it
   drops R                     how many it has dropped, by link and cause
-  walk R ADDRESS CHOICE..     the walk from R to ADDRESS is printed
+  walk R ADDRESS [CHOICE..]   the walk from R to ADDRESS is printed
   label on, label off         whether a line above it says what is printed
   expect full R S, expect neighbour R S STATE, expect no neighbour R LINK,
   expect dr R LINK ADDRESS [BACKUP], expect route R PREFIX COST [HOP..],

@@ -5,7 +5,7 @@ ghost use Rattle.std.specs.Prelude.{OnOk, true, false, [], ◌≡◌, ◌≢◌,
 ghost use Rattle.clap.specs.Words.{all_of, found_of, one_of, rows_of, subcommand_rows_of, subcommand_of};
 ghost use Rattle.ospf_words.specs.Job.{IsFaultOfNoValue, IsFaultOfValue, IsHelp};
 ghost use Rattle.ospf_words.specs.Unasked.{IsFirstWrong, IsJobIfAny, IsNoAddress, IsUnasked, HasNoChoice, IsWrongValue, IsForeverIn, IsNoneUnending, IsUncounted, IsUnending, LacksInRun};
-ghost use Rattle.ospf_words.specs.Words.{AreChoices, IsAddressIfAny, IsAsked, IsFlag, Spell, command_app, failures_form, lsas_asked, telling_of, HasTicks, IsAccepted, IsEndless, IsJobOf, IsRunWith, endless_app};
+ghost use Rattle.ospf_words.specs.Words.{AreChoices, IsAddressIfAny, IsAsked, IsFlag, Spell, command_app, failures_form, lsas_asked, telling_of, HasTicks, IsEndless, IsJobOf, IsRunWith, endless_app};
 
 use crate::commands::{any_ticks_arg, command, ticks_arg};
 use crate::jobs::{CheckJob, Job, JobFault, RunJob, SimJob};
@@ -47,7 +47,6 @@ pub fn not_text(alloc: Global) -> JobFault
 /// the first word that is to be an address and is none, and `Memory` where memory ran out.
 pub fn job(alloc: Global, words: &[&str]) -> Result<Job, JobFault>
     ensures ok { IfOk result (IsAsked (map (λ w. w.now) words.now)) }
-    ensures accepted { OnOk result (IsAccepted (map (λ w. w.now) words.now)) }
     ensures fault { IfErr result (IsUnasked (map (λ w. w.now) words.now)) }
 {
     match counted_job(alloc, words) {

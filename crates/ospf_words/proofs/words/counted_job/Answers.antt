@@ -39,8 +39,9 @@ returns-in_err-job-clause-fault c =
     let command_is : app_of c.in_ok-command.command ≡ command_app = c.in_ok-command.ensures ∙ ap app_with c.ticks_arg.ensures.rule in
     let asked : subcommand_rows_of c.in_ok-matches.matches ≡ subcommand_of command_app words =
     (c.in_ok-matches.ensures.ok.2 (ap is_simple command_is)).1 ∙ ap (λ a. subcommand_of a words) command_is in
+    let none = subst (λ a. fault_of a words ≡ []) command_is (c.in_ok-matches.ensures.kinds (ap is_simple_and_free command_is)) in
     err_kept c.from_residual-in_err-job.result (λ f. f ≡ c.in_err-job.field-0.0) (IsUncounted words) c.from_residual-in_err-job.ensures.1
-    (λ f is. subst (IsUncounted words) (sym is) (value_uncounted words c.in_err-job.field-0.0 (subst (λ e. IsFaultOfValue (IsWrongValue e) c.in_err-job.field-0.0) asked c.in_err-job.ensures.fault)))
+    (λ f is. subst (IsUncounted words) (sym is) (value_uncounted words c.in_err-job.field-0.0 none (subst (λ e. IsFaultOfValue (IsWrongValue e) c.in_err-job.field-0.0) asked c.in_err-job.ensures.fault)))
 
 pub returns-in-Some-clause-ok : goal.returns-in-Some-clause-ok
 returns-in-Some-clause-ok c =

@@ -36,8 +36,9 @@ returns-in_err-job-clause-fault c =
     (c.in-Ok.ensures.ok.2 (ap is_simple command_is)).1 ∙ ap (λ a. subcommand_of a words) command_is in
     let rows = rows_of (found_of c.in-Some.values.now) in
     let run : subcommand_of endless_app words ≡ Some (codes "run", rows) = sym asked ∙ c.in-Some.ensures.run in
+    let none = subst (λ a. fault_of a words ≡ []) command_is (c.in-Ok.ensures.kinds (ap is_simple_and_free command_is)) in
     err_kept c.from_residual-in_err-job.result (λ f. f ≡ c.in_err-job.field-0.0) (IsUnending words) c.from_residual-in_err-job.ensures.1
-    (λ f is. subst (IsUnending words) (sym is) (unending_value words c.in_err-job.field-0.0 (subst (λ e. IsFaultOfValue (IsWrongValue e) c.in_err-job.field-0.0) (sym run) c.in_err-job.ensures.fault)))
+    (λ f is. subst (IsUnending words) (sym is) (unending_value words c.in_err-job.field-0.0 none (rows, run, c.in-Some.ensures.ticks) (subst (λ e. IsFaultOfValue (IsWrongValue e) c.in_err-job.field-0.0) (sym run) c.in_err-job.ensures.fault)))
 
 pub returns-in-Some-2-clause-ok : goal.returns-in-Some-2-clause-ok
 returns-in-Some-2-clause-ok c =

@@ -32,7 +32,8 @@ returns-in_err-from-clause-fault c =
     let wrong = IsFaultOfValue (IsWrongValue (Some (codes "path", rows))) in
     err_kept c.from_residual-in_err-from.result (λ f. f ≡ c.in_err-from.field-0.0) wrong c.from_residual-in_err-from.ensures.1 (λ f is. subst wrong (sym is)
     (value_weaker _ _ c.in_err-from.field-0.0
-    (λ w h. wrong_from rows c.in-Some.from.now w (sym (c.in-Some.ensures ∙ first_value-rows found (codes "from"))) h)
+    (λ w h. wrong_from rows c.in-Some.from.now c.in-Some-get_str.address.now w (sym (c.in-Some.ensures ∙ first_value-rows found (codes "from")))
+    (sym (c.in-Some-get_str.ensures ∙ first_value-rows found (codes "address"))) h)
     c.in_err-from.ensures.fault))
 
 pub returns-in_err-address-clause-fault : goal.returns-in_err-address-clause-fault
@@ -42,7 +43,8 @@ returns-in_err-address-clause-fault c =
     let wrong = IsFaultOfValue (IsWrongValue (Some (codes "path", rows))) in
     err_kept c.from_residual-in_err-address.result (λ f. f ≡ c.in_err-address.field-0.0) wrong c.from_residual-in_err-address.ensures.1 (λ f is. subst wrong (sym is)
     (value_weaker _ _ c.in_err-address.field-0.0
-    (λ w h. wrong_to rows c.in-Some-get_str.address.now w (sym (c.in-Some-get_str.ensures ∙ first_value-rows found (codes "address"))) h)
+    (λ w h. wrong_to rows c.in-Some.from.now c.in_ok-from.from c.in-Some-get_str.address.now w (sym (c.in-Some.ensures ∙ first_value-rows found (codes "from")))
+    (sym (c.in-Some-get_str.ensures ∙ first_value-rows found (codes "address"))) (search (c.in_ok-from.ensures.value)) h)
     c.in_err-address.ensures.fault))
 
 pub returns-clause-ok : goal.returns-clause-ok
