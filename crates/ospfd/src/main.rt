@@ -1,8 +1,10 @@
 //! A routing daemon of OSPF version 2 (RFC 2328), and the tables that it computes.
 #![tactic(auto)]
 
+mod names;
 mod screen;
 
+use crate::names::tell_overwritten;
 use crate::screen::{FailuresLine, Screen};
 use ospf_check::{check_area_json, check_area_text, check_text};
 use ospf_failures::failures_text;
@@ -154,6 +156,10 @@ fn run_sim<R: Runtime + AllocGlobal + Clock + Copy + Drop, O: Write, E: Write, T
         log,
         json,
     } = job;
+    let written = [dot.as_deref(), pcap.as_deref(), log.as_deref()];
+    if tell_overwritten(Some(script.as_str()), &files, &written, err) {
+        return Ok(ExitCode::from(Status::Words));
+    }
     let script = script_of(rt, script)?;
     let files = read_files(rt, files)?;
     let Some(journal) = open_journal(rt, log.as_deref(), json, err)? else {
@@ -451,6 +457,9 @@ where
 {
     let (printer, input) = console;
     let (pcap, log, json, every) = (job.pcap.take(), job.log.take(), job.json, job.every);
+    if tell_overwritten(None, &job.files, &[pcap.as_deref(), log.as_deref()], err) {
+        return Ok(Status::Words);
+    }
     let (settings, files) = settings_of(rt, job, input)?;
     let files = read_files(rt, files)?;
     let written = if prepare(rt.alloc(), &settings.floor, &files).is_ok() {

@@ -1,0 +1,33 @@
+//! The names of the files that are read and written.
+
+use std::io::Write;
+
+/// Whether a file that is to be written is one that is read, or another one that is to be written:
+/// that is told, before anything in it is lost.
+pub(crate) fn tell_overwritten<E: Write>(
+    script: Option<&str>,
+    files: &[String],
+    written: &[Option<&str>],
+    err: &mut E,
+) -> bool {
+    for name in written {
+        let Some(name) = *name else {
+            continue;
+        };
+        if script == Some(name) || is_among(files, name) || is_twice(written, name) {
+            let _ = writeln!(err, "{name}: would be overwritten").and_then(|_| err.flush());
+            return true;
+        }
+    }
+    false
+}
+
+// Whether one of the files has this name.
+fn is_among(files: &[String], name: &str) -> bool {
+    files.iter().any(|file| file.as_str() == name)
+}
+
+// Whether two that are to be written have this name.
+fn is_twice(written: &[Option<&str>], name: &str) -> bool {
+    written.iter().filter(|it| **it == Some(name)).count() > 1
+}
