@@ -146,7 +146,7 @@ pub data IsJson (files : List NamedFile) : Bool → (old new : Written) → Type
 
 -- ---- where it ends early
 
--- memory ran out before anything was printed, or a beginning of it was
+-- nothing was printed, or a beginning of it was
 pub data IsPrintCut (files : List NamedFile) (configs : List Config) (failed : FailedStreams)
     (out_old out_new : Option (List ℕ)) : Failure → Type 0 where
   at_none : {x : Failure} → out_new ≡ out_old → IsOutputCut failed x

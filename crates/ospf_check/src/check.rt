@@ -1,6 +1,6 @@
 //! Configurations that are checked.
 
-ghost use Rattle.std.specs.Prelude.{◌≡◌, ◌≢◌, ◌⊎◌, ◌++◌, ℕ, List, Option, Bool, Some, None, true, false, flat_map, is_some, option_map, IfOk, IfErr, OnOk, string_bytes};
+ghost use Rattle.std.specs.Prelude.{◌≡◌, ◌≢◌, ◌⊎◌, ◌++◌, ℕ, List, Option, Some, None, true, false, flat_map, is_some, option_map, IfOk, IfErr, OnOk, string_bytes};
 ghost use Rattle.ospf_config.specs.declared.fault.ConfigFault.{ConfigFault};
 ghost use Rattle.ospf_files.specs.Files.{IsRefusedFor, bytes_of, refused_line};
 ghost use Rattle.ospf_files.specs.Streams.{written_on};

@@ -26,7 +26,7 @@ pub enum AreaFault {
     Mask,
     /// A point-to-point network has a third end.
     Crowded,
-    /// A broadcast network has nobody who can be Designated Router.
+    /// A broadcast network of two interfaces or more has nobody who can be Designated Router.
     NoDr,
     /// An interface sends to another, which does not send to it (`port` and `peers`).
     OneSided,

@@ -1,6 +1,6 @@
 //! Which interface is the first on a network, or with an address.
 
-ghost use Rattle.std.specs.Prelude.{◌≡◌, ◌==◌, not, ℕ, IfOk, OnOk, Some, None, cond, filter};
+ghost use Rattle.std.specs.Prelude.{◌≡◌, ◌==◌, ℕ, IfOk, OnOk, Some, None, cond};
 ghost use Rattle.std.specs.Option.{option_or};
 ghost use Rattle.ospf_plan.specs.Ends.{AreFirsts, AreHolders, ArePorts, AreRouters, end_in, holder_in, network_key, others, same_network, is_found};
 

@@ -1,6 +1,6 @@
 //! Joins, and who is joined with whom.
 
-ghost use Rattle.std.specs.Prelude.{◌≡◌, ◌==◌, ◌||◌, ◌&&◌, ◌↔◌, ◌++◌, ◌∷◌, [], if◌then◌else◌, ℕ, true, IfOk, OnOk};
+ghost use Rattle.std.specs.Prelude.{◌≡◌, ◌==◌, ◌||◌, ◌↔◌, ◌++◌, ◌∷◌, [], if◌then◌else◌, ℕ, true, IfOk, OnOk};
 ghost use Rattle.ospf_plan.specs.Joins.{IsJoined, reached_after, set_has, left, marked_by, touches};
 
 use std::alloc::{AllocError, Global};

@@ -1,6 +1,6 @@
 //! The parts that an area falls into.
 
-ghost use Rattle.std.specs.Prelude.{◌≡◌, ◌++◌, ℕ, Bool, List, IfOk, OnOk, Some, None, cond};
+ghost use Rattle.std.specs.Prelude.{◌≡◌, ◌++◌, ℕ, Bool, IfOk, OnOk, Some, None, cond};
 ghost use Rattle.std.specs.Option.{option_or, option_to_list};
 ghost use Rattle.std.specs.List.{filter_map};
 ghost use Rattle.ospf_plan.specs.Joins.{set_has};

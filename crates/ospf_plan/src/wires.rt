@@ -1,6 +1,6 @@
 //! Who sends to whom, by UDP ports.
 
-ghost use Rattle.std.specs.Prelude.{◌≡◌, ◌||◌, ◌++◌, List, ℕ, IfOk, OnOk};
+ghost use Rattle.std.specs.Prelude.{◌≡◌, ◌||◌, ◌++◌, ℕ, IfOk, OnOk};
 ghost use Rattle.std.specs.List.{filter_map};
 ghost use Rattle.ospf_plan.specs.Ends.{holder_in};
 ghost use Rattle.ospf_plan.specs.Wires.{AreHeard, fault_between, has_wire, is_beside, wire_key, same_wire, wire_fault, wires_at, wires_from, wires_of};

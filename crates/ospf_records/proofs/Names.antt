@@ -1,5 +1,5 @@
 -- Names tell apart what they stand for.
-use Rattle.std.proofs.Common.{◌≡◌, ℕ, ◌<◌, List, [], ◌∷◌, ◌++◌, drop, refl, sym, ap, arith}
+use Rattle.std.proofs.Common.{◌≡◌, ℕ, List, [], ◌∷◌, ◌++◌, drop, sym, ap, arith}
 use Rattle.std.proofs.NetLemmas.Numbers.{NoDigit}
 use Rattle.ospf_base.specs.Text.{number_text}
 use Rattle.ospf_base.proofs.Dotted.{no_number, same_number}

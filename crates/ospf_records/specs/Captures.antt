@@ -21,7 +21,7 @@ unfoldable pub second_of : List Ticked → ℕ × Datagram → ℕ
 second_of ticks sent =
     capped (count_by (is_tick_of sent.1.router.0) (take_while (is_by sent.0) ticks))
 
--- the datagrams with their numbers, and the seconds of all of them
+-- the datagrams with their numbers
 abbrev pub numbered_datagrams : List Datagram → List (ℕ × Datagram)
 numbered_datagrams datagrams = enumerate_from 0 datagrams
 

@@ -42,7 +42,7 @@ pub record GoOn (ticks : List Ticked) (datagrams : List Datagram) (ticks' : List
   pub datagrams_are : datagrams' ≡ datagrams ++ sent
   pub behind : AllByRecursion (λ t. length datagrams ≤ t.sent) more
 
--- what all datagrams but the first so many do
+-- the records of all datagrams but the first so many
 abbrev pub records_since : ℕ → List Ticked → List Datagram → List ℕ
 records_since n ticks datagrams =
     flat_map record_bytes

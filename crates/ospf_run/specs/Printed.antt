@@ -123,7 +123,8 @@ is_failed outcome = elim outcome.came [ Ok shown ↦ false | Err f ↦ is_fault_
 abbrev pub is_early : Outcome → Bool
 is_early outcome = elim outcome.came [ Ok shown ↦ false | Err f ↦ true ]
 
--- a wire or a thread failed one of the routers; else one met want of memory; else all is done
+-- a wire or a thread failed one of the routers; else one ended early, for want of memory or with a
+-- table that is closed; else all is done
 abbrev pub status_for : List Outcome → Status
 status_for outcomes =
     cond (list_any is_failed outcomes) status.Stream

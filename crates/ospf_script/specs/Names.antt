@@ -46,7 +46,7 @@ is_word_of word (name.Show view.Neighbours) =
     bytes_eq word (codes "neighbours") || bytes_eq word (codes "neighbors")
 is_word_of word n = bytes_eq word (command_name_text n)
 
--- all of them, in the order in which they are told
+-- all of them
 abbrev pub all_names : List Name
 all_names =
     name.Start ∷ name.Stop ∷ name.Tick ∷ name.Up ∷ name.Down ∷ name.Deliver ∷ name.Cut ∷ name.Mend

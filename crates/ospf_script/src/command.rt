@@ -41,7 +41,7 @@ pub enum Command {
         view: View,
         router: RouterId,
     },
-    /// `walk R ADDRESS CHOICE..`: the walk from a router towards an address is printed, with the
+    /// `walk R ADDRESS [CHOICE..]`: the walk from a router towards an address is printed, with the
     /// choice of a hop at each router that it meets.
     Walk {
         from: RouterId,

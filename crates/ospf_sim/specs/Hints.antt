@@ -1,5 +1,5 @@
--- What is told behind a line that spells no command: which word does
--- not fit, and what belongs there.
+-- What is told behind a line that spells no command: where its first word is no name, which there
+-- are, and else what belongs behind it.
 use Rattle.std.specs.Prelude.{ℕ, ◌||◌, List, [], ◌∷◌, ◌++◌, Option, None, Some, codes, flat_map, nat_lt, if◌then◌else◌}
 use Rattle.ospf_script.specs.Names.{name_in}
 use Rattle.ospf_script.specs.Texts.{hexadecimal}
@@ -34,7 +34,7 @@ form_text name.Settle = codes "settle MAX"
 form_text (name.Show view.Neighbours) = codes "neighbours R"
 form_text (name.Show view.Listing) = codes "listing R"
 form_text (name.Show view.Table) = codes "table R"
-form_text name.Walk = codes "walk R ADDRESS CHOICE.."
+form_text name.Walk = codes "walk R ADDRESS [CHOICE..]"
 form_text (name.Show view.Floor) = codes "floor R"
 form_text name.Say = codes "say WORD.."
 form_text name.Why = codes "why R LINK [NEIGHBOUR]"

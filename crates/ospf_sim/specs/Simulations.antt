@@ -10,7 +10,7 @@ use Rattle.ospf_files.specs.declared.status.Status.TheVariants as status
 use Rattle.ospf_files.specs.Lines.{numbered_from}
 use Rattle.ospf_rounds.specs.Progress.{ProgressRule, ToldOn}
 use Rattle.ospf_sim.specs.Twins.{AreTwinsTold}
-use Rattle.ospf_sim.specs.Scripts.{EndsEarly, IsScriptRun, ScriptComes}
+use Rattle.ospf_sim.specs.Scripts.{EndsEarly, IsScriptRun}
 use Rattle.ospf_commands.specs.Simulations.{begun_in}
 use Rattle.ospf_commands.specs.Worlds.{WorldValue}
 use Rattle.ospf_commands.specs.declared.simulation.Simulation.{Simulation}

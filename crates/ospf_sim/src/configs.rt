@@ -1,6 +1,6 @@
 //! Configurations in files.
 
-ghost use Rattle.std.specs.Prelude.{◌≡◌, IfErr, IfOk, option_map};
+ghost use Rattle.std.specs.Prelude.{IfErr, IfOk, option_map};
 ghost use Rattle.ospf_files.specs.Listed.{ConfigComes, ConfigsCome};
 ghost use Rattle.ospf_sim.specs.Begun.{IsFileCut, IsWorldCut};
 

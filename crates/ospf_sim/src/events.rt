@@ -1,6 +1,6 @@
 //! The journal of a simulation.
 
-ghost use Rattle.std.specs.Prelude.{◌≡◌, ◌≢◌, None, Some, IfOk, OnErr, OnOk, option_map};
+ghost use Rattle.std.specs.Prelude.{◌≡◌, ◌≢◌, None, Some, IfOk, OnOk, option_map};
 ghost use Rattle.ospf_base.specs.declared.ids.RouterId.{RouterId};
 ghost use Rattle.ospf_headline.specs.Running.{delivery};
 ghost use Rattle.ospf_headline.specs.Slots.{router_in};

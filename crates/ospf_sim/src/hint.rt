@@ -92,7 +92,7 @@ fn form_of(name: Name) -> &'static str
         Name::Show(View::Listing) => "listing R",
         Name::Show(View::Table) => "table R",
         Name::Show(View::Floor) => "floor R",
-        Name::Walk => "walk R ADDRESS CHOICE..",
+        Name::Walk => "walk R ADDRESS [CHOICE..]",
         Name::Say => "say WORD..",
         Name::Why => "why R LINK [NEIGHBOUR]",
         Name::Datagrams => "datagrams R [MOST]",
