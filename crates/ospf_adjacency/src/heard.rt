@@ -1,6 +1,6 @@
 //! Hellos that come.
 
-ghost use Rattle.std.specs.Prelude.{◌≡◌, ◌≢◌, ◌<◌, ◌||◌, ◌==◌, true, false, IsTrue, OnOk, IfOk, length, slice_get, Some};
+ghost use Rattle.std.specs.Prelude.{◌≡◌, ◌≢◌, ◌<◌, ◌||◌, ◌==◌, false, IsTrue, OnOk, IfOk, length, slice_get, Some};
 ghost use Rattle.ospf_neighbour.specs.Neighbour.{NeighbourValue};
 ghost use Rattle.ospf_neighbour.specs.Neighbours.{AreNeighboursRising};
 ghost use Rattle.ospf_area.specs.Turns.{turn};

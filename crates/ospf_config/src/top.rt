@@ -1,6 +1,6 @@
 //! The keys at the top.
 
-ghost use Rattle.std.specs.Prelude.{◌≡◌, ◌<◌, IfOk, option_copied};
+ghost use Rattle.std.specs.Prelude.{◌<◌, IfOk, option_copied};
 ghost use Rattle.toml.specs.View.{table_view};
 ghost use Rattle.ospf_config.specs.Reading.{ReadsValue};
 ghost use Rattle.ospf_config.specs.Texts.{IsRouterIdText, IsAreaText, IsOtherLsasText};

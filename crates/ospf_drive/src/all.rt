@@ -1,6 +1,6 @@
 //! The drivers of several routers, each in a thread of its own.
 
-ghost use Rattle.std.specs.Prelude.{◌≡◌, ◌+◌, ◌<◌, ◌≤◌, ◌^◌, [], All, IfOk, IfErr, vec_len, vec_capacity};
+ghost use Rattle.std.specs.Prelude.{◌≡◌, ◌+◌, ◌<◌, ◌≤◌, ◌^◌, [], All, IfOk, vec_len, vec_capacity};
 ghost use Rattle.std.specs.List.{AllZip};
 ghost use Rattle.ospf_drive.specs.Driven.{IsDriven, IsThreadJoined, IsDriverStarted};
 ghost use Rattle.ospf_drive.specs.Moments.{at};

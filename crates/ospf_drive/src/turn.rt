@@ -1,6 +1,6 @@
 //! One turn of a driver: one arrival, and all that follows from it.
 
-ghost use Rattle.std.specs.Prelude.{◌≡◌, ◌+◌, ◌<◌, ◌^◌, ◌∷◌, [], ℕ, IfOk, IfErr, OnOk, OnErr, IfSome, IfNone, Some, None, take, length};
+ghost use Rattle.std.specs.Prelude.{◌≡◌, ◌+◌, ◌<◌, ◌^◌, ℕ, IfOk, IfErr, OnOk, OnErr, IfSome, IfNone, Some, None, take, length};
 ghost use Rattle.ospf_router.specs.Steps.{happening};
 ghost use Rattle.ospf_drive.specs.Traffic.{heard_from, and_sent};
 ghost use Rattle.ospf_drive.specs.Moments.{at, event_of};

@@ -1,6 +1,6 @@
 //! What to do about a text that is refused.
 
-ghost use Rattle.std.specs.Prelude.{◌≡◌, ◌==◌, ◌+◌, ◌≤◌, ℕ, List, length, take, count_by, codes, IfOk, []};
+ghost use Rattle.std.specs.Prelude.{◌≡◌, ◌==◌, ◌+◌, ◌≤◌, length, take, count_by, IfOk, []};
 ghost use Rattle.std.specs.Fmt.{WritesOnOk};
 ghost use Rattle.ospf_config.specs.Configs.{TextHasFault};
 ghost use Rattle.ospf_files.specs.Explained.{IsExplained, IsLinePlace, found_here_text, interface_text};

@@ -1,6 +1,6 @@
 //! The streams that a program writes to, and which of them have failed.
 
-ghost use Rattle.std.specs.Prelude.{◌≡◌, ◌⊎◌, ◌++◌, Bool, true, false, OnErr, OnOk, IfErr, codes};
+ghost use Rattle.std.specs.Prelude.{◌≡◌, ◌⊎◌, ◌++◌, true, false, OnErr, OnOk, IfErr, codes};
 ghost use Rattle.std.specs.Io.KnownBytes.{Appends, Keeps};
 ghost use Rattle.ospf_files.specs.Streams.{IsBegun, IsErrorCut, IsErrorFailed, IsOutputCut, IsOutputFailed, with_error, with_output};
 

@@ -1,6 +1,6 @@
 //! Two files that configure one router.
 
-ghost use Rattle.std.specs.Prelude.{◌≡◌, ◌≢◌, ◌<◌, ◌++◌, ℕ, codes, IfNone, IfOk, IfSome, length, string_bytes};
+ghost use Rattle.std.specs.Prelude.{◌≡◌, ◌≢◌, ◌<◌, ◌++◌, codes, IfNone, IfOk, IfSome, length, string_bytes};
 ghost use Rattle.ospf_base.specs.Text.{number_text};
 ghost use Rattle.ospf_config.specs.Configs.{ShareRouter};
 ghost use Rattle.ospf_files.specs.Twins.{AreFirstTwins, same_router_lines};

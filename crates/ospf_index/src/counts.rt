@@ -1,6 +1,6 @@
 //! How many hops the routes of a table may have after changes.
 
-ghost use Rattle.std.specs.Prelude.{◌≡◌, ◌+◌, IfOk, IfSome, length, sum_by};
+ghost use Rattle.std.specs.Prelude.{◌≡◌, ◌+◌, IfOk, IfSome, sum_by};
 ghost use Rattle.ospf_index.specs.Room.{hops_in, hops_put};
 
 use ospf_graph::Route;

@@ -1,7 +1,7 @@
 //! The sweep over the routes of a table, which finds the ranges of
 //! addresses that one route answers for.
 
-ghost use Rattle.std.specs.Prelude.{◌≡◌, ◌≤◌, ◌<◌, ◌+◌, ◌-◌, ◌*◌, ◌++◌, ◌∷◌, [], ℕ, AllPairs, IfOk, IfSome, MatchOption, get_or, length, vec_len, vec_capacity};
+ghost use Rattle.std.specs.Prelude.{◌≡◌, ◌≤◌, ◌<◌, ◌+◌, ◌-◌, ◌*◌, ℕ, AllPairs, IfOk, IfSome, MatchOption, get_or, length, vec_len, vec_capacity};
 ghost use Rattle.ospf_graph.specs.Routes.{IsRouteBefore};
 ghost use Rattle.ospf_index.specs.Ranges.{HasRanges, end_of};
 ghost use Rattle.ospf_index.specs.Room.{HasRoom, IsRoomFor, IsSweptTo};
@@ -21,7 +21,7 @@ pub(crate) struct Sweep {
 }
 
 impl Sweep {
-    ghost use Rattle.std.specs.Prelude.{◌≡◌, ◌≤◌, ◌<◌, ◌+◌, ◌-◌, ◌++◌, ◌∷◌, ℕ, AllPairs, IfOk, MatchOption, get_or, length, vec_len, vec_capacity};
+    ghost use Rattle.std.specs.Prelude.{◌≡◌, ◌≤◌, ◌<◌, ◌+◌, ◌-◌, ℕ, AllPairs, IfOk, MatchOption, get_or, length, vec_len, vec_capacity};
     ghost use Rattle.ospf_graph.specs.Routes.{IsRouteBefore};
     ghost use Rattle.ospf_index.specs.Room.{HasRoom, IsRoomFor, IsSweptTo};
     ghost use Rattle.ospf_index.specs.Sweep.{IsRangeBegun, blocks_of, top};

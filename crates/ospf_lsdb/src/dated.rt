@@ -1,7 +1,7 @@
 //! The entries of a database: a map of entries, whose ages follow from the
 //! moment that a ring has come to.
 
-ghost use Rattle.std.specs.Prelude.{◌≡◌, ◌≤◌, ◌<◌, ◌⊎◌, ◌+◌, ◌-◌, List, [], length, map, ◌^◌, OnOk, OnErr, IfOk, option_map, if◌then◌else◌};
+ghost use Rattle.std.specs.Prelude.{◌≡◌, ◌≤◌, ◌<◌, ◌⊎◌, ◌+◌, ◌-◌, List, [], length, map, ◌^◌, OnOk, OnErr, IfOk, option_map};
 ghost use Rattle.ospf_base.specs.Constants.{max_age};
 ghost use Rattle.ospf_base.specs.declared.ids.LsaKey.{LsaKey};
 ghost use Rattle.ospf_lsdb.specs.Database.{Held, entry_from, held_of, entry_of, IsDatabase, Puts, Installs, Ages, expired, removed, is_fresh, is_expired, is_some_and, listed, ls_refresh_time, reached_at};

@@ -1,6 +1,6 @@
 //! The database, with the keys of its entries at `MAX_AGE`.
 
-ghost use Rattle.std.specs.Prelude.{◌≡◌, ◌⊎◌, ◌<◌, ◌^◌, [], filter, length, map, OnOk, OnErr, IfOk, option_map};
+ghost use Rattle.std.specs.Prelude.{◌≡◌, ◌⊎◌, ◌<◌, [], filter, length, map, OnOk, OnErr, IfOk, option_map};
 ghost use Rattle.ospf_base.specs.Constants.{max_age};
 ghost use Rattle.ospf_lsdb.specs.Database.{Ages, Installs, IsDatabase, Puts, entry_from, entry_of, expired, held_of, is_expired, is_fresh, is_some_and, key_at, listed, ls_refresh_time, reached_at, removed};
 

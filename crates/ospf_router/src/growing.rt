@@ -1,6 +1,6 @@
 //! The tree of shortest paths that grows with its listing.
 
-ghost use Rattle.std.specs.Prelude.{◌≡◌, ◌≢◌, ◌↔◌, ◌⊎◌, ℕ, List, [], Contains, Err, IfErr, IfNone, IfOk, IfSome, IsTrue, OnOk};
+ghost use Rattle.std.specs.Prelude.{◌≡◌, ◌⊎◌, ℕ, List, Contains, Err, IfErr, IfOk, IfSome, IsTrue, OnOk};
 ghost use Rattle.ospf_base.specs.Constants.{max_age};
 ghost use Rattle.ospf_base.specs.declared.prefix.Prefix.{Prefix};
 ghost use Rattle.ospf_edges.specs.Listed.{advertisement_of, advertisements_of};

@@ -1,6 +1,6 @@
 //! Whether a database lists what a listing has.
 
-ghost use Rattle.std.specs.Prelude.{◌≡◌, IsTrue, map};
+ghost use Rattle.std.specs.Prelude.{◌≡◌, IsTrue};
 ghost use Rattle.ospf_base.specs.Sums.{contents};
 ghost use Rattle.ospf_lsa.specs.Listing.{IsListing};
 ghost use Rattle.ospf_lsdb.specs.Database.{IsDatabase, listed};

@@ -1,6 +1,6 @@
 //! The changes that lead from one table to another.
 
-ghost use Rattle.std.specs.Prelude.{◌≡◌, ◌≤◌, ◌+◌, ◌↔◌, ◌++◌, [], All, AllPairs, Contains, IsTrue, IfOk, OnErr, MatchOption, length, vec_len, vec_capacity};
+ghost use Rattle.std.specs.Prelude.{◌≡◌, ◌≤◌, ◌+◌, ◌↔◌, All, AllPairs, Contains, IsTrue, IfOk, MatchOption, length};
 ghost use Rattle.ospf_base.specs.declared.prefix.Prefix.{Prefix};
 ghost use Rattle.ospf_base.specs.Prefixes.{IsPrefixBefore};
 ghost use Rattle.ospf_graph.specs.declared.route.Route.{Route};

@@ -1,5 +1,5 @@
 -- What a part of a step, and a whole step, answers for to other routers.
-use Rattle.std.specs.Prelude.{◌≡◌, ◌⊎◌, ◌<ℤ◌, ◌≤ℤ◌, ℕ, List, [], true, false, Option, None, Some, Contains, AllPairs}
+use Rattle.std.specs.Prelude.{◌≡◌, ◌⊎◌, ◌<ℤ◌, ◌≤ℤ◌, ℕ, List, true, false, Option, None, Some, Contains, AllPairs}
 use Rattle.ospf_base.specs.Constants.{max_age}
 use Rattle.ospf_base.specs.Instances.{Covers}
 use Rattle.ospf_base.specs.Sums.{contents}
@@ -15,10 +15,10 @@ use Rattle.ospf_packet.specs.Meaning.{BodyMeaning, Meaning}
 use Rattle.ospf_packet.specs.PacketOf.{packet_of}
 use Rattle.ospf_neighbour.specs.Machine.{is_exchanging}
 use Rattle.ospf_area.specs.Outputs.{OutputsValue, SentValue}
-use Rattle.ospf_area.specs.State.{AreaValue, Awaits, copy_of, kept_number, neighbour, state_in}
+use Rattle.ospf_area.specs.State.{AreaValue, Awaits, kept_number, neighbour, state_in}
 use Rattle.ospf_step.specs.Headers.{Lists}
 use Rattle.ospf_step.specs.Packets.{Received, lsas_of, headers_in_body, dd_headers_of, acknowledging_headers_of}
-use Rattle.ospf_step.specs.Words.{HasCopy, HoldsInstance, Asks, CanName, Brings, ListsAreHeld}
+use Rattle.ospf_step.specs.Words.{HasCopy, HoldsInstance, Asks, CanName, Brings}
 use Rattle.ospf_lsdb.specs.Moments.{among}
 use Rattle.ospf_update.specs.Removal.{lowest_number}
 use Rattle.ospf_flood.specs.Rules.{max_sequence_number}

@@ -1,6 +1,6 @@
 //! What the types of a router's state tell, as the laws of its parts ask for it.
 
-ghost use Rattle.std.specs.Prelude.{◌≡◌, Some, option_copied, slice_get};
+ghost use Rattle.std.specs.Prelude.{◌≡◌, Some, option_copied};
 ghost use Rattle.ospf_lsdb.specs.Database.{IsDatabase};
 ghost use Rattle.ospf_neighbour.specs.Neighbour.{NeighbourValue};
 ghost use Rattle.ospf_neighbour.specs.Neighbours.{neighbour_of};

@@ -6,7 +6,7 @@ ghost use Rattle.ospf_update.specs.Acks.{undelayed_link, delayed_out_on};
 ghost use Rattle.ospf_base.specs.declared.ids.LsaKey.{LsaKey};
 ghost use Rattle.ospf_lsa.specs.declared.header.LsaHeader.{LsaHeader};
 ghost use Rattle.ospf_lsdb.specs.Database.{Entry, IsDatabase};
-ghost use Rattle.ospf_area.specs.Outputs.{AreReadAsSent, OutputsValue, SentValue, no_outputs};
+ghost use Rattle.ospf_area.specs.Outputs.{AreReadAsSent, OutputsValue, no_outputs};
 ghost use Rattle.ospf_area.specs.Sending.{and_sends, own_of};
 ghost use Rattle.ospf_area.specs.State.{AreaValue, database_entry};
 ghost use Rattle.ospf_area.specs.declared.flooding.Origin.{Origin};

@@ -1,6 +1,6 @@
 //! What a datagram on loopback holds: the source, the destination, and the packet.
 
-ghost use Rattle.std.specs.Prelude.{◌≡◌, ◌≤◌, ℕ, IfSome, IfNone, OnOk, length, take};
+ghost use Rattle.std.specs.Prelude.{◌≡◌, ◌≤◌, IfSome, IfNone, OnOk, length, take};
 ghost use Rattle.ospf_udp.specs.Frames.{IsFrameOf, IsPassedOver, frame_bytes};
 
 use ospf_base::{Addr, u32_at};

@@ -1,6 +1,6 @@
 //! LSAs that leave the database.
 
-ghost use Rattle.std.specs.Prelude.{◌≡◌, IfOk, OnOk, map, filter, if◌then◌else◌};
+ghost use Rattle.std.specs.Prelude.{◌≡◌, IfOk, OnOk, map, filter};
 ghost use Rattle.std.specs.List.{list_any};
 ghost use Rattle.ospf_lsdb.specs.Database.{entries, held_of, is_some_and, key_in};
 ghost use Rattle.ospf_area.specs.Acting.{InTurn};

@@ -1,6 +1,6 @@
 //! Whether a copy says what is wanted, compared where it stands: nothing is built for it.
 
-ghost use Rattle.std.specs.Prelude.{◌≡◌, ◌≤◌, ◌/◌, ◌-◌, ◌&&◌, pos, List, [], Some, length, take, drop, option_copied, if◌then◌else◌};
+ghost use Rattle.std.specs.Prelude.{◌≡◌, ◌≤◌, ◌/◌, ◌-◌, ◌&&◌, pos, List, [], Some, length, take, drop, option_copied};
 ghost use Rattle.std.specs.List.{flat_map};
 ghost use Rattle.std.specs.Str.{bytes_eq};
 ghost use Rattle.ospf_base.specs.Bytes.{number_bytes};
