@@ -11,6 +11,7 @@ use crate::rounds::run_round;
 use crate::simulation::Simulation;
 use ospf_config::Interface;
 use ospf_files::{FailedStreams, Failure};
+use ospf_originate::MIN_LS_INTERVAL;
 use ospf_rounds::Watch;
 use ospf_views::sight_of;
 use ospf_world::{Slot, WorldFault};
@@ -19,9 +20,6 @@ use std::io::Write;
 
 // How many datagrams a round offers at most.
 const SETTLING_OFFERS: u64 = 1_000_000;
-
-// MinLSInterval, in seconds (RFC 2328, section 12.4).
-const MIN_LS_INTERVAL: u64 = 5;
 
 // Rounds, at most so many, until nothing that is seen has changed for as many as a router waits at
 // most before it does what is due. How many it took is printed, or a beginning of that.
@@ -102,7 +100,7 @@ fn pass_rounds<V: Watch>(
 fn longest_wait(slots: &[Slot]) -> u64
     ensures { result ≡ fold longer_in min_ls_interval slots.now }
 {
-    let mut longest = MIN_LS_INTERVAL;
+    let mut longest = u64::from(MIN_LS_INTERVAL);
     for slot in slots {
         longest = longer_in(longest, &slot.config().interfaces);
     }

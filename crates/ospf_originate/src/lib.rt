@@ -14,6 +14,7 @@ pub use crate::laws::{
     area_stays_sound, issue_is_next, issued_is_kept, issued_waits, next_is_newer, own_stay_short,
     own_stay_sound, parts_stay_sound, starts_sound,
 };
+pub use crate::numbers::MIN_LS_INTERVAL;
 pub use crate::own::own_lsas;
 pub use crate::step::issue;
 pub use ospf_wanted::{

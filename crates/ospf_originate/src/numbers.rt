@@ -7,8 +7,8 @@ ghost use Rattle.ospf_originate.specs.Numbers.{issued_at_in, waits, issued_one, 
 use ospf_area::Numbering;
 use ospf_base::{LsaKey, have_passed};
 
-// MinLSInterval: the fewest ticks between two issues of an LSA (RFC 2328, appendix B).
-const MIN_LS_INTERVAL: u16 = 5;
+/// MinLSInterval: the fewest ticks between two issues of an LSA (RFC 2328, appendix B).
+pub const MIN_LS_INTERVAL: u16 = 5;
 
 /// The number kept for a key: the greatest of its numbering run, or the floor.
 pub(crate) fn kept_number(all: &[Numbering], floor: i32, key: &LsaKey) -> i32
