@@ -37,6 +37,7 @@ impl OwnLsa {
     /// A fault is that of the wanted LSA, if it cannot be made.
     pub fn is_said_by(&self, copy: &LsaView<'_>, alloc: Global) -> Result<bool, LsaFault>
         ensures ok { IfOk result (λ said. said ≡ says (contents copy.now) (wanted_value self.now)) }
+        ensures needs { OnOk result (HasAll (Needs first_number (wanted_value self.now))) }
         ensures fault { IfErr result (λ f. IsUnmade (Needs first_number (wanted_value self.now))
             f) }
     {
