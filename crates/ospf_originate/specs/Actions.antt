@@ -1,5 +1,5 @@
 -- When own LSAs are issued and flushed (RFC 2328, sections 12.1.6, 12.4, 13.4 and 14.1).
-use Rattle.std.specs.Prelude.{◌+ℤ◌, ◌≢◌, ◌&&◌, ◌||◌, ⊤, ℤ, pos, Bool, true, not, Option, None, Some, nat_le, if◌then◌else◌}
+use Rattle.std.specs.Prelude.{◌≡◌, ◌+ℤ◌, ◌≢◌, ◌<◌, ◌&&◌, ◌||◌, ⊤, ℤ, pos, Bool, true, false, not, Option, None, Some, nat_le, if◌then◌else◌}
 use Rattle.std.specs.Ordering.{int_eq}
 use Rattle.ospf_flood.specs.Rules.{max_sequence_number}
 use Rattle.ospf_lsa.specs.Value.{unused_number}
@@ -43,6 +43,13 @@ unwanted_action (Some copy) heard own = if heard || (own && is_fresh copy) then 
 unfoldable pub own_action : Option WantedValue → Option Entry → Bool → Bool → Bool → ℤ → OwnAction
 own_action None copy heard own waits kept = unwanted_action copy heard own
 own_action (Some w) copy heard own waits kept = wanted_action w copy heard waits kept
+
+-- the wanted LSA is made, to be compared with a copy below LSRefreshTime: where nothing of its key
+-- was heard in this step, and it does not wait
+abbrev pub IsCompared : Option Entry → Bool → Bool → Type 0
+IsCompared copy heard waits =
+    (heard ≡ false) × (waits ≡ false)
+    × ((c : Entry) × (copy ≡ Some c) × (c.age < ls_refresh_time))
 
 -- an issue has a number that is used (12.1.6)
 abbrev pub IsUsed : OwnAction → Type 0

@@ -1,9 +1,9 @@
 //! What becomes of an own LSA.
 
-ghost use Rattle.std.specs.Prelude.{◌≡◌, IfErr, IfOk, option_map, option_copied};
+ghost use Rattle.std.specs.Prelude.{◌≡◌, IfErr, IfOk, OnErr, false, option_map, option_copied};
 ghost use Rattle.ospf_lsa.specs.Value.{IsUnmade};
 ghost use Rattle.ospf_lsdb.specs.Database.{is_fresh};
-ghost use Rattle.ospf_originate.specs.Actions.{makes_room, next_action, is_due, wanted_action, unwanted_action, own_action, IsUsed};
+ghost use Rattle.ospf_originate.specs.Actions.{makes_room, next_action, is_due, wanted_action, unwanted_action, own_action, IsCompared, IsUsed};
 ghost use Rattle.ospf_wanted.specs.Made.{IsUnmadeIf, Needs, first_number};
 ghost use Rattle.ospf_wanted.specs.Own.{wanted_value};
 
@@ -36,7 +36,7 @@ pub struct DueAction {
 /// installed in this step, `own` whether its Advertising Router is this one, `waits` whether it was
 /// issued less than MinLSInterval ago; `kept` is the greatest number of its numbering run.
 ///
-/// A fault is that of the wanted LSA, if it cannot be made.
+/// A fault is that of the wanted LSA, if it cannot be made where a copy is compared with it.
 #[tactic(auto, unfolding(crate::specs::Actions::own_action))]
 pub fn own_action(
     wanted: Option<&OwnLsa>,
@@ -52,6 +52,7 @@ pub fn own_action(
         kept) }
     ensures used { IfOk result IsUsed }
     ensures fault { IfErr result (IsUnmadeIf (option_map (λ w. wanted_value w.now) wanted.entry)) }
+    ensures compared { OnErr result (IsCompared copy.entry heard waits) }
 {
     match wanted {
         Some(wanted) => wanted_action(wanted, copy, heard, waits, kept, alloc),
@@ -90,6 +91,7 @@ fn wanted_action(
         ≡ wanted_action (wanted_value wanted.now) copy.entry heard waits kept) }
     ensures used { IfOk result IsUsed }
     ensures fault { IfErr result (λ f. IsUnmade (Needs first_number (wanted_value wanted.now)) f) }
+    ensures compared { OnErr result (IsCompared copy.entry heard waits) }
 {
     if heard {
         return Ok(next_action(copy, kept));
@@ -105,6 +107,7 @@ fn is_due(wanted: &OwnLsa, copy: Option<&EntryView<'_>>, alloc: Global) -> Resul
     ensures is { IfOk result (λ due. due
         ≡ is_due (wanted_value wanted.now) (option_copied copy.entry)) }
     ensures fault { IfErr result (λ f. IsUnmade (Needs first_number (wanted_value wanted.now)) f) }
+    ensures compared { OnErr result (IsCompared (option_copied copy.entry) false false) }
 {
     match copy {
         Some(copy) => {
