@@ -1,5 +1,5 @@
 -- What is said of a text that is refused: the places that have its fault, in order.
-use Rattle.std.specs.Prelude.{◌≡◌, ◌==◌, ◌||◌, ℕ, Bool, true, false, ◌+◌, ◌≤◌, List, [], ◌∷◌, ◌++◌, length, take, count_by, Any, Option, Some, None, option_map, IfSome, Ok, Err, String, codes, decimal, string_bytes}
+use Rattle.std.specs.Prelude.{◌≡◌, ◌==◌, ◌&&◌, ◌||◌, ℕ, Bool, true, false, not, ◌+◌, ◌≤◌, List, [], ◌∷◌, ◌++◌, length, take, count_by, Any, Option, Some, None, option_map, IfSome, Ok, Err, String, codes, decimal, string_bytes}
 use Rattle.std.specs.declared.alloc.Global.{Global}
 use Rattle.std.specs.Char.{is_ascii_alphanumeric}
 use Rattle.std.specs.Fmt.{signed_decimal, debug_str}
@@ -134,9 +134,13 @@ IsFoundText (Some d) (Some text) = IsValueText d text
 abbrev pub is_bare_byte : ℕ → Bool
 is_bare_byte b = is_ascii_alphanumeric b || (b == 95 || b == 45)
 
--- a key as it is shown: as it is where all its bytes are such, else quoted as a text is
+-- a key needs no quotes: it has bytes, all of them such
+abbrev pub is_bare : List ℕ → Bool
+is_bare key = not (length key == 0) && list_all is_bare_byte key
+
+-- a key as it is shown: as it is where it needs no quotes, else quoted as a text is
 abbrev pub IsKeyText : List ℕ → List ℕ → Type 0
-IsKeyText key text = elim (list_all is_bare_byte key) [
+IsKeyText key text = elim (is_bare key) [
   | true ↦ text ≡ key
   | false ↦ IsQuotedText key text
 ]

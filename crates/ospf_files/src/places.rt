@@ -4,7 +4,7 @@ ghost use Rattle.std.specs.List.{list_all};
 ghost use Rattle.std.specs.Prelude.{◌≡◌, ◌↔◌, IsTrue, IsSome, Some, IfOk, OnOk, All, Any, map, string_bytes};
 ghost use Rattle.toml.specs.Data.{as_table};
 ghost use Rattle.toml.specs.View.{view, table_view, items_view};
-ghost use Rattle.ospf_files.specs.Explained.{ArePlacesOf, IsKeyPlace, IsKeyText, is_bare_byte, IsUnknownPlace, IsValueText, IsPlaceWhere, AreTopPlaces, AreInterfacePlaces, AreAllPlaces, AreTablePlaces, AreInConflict};
+ghost use Rattle.ospf_files.specs.Explained.{ArePlacesOf, IsKeyPlace, IsKeyText, is_bare, is_bare_byte, IsUnknownPlace, IsValueText, IsPlaceWhere, AreTopPlaces, AreInterfacePlaces, AreAllPlaces, AreTablePlaces, AreInConflict};
 ghost use Rattle.ospf_files.specs.Rows.{AddsRows};
 ghost use Rattle.ospf_config.specs.Tables.{IsOtherKey, IsTableWith, keys_of, tables_among};
 
@@ -123,9 +123,16 @@ fn key_text(alloc: Global, key: &str) -> Result<String, AllocError>
 
 // Whether a key needs no quotes.
 fn is_bare(key: &str) -> bool
-    ensures { result ≡ list_all is_bare_byte key.now }
+    ensures { result ≡ is_bare key.now }
 {
-    key.as_bytes().iter().all(|byte| is_bare_byte(*byte))
+    !key.is_empty() && are_bare(key.as_bytes())
+}
+
+// Whether all bytes of a key need none.
+fn are_bare(bytes: &[u8]) -> bool
+    ensures { result ≡ list_all is_bare_byte bytes.now }
+{
+    bytes.iter().all(|byte| is_bare_byte(*byte))
 }
 
 // Whether a byte of a key needs none.

@@ -15,7 +15,7 @@ use std::alloc::{AllocError, Global};
 use std::io::Write;
 
 /// Prints routes in their order, a line each, which standard output may keep until it is flushed.
-/// Where that fails, a beginning of the lines was written.
+/// Where that fails, with `Memory` or `Output`, a beginning of the lines was written.
 pub fn print_routes<O: Write>(
     alloc: Global,
     routes: &[Route],
@@ -38,7 +38,8 @@ pub fn print_routes<O: Write>(
 }
 
 /// Prints the line of an address that was looked up: the prefix, the cost and the hop that were
-/// found for it, or `none`. Where that fails, a beginning of the line was written.
+/// found for it, or `none`. Where that fails, with `Memory` or `Output`, a beginning of the line was
+/// written.
 pub fn print_lookup<O: Write>(
     alloc: Global,
     address: Addr,

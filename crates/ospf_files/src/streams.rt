@@ -27,6 +27,8 @@ impl FailedStreams {
     }
 
     /// Writes a text to standard output, which may keep it until it is flushed.
+    ///
+    /// `Memory` where that ran out, else `Output`; the stream is noted then.
     pub fn write<O: Write>(&mut self, out: &mut O, text: &str) -> Result<(), Failure>
         // The text is written behind what stood there, and no stream has failed by it.
         ensures same { OnOk result (self.new ≡ self.old) }
@@ -46,6 +48,8 @@ impl FailedStreams {
     }
 
     /// Flushes standard output.
+    ///
+    /// `Memory` where that ran out, else `Output`; the stream is noted then.
     pub fn flush<O: Write>(&mut self, out: &mut O) -> Result<(), Failure>
         ensures same { OnOk result (self.new ≡ self.old) }
         ensures bytes { Keeps (O.contents out.old) (O.contents out.new) }
@@ -62,6 +66,8 @@ impl FailedStreams {
     }
 
     /// Writes a text to standard output, and flushes.
+    ///
+    /// `Memory` where that ran out, else `Output`; the stream is noted then.
     pub fn print<O: Write>(&mut self, out: &mut O, text: &str) -> Result<(), Failure>
         ensures printed { OnOk result ((self.new ≡ self.old)
             × Appends (O.contents out.old) (O.contents out.new) text.now) }
@@ -80,6 +86,8 @@ impl FailedStreams {
     }
 
     /// Writes a text to standard error, and flushes.
+    ///
+    /// `Memory` where that ran out, else `Error`; the stream is noted then.
     pub fn tell<E: Write>(&mut self, err: &mut E, text: &str) -> Result<(), Failure>
         // The text is written behind what stood there, and no stream has failed by it.
         ensures told { OnOk result ((self.new ≡ self.old)

@@ -411,6 +411,8 @@ fn explains_keys(rt: HostRuntime) -> Result<(), Fail> {
             "colour = \"red\"\n",
             "interface 0: colour: a known key wanted, \"red\" found\n",
         ),
+        ("\"\" = 1\n", "interface 0: \"\": a known key wanted, 1 found\n"),
+        ("\"a b\" = 1\n", "interface 0: \"a b\": a known key wanted, 1 found\n"),
         (
             "peers = [1]\n",
             "interface 0: peers: a list of at most 32 numbers, each 1024 to 65535, wanted, a list of 1 found\n",
