@@ -2,8 +2,8 @@
 
 use std::io::Write;
 
-/// Whether a file that is to be written is one that is read, or another one that is to be written:
-/// that is told, before anything in it is lost.
+/// Whether a file that is to be written has the name of one that is read, or of another one that is
+/// to be written: that is told, before anything in it is lost.
 pub(crate) fn tell_overwritten<E: Write>(
     script: Option<&str>,
     files: &[String],

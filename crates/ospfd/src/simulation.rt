@@ -1,0 +1,143 @@
+//! Runs of the simulator.
+
+use crate::names::tell_overwritten;
+use crate::outputs::open_journal;
+use crate::screen::Screen;
+use ospf_files::{NamedFile, Status, read_file, read_files, tell_unwritten};
+use ospf_notes::StatusLine;
+use ospf_records::write_records;
+use ospf_sim::{Console, Events, Recording, Simulated, Watch, console_text, sim_text};
+use ospf_words::SimJob;
+use std::alloc::Global;
+use std::io::{self, BufReader, Write};
+use std::process::ExitCode;
+use std::rt::Runtime;
+use std::time::Clock;
+
+// The exit status of a simulation in which something was not as a line expected it.
+const UNMET: u8 = 1;
+
+// The word for standard input, in place of a script's name.
+const STANDARD_INPUT: &str = "-";
+
+// What stands before a line that is typed.
+const PROMPT: &str = "> ";
+
+//// Runs a simulation over the files of these names, and writes what is wanted of the world that it
+/// leaves. Whether its lines are typed, where they come from standard input, is given.
+pub(crate) fn run_sim<
+    R: Runtime + AllocGlobal + Clock + Copy + Drop,
+    O: Write,
+    E: Write,
+    T: Write + Drop,
+>(
+    rt: &R,
+    job: SimJob,
+    out: &mut O,
+    err: &mut E,
+    line: StatusLine<T>,
+    is_typed: bool,
+) -> io::Result<ExitCode> {
+    let SimJob {
+        script,
+        files,
+        dot,
+        pcap,
+        log,
+        json,
+    } = job;
+    let written = [dot.as_deref(), pcap.as_deref(), log.as_deref()];
+    if tell_overwritten(file_of(script.as_str()), &files, &written, err) {
+        return Ok(ExitCode::from(Status::Words));
+    }
+    let script = script_of(rt, script)?;
+    let files = read_files(rt, files)?;
+    let Some(journal) = open_journal(rt, log.as_deref(), json, err)? else {
+        return Ok(ExitCode::from(Status::Stream));
+    };
+    let events = Events::new(rt.alloc(), journal);
+    let recording = Recording::new(*rt, rt.alloc(), name_of(rt.alloc(), pcap.as_deref())?);
+    let mut screen = Screen::new(*rt, line, events, recording);
+    let Simulated { status, left } = match script {
+        Some(script) => sim_text(rt.alloc(), &script, &files, out, err, &mut screen),
+        None => run_console(rt, &files, out, err, &mut screen, is_typed)?,
+    };
+    let is_logged = screen.is_logged();
+    if let Some(name) = log.as_deref() {
+        if !is_logged {
+            let _ = tell_unwritten(name, err);
+        }
+    }
+    let (is_recorded, is_unmet) = match left {
+        Some(left) => {
+            let (world, walk) = (&left.world, left.walk.as_ref());
+            let (dot, pcap) = (dot.as_deref(), pcap.as_deref());
+            (
+                write_records(rt, world, walk, dot, pcap, err)?,
+                left.is_unmet,
+            )
+        }
+        None => (true, false),
+    };
+    if is_logged && is_recorded {
+        Ok(code_of(status, is_unmet))
+    } else {
+        Ok(ExitCode::from(Status::Stream))
+    }
+}
+
+// The name of the file that a script is in, if it is in one.
+fn file_of(script: &str) -> Option<&str> {
+    if script == STANDARD_INPUT {
+        None
+    } else {
+        Some(script)
+    }
+}
+
+// The name of a file, once more.
+fn name_of(alloc: Global, name: Option<&str>) -> io::Result<Option<String>> {
+    match name {
+        Some(name) => Ok(Some(String::from_str(alloc, name)?)),
+        None => Ok(None),
+    }
+}
+
+// The script in the file of this name; `None` for standard input.
+fn script_of<R: Runtime + AllocGlobal>(rt: &R, name: String) -> io::Result<Option<NamedFile>> {
+    if file_of(name.as_str()).is_some() {
+        Ok(Some(read_file(rt, name)?))
+    } else {
+        Ok(None)
+    }
+}
+
+// Answers the lines of standard input, each before it reads the next. Where they are typed, a
+// line feed ends the last prompt.
+fn run_console<R: Runtime + AllocGlobal, O: Write, E: Write, V: Watch>(
+    rt: &R,
+    files: &[NamedFile],
+    out: &mut O,
+    err: &mut E,
+    watch: &mut V,
+    is_typed: bool,
+) -> io::Result<Simulated> {
+    let console = Console {
+        input: BufReader::new(rt.alloc(), rt.reader())?,
+        prompt: if is_typed { PROMPT } else { "" },
+    };
+    let simulated = console_text(rt.alloc(), console, files, out, err, watch);
+    if is_typed && simulated.status == Status::Done {
+        let _ = writeln!(out).and_then(|_| out.flush());
+    }
+    Ok(simulated)
+}
+
+// How a simulation ends, in which something was not as it was expected, or all was.
+fn code_of(status: Status, is_unmet: bool) -> ExitCode {
+    if is_unmet && status == Status::Done {
+        ExitCode::from(UNMET)
+    } else {
+        ExitCode::from(status)
+    }
+}
