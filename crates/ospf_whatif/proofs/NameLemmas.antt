@@ -1,5 +1,5 @@
 -- Names of failures tell them apart.
-use Rattle.std.proofs.Common.{◌≡◌, ◌-◌, ℕ, ◌^◌, ◌<◌, ◌≤◌, List, [], ◌∷◌, ◌++◌, get_or, drop, length, decimal, sym, ap, ◌∙◌, arith}
+use Rattle.std.proofs.Common.{◌≡◌, ◌-◌, ℕ, ◌^◌, ◌<◌, ◌≤◌, List, [], ◌∷◌, ◌++◌, get_or, drop, length, decimal, sym, ap, inl, inr, ◌∙◌, arith}
 use Rattle.std.specs.Prelude.{bit_and}
 use Rattle.std.proofs.NetLemmas.Numbers.{NoDigit}
 use Rattle.std.proofs.lemmas.Fmt.{decimal_injective}
@@ -234,7 +234,8 @@ module _ (lsas : List (List ℕ)) (is : IsListing lsas) where
       (router_fits lsas is r (link.links, link.listed), network_fits lsas is n attached.network.router attached.mask attached.attached attached.network.listed)
 
   failure_fits : (f : AreaFailure) → IsFailure (advertisements_of lsas) f → FailureFits f
-  failure_fits (Link a b p) wire = ends_fit a b wire.cost wire.address wire.edge
+  failure_fits (Link a b p) (inl wire) = ends_fit a b wire.cost wire.address wire.edge
+  failure_fits (Link a b p) (inr links) = ends_fit a b links.cost links.address links.edge
   failure_fits (Links a b) (smaller, (cost, address, edge), none) = ends_fit a b cost address edge
   failure_fits (Attachment r n) on = attached_fit r n on
   failure_fits (Network n) (r, on) = (attached_fit r n on).1

@@ -23,7 +23,7 @@ use Rattle.std.proofs.lemmas.List.{get_or_default}
 use Rattle.ospf_graph.specs.Adds.{Adds}
 use Rattle.ospf_edges.specs.Given.{AreEndsAt, IsEdgesOf}
 use Rattle.ospf_edges.proofs.AddsLemmas.{adds_next}
-use Rattle.ospf_whatif.specs.Single.{AttachmentGiven, EdgeGiven, GivenBy, HasEndFor, IsFailure, IsLongestOf, IsLongestSuch, IsOn, IsPairOf, IsShared, IsSharedIn, IsWire, IsWireAt, LinksGiven, NetworkGiven, RouterGiven, WireGiven}
+use Rattle.ospf_whatif.specs.Single.{AttachmentGiven, EdgeGiven, GivenBy, HasEndFor, IsFailure, IsIndex, IsIndexed, IsLongestOf, IsLongestSuch, IsOfIndices, IsOn, IsPairOf, IsShared, IsSharedIn, IsWire, IsWireAt, LinksGiven, NetworkGiven, RouterGiven, UnnumberedGiven, WireGiven}
 use Rattle.ospf_whatif.specs.declared.failure.AreaFailure.{AreaFailure}
 use Rattle.ospf_whatif.specs.declared.failure.AreaFailure.TheVariants.{Attachment, Link, Links, Network, Router}
 use Rattle.ospf_whatif.proofs.OutageLemmas.{from_all}
@@ -66,6 +66,28 @@ pub one_links : (wired : List ℕ) (e : Edge) (a b : RouterId) → e.from ≡ ve
 one_links wired e a b from to less none f = (
   λ is. (a, b, from, to, less, none, is),
   λ g. let d = g.2 in let h = g.3 in let k = g.6 in cc,
+)
+
+-- there is one prefix of indices
+pub one_indexed : (link_data : ℕ) (a b : RouterId) (p : Prefix) → IsOfIndices p → IsIndex link_data → (f : AreaFailure)
+    → (f ≡ Link a b p) ↔ IsIndexed link_data a b f
+one_indexed link_data a b p indices index f = (
+  λ is. (p, indices, index, is),
+  λ g.
+      let length : g.0.length ≡ p.length = g.1.of_eight ∙ sym indices.of_eight in
+      g.3 ∙ ap (λ q. Link a b q) (prefix_same g.0 p (g.1.from_zero ∙ sym indices.from_zero) length),
+)
+
+pub unnumbered_given : (wired : List ℕ) (e : Edge) (a b : RouterId) → e.from ≡ vertex.Router a → e.to ≡ vertex.Router b → a.0 < b.0 → Contains wired (pair_code a.0 b.0)
+    → (f : AreaFailure) → IsIndexed e.link_data a b f ↔ UnnumberedGiven wired e f
+unnumbered_given wired e a b from to less there f = (
+  λ is. (a, b, from, to, less, there, is),
+  λ g.
+      let d = g.2 in
+      let h = g.3 in
+      let one : g.0 ≡ a = cc in
+      let two : g.1 ≡ b = cc in
+      subst (λ x. IsIndexed e.link_data x b f) one (subst (λ x. IsIndexed e.link_data g.0 x f) two g.6),
 )
 
 -- ---- the link of an edge in a subnet
@@ -189,10 +211,11 @@ module _ (A : List Advertisement) (edges back : List Edge) (edges_are : IsEdgesO
   shared_from : (p : Prefix) → IsSharedIn near far back address a b p → IsShared A a b address p
   shared_from p s =
       let here = told A (vertex.Router a) near near_are p s.0 in
-      let there = told A (vertex.Router b) far far_are p s.1.1 in
-      let leads = s.1.2 in
+      let there = told A (vertex.Router b) far far_are p s.1.2 in
+      let leads = s.1.3 in
       record {
-        here = s.1.0;
+        numbered = s.1.0;
+        here = s.1.1;
         metric = here.0;
         told_here = here.1;
         other_metric = there.0;
@@ -200,7 +223,8 @@ module _ (A : List Advertisement) (edges back : List Edge) (edges_are : IsEdgesO
         cost = leads.0;
         other_address = leads.1;
         back = (edges_are _).0 (part _ leads.2);
-        there = leads.3;
+        numbered_back = leads.3;
+        there = leads.4;
       }
 
   shared_to : (p : Prefix) → IsShared A a b address p → IsSharedIn near far back address a b p
@@ -208,9 +232,10 @@ module _ (A : List Advertisement) (edges back : List Edge) (edges_are : IsEdgesO
       let e : Edge = record { to = vertex.Router a; from = vertex.Router b; cost = s.cost; link_data = s.other_address } in (
         to_tell A (vertex.Router a) near near_are p s.metric s.told_here,
         (
+          s.numbered,
           s.here,
           to_tell A (vertex.Router b) far far_are p s.other_metric s.told_there,
-          (s.cost, s.other_address, from_all (vertex.Router b) edges back same e ((edges_are e).1 s.back) refl, s.there),
+          (s.cost, s.other_address, from_all (vertex.Router b) edges back same e ((edges_are e).1 s.back) refl, s.numbered_back, s.there),
         ),
       )
 
@@ -244,21 +269,36 @@ module _ (A : List Advertisement) (edges : List Edge) (edges_are : IsEdgesOf A e
     given_of : (f : AreaFailure) → Contains wires f → GivenBy (WireGiven A) edges f
     given_of f m = elim ((wires_are f).0 m) [ inl none ↦ absurd (let low = none.1 in omega arith) | inr g ↦ g ]
 
-    wire_sound : (f : AreaFailure) → Contains wires f → IsFailure A f
-    wire_sound f m =
+    wire_of : (f : AreaFailure) → Contains wires f → (a b : RouterId) × (subnet : Prefix) × (f ≡ Link a b subnet) × IsWire A a b subnet
+    wire_of f m =
         let g = given_of f m in
         let h = g.2 in
-        let w = h.5 in
-        let is : f ≡ Link h.0 h.1 w.0 = w.2 in
-        subst (λ x. IsFailure A x) (sym is)
-        record {
-          smaller = h.4;
-          cost = g.0.cost;
-          address = g.0.link_data;
-          edge = edge_of g.0 g.1 (vertex.Router h.0) (vertex.Router h.1) h.2 h.3;
-          shared = w.1.0;
-          longest = w.1.1;
-        }
+        let w = h.5 in (
+          h.0,
+          h.1,
+          w.0,
+          w.2,
+          record {
+            smaller = h.4;
+            cost = g.0.cost;
+            address = g.0.link_data;
+            edge = edge_of g.0 g.1 (vertex.Router h.0) (vertex.Router h.1) h.2 h.3;
+            shared = w.1.0;
+            longest = w.1.1;
+          },
+        )
+
+    wire_sound : (f : AreaFailure) → Contains wires f → IsFailure A f
+    wire_sound f m = let w = wire_of f m in subst (λ x. IsFailure A x) (sym w.3) (inl w.4)
+
+    wire_is : (a b : RouterId) (subnet : Prefix) → Contains wires (Link a b subnet) → IsWire A a b subnet
+    wire_is a b subnet m =
+        let w = wire_of (Link a b subnet) m in
+        let is : Link a b subnet ≡ Link w.0 w.1 w.2 = w.3 in
+        let one : w.0 ≡ a = cc in
+        let two : w.1 ≡ b = cc in
+        let three : w.2 ≡ subnet = cc in
+        subst (λ x. IsWire A x b subnet) one (subst (λ x. IsWire A w.0 x subnet) two (subst (λ x. IsWire A w.0 w.1 x) three w.4))
 
     wire_complete : (a b : RouterId) (subnet : Prefix) → IsWire A a b subnet → Contains wires (Link a b subnet)
     wire_complete a b subnet w =
@@ -289,7 +329,7 @@ module _ (A : List Advertisement) (edges : List Edge) (edges_are : IsEdgesOf A e
     wired_to a b subnet m = (wired_are (pair_code a.0 b.0)).1 (inr (Link a b subnet, m, (a, b, subnet, refl, refl)))
 
     edge_sound : (f : AreaFailure) (e : Edge) → Contains edges e → EdgeGiven wired e f → IsFailure A f
-    edge_sound f e m (inl (inl g)) =
+    edge_sound f e m (inl (inl (inl g))) =
         let is : f ≡ Links g.0 g.1 = g.6 in
         subst (λ x. IsFailure A x) (sym is) (
           g.4,
@@ -297,6 +337,21 @@ module _ (A : List Advertisement) (edges : List Edge) (edges_are : IsEdgesOf A e
           (λ cost address prefix edge s.
               none_shared A g.0 g.1 g.4 (λ subnet w. g.5 (wired_to g.0 g.1 subnet (wire_complete g.0 g.1 subnet w))) cost address edge 33 prefix (omega arith) s),
         )
+    edge_sound f e m (inl (inl (inr g))) =
+        let w = wired_from g.0 g.1 (fits e m g.1 g.3) g.5 in
+        let x = g.6 in
+        subst (λ y. IsFailure A y) (sym x.3)
+        (inr
+        record {
+          smaller = g.4;
+          cost = e.cost;
+          address = e.link_data;
+          edge = edge_of e m (vertex.Router g.0) (vertex.Router g.1) g.2 g.3;
+          indices = x.1;
+          unnumbered = x.2;
+          subnet = w.0;
+          beside = wire_is g.0 g.1 w.0 w.1;
+        })
     edge_sound f e m (inl (inr g)) =
         let is : f ≡ Attachment g.0 g.1 = g.4 in
         subst (λ x. IsFailure A x) (sym is) (e.cost, e.link_data, edge_of e m (vertex.Router g.0) (vertex.Network g.1) g.2 g.3)
@@ -310,15 +365,20 @@ module _ (A : List Advertisement) (edges : List Edge) (edges_are : IsEdgesOf A e
 
     -- a failure of each kind but the last is among what the edges give
     edge_complete : (f : AreaFailure) → IsFailure A f → ((r : RouterId) → f ≡ Router r → ⊥) → Contains wires f ⊎ GivenBy (EdgeGiven wired) edges f
-    edge_complete (Link a b subnet) h not = inl (wire_complete a b subnet h)
+    edge_complete (Link a b subnet) (inl h) not = inl (wire_complete a b subnet h)
+    edge_complete (Link a b subnet) (inr h) not =
+        let e : Edge = record { to = vertex.Router b; from = vertex.Router a; cost = h.cost; link_data = h.address } in
+        let m = edge_in (vertex.Router a) (vertex.Router b) h.cost h.address h.edge in
+        let there = wired_to a b h.subnet (wire_complete a b h.subnet h.beside) in
+        inr (e, m, inl (inl (inr (a, b, refl, refl, h.smaller, there, (subnet, h.indices, h.unnumbered, refl)))))
     edge_complete (Links a b) h not =
         let e : Edge = record { to = vertex.Router b; from = vertex.Router a; cost = h.1.0; link_data = h.1.1 } in
         let m = edge_in (vertex.Router a) (vertex.Router b) h.1.0 h.1.1 h.1.2 in
         let none : Contains wired (pair_code a.0 b.0) → ⊥ = λ there. (
         let w = wired_from a b (fits e m b refl) there in
-        let is : IsWire A a b w.0 = wire_sound (Link a b w.0) w.1 in
+        let is = wire_is a b w.0 w.1 in
         h.2 is.cost is.address w.0 is.edge is.shared) in
-        inr (e, m, inl (inl (a, b, refl, refl, h.0, none, refl)))
+        inr (e, m, inl (inl (inl (a, b, refl, refl, h.0, none, refl))))
     edge_complete (Attachment router n) h not = let o = on_network router n h in inr (o.0, o.1, inl (inr (router, n, o.2, o.3, refl)))
     edge_complete (Network n) h not = let o = on_network h.0 n h.1 in inr (o.0, o.1, inr (h.0, n, o.2, o.3, refl))
     edge_complete (Router r) h not = absurd (not r refl)

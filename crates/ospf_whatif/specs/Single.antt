@@ -15,10 +15,16 @@ use Rattle.ospf_whatif.specs.declared.failure.AreaFailure as failure
 use Rattle.ospf_whatif.specs.declared.failure.AreaFailure.TheVariants.{Attachment, Links, Network, Router}
 use Rattle.ospf_whatif.specs.declared.failure.AreaFailure.TheVariants as fails
 
+-- the Link Data of a link without an address: the index of its interface, which lies in 0.0.0.0/8,
+-- as no address of an interface does (section 12.4.1.1)
+abbrev pub IsIndex : ℕ → Type 0
+IsIndex link_data = link_data < 0x1000000
+
 -- a prefix that both routers tell by a type 3 link, which holds this address of the first and an
 -- address out of which an edge leads back
 pub record IsShared (adverts : List Advertisement) (a b : RouterId) (address : ℕ) (prefix : Prefix)
     : Type 0 where
+  pub numbered : IsIndex address → ⊥
   pub here : Holds prefix address
   pub metric : ℕ
   pub told_here : IsEnd adverts prefix (vertex.Router a) metric
@@ -27,6 +33,7 @@ pub record IsShared (adverts : List Advertisement) (a b : RouterId) (address : �
   pub cost : ℕ
   pub other_address : ℕ
   pub back : IsEdgeBetween adverts (vertex.Router b) (vertex.Router a) cost other_address
+  pub numbered_back : IsIndex other_address → ⊥
   pub there : Holds prefix other_address
 
 -- a link of two routers in a subnet, seen from the one of the smaller Router ID: the subnet is the
@@ -38,6 +45,23 @@ pub record IsWire (adverts : List Advertisement) (a b : RouterId) (subnet : Pref
   pub edge : IsEdgeBetween adverts (vertex.Router a) (vertex.Router b) cost address
   pub shared : IsShared adverts a b address subnet
   pub longest : (other : Prefix) → IsShared adverts a b address other → other.length ≤ subnet.length
+
+-- the prefix is 0.0.0.0/8, by which such links are told
+pub record IsOfIndices (prefix : Prefix) : Type 0 where
+  pub from_zero : prefix.address.0 ≡ 0
+  pub of_eight : prefix.length ≡ 8
+
+-- the links without addresses of two routers that have a link in a subnet too: those of this prefix
+pub record IsUnnumbered (adverts : List Advertisement) (a b : RouterId) (prefix : Prefix)
+    : Type 0 where
+  pub smaller : a.0 < b.0
+  pub cost : ℕ
+  pub address : ℕ
+  pub edge : IsEdgeBetween adverts (vertex.Router a) (vertex.Router b) cost address
+  pub indices : IsOfIndices prefix
+  pub unnumbered : IsIndex address
+  pub subnet : Prefix
+  pub beside : IsWire adverts a b subnet
 
 -- at no edge from the one to the other do two routers share a prefix
 abbrev pub ShareNone : List Advertisement → RouterId → RouterId → Type 0
@@ -54,7 +78,8 @@ IsOn adverts router n =
 
 -- what may fail
 abbrev pub IsFailure : List Advertisement → failure.AreaFailure → Type 0
-IsFailure adverts (fails.Link a b subnet) = IsWire adverts a b subnet
+IsFailure adverts (fails.Link a b subnet) =
+    IsWire adverts a b subnet ⊎ IsUnnumbered adverts a b subnet
 IsFailure adverts (Links a b) =
     (a.0 < b.0)
     × ((cost address : ℕ) × IsEdgeBetween adverts (vertex.Router a) (vertex.Router b) cost address)
@@ -103,18 +128,20 @@ HasEndFor ends prefix =
     (at : Vertex) × (cost : ℕ)
     × Contains ends (record { prefix = prefix; vertex = at; cost = cost })
 
--- an edge leads from a router to another out of an address in the subnet
+-- an edge leads from a router to another out of an address in the subnet, which is no index
 abbrev pub LeadsBack : List Edge → RouterId → RouterId → Prefix → Type 0
 LeadsBack edges from to subnet =
     (cost address : ℕ)
     × Contains edges
     (record { to = vertex.Router to; from = vertex.Router from; cost = cost; link_data = address })
-    × Holds subnet address
+    × (IsIndex address → ⊥) × Holds subnet address
 
--- the prefix holds the address, an end far is that of it, and an edge leads back in it
+-- the prefix holds the address, which is none of an index, an end far is that of it, and an edge
+-- leads back in it
 abbrev pub IsSharedFar : List End → List Edge → ℕ → RouterId → RouterId → Prefix → Type 0
 IsSharedFar far back address a b prefix =
-    Holds prefix address × HasEndFor far prefix × LeadsBack back b a prefix
+    (IsIndex address → ⊥) × Holds prefix address × HasEndFor far prefix
+    × LeadsBack back b a prefix
 
 -- and an end near is that of it too
 abbrev pub IsSharedIn : List End → List End → List Edge → ℕ → RouterId → RouterId → Prefix → Type 0
@@ -149,6 +176,17 @@ LinksGiven wired edge f =
     (a b : RouterId) × (edge.from ≡ vertex.Router a) × (edge.to ≡ vertex.Router b) × (a.0 < b.0)
     × (Contains wired (pair_code a.0 b.0) → ⊥) × (f ≡ Links a b)
 
+-- the failure is that of the links without addresses of two routers, at the Link Data of one
+abbrev pub IsIndexed : ℕ → RouterId → RouterId → failure.AreaFailure → Type 0
+IsIndexed link_data a b f =
+    (prefix : Prefix) × IsOfIndices prefix × IsIndex link_data × (f ≡ fails.Link a b prefix)
+
+-- the failure is that of the links without addresses of two routers whose pair is there
+abbrev pub UnnumberedGiven : List ℕ → Edge → failure.AreaFailure → Type 0
+UnnumberedGiven wired edge f =
+    (a b : RouterId) × (edge.from ≡ vertex.Router a) × (edge.to ≡ vertex.Router b) × (a.0 < b.0)
+    × Contains wired (pair_code a.0 b.0) × IsIndexed edge.link_data a b f
+
 -- the failure is that of a router's link to a network
 abbrev pub AttachmentGiven : Edge → failure.AreaFailure → Type 0
 AttachmentGiven edge f =
@@ -163,7 +201,9 @@ NetworkGiven edge f =
 
 -- an edge gives this failure
 abbrev pub EdgeGiven : List ℕ → Edge → failure.AreaFailure → Type 0
-EdgeGiven wired edge f = (LinksGiven wired edge f ⊎ AttachmentGiven edge f) ⊎ NetworkGiven edge f
+EdgeGiven wired edge f =
+    ((LinksGiven wired edge f ⊎ UnnumberedGiven wired edge f) ⊎ AttachmentGiven edge f)
+    ⊎ NetworkGiven edge f
 
 -- the failure is that of the router of an LSA
 abbrev pub RouterGiven : Advertisement → failure.AreaFailure → Type 0

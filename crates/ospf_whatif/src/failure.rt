@@ -13,7 +13,8 @@ use ospf_lsa::{Link, LinkKind};
 #[derive(Clone, Copy, Debug, PartialEq, Eq, PartialOrd, Ord)]
 pub enum AreaFailure {
     /// A point-to-point link: that of two routers in one subnet. The
-    /// interfaces at both ends go down.
+    /// interfaces at both ends go down. Links without addresses are
+    /// told by 0.0.0.0/8, in which their Link Data lies.
     Link {
         a: RouterId,
         b: RouterId,

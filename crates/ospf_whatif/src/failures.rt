@@ -7,7 +7,7 @@ ghost use Rattle.ospf_graph.specs.declared.graph.Vertex.TheVariants.{Router};
 ghost use Rattle.ospf_graph.specs.Adds.{Adds};
 ghost use Rattle.ospf_edges.specs.Given.{IsEdgesOf};
 ghost use Rattle.ospf_edges.specs.Listed.{advertisement_of, advertisements_of};
-ghost use Rattle.ospf_whatif.specs.Single.{AreFailures, AttachmentGiven, EdgeGiven, GivenBy, HasEndFor, IsFailureBefore, IsLongestOf, IsPairOf, IsShared, IsSharedFar, IsSharedIn, IsWireAt, LeadsBack, LinksGiven, NetworkGiven, RouterGiven, WireGiven};
+ghost use Rattle.ospf_whatif.specs.Single.{AreFailures, AttachmentGiven, EdgeGiven, GivenBy, HasEndFor, IsFailureBefore, IsIndex, IsIndexed, IsLongestOf, IsOfIndices, IsPairOf, IsShared, IsSharedFar, IsSharedIn, IsWireAt, LeadsBack, LinksGiven, NetworkGiven, RouterGiven, UnnumberedGiven, WireGiven};
 ghost use Rattle.ospf_whatif.specs.declared.failure.AreaFailure.{AreaFailure};
 
 use crate::failure::AreaFailure;
@@ -19,8 +19,16 @@ use ospf_lsa::{Listing, Lsa};
 use ospf_spf::is_same_prefix;
 use std::alloc::{AllocError, Global};
 
+// How many leading bits of the index of an interface are 0. The index is the Link Data of a link
+// without an address (RFC 2328, section 12.4.1.1), and no address of one begins so.
+const BITS_BEFORE_INDEX: u8 = 8;
+
+// The indices of interfaces are below it.
+const INDICES: u32 = 1 << (32 - BITS_BEFORE_INDEX);
+
 /// What may fail in an area, each once, in the order of `AreaFailure`: links with a subnet, other
-/// links, attachments, networks and routers, each by its routers, its subnet or its network.
+/// links, attachments, networks and routers, each by its routers, its subnet or its network. Where
+/// two routers have links in subnets, those between them without addresses are told by 0.0.0.0/8.
 ///
 /// `AllocError` where memory runs out.
 pub fn single_failures(alloc: Global, listing: &Listing) -> Result<Vec<AreaFailure>, AllocError>
@@ -157,7 +165,7 @@ fn is_longer(prefix: Prefix, than: Option<Prefix>) -> bool
     }
 }
 
-// Whether a prefix holds an address, and the far router shares it.
+// Whether a prefix holds a link's address, and the far router shares it.
 fn is_shared(
     far: &[End],
     back: &[Edge],
@@ -168,7 +176,21 @@ fn is_shared(
 ) -> bool
     ensures { IsTrue result ↔ IsSharedFar far.now back.now address a b prefix }
 {
-    prefix.holds(Addr(address)) && is_met(far, back, a, b, prefix)
+    is_address_in(prefix, address) && is_met(far, back, a, b, prefix)
+}
+
+// Whether a link's Link Data is an address that a prefix holds.
+fn is_address_in(prefix: Prefix, link_data: u32) -> bool
+    ensures { IsTrue result ↔ ((IsIndex link_data → ⊥) × Holds prefix link_data) }
+{
+    !is_index(link_data) && prefix.holds(Addr(link_data))
+}
+
+// Whether it is the index of an interface.
+fn is_index(link_data: u32) -> bool
+    ensures { IsTrue result ↔ IsIndex link_data }
+{
+    link_data < INDICES
 }
 
 // Whether an end far is that of a prefix, and an edge leads back out of it.
@@ -195,11 +217,11 @@ fn leads_back(edges: &[Edge], from: RouterId, to: RouterId, subnet: Prefix) -> b
 // Whether an edge does.
 fn is_edge_in(edge: &Edge, from: RouterId, to: RouterId, subnet: Prefix) -> bool
     ensures { IsTrue result ↔ ((edge.now.from ≡ Router from) × (edge.now.to ≡ Router to)
-        × Holds subnet edge.now.link_data) }
+        × (IsIndex edge.now.link_data → ⊥) × Holds subnet edge.now.link_data) }
 {
     edge.from == Vertex::Router(from)
         && edge.to == Vertex::Router(to)
-        && subnet.holds(Addr(edge.link_data))
+        && is_address_in(subnet, edge.link_data)
 }
 
 // Adds a failure.
@@ -258,6 +280,7 @@ fn add_edge(wired: &Pairs, edge: &Edge, failures: &mut Vec<AreaFailure>) -> Resu
         failures.new.items) }
 {
     add_links(wired, edge, failures)?;
+    add_unnumbered(wired, edge, failures)?;
     add_attachment(edge, failures)?;
     add_network(edge, failures)?;
     Ok(())
@@ -278,6 +301,54 @@ fn add_links(wired: &Pairs, edge: &Edge, failures: &mut Vec<AreaFailure>) -> Res
         (Vertex::Router(_), Vertex::Network(_)) => Ok(()),
         (Vertex::Network(_), Vertex::Router(_)) => Ok(()),
         (Vertex::Network(_), Vertex::Network(_)) => Ok(()),
+    }
+}
+
+// Adds the links without addresses between two routers that have one in a subnet.
+fn add_unnumbered(
+    wired: &Pairs,
+    edge: &Edge,
+    failures: &mut Vec<AreaFailure>,
+) -> Result<(), AllocError>
+    ensures { OnOk result (Adds (UnnumberedGiven wired.now edge.now) failures.old.items
+        failures.new.items) }
+{
+    match (edge.from, edge.to) {
+        (Vertex::Router(a), Vertex::Router(b)) => {
+            if a.0 < b.0 && wired.has(a.0, b.0) {
+                add_indexed(edge.link_data, a, b, failures)?;
+            }
+            Ok(())
+        }
+        (Vertex::Router(_), Vertex::Network(_)) => Ok(()),
+        (Vertex::Network(_), Vertex::Router(_)) => Ok(()),
+        (Vertex::Network(_), Vertex::Network(_)) => Ok(()),
+    }
+}
+
+// Adds the links without addresses between two routers, if this is the Link Data of one.
+fn add_indexed(
+    link_data: u32,
+    a: RouterId,
+    b: RouterId,
+    failures: &mut Vec<AreaFailure>,
+) -> Result<(), AllocError>
+    ensures { OnOk result (Adds (IsIndexed link_data a b) failures.old.items failures.new.items) }
+{
+    if is_index(link_data) {
+        let subnet = prefix_of_indices();
+        add_failure(failures, AreaFailure::Link { a, b, subnet })?;
+    }
+    Ok(())
+}
+
+// The prefix in which the indices of interfaces lie.
+fn prefix_of_indices() -> Prefix
+    ensures { IsOfIndices result }
+{
+    Prefix {
+        address: Addr(0),
+        length: BITS_BEFORE_INDEX,
     }
 }
 

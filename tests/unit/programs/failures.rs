@@ -112,6 +112,22 @@ fn chain(alloc: Global) -> Result<Vec<Lsa>, Fail> {
     Ok(lsas)
 }
 
+// Two routers with a link in 10.0.0.0/30, a cheaper one without addresses, which is the fifth interface of the first and the
+// seventh of the second, and a stub of the second.
+fn unnumbered_beside(alloc: Global) -> Result<Vec<Lsa>, Fail> {
+    let first = [to(SECOND, 0x0a00_0001, 10), stub(0x0a00_0000, SUBNET, 10), to(SECOND, 5, 4)];
+    let second = [
+        to(FIRST, 0x0a00_0002, 10),
+        stub(0x0a00_0000, SUBNET, 10),
+        to(FIRST, 7, 4),
+        stub(0xc0a8_0200, 0xffff_ff00, 5),
+    ];
+    let mut lsas = Vec::new(alloc);
+    lsas.push(router(alloc, FIRST, &first)?)?;
+    lsas.push(router(alloc, SECOND, &second)?)?;
+    Ok(lsas)
+}
+
 // LSAs as lines.
 fn lines(alloc: Global, lsas: &[Lsa]) -> Result<String, Fail> {
     let mut text = String::new(alloc);
@@ -241,6 +257,57 @@ fn hops_change(rt: HostRuntime) -> Result<(), Fail> {
         1.1.1.1-2.2.2.2 cut 0 gone 0 cost 0 hops 1\n\
         2.2.2.2@10.1.0.2 hops 192.168.2.0/24 15 10.0.0.1>2.2.2.2\n\
         2.2.2.2@10.1.0.2 cut 0 gone 0 cost 0 hops 1\n";
+    expect(
+        &rt,
+        alloc,
+        &Case {
+            root: FIRST,
+            each: true,
+            strict: false,
+            input: &input,
+            status: DONE,
+            out,
+            err: "",
+        },
+    )
+}
+
+#[test]
+fn unnumbered_links_beside_one_in_a_subnet(rt: HostRuntime) -> Result<(), Fail> {
+    let alloc = rt.alloc();
+    let input = lines(alloc, &unnumbered_beside(alloc)?)?;
+    let out = "1.1.1.1-2.2.2.2@10.0.0.0/30 gone 10.0.0.0/30\n\
+        1.1.1.1-2.2.2.2@10.0.0.0/30 cut 0 gone 1 cost 0 hops 0\n\
+        2.2.2.2 gone 192.168.2.0/24\n\
+        2.2.2.2 cut 0 gone 1 cost 0 hops 0\n\
+        1.1.1.1-2.2.2.2@0.0.0.0/8 cost 192.168.2.0/24 9>15 10.0.0.1>2.2.2.2\n\
+        1.1.1.1-2.2.2.2@0.0.0.0/8 cut 0 gone 0 cost 1 hops 0\n";
+    expect(
+        &rt,
+        alloc,
+        &Case {
+            root: FIRST,
+            each: true,
+            strict: false,
+            input: &input,
+            status: DONE,
+            out,
+            err: "",
+        },
+    )
+}
+
+// The default route that both tell is no subnet of links without addresses.
+#[test]
+fn unnumbered_links_alone(rt: HostRuntime) -> Result<(), Fail> {
+    let alloc = rt.alloc();
+    let default = stub(0, 0, 1);
+    let mut lsas = Vec::new(alloc);
+    lsas.push(router(alloc, FIRST, &[to(SECOND, 5, 1), to(SECOND, 6, 10), default])?)?;
+    lsas.push(router(alloc, SECOND, &[to(FIRST, 7, 1), to(FIRST, 8, 10), default])?)?;
+    let input = lines(alloc, &lsas)?;
+    let out = "1.1.1.1-2.2.2.2 cut 0 gone 0 cost 0 hops 0\n\
+        2.2.2.2 cut 0 gone 0 cost 0 hops 0\n";
     expect(
         &rt,
         alloc,
