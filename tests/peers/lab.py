@@ -36,12 +36,12 @@ def missing():
 
 
 def said(*words):
-    """What a command says; nothing where it does not end."""
+    """What a command says; nothing where it does not end, or ends ill."""
     try:
         done = subprocess.run(words, stdin=subprocess.DEVNULL, capture_output=True, text=True, errors="replace", timeout=20, check=False)
-        return done.stdout or done.stderr
     except subprocess.TimeoutExpired:
         return ""
+    return "" if done.returncode else done.stdout or done.stderr
 
 
 def versions(program):
@@ -55,17 +55,22 @@ def versions(program):
 
 def inside(space, make):
     """What a function makes within a network namespace: its sockets stay there."""
-    made = []
+    made, failures = [], []
 
     def run():
-        with open(f"/var/run/netns/{space}", "rb") as file:
-            if LIBRARY.setns(file.fileno(), NETWORK_NAMESPACE):
-                raise OSError(ctypes.get_errno(), f"setns {space}")
-        made.append(make())
+        try:
+            with open(f"/var/run/netns/{space}", "rb") as file:
+                if LIBRARY.setns(file.fileno(), NETWORK_NAMESPACE):
+                    raise OSError(ctypes.get_errno(), f"setns {space}")
+            made.append(make())
+        except Exception as failure:
+            failures.append(failure)
 
     thread = threading.Thread(target=run)
     thread.start()
     thread.join()
+    if failures:
+        raise failures[0]
     return made[0]
 
 
