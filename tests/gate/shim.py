@@ -21,4 +21,5 @@ class Shim:
 
     def allocations(self):
         """How many allocations the last run made."""
-        return int(open(self.count).read())
+        with open(self.count, encoding="ascii") as file:
+            return int(file.read())
