@@ -1,5 +1,6 @@
 -- Ways from router to router.
-use Rattle.std.proofs.Common.{◌≡◌, ◌≢◌, ◌∙◌, ◌+◌, ◌++◌, ◌∷◌, ◌%◌, ℕ, zero, suc, List, [], Some, ap, length, slice_get, subst, sym, arith, append_assoc, inl, inr}
+use Rattle.std.proofs.Common.{◌≡◌, ◌≢◌, ◌∙◌, ◌+◌, ◌*◌, ◌^◌, ◌<◌, ◌++◌, ◌∷◌, ◌%◌, ℕ, zero, suc, List, [], None, Some, ap, length, slice_get, subst, sym, arith, append_assoc, append-nil, inl, inr}
+use Rattle.std.specs.Prelude.{Option}
 use Rattle.std.specs.List.{Contains}
 use Rattle.std.proofs.lemmas.List.Elements.{All-contains}
 use Rattle.ospf_base.specs.declared.ids.RouterId.{RouterId}
@@ -10,8 +11,9 @@ use Rattle.ospf_graph.specs.Walk.{HasLinkFor, IsBest, IsLinkCost, IsNext}
 use Rattle.ospf_graph.specs.declared.hop.NextHop.{NextHop}
 use Rattle.ospf_graph.specs.declared.hop.NextHop.TheVariants as hops
 use Rattle.ospf_graph.specs.declared.route.Route.{Route}
-use Rattle.ospf_inspect.specs.Path.{HasNoRouteFor, SaysWay, TakesHop, arrives, arrived_line, first_choice, goes_on, later_choices, leg_line, leg_of, no_route_line, strays, turns, turns_line}
+use Rattle.ospf_inspect.specs.Path.{HasNoRouteFor, SaysLeg, SaysWay, TakesHop, arrives, arrived_line, first_choice, goes_on, later_choices, leg_line, leg_of, no_route_line, strays, turns, turns_line}
 use Rattle.ospf_inspect.specs.declared.path.PathLeg.{PathLeg}
+use Rattle.ospf_inspect.specs.declared.path.PathState.{PathState}
 
 -- what stands at a place is in the list
 pub contains_at : {X : Type 0} (xs : List X) (i : ℕ) (x : X) → slice_get xs i ≡ Some x → Contains xs x
@@ -66,13 +68,41 @@ module _ (adverts : List Advertisement) (address most : ℕ) (choices : List ℕ
     new_is ∙ ap (λ l. old ++ l) line_is,
   )
 
-  pub goes_on_said : (route : Route) (hop : NextHop) (next : RouterId) (link fewer : ℕ) (later : List ℕ) (first mid rest : List ℕ) → suc fewer ≡ most
+  pub leads_on : (route : Route) (hop : NextHop) (next : RouterId) (link fewer : ℕ) (later : List ℕ) (first : List ℕ) → suc fewer ≡ most → link < 65536
       → TakesHop adverts address (first_choice choices) at route hop → IsNext hop next → IsLinkCost adverts at hop link → later ≡ later_choices choices
-      → first ≡ leg_line (leg_of at (first_choice choices) route hop link) → mid ≡ old ++ first → SaysWay adverts address fewer later next (paid + link) rest → new ≡ mid ++ rest
-      → (rest : List ℕ) × SaysWay adverts address most choices at paid rest × (new ≡ old ++ rest)
-  goes_on_said route hop next link fewer later first mid rest more takes next_is link_is later_is first_is mid_is says new_is = (
-    leg_line (leg_of at (first_choice choices) route hop link) ++ rest,
-    subst (λ (m : ℕ). SaysWay adverts address m choices at paid (leg_line (leg_of at (first_choice choices) route hop link) ++ rest)) more
-        (goes_on route hop next link takes next_is link_is (subst (λ (cs : List ℕ). SaysWay adverts address fewer cs next (paid + link) rest) later_is says)),
-    new_is ∙ ap (λ l. l ++ rest) mid_is ∙ append_assoc old first rest ∙ ap (λ l. old ++ (l ++ rest)) first_is,
-  )
+      → first ≡ leg_line (leg_of at (first_choice choices) route hop link) → new ≡ old ++ first
+      → (said : List ℕ) × ((suc fewer ≡ most) × (paid + link < paid + 65536)
+      × ((rest : List ℕ) → SaysWay adverts address fewer later next (paid + link) rest → SaysWay adverts address most choices at paid (said ++ rest))) × (new ≡ old ++ said)
+  leads_on route hop next link fewer later first more small takes next_is link_is later_is first_is new_is =
+      let said = leg_line (leg_of at (first_choice choices) route hop link) in (
+        said,
+        (
+          more,
+          omega (arith, small),
+          λ rest says.
+              subst (λ (m : ℕ). SaysWay adverts address m choices at paid (said ++ rest)) more
+              (goes_on route hop next link takes next_is link_is (subst (λ (cs : List ℕ). SaysWay adverts address fewer cs next (paid + link) rest) later_is says)),
+        ),
+        new_is ∙ ap (λ l. old ++ l) first_is,
+      )
+
+-- ---- the way so far
+
+-- what is said of a way: all of it where it has ended, else what stands before all that is said from a router on, of which the cost can be added up
+abbrev pub IsUnderWay : List Advertisement → ℕ → PathState → List ℕ → Option PathState → List ℕ → Type 0
+IsUnderWay adverts address way old None now = (rest : List ℕ) × SaysWay adverts address way.most way.choices.now way.at way.paid rest × (now ≡ old ++ rest)
+IsUnderWay adverts address way old (Some here) now =
+    (here.paid + 65536 * here.most < 2 ^ 127)
+    × ((begun : List ℕ)
+    × ((rest : List ℕ) → SaysWay adverts address here.most here.choices.now here.at here.paid rest → SaysWay adverts address way.most way.choices.now way.at way.paid (begun ++ rest))
+    × (now ≡ old ++ begun))
+
+-- how many routers may still be met, the one at which the way goes on among them
+abbrev pub left_of : Option PathState → ℕ
+left_of None = 0
+left_of (Some here) = suc here.most
+
+pub fewer_left : (adverts : List Advertisement) (address : ℕ) (here : PathState) (said : List ℕ) (next before : Option PathState) → SaysLeg adverts address here said next → before ≡ Some here
+    → left_of next < left_of before
+fewer_left adverts address here said None before says is = subst (λ (o : Option PathState). 0 < left_of o) (sym is) (omega arith)
+fewer_left adverts address here said (Some n) before says is = subst (λ (o : Option PathState). suc n.most < left_of o) (sym is) (omega (arith, says.0))

@@ -1,5 +1,5 @@
 -- The way from a router to an address over a listing, by the tables that its routers make of it.
-use Rattle.std.specs.Prelude.{◌≡◌, ◌+◌, ◌%◌, ℕ, List, [], ◌∷◌, ◌++◌, Contains, Some, suc, codes, decimal, length, slice_get}
+use Rattle.std.specs.Prelude.{◌≡◌, ◌<◌, ◌+◌, ◌%◌, ℕ, List, [], ◌∷◌, ◌++◌, Contains, Option, None, Some, suc, codes, decimal, length, slice_get}
 use Rattle.ospf_base.specs.Prefixes.{Holds}
 use Rattle.ospf_base.specs.Text.{number_text, prefix_text}
 use Rattle.ospf_base.specs.declared.ids.RouterId.{RouterId}
@@ -12,6 +12,7 @@ use Rattle.ospf_graph.specs.declared.hop.NextHop.TheVariants.{Attached}
 use Rattle.ospf_graph.specs.declared.route.Route.{Route}
 use Rattle.ospf_base.specs.declared.prefix.Prefix.{Prefix}
 use Rattle.ospf_inspect.specs.declared.path.PathLeg.{PathLeg}
+use Rattle.ospf_inspect.specs.declared.path.PathState.{PathState}
 
 -- ---- lines
 
@@ -105,6 +106,17 @@ pub data SaysWay (adverts : List Advertisement) (address : ℕ)
   turns : {choices : List ℕ} {at : RouterId} {paid : ℕ} (route : Route) (hop : NextHop)
       (next : RouterId) → TakesHop adverts address (first_choice choices) at route hop
       → IsNext hop next → SaysWay adverts address 0 choices at paid (turns_line at)
+
+-- what is said at one router of a way: all that is said from there on, where the way ends; else
+-- what stands before all that is said from the next router on, where fewer may be met
+abbrev pub SaysLeg : List Advertisement → ℕ → PathState → List ℕ → Option PathState → Type 0
+SaysLeg adverts address way said None =
+    SaysWay adverts address way.most way.choices.now way.at way.paid said
+SaysLeg adverts address way said (Some next) =
+    (suc next.most ≡ way.most) × (next.paid < way.paid + 65536)
+    × ((rest : List ℕ)
+    → SaysWay adverts address next.most next.choices.now next.at next.paid rest
+    → SaysWay adverts address way.most way.choices.now way.at way.paid (said ++ rest))
 
 -- what is said of the way from a router at its start: no more routers
 -- may be met than LSAs are listed

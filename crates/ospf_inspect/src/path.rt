@@ -4,7 +4,7 @@ ghost use Rattle.std.specs.Prelude.{◌≡◌, ◌≢◌, ◌+◌, ◌*◌, ◌%
 ghost use Rattle.ospf_edges.specs.Listed.{advertisements_of};
 ghost use Rattle.ospf_graph.specs.Walk.{HasLinkFor, IsLinkCost, IsNext};
 ghost use Rattle.ospf_graph.specs.declared.hop.NextHop.TheVariants as hops;
-ghost use Rattle.ospf_inspect.specs.Path.{SaysPath, SaysWay, arrived_line, first_choice, later_choices, leg_line, leg_of, no_route_line, turns_line};
+ghost use Rattle.ospf_inspect.specs.Path.{SaysLeg, SaysPath, SaysWay, arrived_line, first_choice, later_choices, leg_line, leg_of, no_route_line, turns_line};
 
 use ospf_base::{Addr, Prefix, RouterId};
 use ospf_edges::link_cost;
@@ -51,7 +51,7 @@ struct PathState<'a> {
     most: usize,
 }
 
-// Says what a way goes on with.
+// Says what a way goes on with, router by router.
 fn add_way(
     alloc: Global,
     listing: &Listing,
@@ -65,10 +65,30 @@ fn add_way(
         way.entry.at way.entry.paid rest
         × (string_bytes text.new ≡ string_bytes text.old ++ rest)) }
 {
+    let mut next = Some(way);
+    while let Some(here) = next {
+        next = add_leg(alloc, listing, address, here, text)?;
+    }
+    Ok(())
+}
+
+// Says what a router does on a way. Where the way goes on from there, if it does.
+fn add_leg<'a>(
+    alloc: Global,
+    listing: &Listing,
+    address: Addr,
+    way: PathState<'a>,
+    text: &mut String,
+) -> Result<Option<PathState<'a>>, AllocError>
+    requires { way.paid + 65536 * way.most < 2 ^ 127 }
+    ensures { IfOk result (λ next. (said : List ℕ)
+        × SaysLeg (advertisements_of listing.now) address.0 way.entry said next
+        × (string_bytes text.new ≡ string_bytes text.old ++ said)) }
+{
     let table = RouteTable::of(alloc, listing, way.at)?;
     let Some(route) = table.lookup(address) else {
         text.push_str(&no_route_line(alloc, way.at)?)?;
-        return Ok(());
+        return Ok(None);
     };
     let (choice, later) = first_of(way.choices);
     let hop = hop_at(route, choice);
@@ -79,23 +99,20 @@ fn add_way(
             paid: way.paid + route.cost as u128,
         };
         text.push_str(&arrived_line(alloc, arrival)?)?;
-        return Ok(());
+        return Ok(None);
     };
     if way.most == 0 {
         text.push_str(&turns_line(alloc, way.at)?)?;
-        return Ok(());
+        return Ok(None);
     }
     let cost = cost_of(listing, way.at, &hop);
     text.push_str(&leg_line(alloc, leg_of(way.at, route, choice, hop, cost as u64))?)?;
-    let onward = PathState {
+    Ok(Some(PathState {
         at: next,
         paid: way.paid + cost as u128,
         choices: later,
         most: way.most - 1,
-    };
-    // The tables of a long way would stand side by side.
-    drop(table);
-    add_way(alloc, listing, address, onward, text)
+    }))
 }
 
 // The line of a router without a route.
