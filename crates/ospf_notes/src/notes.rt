@@ -13,7 +13,7 @@ use crate::misfits::{MisfitShown, Misfits};
 use crate::others::Others;
 use crate::refused::{RefusedLsa, RefusedShown};
 use crate::tables::Tables;
-use ospf_base::{Addr, RouterId};
+use ospf_base::{Addr, MOST_INTERFACES, RouterId};
 use ospf_config::Interface;
 use ospf_files::{Failure, NamedFile, tell_unwritten};
 use ospf_journal::{DroppedAt, RouterChange, Seen};
@@ -27,9 +27,6 @@ use std::io::{self, Write};
 use std::mem;
 use std::sync::{Arc, Mutex, Wait};
 use std::time::Clock;
-
-// No router has more links.
-const MOST_LINKS: usize = 1 << 16;
 
 /// What is to be noted of a run.
 #[derive(Drop)]
@@ -294,11 +291,11 @@ struct Shared<F: Write + Drop, T: Write + Drop, O: Write + Drop> {
     journal: Option<Journal<F>>,
     // The name of its file.
     log: Option<String>,
-    // Why tables are printed no more, or some drops are not kept.
+    // Why tables are printed no more.
     failure: Option<Failure>,
     line: StatusLine<T>,
-    // What routers have dropped that have ended.
-    drops: Vec<Drops>,
+    // What routers have dropped that have ended; `None` where some of it could not be kept.
+    drops: Option<Vec<Drops>>,
     // The most ticks that a router has taken.
     ticks: u64,
     full: usize,
@@ -317,7 +314,7 @@ impl<F: Write + Drop, T: Write + Drop, O: Write + Drop> Shared<F, T, O> {
             log: noted.log,
             failure: None,
             line: noted.line,
-            drops: Vec::new(alloc),
+            drops: Some(Vec::new(alloc)),
             ticks: 0,
             full: 0,
             running: 0,
@@ -393,17 +390,17 @@ impl<F: Write + Drop, T: Write + Drop, O: Write + Drop> Shared<F, T, O> {
 
     // Keeps what a router has dropped that ends.
     fn keep(&mut self, router: RouterId, links: Vec<DropCounts>) {
-        if self.drops.push(Drops { router, links }).is_err() {
-            self.failure = Some(Failure::Memory);
+        let Some(drops) = &mut self.drops else {
+            return;
+        };
+        if drops.push(Drops { router, links }).is_err() {
+            self.drops = None;
         }
     }
 
     // What is kept of that, once.
     fn take_drops(&mut self, alloc: Global) -> Result<Vec<Drops>, AllocError> {
-        match self.failure {
-            Some(Failure::Memory) => Err(AllocError),
-            _ => Ok(mem::replace(&mut self.drops, Vec::new(alloc))),
-        }
+        mem::replace(&mut self.drops, Some(Vec::new(alloc))).ok_or(AllocError)
     }
 
     // Tells a line.
@@ -515,7 +512,7 @@ fn share<S: Drop>(shared: S, alloc: Global) -> Result<Arc<Mutex<S>, Global>, All
 // How many neighbours of a router are Full.
 fn full_neighbours(router: &Router) -> usize {
     let mut full: usize = 0;
-    for link in 0..MOST_LINKS {
+    for link in 0..MOST_INTERFACES {
         if !router.has_link(link) {
             break;
         }
