@@ -2,8 +2,8 @@
 
 ghost use Rattle.std.specs.Prelude.{◌<◌};
 
-/// A moment: seconds since the beginning of 1970, in Coordinated Universal Time,
-/// and microseconds of the second.
+/// A moment: seconds since the beginning of 1970, in Coordinated Universal Time, or of what is
+/// simulated, and microseconds of the second.
 #[derive(Clone, Copy, Debug, PartialEq, Eq, PartialOrd, Ord)]
 pub struct Moment {
     pub seconds: u32,

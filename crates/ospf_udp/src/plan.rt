@@ -24,8 +24,11 @@ pub struct Plan {
     pub floor: i32,
 }
 
-/// Finds what is to run: the floor, and the configurations in the files; or the first
-/// thing that keeps them from running.
+/// Finds what is to run: the floor, and the configurations in the files.
+///
+/// `Stop::Obstacle` with the first thing that keeps them from running: a floor that is none or the
+/// greatest number, a file that was not read or holds no configuration, a Router ID of two, or an
+/// interface without a port. `Stop::Failure` where memory runs out.
 pub fn prepare<'a>(
     alloc: Global,
     floor: &Option<String>,

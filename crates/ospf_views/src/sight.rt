@@ -28,7 +28,7 @@ pub fn sight_of(slots: &[Slot], alloc: Global) -> Result<Vec<u8>, AllocError>
     Ok(seen)
 }
 
-/// What a router lists, by the headers of its LSAs but for their ages (RFC 2328, section A.4.1).
+/// What a router lists, by the headers of its LSAs but for their ages (RFC 2328, appendix A.4.1).
 ///
 /// `AllocError` where memory runs out.
 pub fn listed_by(router: &Router, alloc: Global) -> Result<Vec<u8>, AllocError>

@@ -189,10 +189,10 @@ and one that is no command ends nothing.
 Exit status:
   0  the script has run; lines that were refused are on standard error
   1  the script has run, and something was not as a line expected it
-  2  the words fit no command
+  2  the words fit no command, or a file would be overwritten
   3  a configuration was refused, two have one Router ID, or a line is no command
   4  memory ran out
-  5  a file was not read or not written, or standard output not written
+  5  a file or standard input was not read, or a file or standard output not written
 
 Example:
   ospfd sim script first.toml second.toml
@@ -217,7 +217,7 @@ With --every N, each N ticks of a router, its table below a line
 
 Exit status:
   0  all routers came to the end
-  2  the words fit no command, or one is no address
+  2  the words fit no command, one is no address, or a file would be overwritten
   3  the floor or a configuration was refused, two configurations have one Router ID,
      or an interface has no port
   4  memory ran out
