@@ -38,8 +38,8 @@ pub fn print_routes<O: Write>(
 }
 
 /// Prints the line of an address that was looked up: the prefix, the cost and the hop that were
-/// found for it, or `none`. Where that fails, with `Memory` or `Output`, a beginning of the line was
-/// written.
+/// found for it, or `none`. Where that fails, with `Memory` or `Output`, a beginning of the line
+/// was written.
 pub fn print_lookup<O: Write>(
     alloc: Global,
     address: Addr,

@@ -23,7 +23,7 @@ use Rattle.std.proofs.lemmas.List.{get_or_default}
 use Rattle.ospf_graph.specs.Adds.{Adds}
 use Rattle.ospf_edges.specs.Given.{AreEndsAt, IsEdgesOf}
 use Rattle.ospf_edges.proofs.AddsLemmas.{adds_next}
-use Rattle.ospf_whatif.specs.Single.{AttachmentGiven, EdgeGiven, GivenBy, HasEndFor, IsFailure, IsIndex, IsIndexed, IsLongestOf, IsLongestSuch, IsOfIndices, IsOn, IsPairOf, IsShared, IsSharedIn, IsWire, IsWireAt, LinksGiven, NetworkGiven, RouterGiven, UnnumberedGiven, WireGiven}
+use Rattle.ospf_whatif.specs.Single.{AttachmentGiven, EdgeGiven, GivenBy, HasEndFor, IsFailure, IsInterfaceIndex, IsUnnumberedAt, IsLongestOf, IsLongestSuch, IsOfIndices, IsOn, IsPairOf, IsShared, IsSharedIn, IsWire, IsWireAt, LinksGiven, NetworkGiven, RouterGiven, UnnumberedGiven, WireGiven}
 use Rattle.ospf_whatif.specs.declared.failure.AreaFailure.{AreaFailure}
 use Rattle.ospf_whatif.specs.declared.failure.AreaFailure.TheVariants.{Attachment, Link, Links, Network, Router}
 use Rattle.ospf_whatif.proofs.OutageLemmas.{from_all}
@@ -69,8 +69,8 @@ one_links wired e a b from to less none f = (
 )
 
 -- there is one prefix of indices
-pub one_indexed : (link_data : ℕ) (a b : RouterId) (p : Prefix) → IsOfIndices p → IsIndex link_data → (f : AreaFailure)
-    → (f ≡ Link a b p) ↔ IsIndexed link_data a b f
+pub one_indexed : (link_data : ℕ) (a b : RouterId) (p : Prefix) → IsOfIndices p → IsInterfaceIndex link_data → (f : AreaFailure)
+    → (f ≡ Link a b p) ↔ IsUnnumberedAt link_data a b f
 one_indexed link_data a b p indices index f = (
   λ is. (p, indices, index, is),
   λ g.
@@ -79,7 +79,7 @@ one_indexed link_data a b p indices index f = (
 )
 
 pub unnumbered_given : (wired : List ℕ) (e : Edge) (a b : RouterId) → e.from ≡ vertex.Router a → e.to ≡ vertex.Router b → a.0 < b.0 → Contains wired (pair_code a.0 b.0)
-    → (f : AreaFailure) → IsIndexed e.link_data a b f ↔ UnnumberedGiven wired e f
+    → (f : AreaFailure) → IsUnnumberedAt e.link_data a b f ↔ UnnumberedGiven wired e f
 unnumbered_given wired e a b from to less there f = (
   λ is. (a, b, from, to, less, there, is),
   λ g.
@@ -87,7 +87,7 @@ unnumbered_given wired e a b from to less there f = (
       let h = g.3 in
       let one : g.0 ≡ a = cc in
       let two : g.1 ≡ b = cc in
-      subst (λ x. IsIndexed e.link_data x b f) one (subst (λ x. IsIndexed e.link_data g.0 x f) two g.6),
+      subst (λ x. IsUnnumberedAt e.link_data x b f) one (subst (λ x. IsUnnumberedAt e.link_data g.0 x f) two g.6),
 )
 
 -- ---- the link of an edge in a subnet

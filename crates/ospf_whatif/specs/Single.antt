@@ -17,14 +17,14 @@ use Rattle.ospf_whatif.specs.declared.failure.AreaFailure.TheVariants as fails
 
 -- the Link Data of a link without an address: the index of its interface, which lies in 0.0.0.0/8,
 -- as no address of an interface does (section 12.4.1.1)
-abbrev pub IsIndex : ℕ → Type 0
-IsIndex link_data = link_data < 0x1000000
+abbrev pub IsInterfaceIndex : ℕ → Type 0
+IsInterfaceIndex link_data = link_data < 0x1000000
 
 -- a prefix that both routers tell by a type 3 link, which holds this address of the first and an
 -- address out of which an edge leads back
 pub record IsShared (adverts : List Advertisement) (a b : RouterId) (address : ℕ) (prefix : Prefix)
     : Type 0 where
-  pub numbered : IsIndex address → ⊥
+  pub numbered : IsInterfaceIndex address → ⊥
   pub here : Holds prefix address
   pub metric : ℕ
   pub told_here : IsEnd adverts prefix (vertex.Router a) metric
@@ -33,7 +33,7 @@ pub record IsShared (adverts : List Advertisement) (a b : RouterId) (address : �
   pub cost : ℕ
   pub other_address : ℕ
   pub back : IsEdgeBetween adverts (vertex.Router b) (vertex.Router a) cost other_address
-  pub numbered_back : IsIndex other_address → ⊥
+  pub numbered_back : IsInterfaceIndex other_address → ⊥
   pub there : Holds prefix other_address
 
 -- a link of two routers in a subnet, seen from the one of the smaller Router ID: the subnet is the
@@ -59,7 +59,7 @@ pub record IsUnnumbered (adverts : List Advertisement) (a b : RouterId) (prefix 
   pub address : ℕ
   pub edge : IsEdgeBetween adverts (vertex.Router a) (vertex.Router b) cost address
   pub indices : IsOfIndices prefix
-  pub unnumbered : IsIndex address
+  pub unnumbered : IsInterfaceIndex address
   pub subnet : Prefix
   pub beside : IsWire adverts a b subnet
 
@@ -134,13 +134,13 @@ LeadsBack edges from to subnet =
     (cost address : ℕ)
     × Contains edges
     (record { to = vertex.Router to; from = vertex.Router from; cost = cost; link_data = address })
-    × (IsIndex address → ⊥) × Holds subnet address
+    × (IsInterfaceIndex address → ⊥) × Holds subnet address
 
 -- the prefix holds the address, which is none of an index, an end far is that of it, and an edge
 -- leads back in it
 abbrev pub IsSharedFar : List End → List Edge → ℕ → RouterId → RouterId → Prefix → Type 0
 IsSharedFar far back address a b prefix =
-    (IsIndex address → ⊥) × Holds prefix address × HasEndFor far prefix
+    (IsInterfaceIndex address → ⊥) × Holds prefix address × HasEndFor far prefix
     × LeadsBack back b a prefix
 
 -- and an end near is that of it too
@@ -177,15 +177,16 @@ LinksGiven wired edge f =
     × (Contains wired (pair_code a.0 b.0) → ⊥) × (f ≡ Links a b)
 
 -- the failure is that of the links without addresses of two routers, at the Link Data of one
-abbrev pub IsIndexed : ℕ → RouterId → RouterId → failure.AreaFailure → Type 0
-IsIndexed link_data a b f =
-    (prefix : Prefix) × IsOfIndices prefix × IsIndex link_data × (f ≡ fails.Link a b prefix)
+abbrev pub IsUnnumberedAt : ℕ → RouterId → RouterId → failure.AreaFailure → Type 0
+IsUnnumberedAt link_data a b f =
+    (prefix : Prefix) × IsOfIndices prefix × IsInterfaceIndex link_data
+    × (f ≡ fails.Link a b prefix)
 
 -- the failure is that of the links without addresses of two routers whose pair is there
 abbrev pub UnnumberedGiven : List ℕ → Edge → failure.AreaFailure → Type 0
 UnnumberedGiven wired edge f =
     (a b : RouterId) × (edge.from ≡ vertex.Router a) × (edge.to ≡ vertex.Router b) × (a.0 < b.0)
-    × Contains wired (pair_code a.0 b.0) × IsIndexed edge.link_data a b f
+    × Contains wired (pair_code a.0 b.0) × IsUnnumberedAt edge.link_data a b f
 
 -- the failure is that of a router's link to a network
 abbrev pub AttachmentGiven : Edge → failure.AreaFailure → Type 0

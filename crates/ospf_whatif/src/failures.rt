@@ -7,7 +7,7 @@ ghost use Rattle.ospf_graph.specs.declared.graph.Vertex.TheVariants.{Router};
 ghost use Rattle.ospf_graph.specs.Adds.{Adds};
 ghost use Rattle.ospf_edges.specs.Given.{IsEdgesOf};
 ghost use Rattle.ospf_edges.specs.Listed.{advertisement_of, advertisements_of};
-ghost use Rattle.ospf_whatif.specs.Single.{AreFailures, AttachmentGiven, EdgeGiven, GivenBy, HasEndFor, IsFailureBefore, IsIndex, IsIndexed, IsLongestOf, IsOfIndices, IsPairOf, IsShared, IsSharedFar, IsSharedIn, IsWireAt, LeadsBack, LinksGiven, NetworkGiven, RouterGiven, UnnumberedGiven, WireGiven};
+ghost use Rattle.ospf_whatif.specs.Single.{AreFailures, AttachmentGiven, EdgeGiven, GivenBy, HasEndFor, IsFailureBefore, IsInterfaceIndex, IsUnnumberedAt, IsLongestOf, IsOfIndices, IsPairOf, IsShared, IsSharedFar, IsSharedIn, IsWireAt, LeadsBack, LinksGiven, NetworkGiven, RouterGiven, UnnumberedGiven, WireGiven};
 ghost use Rattle.ospf_whatif.specs.declared.failure.AreaFailure.{AreaFailure};
 
 use crate::failure::AreaFailure;
@@ -181,14 +181,14 @@ fn is_shared(
 
 // Whether a link's Link Data is an address that a prefix holds.
 fn is_address_in(prefix: Prefix, link_data: u32) -> bool
-    ensures { IsTrue result ↔ ((IsIndex link_data → ⊥) × Holds prefix link_data) }
+    ensures { IsTrue result ↔ ((IsInterfaceIndex link_data → ⊥) × Holds prefix link_data) }
 {
     !is_index(link_data) && prefix.holds(Addr(link_data))
 }
 
 // Whether it is the index of an interface.
 fn is_index(link_data: u32) -> bool
-    ensures { IsTrue result ↔ IsIndex link_data }
+    ensures { IsTrue result ↔ IsInterfaceIndex link_data }
 {
     link_data < INDICES
 }
@@ -217,7 +217,7 @@ fn leads_back(edges: &[Edge], from: RouterId, to: RouterId, subnet: Prefix) -> b
 // Whether an edge does.
 fn is_edge_in(edge: &Edge, from: RouterId, to: RouterId, subnet: Prefix) -> bool
     ensures { IsTrue result ↔ ((edge.now.from ≡ Router from) × (edge.now.to ≡ Router to)
-        × (IsIndex edge.now.link_data → ⊥) × Holds subnet edge.now.link_data) }
+        × (IsInterfaceIndex edge.now.link_data → ⊥) × Holds subnet edge.now.link_data) }
 {
     edge.from == Vertex::Router(from)
         && edge.to == Vertex::Router(to)
@@ -333,7 +333,8 @@ fn add_indexed(
     b: RouterId,
     failures: &mut Vec<AreaFailure>,
 ) -> Result<(), AllocError>
-    ensures { OnOk result (Adds (IsIndexed link_data a b) failures.old.items failures.new.items) }
+    ensures { OnOk result (Adds (IsUnnumberedAt link_data a b) failures.old.items
+        failures.new.items) }
 {
     if is_index(link_data) {
         let subnet = prefix_of_indices();

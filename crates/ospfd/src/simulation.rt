@@ -23,7 +23,7 @@ const STANDARD_INPUT: &str = "-";
 // What stands before a line that is typed.
 const PROMPT: &str = "> ";
 
-//// Runs a simulation over the files of these names, and writes what is wanted of the world that it
+/// Runs a simulation over the files of these names, and writes what is wanted of the world that it
 /// leaves. Whether its lines are typed, where they come from standard input, is given.
 pub(crate) fn run_sim<
     R: Runtime + AllocGlobal + Clock + Copy + Drop,
@@ -62,28 +62,25 @@ pub(crate) fn run_sim<
         Some(script) => sim_text(rt.alloc(), &script, &files, out, err, &mut screen),
         None => run_console(rt, &files, out, err, &mut screen, is_typed)?,
     };
-    let is_logged = screen.is_logged();
-    if let Some(name) = log.as_deref() {
-        if !is_logged {
-            let _ = tell_unwritten(name, err);
-        }
-    }
-    let (is_recorded, is_unmet) = match left {
-        Some(left) => {
-            let (world, walk) = (&left.world, left.walk.as_ref());
-            let (dot, pcap) = (dot.as_deref(), pcap.as_deref());
-            (
-                write_records(rt, world, walk, dot, pcap, err)?,
-                left.is_unmet,
-            )
-        }
-        None => (true, false),
+    let is_logged = was_logged(log.as_deref(), screen.is_logged(), err);
+    let (dot, pcap) = (dot.as_deref(), pcap.as_deref());
+    let is_recorded = match &left {
+        Some(left) => write_records(rt, &left.world, left.walk.as_ref(), dot, pcap, err)?,
+        None => true,
     };
-    if is_logged && is_recorded {
-        Ok(code_of(status, is_unmet))
-    } else {
-        Ok(ExitCode::from(Status::Stream))
+    if !is_logged || !is_recorded {
+        return Ok(ExitCode::from(Status::Stream));
     }
+    let is_unmet = matches!(&left, Some(left) if left.is_unmet);
+    Ok(code_of(status, is_unmet))
+}
+
+// Whether the journal of this name, if there is one, could be written: that it could not is told.
+fn was_logged<E: Write>(name: Option<&str>, is_logged: bool, err: &mut E) -> bool {
+    if let (Some(name), false) = (name, is_logged) {
+        let _ = tell_unwritten(name, err);
+    }
+    is_logged
 }
 
 // The name of the file that a script is in, if it is in one.
