@@ -12,6 +12,8 @@ HEADER = 20
 MAX_AGE = 3600
 MAX_AGE_DIFF = 900
 MAX_NUMBER = 0x7FFFFFFF
+# Times are in nanoseconds, ages in seconds.
+SECOND = 10**9
 ROUTER, NETWORK = 1, 2
 KINDS = {ROUTER: "router", NETWORK: "network"}
 # As ospfd ends where its input is refused, and where a file or a stream failed.
@@ -99,28 +101,44 @@ def has_wrapped(known, lsa):
     return age >= MAX_AGE and number == struct.pack(">I", MAX_NUMBER) and lsa[12:16] != number
 
 
+def end_of(lsa, time):
+    """When an instance leaves all databases, by the time of a copy: where that is at MaxAge, then (RFC 2328, section 14), else once it
+    would come to that age; None where the copy has no time."""
+    age = min(struct.unpack_from(">H", lsa)[0], MAX_AGE)
+    return None if time is None else time + (MAX_AGE - age) * SECOND
+
+
+def has_followed(end, lsa, time):
+    """Whether an instance was originated when the known one had left all databases. It is installed then, whatever its number (RFC 2328,
+    section 13). Ages rise at each hop, so a late copy of what was there before never seems younger than it is."""
+    own = end_of(lsa, time)
+    return end is not None and own is not None and own - MAX_AGE * SECOND >= end
+
+
 class Found:
-    """The newest instance of each LSA that was found, area for area, and what was left out, counted by its reason."""
+    """The newest instance of each LSA that was found, area for area, with its end, and what was left out, counted by its reason."""
 
     def __init__(self):
-        self.areas, self.left = {}, collections.Counter()
+        self.areas, self.ends, self.left = {}, {}, collections.Counter()
 
     def leave(self, reason):
         self.left[reason] += 1
 
-    def add(self, area, lsa):
-        """Takes an LSA of an area; one of another type, or with a wrong checksum, is left out."""
+    def add(self, area, lsa, time=None):
+        """Takes an LSA of an area, and the time of its packet if it is known; one of another type or with a wrong checksum is left out."""
         if lsa[3] not in KINDS:
             return self.leave(f"LSAs of type {lsa[3]}")
         if not has_right_sum(lsa):
             return self.leave("LSAs with a wrong checksum")
-        newest = self.areas.setdefault(area, {})
-        known = newest.get(key_of(lsa))
+        newest, ends, key = self.areas.setdefault(area, {}), self.ends.setdefault(area, {}), key_of(lsa)
+        known, end = newest.get(key), end_of(lsa, time)
         if known is not None:
             self.leave("older or repeated instances")
-            if not is_newer(lsa, known) and not has_wrapped(known, lsa):
+            if not is_newer(lsa, known) and not has_wrapped(known, lsa) and not has_followed(ends[key], lsa, time):
+                if not is_newer(known, lsa):
+                    ends[key] = None if None in (end, ends[key]) else max(end, ends[key])
                 return None
-        newest[key_of(lsa)] = lsa
+        newest[key], ends[key] = lsa, end
         return None
 
     def area(self, wanted):
