@@ -1,5 +1,5 @@
 -- Rounds, as lists of events go over them.
-use Rattle.std.proofs.Common.{◌≡◌, ◌<◌, ◌≤◌, ◌+◌, ◌-◌, ℕ, zero, suc, Bool, true, false, List, None, Some, Result, Ok, Err, [], ◌∷◌, length, get_or, slice_get, refl, sym, ap, subst, ◌∙◌, arith}
+use Rattle.std.proofs.Common.{◌≡◌, ◌≢◌, ◌<◌, ◌≤◌, ◌+◌, ◌-◌, ◌++◌, ℕ, zero, suc, Bool, true, false, List, None, Some, Result, Ok, Err, [], ◌∷◌, length, get_or, slice_get, refl, sym, ap, subst, ◌∙◌, arith}
 use Rattle.std.proofs.lemmas.Option.{slice_get-get_or}
 use Rattle.ospf_headline.proofs.RunLemmas.{run_happens}
 use Rattle.ospf_headline.specs.Runs.{IsRun}
@@ -9,7 +9,7 @@ use Rattle.ospf_headline.specs.declared.logs.Datagram.{Datagram}
 use Rattle.ospf_headline.specs.Slots.{SlotValue}
 use Rattle.ospf_router.specs.Steps.{is_dropped}
 use Rattle.ospf_world.specs.Does.{Does}
-use Rattle.ospf_world.specs.Rounds.{AreNextOffers, AreOffered, IsRound, IsRoundOf, OffersMore, OffersNext, most_offers, offers_of, passed, ticks}
+use Rattle.ospf_world.specs.Rounds.{AreNextOffers, AreOffered, HasNext, IsRound, IsRoundOf, OffersMore, OffersNext, most_offers, offers_of, passed, slot_ticks, ticks}
 use Rattle.ospf_world.specs.Worlds.{WorldValue, world_of}
 use Rattle.ospf_world.proofs.ListFacts.{none_left, one_left}
 use Rattle.ospf_world.proofs.RandomFacts.{LeadsOn, leads_further, leads_nowhere}
@@ -59,6 +59,28 @@ next_some w ds slots place g events log are at within is offers =
     let all : events ≡ offers_of w.slots w.offered g = offers ∙ ap (λ (xs : List SlotValue). offers_of xs place g) are ∙ ap (λ (n : ℕ). offers_of w.slots n g) at in
     AreNextOffers.Next g there (ap (λ (es : List WorldEvent). Some es) all)
 
+-- one that stands there waits
+pub next_stands : (w : WorldValue) (ds : List Datagram) (place : ℕ) (g : Datagram) → ds ≡ w.logs.datagrams → place ≡ w.offered → place < length ds → g ≡ get_or ds place g → HasNext w
+next_stands w ds place g log at within is =
+    let here : slice_get ds place ≡ Some g = slice_get-get_or ds place g within ∙ ap (λ (d : Datagram). Some d) (sym is) in
+    (g, ap (λ (n : ℕ). slice_get w.logs.datagrams n) (sym at) ∙ ap (λ (xs : List Datagram). slice_get xs place) (sym log) ∙ here)
+
+-- ---- the ticks
+
+no_left : (xs ys : List WorldEvent) → xs ++ ys ≡ [] → xs ≡ []
+no_left [] ys none = refl
+no_left (x ∷ xs) ys none = cc
+
+no_right : (xs ys : List WorldEvent) → xs ++ ys ≡ [] → ys ≡ []
+no_right [] ys none = none
+no_right (x ∷ xs) ys none = cc
+
+-- of a router that ticks there are some
+pub some_ticks : (slots : List SlotValue) (i : ℕ) (s : SlotValue) → i < length slots → s ≡ get_or slots i s → slot_ticks s ≢ [] → ticks slots ≢ []
+some_ticks [] i s within is some none = absurd (omega (arith, within))
+some_ticks (x ∷ slots) zero s within is some none = some (ap slot_ticks is ∙ no_left (slot_ticks x) (ticks slots) none)
+some_ticks (x ∷ slots) (suc i) s within is some none = some_ticks slots i s (omega (arith, within)) is some (no_right (slot_ticks x) (ticks slots) none)
+
 -- ---- what comes of one datagram
 
 pub run_from : (w v w' : WorldValue) (events offers : List WorldEvent) (answer told : Result ℕ WorldFault) → v ≡ passed w → events ≡ offers → answer ≡ told → IsRun Does events v answer w' → IsRun Does offers (passed w) told w'
@@ -103,7 +125,7 @@ run_leads events w w' answer run = run_happens is_dropped events (world_of w) (w
 
 next_leads : (w w' : WorldValue) (answer : Result Bool WorldFault) → OffersNext w answer w' → LeadsOn (world_of w) (world_of w')
 next_leads w w' answer (OffersNext.NoneLeft none is same) = leads_nowhere (world_of w) (world_of w') (ap world_of same)
-next_leads w w' answer (OffersNext.NoRoom is same) = leads_nowhere (world_of w) (world_of w') (ap world_of same)
+next_leads w w' answer (OffersNext.NoRoom there is same) = leads_nowhere (world_of w) (world_of w') (ap world_of same)
 next_leads w w' answer (OffersNext.Offers g n at run is) = run_leads (offers_of w.slots w.offered g) (passed w) w' (Ok n) run
 next_leads w w' answer (OffersNext.Ends g f at run is) = run_leads (offers_of w.slots w.offered g) (passed w) w' (Err f) run
 
@@ -114,7 +136,7 @@ offered_leads (suc most) w w' result (OffersMore.More mid part rest) = leads_fur
 offered_leads (suc most) w w' result (OffersMore.Ended f part is) = next_leads w w' (Err f) part
 
 pub round_leads : (most : ℕ) (w w' : WorldValue) (result : Result (Unit {0}) WorldFault) → IsRoundOf most w result w' → LeadsOn (world_of w) (world_of w')
-round_leads most w w' result (IsRoundOf.NoRoom is same) = leads_nowhere (world_of w) (world_of w') (ap world_of same)
+round_leads most w w' result (IsRoundOf.NoRoom some is same) = leads_nowhere (world_of w) (world_of w') (ap world_of same)
 round_leads most w w' result (IsRoundOf.TicksEnd f run is) = run_leads (ticks w.slots) w w' (Err f) run
 round_leads most w w' result (IsRoundOf.Goes n mid run rest) =
     leads_further (world_of w) (world_of mid) (world_of w') (run_leads (ticks w.slots) w mid (Ok n) run) (offered_leads most mid w' result rest)

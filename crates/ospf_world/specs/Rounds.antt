@@ -1,5 +1,5 @@
 -- Rounds: a tick of each router that runs, and then the datagrams that no round has offered.
-use Rattle.std.specs.Prelude.{◌≡◌, ◌==◌, ◌+◌, ◌&&◌, ℕ, zero, suc, Bool, true, false, not, List, [], ◌∷◌, Option, None, Some, Result, Ok, Err, find, is_some, option_and_then, slice_get, if◌then◌else◌}
+use Rattle.std.specs.Prelude.{◌≡◌, ◌≢◌, ◌==◌, ◌+◌, ◌&&◌, ℕ, zero, suc, Bool, true, false, not, List, [], ◌∷◌, Option, None, Some, Result, Ok, Err, find, is_some, option_and_then, slice_get, if◌then◌else◌}
 use Rattle.std.specs.List.{flat_map}
 use Rattle.ospf_world.specs.Offers.{address_at, is_offered, offers_to}
 use Rattle.ospf_config.specs.declared.address.InterfaceAddress.{InterfaceAddress}
@@ -69,6 +69,10 @@ offer_at d from g slots at = offer_on d from g at.link (slice_get slots at.place
 abbrev pub offers_of : List SlotValue → ℕ → Datagram → List WorldEvent
 offers_of slots d g = offers_by d g slots (sending_address slots g)
 
+-- there is a datagram that no round has offered
+abbrev pub HasNext : WorldValue → Type 0
+HasNext w = (g : Datagram) × (slice_get w.logs.datagrams w.offered ≡ Some g)
+
 -- the offers of the next datagram, if there is one
 pub data AreNextOffers (w : WorldValue) (next : Option (List WorldEvent)) : Type 0 where
   NoneNext : slice_get w.logs.datagrams w.offered ≡ None → next ≡ None → AreNextOffers w next
@@ -88,7 +92,8 @@ pub data OffersNext (before : WorldValue) (answer : Result Bool WorldFault) (aft
     : Type 0 where
   NoneLeft : slice_get before.logs.datagrams before.offered ≡ None → answer ≡ Ok false
       → after ≡ before → OffersNext before answer after
-  NoRoom : answer ≡ Err (fault.Memory false) → after ≡ before → OffersNext before answer after
+  NoRoom : HasNext before → answer ≡ Err (fault.Memory false) → after ≡ before
+      → OffersNext before answer after
   Offers : (g : Datagram) (refused : ℕ) → slice_get before.logs.datagrams before.offered ≡ Some g
       → IsRun Does (offers_of before.slots before.offered g) (passed before) (Ok refused) after
       → answer ≡ Ok true → OffersNext before answer after
@@ -113,10 +118,11 @@ AreOffered (suc most) before result after =
 
 -- a round of so many datagrams at most: the ticks, and then the datagrams that no round has
 -- offered, with those that arise on the way. Refusals are passed over, and memory that runs out
--- ends it, that for the list of ticks before anything is done
+-- ends it, that for the list of ticks, where there are some, before anything is done
 pub data IsRoundOf (most : ℕ) (before : WorldValue) (result : Result (Unit {0}) WorldFault)
     (after : WorldValue) : Type 0 where
-  NoRoom : result ≡ Err (fault.Memory false) → after ≡ before → IsRoundOf most before result after
+  NoRoom : ticks before.slots ≢ [] → result ≡ Err (fault.Memory false) → after ≡ before
+      → IsRoundOf most before result after
   TicksEnd : (f : WorldFault) → IsRun Does (ticks before.slots) before (Err f) after
       → result ≡ Err f → IsRoundOf most before result after
   Goes : (refused : ℕ) (mid : WorldValue) → IsRun Does (ticks before.slots) before (Ok refused) mid

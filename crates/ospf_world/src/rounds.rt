@@ -1,9 +1,9 @@
 //! Rounds: a tick of each router that runs, and then the datagrams that no round has offered.
 
-ghost use Rattle.std.specs.Prelude.{◌≡◌, ◌++◌, IfOk, OnOk, option_map};
+ghost use Rattle.std.specs.Prelude.{◌≡◌, ◌≢◌, ◌++◌, [], IfOk, OnErr, OnOk, option_map};
 ghost use Rattle.ospf_headline.specs.Headline.{Headline, IsReached};
 ghost use Rattle.ospf_router.specs.Steps.{is_dropped};
-ghost use Rattle.ospf_world.specs.Rounds.{AreNextOffers, AreOffered, IsRound, IsRoundOf, OffersNext, slot_ticks, ticks};
+ghost use Rattle.ospf_world.specs.Rounds.{AreNextOffers, AreOffered, HasNext, IsRound, IsRoundOf, OffersNext, slot_ticks, ticks};
 ghost use Rattle.ospf_world.specs.Sounds.{IsSoundBetween};
 ghost use Rattle.ospf_world.specs.Ticks.{TicksGoOn};
 ghost use Rattle.ospf_world.specs.Watching.{Told};
@@ -132,7 +132,9 @@ impl World {
 
     // The offers of the next datagram, if there is one.
     fn next_offers(&self, alloc: Global) -> Result<Option<Vec<WorldEvent>>, AllocError>
-        ensures { IfOk result (λ next. AreNextOffers self.now (option_map (λ v. v.items) next)) }
+        ensures next { IfOk result (λ next. AreNextOffers self.now
+            (option_map (λ v. v.items) next)) }
+        ensures room { OnErr result (HasNext self.now) }
     {
         let place = self.offered();
         match self.datagrams().get(place) {
@@ -144,9 +146,10 @@ impl World {
 
 /// The ticks of a round.
 ///
-/// `AllocError` where memory runs out.
+/// `AllocError` where memory runs out, which it takes where a router runs.
 pub fn ticks_of(slots: &[Slot], alloc: Global) -> Result<Vec<WorldEvent>, AllocError>
-    ensures { IfOk result (λ events. events.items ≡ ticks slots.now) }
+    ensures ticks { IfOk result (λ events. events.items ≡ ticks slots.now) }
+    ensures room { OnErr result (ticks slots.now ≢ []) }
 {
     let mut events = Vec::new(alloc);
     for slot in slots {
@@ -158,7 +161,8 @@ pub fn ticks_of(slots: &[Slot], alloc: Global) -> Result<Vec<WorldEvent>, AllocE
 // Adds the tick of a router that runs.
 #[tactic(auto, unfolding(crate::specs::Rounds::slot_ticks))]
 fn push_tick(events: &mut Vec<WorldEvent>, slot: &Slot) -> Result<(), AllocError>
-    ensures { OnOk result (events.new.items ≡ events.old.items ++ slot_ticks slot.now) }
+    ensures added { OnOk result (events.new.items ≡ events.old.items ++ slot_ticks slot.now) }
+    ensures room { OnErr result (slot_ticks slot.now ≢ []) }
 {
     if slot.runs() {
         let router = slot.config().router_id;

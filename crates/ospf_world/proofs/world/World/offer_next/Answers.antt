@@ -11,12 +11,12 @@ use Rattle.ospf_world.proofs.world.World.offer_next.Goals as goal
 pub returns-in-Ok-clause-offers : goal.returns-in-Ok-clause-offers
 returns-in-Ok-clause-offers g c =
     let run = subst (λ (es : List WorldEvent). IsRun Does es c.pass_one.new.self c.run_watched.result c.run_watched.new.self) c.deref.ensures.value c.run_watched.ensures.run in
-    next_taken c.args.self.now c.pass_one.new.self c.run_watched.new.self c.in-Ok-Some.offers.items c.run_watched.result c.in-Ok._refused (rw c.in-Ok-Some.field-0-is at c.in-Ok-Some.ensures) c.pass_one.ensures run c.in-Ok.is
+    next_taken c.args.self.now c.pass_one.new.self c.run_watched.new.self c.in-Ok-Some.offers.items c.run_watched.result c.in-Ok._refused (rw c.in-Ok-Some.field-0-is at c.in-Ok-Some.ensures.next) c.pass_one.ensures run c.in-Ok.is
 
 pub returns-in-Ok-Some-clause-offers : goal.returns-in-Ok-Some-clause-offers
 returns-in-Ok-Some-clause-offers g c =
     let run = subst (λ (es : List WorldEvent). IsRun Does es c.pass_one.new.self c.run_watched.result c.run_watched.new.self) c.deref.ensures.value c.run_watched.ensures.run in
-    next_ends c.args.self.now c.pass_one.new.self c.run_watched.new.self c.in-Ok-Some.offers.items c.run_watched.result c.in-Err-run_watched.fault (rw c.in-Ok-Some.field-0-is at c.in-Ok-Some.ensures) c.pass_one.ensures run c.in-Err-run_watched.is
+    next_ends c.args.self.now c.pass_one.new.self c.run_watched.new.self c.in-Ok-Some.offers.items c.run_watched.result c.in-Err-run_watched.fault (rw c.in-Ok-Some.field-0-is at c.in-Ok-Some.ensures.next) c.pass_one.ensures run c.in-Err-run_watched.is
 
 pub returns-in-Ok-clause-ticks : goal.returns-in-Ok-clause-ticks
 returns-in-Ok-clause-ticks g c = subst (λ (v : WorldValue). TicksGoOn v c.run_watched.new.self) c.pass_one.ensures c.run_watched.ensures.ticks

@@ -13,7 +13,7 @@ returns-in_default-clause-headline g c = c.headline.ensures is_dropped [] (world
 
 pub returns-in-Ok-run_watched-clause-round : goal.returns-in-Ok-run_watched-clause-round
 returns-in-Ok-run_watched-clause-round g c =
-    let events_are : c.deref.result.now ≡ ticks c.args.self.now.slots = c.deref.ensures.value ∙ c.in-Ok.ensures ∙ ap ticks c.slots.ensures in
+    let events_are : c.deref.result.now ≡ ticks c.args.self.now.slots = c.deref.ensures.value ∙ c.in-Ok.ensures.ticks ∙ ap ticks c.slots.ensures in
     round_goes c.args.most c.args.self.now c.run_watched.new.self c.offer.new.self c.deref.result.now c.run_watched.result c.in-Ok-run_watched._refused c.offer.result events_are c.run_watched.ensures.run c.in-Ok-run_watched.is c.offer.ensures.offered
 
 pub returns-in-Ok-run_watched-clause-reached : goal.returns-in-Ok-run_watched-clause-reached
@@ -27,7 +27,7 @@ returns-in-Ok-run_watched-clause-headline g c =
 
 pub returns-clause-round : goal.returns-clause-round
 returns-clause-round g c =
-    let events_are : c.deref.result.now ≡ ticks c.args.self.now.slots = c.deref.ensures.value ∙ c.in-Ok.ensures ∙ ap ticks c.slots.ensures in
+    let events_are : c.deref.result.now ≡ ticks c.args.self.now.slots = c.deref.ensures.value ∙ c.in-Ok.ensures.ticks ∙ ap ticks c.slots.ensures in
     round_ticks_end c.args.most c.args.self.now c.run_watched.new.self c.deref.result.now c.run_watched.result c.in-Err.fault events_are c.run_watched.ensures.run c.in-Err.is
 
 pub returns-in_default-clause-sound : goal.returns-in_default-clause-sound
