@@ -94,7 +94,7 @@ batch_ticks_end most w w' events answer f are run said = IsBatchOf.TicksEnd f (r
 
 wave_leads : (w w' : WorldValue) (answer : Result Bool WorldFault) → TakesWave w answer w' → LeadsOn (world_of w) (world_of w')
 wave_leads w w' answer (TakesWave.NoneWaits all is same) = leads_nowhere (world_of w) (world_of w') (ap world_of same)
-wave_leads w w' answer (TakesWave.NoRoom is same) = leads_nowhere (world_of w) (world_of w') (ap world_of same)
+wave_leads w w' answer (TakesWave.NoRoom within is same) = leads_nowhere (world_of w) (world_of w') (ap world_of same)
 wave_leads w w' answer (TakesWave.Takes n within run is) = run_leads (wave w) (all_passed w) w' (Ok n) run
 wave_leads w w' answer (TakesWave.Ends f within run is) = run_leads (wave w) (all_passed w) w' (Err f) run
 
@@ -106,7 +106,7 @@ waves_lead (suc most) w w' result (OffersMore.More mid part rest) =
 waves_lead (suc most) w w' result (OffersMore.Ended f part is) = wave_leads w w' (Err f) part
 
 pub batch_leads : (most : ℕ) (w w' : WorldValue) (result : Result (Unit {0}) WorldFault) → IsBatchOf most w result w' → LeadsOn (world_of w) (world_of w')
-batch_leads most w w' result (IsBatchOf.NoRoom is same) = leads_nowhere (world_of w) (world_of w') (ap world_of same)
+batch_leads most w w' result (IsBatchOf.NoRoom some is same) = leads_nowhere (world_of w) (world_of w') (ap world_of same)
 batch_leads most w w' result (IsBatchOf.TicksEnd f run is) = run_leads (ticks w.slots) w w' (Err f) run
 batch_leads most w w' result (IsBatchOf.Goes n mid run rest) =
     leads_further (world_of w) (world_of mid) (world_of w') (run_leads (ticks w.slots) w mid (Ok n) run) (waves_lead most mid w' result rest)

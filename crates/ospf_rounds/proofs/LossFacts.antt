@@ -92,7 +92,7 @@ losing_ticks_end most w w' losses events answer f are run said = IsLosingRound.T
 
 next_leads : (w w' : WorldValue) (losses losses' : Losses) (answer : Result Bool WorldFault) → LosesNext losses w answer w' losses' → LeadsOn (world_of w) (world_of w')
 next_leads w w' losses losses' answer (LosesNext.NoneLeft none is same later) = leads_nowhere (world_of w) (world_of w') (ap world_of same)
-next_leads w w' losses losses' answer (LosesNext.NoRoom is same later) = leads_nowhere (world_of w) (world_of w') (ap world_of same)
+next_leads w w' losses losses' answer (LosesNext.NoRoom there is same later) = leads_nowhere (world_of w) (world_of w') (ap world_of same)
 next_leads w w' losses losses' answer (LosesNext.Offers g n at run is later) = run_leads (offers_kept w.slots w.offered g losses).0 (passed w) w' (Ok n) run
 next_leads w w' losses losses' answer (LosesNext.Ends g f at run is later) = run_leads (offers_kept w.slots w.offered g losses).0 (passed w) w' (Err f) run
 
@@ -104,7 +104,7 @@ offered_leads (suc most) w w' losses losses' result (LosesMore.More mid between 
 offered_leads (suc most) w w' losses losses' result (LosesMore.Ended f part is) = next_leads w w' losses losses' (Err f) part
 
 pub losing_leads : (most : ℕ) (w w' : WorldValue) (losses losses' : Losses) (result : Result (Unit {0}) WorldFault) → IsLosingRound most losses w result w' losses' → LeadsOn (world_of w) (world_of w')
-losing_leads most w w' losses losses' result (IsLosingRound.NoRoom is same later) = leads_nowhere (world_of w) (world_of w') (ap world_of same)
+losing_leads most w w' losses losses' result (IsLosingRound.NoRoom some is same later) = leads_nowhere (world_of w) (world_of w') (ap world_of same)
 losing_leads most w w' losses losses' result (IsLosingRound.TicksEnd f run is later) = run_leads (ticks w.slots) w w' (Err f) run
 losing_leads most w w' losses losses' result (IsLosingRound.Goes n mid run rest) =
     leads_further (world_of w) (world_of mid) (world_of w') (run_leads (ticks w.slots) w mid (Ok n) run) (offered_leads most mid w' losses losses' result rest)

@@ -1,6 +1,6 @@
 -- Batches: a tick of each router that runs, and then what waits, router by
 -- router (RFC 2328, section 8.1).
-use Rattle.std.specs.Prelude.{◌≡◌, ◌==◌, ◌+◌, ◌<◌, ◌≤◌, ◌++◌, ℕ, zero, suc, Bool, true, false, List, [], ◌∷◌, Option, None, Some, Result, Ok, Err, drop, filter, get_or, length, map, set}
+use Rattle.std.specs.Prelude.{◌≡◌, ◌≢◌, ◌==◌, ◌+◌, ◌<◌, ◌≤◌, ◌++◌, ℕ, zero, suc, Bool, true, false, List, [], ◌∷◌, Option, None, Some, Result, Ok, Err, drop, filter, get_or, length, map, set}
 use Rattle.std.specs.Global.{Vec}
 use Rattle.std.specs.List.{flat_map}
 use Rattle.ospf_headline.specs.Runs.{IsRun}
@@ -78,7 +78,8 @@ pub data TakesWave (before : WorldValue) (answer : Result Bool WorldFault) (afte
     : Type 0 where
   NoneWaits : length before.logs.datagrams ≤ before.offered → answer ≡ Ok false → after ≡ before
       → TakesWave before answer after
-  NoRoom : answer ≡ Err (fault.Memory false) → after ≡ before → TakesWave before answer after
+  NoRoom : before.offered < length before.logs.datagrams → answer ≡ Err (fault.Memory false)
+      → after ≡ before → TakesWave before answer after
   Takes : (refused : ℕ) → before.offered < length before.logs.datagrams
       → IsRun Does (wave before) (all_passed before) (Ok refused) after → answer ≡ Ok true
       → TakesWave before answer after
@@ -92,10 +93,11 @@ AreTaken zero before result after = (after ≡ before) × (result ≡ Ok tt)
 AreTaken (suc most) before result after = OffersMore (TakesWave before) (AreTaken most) result after
 
 -- a batch of so many waves at most: the ticks, and then the waves. Refusals are passed over, and
--- memory that runs out ends it, that for the list of ticks before anything is done
+-- memory that runs out ends it; that for the list of ticks, where there are some, at the beginning
 pub data IsBatchOf (most : ℕ) (before : WorldValue) (result : Result (Unit {0}) WorldFault)
     (after : WorldValue) : Type 0 where
-  NoRoom : result ≡ Err (fault.Memory false) → after ≡ before → IsBatchOf most before result after
+  NoRoom : ticks before.slots ≢ [] → result ≡ Err (fault.Memory false) → after ≡ before
+      → IsBatchOf most before result after
   TicksEnd : (f : WorldFault) → IsRun Does (ticks before.slots) before (Err f) after
       → result ≡ Err f → IsBatchOf most before result after
   Goes : (refused : ℕ) (mid : WorldValue) → IsRun Does (ticks before.slots) before (Ok refused) mid

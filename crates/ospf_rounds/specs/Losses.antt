@@ -1,5 +1,5 @@
 -- Deliveries that are lost by chance, and rounds with losses.
-use Rattle.std.specs.Prelude.{◌≡◌, ◌==◌, ◌%◌, ℕ, zero, suc, Bool, true, false, List, [], ◌∷◌, Option, None, Some, Result, Ok, Err, bit_and, nat_lt, slice_get, if◌then◌else◌}
+use Rattle.std.specs.Prelude.{◌≡◌, ◌≢◌, ◌==◌, ◌%◌, ℕ, zero, suc, Bool, true, false, List, [], ◌∷◌, Option, None, Some, Result, Ok, Err, bit_and, nat_lt, slice_get, if◌then◌else◌}
 use Rattle.std.specs.List.{list_any}
 use Rattle.rand_pcg.specs.Lcg.{Lcg, increment_of, started}
 use Rattle.rand_pcg.specs.Pcg.{multiplier_64, pcg32}
@@ -14,7 +14,7 @@ use Rattle.ospf_headline.specs.declared.event.WorldFault.TheVariants as fault
 use Rattle.ospf_headline.specs.declared.logs.Datagram.{Datagram}
 use Rattle.ospf_headline.specs.Slots.{SlotValue}
 use Rattle.ospf_world.specs.Does.{Does}
-use Rattle.ospf_world.specs.Rounds.{offers_of, passed, sending_address, ticks}
+use Rattle.ospf_world.specs.Rounds.{HasNext, offers_of, passed, sending_address, ticks}
 use Rattle.ospf_world.specs.Worlds.{WorldValue}
 use Rattle.ospf_rounds.specs.declared.losses.Losses.{Losses}
 
@@ -98,7 +98,7 @@ pub data LosesNext (losses : Losses) (before : WorldValue) (answer : Result Bool
     (after : WorldValue) (losses' : Losses) : Type 0 where
   NoneLeft : slice_get before.logs.datagrams before.offered ≡ None → answer ≡ Ok false
       → after ≡ before → losses' ≡ losses → LosesNext losses before answer after losses'
-  NoRoom : answer ≡ Err (fault.Memory false) → after ≡ before → losses' ≡ losses
+  NoRoom : HasNext before → answer ≡ Err (fault.Memory false) → after ≡ before → losses' ≡ losses
       → LosesNext losses before answer after losses'
   Offers : (g : Datagram) (refused : ℕ) → slice_get before.logs.datagrams before.offered ≡ Some g
       → IsRun Does (offers_kept before.slots before.offered g losses).0 (passed before) (Ok refused)
@@ -131,8 +131,8 @@ AreOfferedBut (suc most) before losses result after losses' =
 -- has offered, to those alone that they are not lost for, with those that arise on the way
 pub data IsLosingRound (most : ℕ) (losses : Losses) (before : WorldValue)
     (result : Result (Unit {0}) WorldFault) (after : WorldValue) (losses' : Losses) : Type 0 where
-  NoRoom : result ≡ Err (fault.Memory false) → after ≡ before → losses' ≡ losses
-      → IsLosingRound most losses before result after losses'
+  NoRoom : ticks before.slots ≢ [] → result ≡ Err (fault.Memory false) → after ≡ before
+      → losses' ≡ losses → IsLosingRound most losses before result after losses'
   TicksEnd : (f : WorldFault) → IsRun Does (ticks before.slots) before (Err f) after
       → result ≡ Err f → losses' ≡ losses → IsLosingRound most losses before result after losses'
   Goes : (refused : ℕ) (mid : WorldValue) → IsRun Does (ticks before.slots) before (Ok refused) mid

@@ -1,6 +1,6 @@
 //! Batches: a tick of each router that runs, and then what waits, router by router.
 
-ghost use Rattle.std.specs.Prelude.{◌≡◌, IfOk, option_map};
+ghost use Rattle.std.specs.Prelude.{◌≡◌, ◌<◌, IfOk, OnErr, length, option_map};
 ghost use Rattle.ospf_headline.specs.Headline.{Headline, IsReached};
 ghost use Rattle.ospf_router.specs.Steps.{is_dropped};
 ghost use Rattle.ospf_rounds.specs.Batches.{AreTaken, IsBatch, IsBatchOf, IsNextWave, TakesWave, waiting_offers};
@@ -119,7 +119,8 @@ fn take_wave<W: EventWatch>(
 
 // The offers of all datagrams that wait, router by router, if some wait.
 fn next_wave(world: &World, alloc: Global) -> Result<Option<Vec<WorldEvent>>, AllocError>
-    ensures { IfOk result (λ next. IsNextWave world.now (option_map (λ v. v.items) next)) }
+    ensures next { IfOk result (λ next. IsNextWave world.now (option_map (λ v. v.items) next)) }
+    ensures room { OnErr result (world.now.offered < length world.now.logs.datagrams) }
 {
     if world.offered() >= world.datagrams().len() {
         return Ok(None);

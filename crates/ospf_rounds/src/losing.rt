@@ -4,6 +4,7 @@ ghost use Rattle.std.specs.Prelude.{◌≡◌, IfOk, OnErr, option_map};
 ghost use Rattle.ospf_headline.specs.Headline.{Headline, IsReached};
 ghost use Rattle.ospf_router.specs.Steps.{is_dropped};
 ghost use Rattle.ospf_rounds.specs.Losses.{AreNextKept, AreOfferedBut, IsLosingRound, LosesNext};
+ghost use Rattle.ospf_world.specs.Rounds.{HasNext};
 ghost use Rattle.ospf_world.specs.Sounds.{IsSoundBetween};
 ghost use Rattle.ospf_world.specs.Ticks.{TicksOn};
 ghost use Rattle.ospf_world.specs.Watching.{Told};
@@ -106,6 +107,7 @@ fn next_kept(
     ensures next { IfOk result (λ next. AreNextKept world.now losses.old
         (option_map (λ v. v.items) next) losses.new) }
     ensures err { OnErr result (losses.new ≡ losses.old) }
+    ensures room { OnErr result (HasNext world.now) }
 {
     let place = world.offered();
     match world.datagrams().get(place) {

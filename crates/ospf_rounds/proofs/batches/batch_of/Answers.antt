@@ -13,7 +13,7 @@ returns-in_default-clause-headline g c = c.headline.ensures is_dropped [] (world
 
 pub returns-in-Ok-run_watched-clause-batch : goal.returns-in-Ok-run_watched-clause-batch
 returns-in-Ok-run_watched-clause-batch g c =
-    let events_are : c.deref.result.now ≡ ticks c.args.world.now.slots = c.deref.ensures.value ∙ c.in-Ok.ensures ∙ ap ticks c.slots.ensures in
+    let events_are : c.deref.result.now ≡ ticks c.args.world.now.slots = c.deref.ensures.value ∙ c.in-Ok.ensures.ticks ∙ ap ticks c.slots.ensures in
     batch_goes c.args.most c.args.world.now c.run_watched.new.self c.take_waves.new.world c.deref.result.now c.run_watched.result c.in-Ok-run_watched._refused c.take_waves.result events_are c.run_watched.ensures.run c.in-Ok-run_watched.is c.take_waves.ensures.taken
 
 pub returns-in-Ok-run_watched-clause-reached : goal.returns-in-Ok-run_watched-clause-reached
@@ -27,7 +27,7 @@ returns-in-Ok-run_watched-clause-headline g c =
 
 pub returns-clause-batch : goal.returns-clause-batch
 returns-clause-batch g c =
-    let events_are : c.deref.result.now ≡ ticks c.args.world.now.slots = c.deref.ensures.value ∙ c.in-Ok.ensures ∙ ap ticks c.slots.ensures in
+    let events_are : c.deref.result.now ≡ ticks c.args.world.now.slots = c.deref.ensures.value ∙ c.in-Ok.ensures.ticks ∙ ap ticks c.slots.ensures in
     batch_ticks_end c.args.most c.args.world.now c.run_watched.new.self c.deref.result.now c.run_watched.result c.in-Err.fault events_are c.run_watched.ensures.run c.in-Err.is
 
 pub returns-in_default-clause-sound : goal.returns-in_default-clause-sound

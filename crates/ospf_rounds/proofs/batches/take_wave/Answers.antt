@@ -11,12 +11,12 @@ use Rattle.ospf_rounds.proofs.batches.take_wave.Goals as goal
 pub returns-in-Ok-clause-takes : goal.returns-in-Ok-clause-takes
 returns-in-Ok-clause-takes g c =
     let run = subst (λ (es : List WorldEvent). IsRun Does es c.pass_all.new.self c.run_watched.result c.run_watched.new.self) c.deref.ensures.value c.run_watched.ensures.run in
-    wave_taken c.args.world.now c.pass_all.new.self c.run_watched.new.self c.in-Ok-Some.wave.items c.run_watched.result c.in-Ok._refused (rw c.in-Ok-Some.field-0-is at c.in-Ok-Some.ensures) c.pass_all.ensures run c.in-Ok.is
+    wave_taken c.args.world.now c.pass_all.new.self c.run_watched.new.self c.in-Ok-Some.wave.items c.run_watched.result c.in-Ok._refused (rw c.in-Ok-Some.field-0-is at c.in-Ok-Some.ensures.next) c.pass_all.ensures run c.in-Ok.is
 
 pub returns-in-Ok-Some-clause-takes : goal.returns-in-Ok-Some-clause-takes
 returns-in-Ok-Some-clause-takes g c =
     let run = subst (λ (es : List WorldEvent). IsRun Does es c.pass_all.new.self c.run_watched.result c.run_watched.new.self) c.deref.ensures.value c.run_watched.ensures.run in
-    wave_ends c.args.world.now c.pass_all.new.self c.run_watched.new.self c.in-Ok-Some.wave.items c.run_watched.result c.in-Err-run_watched.fault (rw c.in-Ok-Some.field-0-is at c.in-Ok-Some.ensures) c.pass_all.ensures run c.in-Err-run_watched.is
+    wave_ends c.args.world.now c.pass_all.new.self c.run_watched.new.self c.in-Ok-Some.wave.items c.run_watched.result c.in-Err-run_watched.fault (rw c.in-Ok-Some.field-0-is at c.in-Ok-Some.ensures.next) c.pass_all.ensures run c.in-Err-run_watched.is
 
 pub returns-in-Ok-clause-ticks : goal.returns-in-Ok-clause-ticks
 returns-in-Ok-clause-ticks g c = subst (λ (v : WorldValue). TicksGoOn v c.run_watched.new.self) c.pass_all.ensures c.run_watched.ensures.ticks

@@ -13,7 +13,7 @@ returns-in_default-clause-headline g c = c.headline.ensures is_dropped [] (world
 
 pub returns-in-Ok-run_watched-clause-round : goal.returns-in-Ok-run_watched-clause-round
 returns-in-Ok-run_watched-clause-round g c =
-    let events_are : c.deref.result.now ≡ ticks c.args.world.now.slots = c.deref.ensures.value ∙ c.in-Ok.ensures ∙ ap ticks c.slots.ensures in
+    let events_are : c.deref.result.now ≡ ticks c.args.world.now.slots = c.deref.ensures.value ∙ c.in-Ok.ensures.ticks ∙ ap ticks c.slots.ensures in
     losing_goes c.args.most c.args.world.now c.run_watched.new.self c.offer_but.new.world c.args.losses.now c.offer_but.new.losses c.deref.result.now c.run_watched.result c.in-Ok-run_watched._refused c.offer_but.result events_are c.run_watched.ensures.run c.in-Ok-run_watched.is c.offer_but.ensures.offered
 
 pub returns-in-Ok-run_watched-clause-reached : goal.returns-in-Ok-run_watched-clause-reached
@@ -27,7 +27,7 @@ returns-in-Ok-run_watched-clause-headline g c =
 
 pub returns-clause-round : goal.returns-clause-round
 returns-clause-round g c =
-    let events_are : c.deref.result.now ≡ ticks c.args.world.now.slots = c.deref.ensures.value ∙ c.in-Ok.ensures ∙ ap ticks c.slots.ensures in
+    let events_are : c.deref.result.now ≡ ticks c.args.world.now.slots = c.deref.ensures.value ∙ c.in-Ok.ensures.ticks ∙ ap ticks c.slots.ensures in
     losing_ticks_end c.args.most c.args.world.now c.run_watched.new.self c.args.losses.now c.deref.result.now c.run_watched.result c.in-Err.fault events_are c.run_watched.ensures.run c.in-Err.is
 
 pub returns-in_default-clause-sound : goal.returns-in_default-clause-sound
