@@ -190,7 +190,8 @@ Exit status:
   0  the script has run; lines that were refused are on standard error
   1  the script has run, and something was not as a line expected it
   2  the words fit no command, or a file would be overwritten
-  3  a configuration was refused, two have one Router ID, or a line is no command
+  3  a configuration was refused, two have one Router ID, or a line of a file is no
+     command
   4  memory ran out
   5  a file or standard input was not read, or a file or standard output not written
 
@@ -212,7 +213,7 @@ pub(crate) const RUN_HELP: &str =
   floor NUMBER                with --floor, the greatest number of its own LSAs
   FILE: U2 Send               on standard error, in place of these, where it failed
 With --every N, each N ticks of a router, its table below a line
-  router R tick N
+  router R tick TICK
 `forever` runs until it is killed, or with --until-eof until standard input ends.
 
 Exit status:
