@@ -15,10 +15,10 @@ use Rattle.ospf_area.specs.Packing.{IsFull, IsWithin, ip_length}
 use Rattle.ospf_area.specs.Sending.{packet_from}
 use Rattle.ospf_area.specs.declared.sending.Own.{Own}
 use Rattle.ospf_area.proofs.PackLemmas.{ip_length-is}
-use Rattle.ospf_adjacency.specs.Answers.{answered_keys, asked_keys}
+use Rattle.ospf_adjacency.specs.Answers.{answered_keys}
 use Rattle.ospf_adjacency.specs.ResendLaws.{KeysGoInOrder, UpdatesArePacked}
-use Rattle.ospf_adjacency.specs.Packing.{bytes_in, copies_of, goes_in, packed, update_room}
-use Rattle.ospf_adjacency.proofs.Words.{with_copy, is_key_due}
+use Rattle.ospf_adjacency.specs.Packing.{bytes_in, copies_of, goes_in, packed}
+use Rattle.ospf_adjacency.proofs.Words.{asked_keys, update_room, with_copy, is_key_due}
 use Rattle.ospf_adjacency.proofs.KeyLists.{filter_rises, keys_rise}
 
 -- ---- the whole list

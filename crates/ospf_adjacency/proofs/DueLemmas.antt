@@ -13,7 +13,7 @@ use Rattle.ospf_lsdb.specs.Moments.{among}
 use Rattle.ospf_neighbour.specs.Neighbour.{NeighbourValue}
 use Rattle.ospf_neighbour.specs.declared.neighbour.Listed.{Listed}
 use Rattle.ospf_exchange.proofs.KeyLemmas.{among_added}
-use Rattle.ospf_flood.specs.Due.{is_resend_due}
+use Rattle.ospf_flood.proofs.Words.{is_resend_due}
 use Rattle.ospf_adjacency.specs.Repeats.{due_keys}
 use Rattle.ospf_adjacency.proofs.Words.{is_key_due}
 use Rattle.ospf_adjacency.proofs.KeyLists.{among_filter, among_keys, filter_rises, keys_rise, rising_same}

@@ -15,8 +15,8 @@ use Rattle.ospf_neighbour.specs.Machine.{is_two_way}
 use Rattle.ospf_neighbour.specs.Neighbour.{NeighbourValue}
 use Rattle.ospf_neighbour.specs.Neighbours.{AreNeighboursRising}
 use Rattle.ospf_adjacency.specs.Adjacency.{begins_by, event_taken, number_by}
-use Rattle.ospf_adjacency.specs.Elections.{AreOfLink, ElectsOn, adj_ok_for, adjusted, number_after, first_dds, candidate_of, candidates_of}
-use Rattle.ospf_adjacency.proofs.Words.{taking_part}
+use Rattle.ospf_adjacency.specs.Elections.{AreOfLink, ElectsOn, adjusted, number_after, first_dds, candidates_of}
+use Rattle.ospf_adjacency.proofs.Words.{adj_ok_for, candidate_of, taking_part}
 use Rattle.ospf_area.specs.Packets.{Parcel, dd_parcel, parcel_if}
 use Rattle.ospf_area.proofs.PlaceLemmas.{read_left, write_left}
 

@@ -13,11 +13,11 @@ use Rattle.ospf_packet.specs.declared.body.Hello.{Hello}
 use Rattle.ospf_exchange.specs.declared.rule.Local.{Local}
 use Rattle.ospf_adjacency.specs.Adjacency.{event_taken, number_by}
 use Rattle.ospf_area.specs.Turns.{Turn}
-use Rattle.ospf_adjacency.specs.Elections.{adj_ok_for}
 use Rattle.ospf_adjacency.specs.Laws.{KeepsLists, NoLists, NeverEnters}
-use Rattle.ospf_adjacency.specs.Heard.{Neighbourhood, turn_of, hello_turn, put, sender_of}
+use Rattle.ospf_adjacency.specs.Heard.{Neighbourhood, turn_of, hello_turn, put}
 use Rattle.ospf_adjacency.specs.HelloLaws.{KeepsOrLosesLists, PutsOne, HelloGoes, TimersGo, AdjOkGoes}
-use Rattle.ospf_adjacency.specs.Links.{timed, is_inactive}
+use Rattle.ospf_adjacency.specs.Links.{timed}
+use Rattle.ospf_adjacency.proofs.Words.{adj_ok_for, is_inactive, sender_of}
 use Rattle.ospf_adjacency.proofs.HelloLemmas.{same_router}
 
 pub bool_cases : (b : Bool) → (b ≡ true) ⊎ (b ≡ false)

@@ -10,7 +10,8 @@ use Rattle.ospf_packet.specs.declared.body.Hello.{Hello}
 use Rattle.ospf_exchange.specs.declared.rule.Local.{Local}
 use Rattle.ospf_area.specs.Turns.{Turn, turn}
 use Rattle.ospf_area.specs.Posting.{PostValue}
-use Rattle.ospf_adjacency.specs.Heard.{Neighbourhood, neighbourhood, turn_of, put_back, hello_on, hello_turn, elects_by_hello, put, sender_of}
+use Rattle.ospf_adjacency.specs.Heard.{Neighbourhood, neighbourhood, turn_of, put_back, hello_on, hello_turn, elects_by_hello, put}
+use Rattle.ospf_adjacency.proofs.Words.{sender_of}
 use Rattle.ospf_adjacency.proofs.PutLemmas.{found, not_found, put_found, put_new}
 
 -- a Hello makes no other neighbour of one

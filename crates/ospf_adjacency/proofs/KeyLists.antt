@@ -10,10 +10,9 @@ use Rattle.ospf_lsdb.specs.Database.{Held, entry_of, held_of, key_at}
 use Rattle.ospf_lsdb.proofs.Words.{AreKeysRising}
 use Rattle.ospf_lsdb.specs.Moments.{among}
 use Rattle.ospf_packet.specs.declared.entry.RequestEntry.{RequestEntry}
-use Rattle.ospf_exchange.specs.Headers.{copy_in_database}
-use Rattle.ospf_exchange.specs.Requests.{Answers, all_held, is_asked, key_asked}
-use Rattle.ospf_exchange.proofs.Words.{is_held, is_key}
-use Rattle.ospf_adjacency.specs.Answers.{asked_keys}
+use Rattle.ospf_exchange.specs.Requests.{Answers, all_held, is_asked}
+use Rattle.ospf_exchange.proofs.Words.{copy_in_database, is_held, is_key, key_asked}
+use Rattle.ospf_adjacency.proofs.Words.{asked_keys}
 
 pub bool_cases : (b : Bool) → (b ≡ true) ⊎ (b ≡ false)
 bool_cases true = inl refl

@@ -4,7 +4,8 @@ use Rattle.ospf_base.specs.declared.ids.Addr.{Addr}
 use Rattle.ospf_area.specs.Posting.{PostValue, and_parcels}
 use Rattle.ospf_area.proofs.PostLemmas.{parcels_more}
 use Rattle.ospf_neighbour.specs.Neighbour.{is_empty}
-use Rattle.ospf_adjacency.specs.Packing.{bytes_in, goes_in, packed, update_to}
+use Rattle.ospf_adjacency.specs.Packing.{bytes_in, goes_in, packed}
+use Rattle.ospf_adjacency.proofs.Words.{update_to}
 
 bytes_in-push : (batch : List (List ℕ)) (lsa : List ℕ) → bytes_in (batch ++ lsa ∷ []) ≡ bytes_in batch + length lsa
 bytes_in-push [] lsa = omega arith

@@ -22,7 +22,7 @@ use Rattle.ospf_exchange.specs.Timers.{dd_due, request_repeat_due}
 use Rattle.ospf_exchange.specs.declared.rule.Local.{Local}
 use Rattle.ospf_area.specs.Sending.{sent_lsa, to_address}
 use Rattle.ospf_adjacency.specs.Adjacency.{event_taken}
-use Rattle.ospf_adjacency.specs.Descriptions.{event_turn, dd_turn, touched}
+use Rattle.ospf_adjacency.specs.Descriptions.{event_turn, dd_repeated}
 use Rattle.ospf_area.specs.Turns.{Turn}
 use Rattle.ospf_adjacency.specs.Laws.{GoesOn, KeepsLists, NeverEnters, SaysOnly}
 use Rattle.ospf_exchange.specs.Laws.{KeepsRouter}
@@ -30,11 +30,11 @@ use Rattle.ospf_area.specs.Packets.{Parcel, dd_parcel, request_parcel}
 use Rattle.ospf_adjacency.proofs.MemberLemmas.{cons_cases, cons_first, cons_rest, map_from, none_of_nil}
 use Rattle.ospf_adjacency.proofs.LawLemmas.{event_keeps}
 use Rattle.ospf_adjacency.proofs.SayLemmas.{event_says}
-use Rattle.ospf_adjacency.specs.Answers.{asked_keys, copies_turn, resent_keys}
-use Rattle.ospf_adjacency.proofs.Words.{resent_copy, with_copy, last_batch}
-use Rattle.ospf_adjacency.specs.Repeats.{dd_again, due_keys, request_again}
+use Rattle.ospf_adjacency.specs.Answers.{copies_turn}
+use Rattle.ospf_adjacency.proofs.Words.{asked_keys, resent_copy, resent_keys, update_room, update_to, with_copy, last_batch}
+use Rattle.ospf_adjacency.specs.Repeats.{due_keys}
 use Rattle.ospf_adjacency.specs.ResendLaws.{IsCopy, HasCopiesOnly, IsQuiet, AnswersAreQuiet, RepeatsAreQuiet}
-use Rattle.ospf_adjacency.specs.Packing.{copies_of, goes_in, packed, update_to, update_room, updates_of}
+use Rattle.ospf_adjacency.specs.Packing.{copies_of, goes_in, packed, updates_of}
 
 -- ---- copies
 
@@ -200,11 +200,11 @@ one_more db delay n sent p q has is = elim (Contains-append_cases sent (p ∷ []
   | inr new ↦ elim (cons_cases p [] q new) [ inl same ↦ inr (subst (λ (x : Parcel). HasCopiesOnly db delay n x.body) same has) | inr none ↦ absurd (none_of_nil q none) ]
 ]
 
-dd_quiet : (i : Iface) (local : Local) (delay : ℕ) (db : List Held) (t : Turn) (due : Bool) → IsAlike t.neighbour (if due then dd_turn i local (record t { neighbour = touched local.tick t.neighbour }) else t).neighbour
-    × ((p : Parcel) → Contains (if due then dd_turn i local (record t { neighbour = touched local.tick t.neighbour }) else t).sent p → Contains t.sent p ⊎ HasCopiesOnly db delay t.neighbour p.body)
+dd_quiet : (i : Iface) (local : Local) (delay : ℕ) (db : List Held) (t : Turn) (due : Bool) → IsAlike t.neighbour (if due then dd_repeated i local t else t).neighbour
+    × ((p : Parcel) → Contains (if due then dd_repeated i local t else t).sent p → Contains t.sent p ⊎ HasCopiesOnly db delay t.neighbour p.body)
 dd_quiet i local delay db t true = (
   record { router = refl; address = refl; state = refl; summary = refl; last_dd = refl; requests = refl; waiting = refl },
-  (λ p is. one_more db delay t.neighbour t.sent (dd_parcel i local.mtu (touched local.tick t.neighbour)) p (λ h has. inl has) is),
+  (λ p is. one_more db delay t.neighbour t.sent (dd_parcel i local.mtu (dd_repeated i local t).neighbour) p (λ h has. inl has) is),
 )
 dd_quiet i local delay db t false = (alike_same t.neighbour, (λ p is. inl is))
 
@@ -220,8 +220,9 @@ request_quiet i local delay db n t false = (alike_same t.neighbour, (λ p is. in
 pub repeats_are_quiet : RepeatsAreQuiet
 repeats_are_quiet i local retransmit delay db t =
     let keys = due_keys retransmit local.tick db t.neighbour in
-    let a = dd_again i local retransmit t in
-    let b = request_again i local retransmit a in
+    let a = (if dd_due retransmit local.tick t.neighbour then dd_repeated i local t else t) in
+    let asked = asked_next local.mtu local.tick a.neighbour in
+    let b = (if request_repeat_due retransmit local.tick a.neighbour then record a { neighbour = asked; sent = a.sent ++ request_parcel i asked ∷ [] } else a) in
     let u = copies_turn i local delay db keys b in
     let p = dd_quiet i local delay db t (dd_due retransmit local.tick t.neighbour) in
     let q = request_quiet i local delay db t.neighbour a (request_repeat_due retransmit local.tick a.neighbour) in

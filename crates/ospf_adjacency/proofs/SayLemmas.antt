@@ -22,14 +22,15 @@ use Rattle.ospf_exchange.specs.declared.fault.ExchangeFault.{ExchangeFault}
 use Rattle.ospf_exchange.specs.declared.fault.ExchangeFault.TheVariants as fault
 use Rattle.ospf_exchange.specs.declared.rule.Local.{Local}
 use Rattle.ospf_exchange.proofs.LawLemmas.{keeps_dd}
-use Rattle.ospf_area.specs.Asking.{loaded}
 use Rattle.ospf_adjacency.specs.Adjacency.{event_taken, begins_by, wants_adjacency}
-use Rattle.ospf_adjacency.specs.Descriptions.{event_turn, dd_turn, touched, is_init, greeted_turn, answered_turn, exchange_turn}
+use Rattle.ospf_adjacency.specs.Descriptions.{event_turn, dd_repeated, is_init, answered_turn}
+use Rattle.ospf_adjacency.proofs.Words.{greeted_turn, exchange_turn}
 use Rattle.ospf_area.specs.Turns.{Turn, request_turn}
 use Rattle.ospf_adjacency.specs.Laws.{SaysOnly, AllSayOnly, KeepsLists, EventsSayOnly, RequestsSayOnly, DescriptionSaysOnly}
 use Rattle.ospf_area.specs.Packets.{Parcel, parcel_if, dd_parcel, request_parcel}
 use Rattle.ospf_adjacency.proofs.LawLemmas.{bool_cases, event_keeps}
 use Rattle.ospf_adjacency.proofs.MemberLemmas.{cons_cases, none_of_nil}
+use Rattle.ospf_area.proofs.Words.{loaded}
 
 -- one packet more
 more : (db : List Held) (n : NeighbourValue) (sent : List Parcel) (p : Parcel) → SaysOnly db n p.body → AllSayOnly db n sent (sent ++ p ∷ [])
@@ -91,9 +92,9 @@ answer_says : (a : Result DdAnswer ExchangeFault) (i : Iface) (local : Local) (d
     → AllSayOnly db n t.sent (answered_turn a i local t).sent
 answer_says (Ok answer.NotTaken) i local db n t known = λ q is. inl is
 answer_says (Ok answer.PassedOver) i local db n t known = λ q is. inl is
-answer_says (Ok answer.Repeats) i local db n t known = more db n t.sent (dd_parcel i local.mtu (touched local.tick t.neighbour)) known
+answer_says (Ok answer.Repeats) i local db n t known = more db n t.sent (dd_parcel i local.mtu (dd_repeated i local t).neighbour) known
 answer_says (Ok answer.Sends) i local db n t known =
-    let u = dd_turn i local t in
+    let u = record t { sent = t.sent ++ dd_parcel i local.mtu t.neighbour ∷ [] } in
     both db n t.sent u.sent (request_turn i local u).sent (more db n t.sent (dd_parcel i local.mtu t.neighbour) known) (requests_say i local db n u)
 answer_says (Ok answer.Ends) i local db n t known = requests_say i local db n t
 answer_says (Err fault.Mtu) i local db n t known = λ q is. inl is

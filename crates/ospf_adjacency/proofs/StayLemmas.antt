@@ -7,10 +7,11 @@ use Rattle.ospf_iface.specs.declared.machine.Iface.{Iface}
 use Rattle.ospf_neighbour.specs.Neighbour.{NeighbourValue}
 use Rattle.ospf_neighbour.specs.Neighbours.{AreNeighboursRising}
 use Rattle.ospf_adjacency.specs.Adjacency.{event_taken, number_by}
-use Rattle.ospf_adjacency.specs.Elections.{AreOfLink, adj_ok_for, adjusted}
-use Rattle.ospf_adjacency.specs.Heard.{put, hello_turn, turn_of, sender_of}
+use Rattle.ospf_adjacency.specs.Elections.{AreOfLink, adjusted}
+use Rattle.ospf_adjacency.specs.Heard.{put, hello_turn, turn_of}
 use Rattle.ospf_adjacency.specs.HelloLaws.{NeighboursStayOfLink}
-use Rattle.ospf_adjacency.specs.Links.{timed, is_inactive}
+use Rattle.ospf_adjacency.specs.Links.{timed}
+use Rattle.ospf_adjacency.proofs.Words.{adj_ok_for, is_inactive, sender_of}
 use Rattle.ospf_adjacency.proofs.GoLemmas.{adj_ok_router, bool_cases, heard_router}
 
 -- a fact of the Router IDs of all neighbours

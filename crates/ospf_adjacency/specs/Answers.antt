@@ -17,37 +17,30 @@ use Rattle.ospf_adjacency.specs.Packing.{updates_of}
 
 -- ---- copies to one neighbour
 
--- copies that go to the neighbour count as sent to it, where they are on
--- its retransmission list (13.6)
-abbrev pub resent_keys : List Held → ℕ → List LsaKey → NeighbourValue → NeighbourValue
-resent_keys db tick keys n =
-    fold
-    (λ (n : NeighbourValue) key. (elim (entry_of db key) [
-      | None ↦ n
-      | Some e ↦ resent (instance_at e) tick n
-    ])) n keys
-
--- the copies of these keys go to the neighbour (10.7, 13.6)
+-- the copies of these keys go to the neighbour, and count as sent to it where they are on its
+-- retransmission list (10.7, 13.6)
 abbrev pub copies_turn : Iface → Local → ℕ → List Held → List LsaKey → Turn → Turn
 copies_turn i local delay db keys t = record {
-  neighbour = resent_keys db local.tick keys t.neighbour;
+  neighbour =
+      fold
+      (λ (n : NeighbourValue) key. (elim (entry_of db key) [
+        | None ↦ n
+        | Some e ↦ resent (instance_at e) local.tick n
+      ])) t.neighbour keys;
   next = t.next;
   sent = t.sent ++ updates_of (to_address i t.neighbour.address) local.mtu delay db keys;
 }
 
 -- ---- Requests
 
--- the keys of the database that a Request asks for, in their order: each once
-abbrev pub asked_keys : List Held → List RequestEntry → List LsaKey
-asked_keys db es = filter (is_asked es) (map key_at db)
-
--- those that are answered: none where the database has no copy of one (10.7)
+-- the keys of the database that a Request asks for, in their order, each once: none where the
+-- database has no copy of one (10.7)
 abbrev pub answered_keys : List Held → List RequestEntry → List LsaKey
-answered_keys db es = if all_held db es then asked_keys db es else []
+answered_keys db es = if all_held db es then filter (is_asked es) (map key_at db) else []
 
 -- a Request is answered by the copies of the keys that it asks for, or is BadLSReq where the
 -- database has no copy of one (10.7)
 abbrev pub answer_turn : Iface → Local → ℕ → List Held → List RequestEntry → Turn → Turn
 answer_turn i local delay db es t =
-    if all_held db es then copies_turn i local delay db (asked_keys db es) t
+    if all_held db es then copies_turn i local delay db (filter (is_asked es) (map key_at db)) t
     else event_turn i local BadLsReq t

@@ -1,6 +1,6 @@
 -- What a Database Description, and a request list that has changed, make of a neighbour (RFC 2328,
 -- sections 10.6, 10.8 and 10.9).
-use Rattle.std.specs.Prelude.{◌++◌, ◌∷◌, ◌&&◌, ◌||◌, not, nat_lt, [], ℕ, Bool, true, false, List, Result, Ok, Err, if◌then◌else◌}
+use Rattle.std.specs.Prelude.{◌++◌, ◌∷◌, ◌&&◌, ◌||◌, not, nat_lt, [], Bool, true, false, List, Result, Ok, Err, if◌then◌else◌}
 use Rattle.ospf_base.specs.declared.ids.RouterId.{RouterId}
 use Rattle.ospf_iface.specs.declared.machine.Iface.{Iface}
 use Rattle.ospf_lsa.specs.declared.header.LsaHeader.{LsaHeader}
@@ -40,46 +40,36 @@ abbrev pub is_init : NeighbourState → Bool
 is_init Init = true
 is_init _ = false
 
--- in Init a Database Description is 2-WayReceived first (10.6)
-abbrev pub greeted_turn : Iface → Local → Turn → Turn
-greeted_turn i local t =
-    if is_init t.neighbour.state
-    then event_turn i local (TwoWayReceived (wants_adjacency i t.neighbour.address)) t
-    else t
-
--- the last DD packet goes out again (10.8)
-abbrev pub dd_turn : Iface → Local → Turn → Turn
-dd_turn i local t = record t { sent = t.sent ++ dd_parcel i local.mtu t.neighbour ∷ [] }
-
--- the neighbour, to which a Database Description was sent at this tick
-abbrev pub touched : ℕ → NeighbourValue → NeighbourValue
-touched tick n = record n { exchanging = record n.exchanging { sent_at = tick } }
+-- the last DD packet goes out again, and counts as sent at this tick (10.8)
+abbrev pub dd_repeated : Iface → Local → Turn → Turn
+dd_repeated i local t =
+    let n = t.neighbour in
+    let m = record n { exchanging = record n.exchanging { sent_at = local.tick } } in
+    record t { neighbour = m; sent = t.sent ++ dd_parcel i local.mtu m ∷ [] }
 
 -- what follows an answer (10.6, 10.8): the slave's last packet goes out again; or the next packet
 -- does, before a Request; or SeqNumberMismatch begins the adjacency anew
 abbrev pub answered_turn : Result DdAnswer ExchangeFault → Iface → Local → Turn → Turn
 answered_turn (Ok answer.NotTaken) i local t = t
 answered_turn (Ok answer.PassedOver) i local t = t
-answered_turn (Ok answer.Repeats) i local t =
-    dd_turn i local (record t { neighbour = touched local.tick t.neighbour })
-answered_turn (Ok answer.Sends) i local t = request_turn i local (dd_turn i local t)
+answered_turn (Ok answer.Repeats) i local t = dd_repeated i local t
+answered_turn (Ok answer.Sends) i local t =
+    request_turn i local (record t { sent = t.sent ++ dd_parcel i local.mtu t.neighbour ∷ [] })
 answered_turn (Ok answer.Ends) i local t = request_turn i local t
 answered_turn (Err fault.Mismatch) i local t = event_turn i local SeqNumberMismatch t
 answered_turn (Err _) i local t = t
 
--- a Database Description that is looked at in the neighbour's state (10.6)
-abbrev pub exchange_turn : Iface → Local → RouterId → Description → List LsaHeader → List Held
-    → Turn → Turn
-exchange_turn i local sender d headers db t =
-    answered_turn (dd_answer local sender d headers t.neighbour) i local
-    (record t { neighbour = after_dd local sender d headers db t.neighbour })
-
--- a Database Description: nothing is done where its MTU is over the interface's (10.6)
+-- a Database Description: nothing is done where its MTU is over the interface's. In Init it is
+-- 2-WayReceived first; then it is looked at in the neighbour's state (10.6)
 abbrev pub description_turn : Iface → Local → RouterId → Description → List LsaHeader → List Held
     → Turn → Turn
 description_turn i local sender d headers db t =
     if nat_lt local.mtu d.mtu then t
-    else exchange_turn i local sender d headers db (greeted_turn i local t)
+    else
+    let greets = TwoWayReceived (wants_adjacency i t.neighbour.address) in
+    let u = (if is_init t.neighbour.state then event_turn i local greets t else t) in
+    answered_turn (dd_answer local sender d headers u.neighbour) i local
+    (record u { neighbour = after_dd local sender d headers db u.neighbour })
 
 -- it is dropped: its MTU is over the interface's, or there is no exchange and it begins none. In
 -- Init it is 2-WayReceived and so not dropped (10.6)

@@ -8,7 +8,6 @@ use Rattle.ospf_iface.specs.declared.machine.Iface.{Iface}
 use Rattle.ospf_iface.specs.declared.machine.IfaceState.{IfaceState}
 use Rattle.ospf_iface.specs.declared.machine.IfaceState.TheVariants as iface
 use Rattle.ospf_iface.specs.Machine.{elected, is_changed, own_candidate}
-use Rattle.ospf_neighbour.specs.declared.machine.NbrEvent.{NbrEvent}
 use Rattle.ospf_neighbour.specs.declared.machine.NbrEvent.TheVariants.{AdjOk}
 use Rattle.ospf_neighbour.specs.Machine.{is_two_way}
 use Rattle.ospf_neighbour.specs.Neighbour.{NeighbourValue}
@@ -18,48 +17,41 @@ use Rattle.ospf_area.specs.Packets.{Parcel, dd_parcel, parcel_if}
 
 -- ---- who takes part
 
--- a neighbour as it takes part in an election (9.4, step 1)
-abbrev pub candidate_of : NeighbourValue → Candidate
-candidate_of n =
-    record {
+-- the router itself, and the neighbours in 2-Way or above, each as it takes part in the election
+-- (9.4, step 1)
+abbrev pub candidates_of : Iface → List NeighbourValue → List Candidate
+candidates_of i ns =
+    own_candidate i ∷ map (λ (n : NeighbourValue). record {
       id = n.router;
       address = n.address;
       priority = n.declared.priority;
       dr = n.declared.dr;
       backup = n.declared.backup;
-    }
-
--- the router itself, and the neighbours in 2-Way or above (9.4, step 1)
-abbrev pub candidates_of : Iface → List NeighbourValue → List Candidate
-candidates_of i ns =
-    own_candidate i ∷ map candidate_of (filter (λ (n : NeighbourValue). is_two_way n.state) ns)
+    }) (filter (λ (n : NeighbourValue). is_two_way n.state) ns)
 
 -- ---- AdjOK?
 
--- AdjOK? (10.4)
-abbrev pub adj_ok_for : Iface → NeighbourValue → NbrEvent
-adj_ok_for i n = AdjOk (wants_adjacency i n.address)
-
 -- the neighbours after AdjOK?, which changes none below 2-Way. Those with which an adjacency begins
--- take the router's DD numbers in rising Router ID (10.3, AdjOK?)
+-- take the router's DD numbers in rising Router ID (10.3, AdjOK?; 10.4)
 abbrev pub adjusted : Iface → ℕ → ℕ → List NeighbourValue → List NeighbourValue
 adjusted i tick next [] = []
 adjusted i tick next (n ∷ ns) =
-    event_taken (adj_ok_for i n) i.settings.dead next tick n
-    ∷ adjusted i tick (number_by (adj_ok_for i n) n next) ns
+    let ok = AdjOk (wants_adjacency i n.address) in
+    event_taken ok i.settings.dead next tick n ∷ adjusted i tick (number_by ok n next) ns
 
 -- the router's next DD number then
 abbrev pub number_after : Iface → ℕ → List NeighbourValue → ℕ
 number_after i next [] = next
-number_after i next (n ∷ ns) = number_after i (number_by (adj_ok_for i n) n next) ns
+number_after i next (n ∷ ns) =
+    number_after i (number_by (AdjOk (wants_adjacency i n.address)) n next) ns
 
 -- the first DD packets that go out (10.8)
 abbrev pub first_dds : Iface → ℕ → ℕ → ℕ → List NeighbourValue → List Parcel
 first_dds i mtu tick next [] = []
 first_dds i mtu tick next (n ∷ ns) =
-    parcel_if (begins_by (adj_ok_for i n) n)
-    (dd_parcel i mtu (event_taken (adj_ok_for i n) i.settings.dead next tick n))
-    ++ first_dds i mtu tick (number_by (adj_ok_for i n) n next) ns
+    let ok = AdjOk (wants_adjacency i n.address) in
+    parcel_if (begins_by ok n) (dd_parcel i mtu (event_taken ok i.settings.dead next tick n))
+    ++ first_dds i mtu tick (number_by ok n next) ns
 
 -- ---- the election
 

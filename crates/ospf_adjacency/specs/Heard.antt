@@ -9,7 +9,6 @@ use Rattle.ospf_iface.specs.Election.{differs}
 use Rattle.ospf_iface.specs.declared.machine.Iface.{Iface}
 use Rattle.ospf_iface.specs.declared.machine.IfaceState.{IfaceState}
 use Rattle.ospf_iface.specs.declared.machine.IfaceState.TheVariants as iface
-use Rattle.ospf_neighbour.specs.declared.machine.NbrEvent.{NbrEvent}
 use Rattle.ospf_neighbour.specs.declared.machine.NbrEvent.TheVariants.{HelloReceived, TwoWayReceived, OneWayReceived}
 use Rattle.ospf_neighbour.specs.Machine.{is_two_way}
 use Rattle.ospf_neighbour.specs.Neighbour.{NeighbourValue, new_neighbour}
@@ -30,24 +29,21 @@ names rs q = list_any (λ r. r.0 == q.0) rs
 
 -- ---- the neighbour
 
--- HelloReceived; and on broadcast links what the Hello declares is stored (10.5)
-abbrev pub heard : Iface → Hello → NeighbourValue → NeighbourValue
-heard i h n =
-    if is_broadcast i
-    then record (after_event HelloReceived i.settings.dead n)
-    { declared = record { priority = h.priority; dr = h.designated; backup = h.backup } }
-    else after_event HelloReceived i.settings.dead n
-
--- 2-WayReceived where the Hello names the router, else 1-WayReceived (10.5)
-abbrev pub naming_event : Iface → Bool → NeighbourValue → NbrEvent
-naming_event i named n =
-    if named then TwoWayReceived (wants_adjacency i n.address) else OneWayReceived
-
--- a Hello of the neighbour, which names the router or does not (10.5)
+-- a Hello of the neighbour: HelloReceived, and on broadcast links what it declares is stored; then
+-- 2-WayReceived where it names the router, else 1-WayReceived (10.5)
 abbrev pub hello_turn : Iface → Local → Hello → Bool → Turn → Turn
 hello_turn i local h named t =
-    event_turn i local (naming_event i named t.neighbour)
-    (record t { neighbour = heard i h t.neighbour })
+    let n = t.neighbour in
+    let m = after_event HelloReceived i.settings.dead n in
+    event_turn i local
+    (if named then TwoWayReceived (wants_adjacency i n.address) else OneWayReceived)
+    (record t {
+      neighbour =
+          (if is_broadcast i
+          then record m
+          { declared = record { priority = h.priority; dr = h.designated; backup = h.backup } }
+          else m);
+    })
 
 -- ---- the election of the link
 
@@ -93,10 +89,6 @@ elects_by_hello s n m =
     (is_waiting s && is_backup_seen (bearing_of m))
     || (is_settled s && is_neighbor_change (bearing_of n) (bearing_of m))
 
--- and by a Database Description, which may be 2-WayReceived: NeighborChange (9.3)
-abbrev pub elects_by_change : IfaceState → NeighbourValue → NeighbourValue → Bool
-elects_by_change s n m = is_settled s && differs (is_two_way n.state) (is_two_way m.state)
-
 -- ---- the neighbours of the link
 
 -- the neighbours with one put in: in place of that of its Router ID, or between those of
@@ -107,10 +99,6 @@ put n (m ∷ ms) =
     if nat_lt m.router.0 n.router.0 then m ∷ put n ms
     else if m.router.0 == n.router.0 then n ∷ ms
     else n ∷ m ∷ ms
-
--- the sender of a packet: a neighbour, or one that was not known before (10.5)
-abbrev pub sender_of : List NeighbourValue → RouterId → Addr → NeighbourValue
-sender_of ns q source = unwrap_or (neighbour_of ns q) (new_neighbour q source)
 
 -- the neighbours of a link in a part of a step, whether an election is due by it, the router's
 -- next DD number, and what goes out
@@ -139,9 +127,9 @@ put_back elects t x =
       sent = t.sent;
     }
 
--- a Hello of router q from this address: it makes its neighbour, or finds it (10.5)
+-- a Hello of router q from this address: q is a neighbour, or becomes a new one (10.5)
 abbrev pub hello_on : Iface → Local → RouterId → Addr → Hello → Bool → Neighbourhood → Neighbourhood
 hello_on i local q source h named x =
-    let n = sender_of x.neighbours q source in
+    let n = unwrap_or (neighbour_of x.neighbours q) (new_neighbour q source) in
     let t = hello_turn i local h named (turn_of n x) in
     put_back (elects_by_hello i.state n t.neighbour) t x

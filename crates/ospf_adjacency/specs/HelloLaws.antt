@@ -1,16 +1,17 @@
 -- What Hellos, timers and AdjOK? keep of a link's neighbours (RFC 2328, sections 10.3 and 10.5).
-use Rattle.std.specs.Prelude.{⊤, true, ◌≡◌, ◌≢◌, ℕ, List, false, Option, None, Some, Bool, if◌then◌else◌, ◌==◌}
+use Rattle.std.specs.Prelude.{⊤, true, ◌&&◌, ◌≡◌, ◌≢◌, ℕ, List, false, Option, None, Some, Bool, if◌then◌else◌, ◌==◌}
 use Rattle.ospf_base.specs.declared.ids.Addr.{Addr}
 use Rattle.ospf_base.specs.declared.ids.RouterId.{RouterId}
+use Rattle.ospf_iface.specs.Election.{differs}
 use Rattle.ospf_iface.specs.declared.machine.Iface.{Iface}
-use Rattle.ospf_neighbour.specs.Machine.{is_exchanging}
+use Rattle.ospf_neighbour.specs.Machine.{is_exchanging, is_two_way}
 use Rattle.ospf_neighbour.specs.Neighbour.{NeighbourValue}
 use Rattle.ospf_neighbour.specs.Neighbours.{AreNeighboursRising, neighbour_of}
 use Rattle.ospf_packet.specs.declared.body.Hello.{Hello}
 use Rattle.ospf_exchange.specs.declared.rule.Local.{Local}
 use Rattle.ospf_adjacency.specs.Elections.{AreOfLink, adjusted, elects_in}
 use Rattle.ospf_adjacency.specs.Laws.{KeepsLists, NoLists, NeverEnters}
-use Rattle.ospf_adjacency.specs.Heard.{Neighbourhood, hello_on, put, elects_by_hello, elects_by_change}
+use Rattle.ospf_adjacency.specs.Heard.{Neighbourhood, hello_on, is_settled, put, elects_by_hello}
 use Rattle.ospf_adjacency.specs.Links.{timed, elects_by_timers}
 
 -- a neighbour keeps its lists or loses them, and does not enter Exchange; a new one
@@ -63,7 +64,8 @@ NeighboursStayOfLink = (i : Iface) (ns : List NeighbourValue) → AreOfLink i ns
 pub record ElectsWhereItCan (i : Iface) (n m : NeighbourValue) (ns : List NeighbourValue)
     : Type 0 where
   pub hello : elects_by_hello i.state n m ≡ true → elects_in i.state ≡ true
-  pub change : elects_by_change i.state n m ≡ true → elects_in i.state ≡ true
+  pub change : (is_settled i.state && differs (is_two_way n.state) (is_two_way m.state)) ≡ true
+      → elects_in i.state ≡ true
   pub timers : elects_by_timers i ns ≡ true → elects_in i.state ≡ true
 
 -- the law, for all neighbours of a link

@@ -5,7 +5,7 @@ use Rattle.std.specs.List.{list_any}
 use Rattle.ospf_base.specs.Addresses.{all_spf_routers}
 use Rattle.ospf_iface.specs.declared.machine.Iface.{Iface}
 use Rattle.ospf_iface.specs.Hello.{own_hello}
-use Rattle.ospf_iface.specs.Machine.{is_down, started, iface_stopped}
+use Rattle.ospf_iface.specs.Machine.{is_down, iface_stopped}
 use Rattle.ospf_neighbour.specs.Machine.{is_two_way}
 use Rattle.ospf_neighbour.specs.Neighbour.{NeighbourValue}
 use Rattle.ospf_packet.specs.Meaning.{hello}
@@ -22,10 +22,6 @@ hello_parcel i ns =
       body = hello (own_hello i) (map (λ n. n.router) ns);
     }
 
--- a Hello is due: the link is up, and HelloInterval is over (9.5)
-abbrev pub is_hello_due : Iface → Bool
-is_hello_due i = not (is_down i.state) && nat_le i.hello_in 1
-
 -- the Hello timer, a tick later: it starts again, or runs on, or stands
 -- still where the link is down (9.5)
 abbrev pub hello_ticked : Iface → Iface
@@ -35,29 +31,22 @@ hello_ticked i =
 
 -- ---- up and down
 
--- InterfaceUp, where the link is down (9.3)
-abbrev pub up : Iface → Iface
-up i = if is_down i.state then started i else i
-
 -- InterfaceDown (9.3)
 abbrev pub down : Iface → Iface
 down i = if is_down i.state then i else iface_stopped i
 
 -- ---- timers
 
--- no Hello came for RouterDeadInterval (10.2, InactivityTimer)
-abbrev pub is_inactive : NeighbourValue → Bool
-is_inactive n = n.inactivity == 1
-
--- the neighbours a tick later: the inactive ones are removed (10.3, InactivityTimer)
+-- the neighbours a tick later: those of which no Hello came for RouterDeadInterval are removed
+-- (10.2 and 10.3, InactivityTimer)
 abbrev pub timed : List NeighbourValue → List NeighbourValue
 timed ns =
     map (λ (n : NeighbourValue). record n { inactivity = n.inactivity - 1 })
-    (filter (λ n. not (is_inactive n)) ns)
+    (filter (λ n. not (n.inactivity == 1)) ns)
 
 -- by the timers an election is due: the wait timer fires, or a neighbour in 2-Way or above
 -- is removed (9.2, WaitTimer; 9.3)
 abbrev pub elects_by_timers : Iface → List NeighbourValue → Bool
 elects_by_timers i ns =
     (is_waiting i.state && (i.wait == 1))
-    || (is_settled i.state && list_any (λ n. is_inactive n && is_two_way n.state) ns)
+    || (is_settled i.state && list_any (λ n. (n.inactivity == 1) && is_two_way n.state) ns)

@@ -26,11 +26,6 @@ copies_of db delay (k ∷ ks) =
 abbrev pub update_count : ℕ
 update_count = 4
 
--- how many bytes of LSAs an Update has room for, behind an IP header, a
--- packet header and their number
-abbrev pub update_room : ℕ → ℕ
-update_room mtu = mtu - (ip_header + packet_header + update_count)
-
 -- how many bytes all these LSAs have
 abbrev pub bytes_in : List (List ℕ) → ℕ
 bytes_in [] = 0
@@ -47,11 +42,9 @@ packed room batch (lsa ∷ lsas) =
     if goes_in room batch lsa then packed room (batch ++ lsa ∷ []) lsas
     else batch ∷ packed room (lsa ∷ []) lsas
 
--- an Update of these LSAs to this address (13.3)
-abbrev pub update_to : Addr → List (List ℕ) → Parcel
-update_to destination lsas = record { destination = destination; body = update lsas }
-
--- the Updates with the copies of these keys (10.7, 13.6)
+-- the Updates with the copies of these keys, to this address: an Update has the room that an IP
+-- header, a packet header and the number of LSAs leave (10.7, 13.3, 13.6)
 abbrev pub updates_of : Addr → ℕ → ℕ → List Held → List LsaKey → List Parcel
 updates_of destination mtu delay db keys =
-    map (update_to destination) (packed (update_room mtu) [] (copies_of db delay keys))
+    map (λ lsas. record { destination = destination; body = update lsas })
+    (packed (mtu - (ip_header + packet_header + update_count)) [] (copies_of db delay keys))

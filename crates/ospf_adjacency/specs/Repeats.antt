@@ -10,28 +10,11 @@ use Rattle.ospf_neighbour.specs.declared.neighbour.Listed.{Listed}
 use Rattle.ospf_exchange.specs.Requests.{asked_next}
 use Rattle.ospf_exchange.specs.Timers.{dd_due, request_repeat_due}
 use Rattle.ospf_exchange.specs.declared.rule.Local.{Local}
-use Rattle.ospf_flood.specs.Due.{is_resend_due}
-use Rattle.ospf_adjacency.specs.Descriptions.{dd_turn, touched}
+use Rattle.ospf_base.specs.Ticks.{have_passed}
+use Rattle.ospf_adjacency.specs.Descriptions.{dd_repeated}
 use Rattle.ospf_area.specs.Turns.{Turn}
 use Rattle.ospf_area.specs.Packets.{request_parcel}
 use Rattle.ospf_adjacency.specs.Answers.{copies_turn}
-
--- the last DD packet, in ExStart and by the master in Exchange (10.8)
-abbrev pub dd_again : Iface → Local → ℕ → Turn → Turn
-dd_again i local retransmit t =
-    if dd_due retransmit local.tick t.neighbour
-    then dd_turn i local (record t { neighbour = touched local.tick t.neighbour })
-    else t
-
--- the last Request, filled afresh (10.9)
-abbrev pub request_again : Iface → Local → ℕ → Turn → Turn
-request_again i local retransmit t =
-    if request_repeat_due retransmit local.tick t.neighbour
-    then record t {
-      neighbour = asked_next local.mtu local.tick t.neighbour;
-      sent = t.sent ++ request_parcel i (asked_next local.mtu local.tick t.neighbour) ∷ [];
-    }
-    else t
 
 -- the keys of the database of which an entry is due on the neighbour's retransmission list
 -- (13.6), in their order: each once
@@ -39,11 +22,17 @@ abbrev pub due_keys : ℕ → ℕ → List Held → NeighbourValue → List LsaK
 due_keys retransmit tick db n =
     filter
     (λ key. list_any
-    (λ (l : Listed). is_resend_due retransmit tick l && same_key l.instance.key key)
+    (λ (l : Listed). have_passed retransmit l.sent_at tick && same_key l.instance.key key)
     n.retransmission) (map key_at db)
 
--- its DD packet, then its Request, then the copies of what is due on its retransmission list
+-- its last DD packet, in ExStart and by the master in Exchange (10.8), then its last Request,
+-- filled afresh (10.9), then the copies of what is due on its retransmission list (13.6)
 abbrev pub repeats_turn : Iface → Local → ℕ → ℕ → List Held → Turn → Turn
 repeats_turn i local retransmit delay db t =
-    copies_turn i local delay db (due_keys retransmit local.tick db t.neighbour)
-    (request_again i local retransmit (dd_again i local retransmit t))
+    let u = (if dd_due retransmit local.tick t.neighbour then dd_repeated i local t else t) in
+    let asked = asked_next local.mtu local.tick u.neighbour in
+    let v =
+    (if request_repeat_due retransmit local.tick u.neighbour
+    then record u { neighbour = asked; sent = u.sent ++ request_parcel i asked ∷ [] }
+    else u) in
+    copies_turn i local delay db (due_keys retransmit local.tick db t.neighbour) v

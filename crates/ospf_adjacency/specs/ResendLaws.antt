@@ -20,7 +20,7 @@ use Rattle.ospf_adjacency.specs.Laws.{GoesOn, NeverEnters, SaysOnly}
 use Rattle.ospf_exchange.specs.Laws.{KeepsRouter}
 use Rattle.ospf_area.specs.Packets.{Parcel}
 use Rattle.ospf_adjacency.specs.Answers.{answer_turn, answered_keys}
-use Rattle.ospf_adjacency.specs.Packing.{copies_of, update_to, updates_of}
+use Rattle.ospf_adjacency.specs.Packing.{copies_of, updates_of}
 use Rattle.ospf_adjacency.specs.Repeats.{due_keys, repeats_turn}
 
 -- the LSA is a copy of the database, InfTransDelay older
@@ -65,7 +65,8 @@ abbrev pub UpdatesArePacked : Type 0
 UpdatesArePacked =
     (own : Own) (destination : Addr) (mtu delay : ℕ) (db : List Held) (keys : List LsaKey)
     → (packets : List (List (List ℕ)))
-    × (updates_of destination mtu delay db keys ≡ map (update_to destination) packets)
+    × (updates_of destination mtu delay db keys
+    ≡ map (λ lsas. record { destination = destination; body = update lsas }) packets)
     × ArePacked (λ lsas. packet_from own (update lsas)) mtu (copies_of db delay keys) packets
 
 -- the keys whose copies answer a Request, and of those that go again, each once

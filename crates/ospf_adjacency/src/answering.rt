@@ -1,11 +1,12 @@
 //! Requests that are answered.
 
-ghost use Rattle.std.specs.Prelude.{◌≡◌, IsTrue, IfOk, OnOk, None, Some};
-ghost use Rattle.ospf_lsdb.specs.Database.{instance_at};
+ghost use Rattle.std.specs.Prelude.{◌≡◌, IsTrue, IfOk, OnOk, None, Some, fold};
+ghost use Rattle.ospf_lsdb.specs.Database.{entry_of, instance_at};
 ghost use Rattle.ospf_neighbour.specs.Lists.{resent};
 ghost use Rattle.ospf_neighbour.specs.Machine.{is_exchanging};
+ghost use Rattle.ospf_neighbour.specs.Neighbour.{NeighbourValue};
 ghost use Rattle.ospf_area.specs.Turns.{turn};
-ghost use Rattle.ospf_adjacency.specs.Answers.{resent_keys, copies_turn, answered_keys, answer_turn};
+ghost use Rattle.ospf_adjacency.specs.Answers.{copies_turn, answered_keys, answer_turn};
 
 use crate::adjacency::take_event;
 use crate::packing::send_copies;
@@ -80,7 +81,12 @@ pub(crate) fn send_to(
 
 // The copies of these keys count as sent to the neighbour.
 fn resend_keys(neighbour: &mut Neighbour, keys: &BTreeSet<LsaKey>, database: &Lsdb, tick: u64)
-    ensures { neighbour.new ≡ resent_keys database.now tick keys.now.keys neighbour.old }
+    ensures { neighbour.new
+        ≡ fold
+        (λ (n : NeighbourValue) key. (elim (entry_of database.now key) [
+          | None ↦ n
+          | Some e ↦ resent (instance_at e) tick n
+        ])) neighbour.old keys.now.keys }
 {
     for key in keys {
         resend_copy(neighbour, database.get(key), tick);

@@ -1,9 +1,11 @@
 //! Database Descriptions of one neighbour, with what goes out.
 
-ghost use Rattle.std.specs.Prelude.{◌≡◌, not, IfOk, OnOk};
-ghost use Rattle.ospf_exchange.specs.Exchange.{dd_answer};
+ghost use Rattle.std.specs.Prelude.{◌≡◌, ◌++◌, ◌∷◌, [], not, IfOk, OnOk, if◌then◌else◌};
+ghost use Rattle.ospf_exchange.specs.Exchange.{after_dd, dd_answer};
 ghost use Rattle.ospf_exchange.specs.Laws.{is_not_taken};
-ghost use Rattle.ospf_adjacency.specs.Descriptions.{is_init, dd_dropped, touched, dd_turn, greeted_turn, exchange_turn, description_turn};
+ghost use Rattle.ospf_adjacency.specs.Adjacency.{wants_adjacency};
+ghost use Rattle.ospf_adjacency.specs.Descriptions.{answered_turn, dd_dropped, dd_repeated, description_turn, event_turn, is_init};
+ghost use Rattle.ospf_area.specs.Packets.{dd_parcel};
 ghost use Rattle.ospf_area.specs.Turns.{turn, request_turn};
 
 use crate::adjacency::{take_event, wants_adjacency};
@@ -73,7 +75,11 @@ fn is_init(state: NeighbourState) -> bool
 fn greet(neighbour: &mut Neighbour, at: &OnLink, post: &mut Post) -> Result<(), AllocError>
     ensures { OnOk result
         (turn neighbour.new post.new
-        ≡ greeted_turn at.now.iface at.now.local (turn neighbour.old post.old)) }
+        ≡ (if is_init neighbour.old.state
+        then event_turn at.now.iface at.now.local
+        (NbrEvent.TwoWayReceived (wants_adjacency at.now.iface neighbour.old.address))
+        (turn neighbour.old post.old)
+        else turn neighbour.old post.old)) }
 {
     if is_init(neighbour.state()) {
         let event = NbrEvent::TwoWayReceived(wants_adjacency(&at.iface, neighbour.address()));
@@ -95,8 +101,11 @@ fn exchange(
 ) -> Result<bool, AllocError>
     ensures turn { OnOk result
         (turn neighbour.new post.new
-        ≡ exchange_turn at.now.iface at.now.local sender description headers.entry database.now
-        (turn neighbour.old post.old)) }
+        ≡ answered_turn (dd_answer at.now.local sender description headers.entry neighbour.old)
+        at.now.iface at.now.local
+        (turn
+        (after_dd at.now.local sender description headers.entry database.now neighbour.old)
+        post.old)) }
     ensures taken { IfOk result
         (λ taken.
         taken
@@ -141,8 +150,7 @@ fn exchange(
 fn repeat(neighbour: &mut Neighbour, at: &OnLink, post: &mut Post) -> Result<(), AllocError>
     ensures { OnOk result
         (turn neighbour.new post.new
-        ≡ dd_turn at.now.iface at.now.local
-        (turn (touched at.now.local.tick neighbour.old) post.old)) }
+        ≡ dd_repeated at.now.iface at.now.local (turn neighbour.old post.old)) }
 {
     dd_sent(neighbour, at.local.tick);
     send_dd(neighbour, at, post)
@@ -153,7 +161,8 @@ fn go_on(neighbour: &mut Neighbour, at: &OnLink, post: &mut Post) -> Result<(), 
     ensures { OnOk result
         (turn neighbour.new post.new
         ≡ request_turn at.now.iface at.now.local
-        (dd_turn at.now.iface at.now.local (turn neighbour.old post.old))) }
+        (record (turn neighbour.old post.old)
+        { sent = post.old.sent ++ dd_parcel at.now.iface at.now.local.mtu neighbour.old ∷ [] })) }
 {
     send_dd(neighbour, at, post)?;
     request_turn(neighbour, at, post)

@@ -5,7 +5,7 @@ ghost use Rattle.ospf_iface.specs.Election.{AreDistinct};
 ghost use Rattle.ospf_iface.specs.declared.candidate.Candidate.{Candidate};
 ghost use Rattle.ospf_iface.specs.declared.machine.IfaceChange.{IfaceChange};
 ghost use Rattle.ospf_iface.specs.Machine.{own_candidate, Elects};
-ghost use Rattle.ospf_adjacency.specs.Elections.{AreOfLink, ElectsOn, elects_in, candidate_of, candidates_of, adjusted, number_after, first_dds};
+ghost use Rattle.ospf_adjacency.specs.Elections.{AreOfLink, ElectsOn, elects_in, candidates_of, adjusted, number_after, first_dds};
 ghost use Rattle.ospf_area.specs.Packets.{Parcel};
 
 use crate::adjacency::{take_event, wants_adjacency};
@@ -64,7 +64,13 @@ fn candidates_of(
 
 // A neighbour as it takes part in an election.
 fn candidate_of(neighbour: &Neighbour) -> Candidate
-    ensures { result ≡ candidate_of neighbour.now }
+    ensures { result ≡ record {
+      id = neighbour.now.router;
+      address = neighbour.now.address;
+      priority = neighbour.now.declared.priority;
+      dr = neighbour.now.declared.dr;
+      backup = neighbour.now.declared.backup;
+    } }
 {
     let declared = neighbour.declared();
     Candidate {

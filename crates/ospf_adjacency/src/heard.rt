@@ -5,8 +5,9 @@ ghost use Rattle.ospf_neighbour.specs.Neighbour.{NeighbourValue};
 ghost use Rattle.ospf_neighbour.specs.Neighbours.{AreNeighboursRising};
 ghost use Rattle.ospf_area.specs.Turns.{turn};
 ghost use Rattle.std.specs.Prelude.{if◌then◌else◌};
-ghost use Rattle.ospf_adjacency.specs.Adjacency.{wants_adjacency};
-ghost use Rattle.ospf_adjacency.specs.Heard.{names, heard, naming_event, hello_turn, bearing_of, is_neighbor_change, is_backup_seen, is_settled, is_waiting, elects_by_hello, neighbourhood, hello_on};
+ghost use Rattle.ospf_area.specs.Changes.{after_event};
+ghost use Rattle.ospf_adjacency.specs.Adjacency.{is_broadcast, wants_adjacency};
+ghost use Rattle.ospf_adjacency.specs.Heard.{names, hello_turn, bearing_of, is_neighbor_change, is_backup_seen, is_settled, is_waiting, elects_by_hello, neighbourhood, hello_on};
 
 use crate::adjacency::{is_broadcast, take_event, wants_adjacency};
 use ospf_area::{OnLink, Post};
@@ -168,7 +169,17 @@ fn naming_event(iface: &Iface, named: bool, address: Addr) -> NbrEvent
 
 // HelloReceived, and what the Hello declares.
 fn hear(neighbour: &mut Neighbour, iface: &Iface, hello: &Hello)
-    ensures { neighbour.new ≡ heard iface.now hello.now neighbour.old }
+    ensures { let n = after_event NbrEvent.HelloReceived iface.now.settings.dead neighbour.old in
+        neighbour.new
+        ≡ (if is_broadcast iface.now
+        then record n {
+          declared = record {
+            priority = hello.now.priority;
+            dr = hello.now.designated;
+            backup = hello.now.backup;
+          };
+        }
+        else n) }
 {
     let _ = neighbour.event(NbrEvent::HelloReceived, iface.settings.dead);
     if is_broadcast(iface) {

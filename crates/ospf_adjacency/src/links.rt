@@ -1,10 +1,10 @@
 //! Links that go up and down, and their timers.
 
-ghost use Rattle.std.specs.Prelude.{◌≡◌, ◌&&◌, [], true, false, not, ◌-◌};
+ghost use Rattle.std.specs.Prelude.{◌≡◌, ◌==◌, ◌&&◌, [], true, false, not, ◌-◌, if◌then◌else◌};
 ghost use Rattle.std.specs.List.{list_any};
 ghost use Rattle.ospf_neighbour.specs.Machine.{is_two_way};
-ghost use Rattle.ospf_iface.specs.Machine.{is_down};
-ghost use Rattle.ospf_adjacency.specs.Links.{is_inactive, timed, up, down, elects_by_timers};
+ghost use Rattle.ospf_iface.specs.Machine.{is_down, started};
+ghost use Rattle.ospf_adjacency.specs.Links.{timed, down, elects_by_timers};
 
 use crate::heard::{is_settled, is_waiting};
 use ospf_iface::{Iface, IfaceEvent};
@@ -14,7 +14,7 @@ use ospf_neighbour::Neighbour;
 /// Hello goes out. No memory is taken.
 pub fn go_up(iface: &mut Iface) -> bool
     ensures was_down { result ≡ is_down iface.old.state }
-    ensures up { iface.new ≡ up iface.old }
+    ensures up { iface.new ≡ (if is_down iface.old.state then started iface.old else iface.old) }
 {
     if !iface.state.is_down() {
         return false;
@@ -63,7 +63,7 @@ pub fn tick_timers(iface: &mut Iface, neighbours: &mut Vec<Neighbour>) -> bool
 
 // The inactivity timer of a neighbour counts. Whether it does not fire.
 fn lasts(neighbour: &mut Neighbour) -> bool
-    ensures lasts { result ≡ not (is_inactive neighbour.old) }
+    ensures lasts { result ≡ not (neighbour.old.inactivity == 1) }
     ensures ticked { neighbour.new
         ≡ record neighbour.old { inactivity = neighbour.old.inactivity - 1 } }
 {
@@ -72,21 +72,21 @@ fn lasts(neighbour: &mut Neighbour) -> bool
 
 // Whether the inactivity timer of a neighbour fires at the next tick.
 fn is_inactive(neighbour: &Neighbour) -> bool
-    ensures { result ≡ is_inactive neighbour.now }
+    ensures { result ≡ (neighbour.now.inactivity == 1) }
 {
     neighbour.inactivity() == 1
 }
 
 // Whether some neighbour in 2-Way or above is removed at the next tick.
 fn some_lost(neighbours: &[Neighbour]) -> bool
-    ensures { result ≡ list_any (λ n. is_inactive n && is_two_way n.state) neighbours.now }
+    ensures { result ≡ list_any (λ n. (n.inactivity == 1) && is_two_way n.state) neighbours.now }
 {
     neighbours.iter().any(|n| is_lost(n))
 }
 
 // Whether a neighbour in 2-Way or above is removed at the next tick.
 fn is_lost(neighbour: &Neighbour) -> bool
-    ensures { result ≡ (is_inactive neighbour.now && is_two_way neighbour.now.state) }
+    ensures { result ≡ ((neighbour.now.inactivity == 1) && is_two_way neighbour.now.state) }
 {
     is_inactive(neighbour) && neighbour.state().is_two_way()
 }

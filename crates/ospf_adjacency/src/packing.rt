@@ -1,11 +1,13 @@
 //! How copies of the database are packed into Updates.
 
-ghost use Rattle.std.specs.Prelude.{◌≡◌, ◌-◌, ◌||◌, nat_le, ◌∷◌, [], List, ℕ, map, IfOk, OnOk};
+ghost use Rattle.std.specs.Prelude.{◌≡◌, ◌+◌, ◌-◌, ◌||◌, nat_le, ◌∷◌, [], List, ℕ, map, IfOk, OnOk};
+ghost use Rattle.ospf_base.specs.Constants.{ip_header, packet_header};
 ghost use Rattle.ospf_lsdb.specs.Database.{lsa_of};
 ghost use Rattle.ospf_area.specs.Sending.{sent_lsa};
 ghost use Rattle.ospf_area.specs.Posting.{and_parcels};
+ghost use Rattle.ospf_packet.specs.Meaning.{update};
 ghost use Rattle.ospf_neighbour.specs.Neighbour.{is_empty};
-ghost use Rattle.ospf_adjacency.specs.Packing.{bytes_in, packed, update_to, update_room, updates_of};
+ghost use Rattle.ospf_adjacency.specs.Packing.{bytes_in, packed, updates_of};
 
 use ospf_area::Post;
 use ospf_base::{Addr, IP_HEADER, LsaKey, PACKET_HEADER};
@@ -54,7 +56,7 @@ pub fn send_copies(
 
 // How many bytes of LSAs an Update has room for.
 fn update_room(mtu: u16) -> usize
-    ensures { result ≡ update_room mtu }
+    ensures { result ≡ mtu - (ip_header + packet_header + 4) }
 {
     usize::from(mtu).saturating_sub(HEAD)
 }
@@ -84,9 +86,12 @@ fn add(
     ensures left { OnOk result (left.new ≡ room - bytes_in batch.new.items) }
     ensures sent { OnOk result
         ((rest : List (List ℕ))
-        → and_parcels post.new (map (update_to destination) (packed room batch.new.items rest))
+        → and_parcels post.new
+        (map (λ lsas. record { destination = destination; body = update lsas })
+        (packed room batch.new.items rest))
         ≡ and_parcels post.old
-        (map (update_to destination) (packed room batch.old.items (lsa ∷ rest)))) }
+        (map (λ lsas. record { destination = destination; body = update lsas })
+        (packed room batch.old.items (lsa ∷ rest)))) }
 {
     let length = lsa.view().as_bytes().len();
     if !goes_in(batch, length, *left) {
@@ -109,7 +114,7 @@ fn goes_in(batch: &[Lsa], length: usize, left: usize) -> bool
 // An Update with these LSAs goes out.
 fn send(lsas: Vec<Lsa>, destination: Addr, post: &mut Post) -> Result<(), AllocError>
     ensures { OnOk result (post.new ≡ and_parcels post.old
-        (update_to destination lsas.items ∷ [])) }
+        (record { destination = destination; body = update lsas.items } ∷ [])) }
 {
     post.put(destination, BodyValue::Update(lsas))
 }

@@ -1,10 +1,14 @@
 //! What is sent again.
 
-ghost use Rattle.std.specs.Prelude.{◌≡◌, ◌&&◌, is_some, IfOk, OnOk};
+ghost use Rattle.std.specs.Prelude.{◌≡◌, ◌&&◌, ◌++◌, ◌∷◌, [], is_some, IfOk, OnOk, if◌then◌else◌};
+ghost use Rattle.ospf_exchange.specs.Requests.{asked_next};
+ghost use Rattle.ospf_exchange.specs.Timers.{dd_due, request_repeat_due};
 ghost use Rattle.ospf_lsdb.specs.Database.{entry_of};
-ghost use Rattle.ospf_flood.specs.Due.{is_resend_due};
+ghost use Rattle.ospf_base.specs.Ticks.{have_passed};
 ghost use Rattle.ospf_area.specs.Turns.{turn};
-ghost use Rattle.ospf_adjacency.specs.Repeats.{dd_again, request_again, due_keys, repeats_turn};
+ghost use Rattle.ospf_area.specs.Packets.{request_parcel};
+ghost use Rattle.ospf_adjacency.specs.Descriptions.{dd_repeated};
+ghost use Rattle.ospf_adjacency.specs.Repeats.{due_keys, repeats_turn};
 
 use crate::answering::send_to;
 use ospf_area::{OnLink, Post, send_dd, send_request};
@@ -68,7 +72,7 @@ fn due_keys(
 
 // Whether an entry of a retransmission list is due, and there is a copy of its key.
 fn goes_again(listed: &Listed, database: &Lsdb, retransmit: u16, tick: u64) -> bool
-    ensures { result ≡ (is_resend_due retransmit tick listed.now
+    ensures { result ≡ (have_passed retransmit listed.now.sent_at tick
         && is_some (entry_of database.now listed.now.instance.key)) }
 {
     is_due(listed, retransmit, tick) && database.get(&listed.instance.key).is_some()
@@ -83,7 +87,9 @@ fn repeat_dd(
 ) -> Result<(), AllocError>
     ensures { OnOk result
         (turn neighbour.new post.new
-        ≡ dd_again at.now.iface at.now.local retransmit (turn neighbour.old post.old)) }
+        ≡ (if dd_due retransmit at.now.local.tick neighbour.old
+        then dd_repeated at.now.iface at.now.local (turn neighbour.old post.old)
+        else turn neighbour.old post.old)) }
 {
     if is_dd_due(neighbour, retransmit, at.local.tick) {
         dd_sent(neighbour, at.local.tick);
@@ -99,9 +105,15 @@ fn repeat_request(
     retransmit: u16,
     post: &mut Post,
 ) -> Result<(), AllocError>
-    ensures { OnOk result
+    ensures { let asked = asked_next at.now.local.mtu at.now.local.tick neighbour.old in
+        OnOk result
         (turn neighbour.new post.new
-        ≡ request_again at.now.iface at.now.local retransmit (turn neighbour.old post.old)) }
+        ≡ (if request_repeat_due retransmit at.now.local.tick neighbour.old
+        then record (turn neighbour.old post.old) {
+          neighbour = asked;
+          sent = post.old.sent ++ request_parcel at.now.iface asked ∷ [];
+        }
+        else turn neighbour.old post.old)) }
 {
     if is_request_repeat_due(neighbour, retransmit, at.local.tick) {
         next_request(neighbour, at.local.mtu, at.local.tick);

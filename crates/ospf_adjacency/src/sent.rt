@@ -1,9 +1,10 @@
 //! Hellos that go out.
 
-ghost use Rattle.std.specs.Prelude.{◌≡◌, ◌∷◌, [], map, IfOk, OnOk};
+ghost use Rattle.std.specs.Prelude.{◌≡◌, ◌&&◌, ◌∷◌, [], not, nat_le, map, IfOk, OnOk};
+ghost use Rattle.ospf_iface.specs.Machine.{is_down};
 ghost use Rattle.ospf_area.specs.Packets.{parcel_if};
 ghost use Rattle.ospf_area.specs.Posting.{and_parcels};
-ghost use Rattle.ospf_adjacency.specs.Links.{hello_parcel, hello_ticked, is_hello_due};
+ghost use Rattle.ospf_adjacency.specs.Links.{hello_parcel, hello_ticked};
 
 use ospf_area::Post;
 use ospf_base::{ALL_SPF_ROUTERS, RouterId};
@@ -40,7 +41,8 @@ pub fn send_due_hello(
     ensures sent { OnOk result
         (post.new
         ≡ and_parcels post.old
-        (parcel_if (is_hello_due iface.old) (hello_parcel iface.old neighbours.now))) }
+        (parcel_if (not (is_down iface.old.state) && nat_le iface.old.hello_in 1)
+        (hello_parcel iface.old neighbours.now))) }
 {
     if iface.hello_tick() {
         send_hello(iface, neighbours, post)?;

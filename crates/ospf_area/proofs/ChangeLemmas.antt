@@ -7,11 +7,12 @@ use Rattle.ospf_lsa.specs.declared.header.LsaHeader.{LsaHeader}
 use Rattle.ospf_neighbour.specs.Neighbour.{NeighbourValue}
 use Rattle.ospf_neighbour.specs.Neighbours.{AreNeighboursRising, neighbour_place}
 use Rattle.ospf_neighbour.proofs.KeyLemmas.{nowhere}
-use Rattle.ospf_area.specs.Changes.{changed_at, changed_if, changed_link, changed_on, delayed_at, delayed_on, neighbour_changed}
+use Rattle.ospf_area.specs.Changes.{changed_at, delayed_at, neighbour_changed}
 use Rattle.ospf_area.specs.State.{LinkValue}
 use Rattle.ospf_area.specs.declared.changes.AdjacencyChange.{AdjacencyChange}
 use Rattle.ospf_area.specs.declared.flooding.Origin.{Origin}
 use Rattle.ospf_area.proofs.PlaceLemmas.{map_from_none, map_from_one}
+use Rattle.ospf_area.proofs.Words.{changed_link, changed_on, delayed_on, changed_if}
 
 -- ---- one link
 

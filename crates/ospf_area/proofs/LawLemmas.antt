@@ -1,5 +1,5 @@
 -- What is read of each neighbour after changes of all links.
-use Rattle.ospf_area.proofs.Words.{neighbours_in}
+use Rattle.ospf_area.proofs.Words.{neighbours_in, changed_link, changed_on, delayed_on, flooded_link, released_link, changed_if, flooded_neighbour}
 use Rattle.std.proofs.Common.{◌≡◌, ◌==◌, ◌+◌, ◌++◌, ℕ, zero, suc, Bool, true, false, if◌then◌else◌, Option, None, Some, List, [], ◌∷◌, map, refl, ap, ◌∙◌, arith}
 use Rattle.std.specs.List.{find, slice_get}
 use Rattle.std.specs.Option.{option_map}
@@ -11,8 +11,8 @@ use Rattle.ospf_neighbour.specs.Lists.{key_unlisted}
 use Rattle.ospf_neighbour.specs.Neighbour.{NeighbourValue}
 use Rattle.ospf_neighbour.specs.Neighbours.{neighbour_of}
 use Rattle.ospf_area.specs.Asking.{turned_to_next, turned_link}
-use Rattle.ospf_area.specs.Changes.{changed_at, changed_if, changed_link, changed_on, delayed_at, delayed_on}
-use Rattle.ospf_area.specs.Flooding.{flooded_link, flooded_links, flooded_neighbour, on_link, released, released_link}
+use Rattle.ospf_area.specs.Changes.{changed_at, delayed_at}
+use Rattle.ospf_area.specs.Flooding.{flooded_links, on_link, released}
 use Rattle.ospf_area.specs.Laws.{changed_there, turned_there}
 use Rattle.ospf_area.specs.Places.{map_from}
 use Rattle.ospf_area.specs.State.{LinkValue, neighbour_at}

@@ -14,10 +14,11 @@ use Rattle.ospf_neighbour.specs.declared.machine.Effect.TheVariants.{Nothing, Ti
 use Rattle.ospf_neighbour.specs.declared.machine.NbrEvent.{NbrEvent}
 use Rattle.ospf_neighbour.specs.declared.machine.NbrEvent.TheVariants.{BadLsReq, LoadingDone}
 use Rattle.ospf_exchange.specs.Requests.{asked_next, request_due}
-use Rattle.ospf_area.specs.Asking.{turned_to_next, loaded}
-use Rattle.ospf_area.specs.Changes.{after_event, neighbour_changed, changed_if}
+use Rattle.ospf_area.specs.Asking.{turned_to_next}
+use Rattle.ospf_area.specs.Changes.{after_event, neighbour_changed}
 use Rattle.ospf_area.specs.declared.changes.AdjacencyChange.{AdjacencyChange}
 use Rattle.ospf_area.specs.declared.changes.AdjacencyChange.TheVariants.{Acknowledges, IsSent, Restarts}
+use Rattle.ospf_area.proofs.Words.{loaded, changed_if}
 
 after_offer-router : (o : Offer) (key : LsaKey) (h : LsaHeader) (tick : ℕ) (n : NeighbourValue) → (after_offer o key h tick n).router ≡ n.router
 after_offer-router PassesOver key h tick n = refl

@@ -11,10 +11,10 @@ use Rattle.ospf_base.proofs.KeyMaps.{is_eq-key_cmp}
 use Rattle.ospf_base.specs.Keys.{same_key, key_cmp}
 use Rattle.ospf_base.specs.declared.ids.LsaKey.{LsaKey}
 use Rattle.ospf_base.specs.declared.ids.RouterId.{RouterId}
-use Rattle.ospf_area.specs.Numbers.{counted, counted_one, is_numbering_of, marked, unmarked}
+use Rattle.ospf_area.specs.Numbers.{marked}
 use Rattle.ospf_lsdb.specs.Moments.{among}
 use Rattle.ospf_area.specs.State.{numbering_of}
-use Rattle.ospf_area.proofs.Words.{kept_in}
+use Rattle.ospf_area.proofs.Words.{kept_in, counted, counted_one, unmarked, is_numbering_of}
 use Rattle.ospf_area.specs.declared.state.Numbering.{Numbering}
 use Rattle.ospf_area.proofs.LawLemmas.{find-map}
 

@@ -7,11 +7,11 @@ use Rattle.ospf_lsa.specs.declared.header.LsaHeader.{LsaHeader}
 use Rattle.ospf_packet.specs.Meaning.{BodyMeaning, Meaning, packet_body_bytes}
 use Rattle.ospf_packet.proofs.BodyLengths.{request_length}
 use Rattle.ospf_exchange.proofs.Words.{request_room}
-use Rattle.ospf_area.specs.Asking.{entry_for}
 use Rattle.ospf_area.specs.Laws.{RequestsAreFilled, request_for}
 use Rattle.ospf_area.specs.Packing.{IsFilled, ip_length}
 use Rattle.ospf_area.specs.Sending.{packet_from}
 use Rattle.ospf_area.specs.declared.sending.Own.{Own}
+use Rattle.ospf_area.proofs.Words.{entry_for}
 
 -- the datagram is its headers and the body
 pub ip_length-is : (own : Own) (body : BodyMeaning) → ip_length (packet_from own body) ≡ 44 + length (packet_body_bytes body)

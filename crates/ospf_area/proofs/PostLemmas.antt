@@ -4,14 +4,14 @@ use Rattle.std.specs.List.{flat_map}
 use Rattle.std.proofs.lemmas.List.{append_assoc, append-nil}
 use Rattle.ospf_base.specs.declared.ids.Addr.{Addr}
 use Rattle.ospf_iface.specs.declared.machine.Iface.{Iface}
-use Rattle.ospf_area.specs.Asking.{loaded, turn_requests_on}
+use Rattle.ospf_area.specs.Asking.{turn_requests_on}
 use Rattle.ospf_area.specs.Outputs.{OutputsValue, SentValue}
 use Rattle.ospf_area.specs.Sending.{and_sends, sent_lsa, update_out, way_out}
 use Rattle.ospf_area.specs.declared.sending.Own.{Own}
 use Rattle.ospf_area.proofs.SendingLemmas.{sends_more}
 use Rattle.ospf_area.specs.Packets.{Parcel, lsa_parcel, parcel_if, request_parcel}
-use Rattle.ospf_area.specs.Posting.{PostValue, and_parcels, local_by, local_of, posted_all}
-use Rattle.ospf_area.proofs.Words.{posted, turn_request}
+use Rattle.ospf_area.specs.Posting.{PostValue, and_parcels, local_by, posted_all}
+use Rattle.ospf_area.proofs.Words.{posted, turn_request, loaded}
 use Rattle.ospf_area.specs.Turns.{Turn, all_next_parcels, next_parcels, request_turn, turn}
 use Rattle.ospf_area.specs.State.{LinkValue}
 use Rattle.ospf_area.specs.declared.post.OnLink.{OnLink}
@@ -58,13 +58,13 @@ turn_leaves i local n m p q is = ap (λ (t : Turn). let left : PostValue = recor
 
 -- the Requests of a link go out
 pub link_turned : (own : Own) (l : ℕ) (link : LinkValue) (at : OnLink) (o p : PostValue) (ns : List NeighbourValue)
-    → at ≡ record { iface = link.iface; local = local_of own link } → o ≡ record { next = 0; sent = [] } → ns ≡ link.neighbours → p ≡ and_parcels o (all_next_parcels at.iface at.local ns)
+    → at ≡ record { iface = link.iface; local = local_by own link.settings } → o ≡ record { next = 0; sent = [] } → ns ≡ link.neighbours → p ≡ and_parcels o (all_next_parcels at.iface at.local ns)
     → posted_all own l at.iface p.sent ≡ turn_requests_on own l link
 link_turned own l link at o p ns is_at is_new are is_left =
     ap (λ (q : PostValue). posted_all own l at.iface q.sent) is_left
     ∙ ap (λ (q : PostValue). posted_all own l at.iface (q.sent ++ all_next_parcels at.iface at.local ns)) is_new
     ∙ ap (λ (a : OnLink). posted_all own l a.iface (all_next_parcels a.iface a.local ns)) is_at
-    ∙ ap (λ (all : List NeighbourValue). posted_all own l link.iface (all_next_parcels link.iface (local_of own link) all)) are
+    ∙ ap (λ (all : List NeighbourValue). posted_all own l link.iface (all_next_parcels link.iface (local_by own link.settings) all)) are
     ∙ posted-next own l link.iface link.settings link.neighbours
 
 -- what was put first of all goes out

@@ -5,8 +5,8 @@ use Rattle.std.specs.Option.{option_map}
 use Rattle.ospf_base.specs.declared.ids.Instance.{Instance}
 use Rattle.ospf_base.specs.declared.ids.LsaKey.{LsaKey}
 use Rattle.ospf_flood.proofs.LawLemmas.{flood_takes, flooded_is_put}
-use Rattle.ospf_flood.specs.Offers.{instance_with, looked_at, offer_by}
-use Rattle.ospf_flood.proofs.Words.{offer_over}
+use Rattle.ospf_flood.specs.Offers.{instance_with, looked_at}
+use Rattle.ospf_flood.proofs.Words.{offer_by, offer_over}
 use Rattle.ospf_flood.specs.declared.offer.Offer.TheVariants.{PassesOver, Lists}
 use Rattle.ospf_lsa.specs.Recency.{recency}
 use Rattle.ospf_lsa.specs.declared.header.LsaHeader.{LsaHeader}
@@ -21,15 +21,16 @@ use Rattle.ospf_neighbour.specs.declared.machine.NbrEvent.TheVariants.{LoadingDo
 use Rattle.ospf_neighbour.specs.declared.neighbour.Listed.{Listed}
 use Rattle.ospf_base.specs.Keys.{same_key}
 use Rattle.ospf_exchange.specs.Requests.{asked_next, request_due}
-use Rattle.ospf_area.specs.Asking.{loaded, turned_to_next}
+use Rattle.ospf_area.specs.Asking.{turned_to_next}
 use Rattle.ospf_neighbour.specs.declared.machine.NeighbourState.{NeighbourState}
 use Rattle.ospf_neighbour.specs.declared.machine.NeighbourState.TheVariants.{Down, Init, TwoWay, ExStart, Exchange, Loading, Full}
-use Rattle.ospf_area.specs.Flooding.{came_from, flooded_neighbour}
+use Rattle.ospf_area.specs.Flooding.{came_from}
 use Rattle.ospf_area.specs.Laws.{IsSpared, turned_there}
 use Rattle.ospf_area.specs.Laws.IsSpared.{Came, Described}
 use Rattle.ospf_area.specs.State.{LinkValue, WaitsIn}
 use Rattle.ospf_area.specs.declared.flooding.Origin.{Origin}
 use Rattle.ospf_area.specs.declared.sending.Own.{Own}
+use Rattle.ospf_area.proofs.Words.{loaded, flooded_neighbour}
 
 -- the old copy leaves
 pub release_waits : (key : LsaKey) (o : Option NeighbourValue) (j : Instance) → WaitsIn o j → WaitsIn (option_map (key_unlisted key) o) j ⊎ (j.key ≡ key)

@@ -7,7 +7,7 @@ use Rattle.ospf_base.specs.Keys.{same_key}
 use Rattle.ospf_base.specs.declared.ids.Instance.{Instance}
 use Rattle.ospf_base.specs.declared.ids.LsaKey.{LsaKey}
 use Rattle.ospf_base.specs.declared.ids.RouterId.{RouterId}
-use Rattle.ospf_flood.specs.Offers.{instance_with}
+use Rattle.ospf_flood.specs.Offers.{instance_with, flooded}
 use Rattle.ospf_lsa.specs.Recency.{recency}
 use Rattle.ospf_lsa.specs.declared.header.LsaHeader.{LsaHeader}
 use Rattle.ospf_lsa.specs.declared.recency.Recency.TheVariants.{Newer}
@@ -19,9 +19,9 @@ use Rattle.ospf_neighbour.specs.Neighbour.{NeighbourValue}
 use Rattle.ospf_packet.specs.Meaning as meaning
 use Rattle.ospf_exchange.specs.Requests.{asked_next}
 use Rattle.ospf_packet.specs.Meaning.{BodyMeaning, Meaning, packet_bytes}
-use Rattle.ospf_area.specs.Asking.{turned_link, entry_for, request_body, turned_to_next}
-use Rattle.ospf_area.specs.Changes.{changed_at, changed_if, delayed_at}
-use Rattle.ospf_area.specs.Flooding.{came_from, flooded_links, flooded_neighbour, on_link, released}
+use Rattle.ospf_area.specs.Asking.{turned_link, request_body, turned_to_next}
+use Rattle.ospf_area.specs.Changes.{changed_at, delayed_at, neighbour_changed}
+use Rattle.ospf_area.specs.Flooding.{came_from, flooded_links, on_link, released}
 use Rattle.ospf_area.specs.Numbers.{counts, is_own, marked}
 use Rattle.ospf_area.specs.Outputs.{SentValue}
 use Rattle.ospf_area.specs.Packing.{IsFilled}
@@ -46,11 +46,14 @@ FloodedNeighbours =
     (key : LsaKey) (h : LsaHeader) (from : Option Origin) (tick : ℕ) (links : List LinkValue)
     (l : ℕ) (q : RouterId)
     → neighbour_at (flooded_links key h from tick links) l q
-    ≡ option_map (flooded_neighbour key h (on_link from l) tick) (neighbour_at links l q)
+    ≡ option_map (λ n. flooded key h (came_from (on_link from l) n) tick n) (neighbour_at links l q)
 
 -- a change is one of the origin's neighbour alone
 abbrev pub changed_there : Origin → AdjacencyChange → ℕ → ℕ → NeighbourValue → NeighbourValue
-changed_there f change tick l n = if l == f.link then changed_if f.router change tick n else n
+changed_there f change tick l n =
+    if l == f.link
+    then (if n.router.0 == f.router.0 then neighbour_changed change tick n else n)
+    else n
 
 -- the law: of all neighbours, that one alone is changed
 abbrev pub ChangesOne : Type 0
@@ -160,7 +163,9 @@ LsasAreSent = (own : Own) (way : Way) (lsa : List ℕ) → length lsa ≤ larges
 
 -- the Request for the LSAs of these headers (10.9)
 abbrev pub request_for : List LsaHeader → BodyMeaning
-request_for headers = meaning.request (map entry_for headers)
+request_for headers =
+    meaning.request
+    (map (λ (h : LsaHeader). record { kind = h.kind; id = h.id; router = h.router }) headers)
 
 -- a Request asks for the first headers of the request list, as many as fit the MTU (10.9)
 abbrev pub RequestsAreFilled : Type 0

@@ -1,5 +1,5 @@
 -- What a step of a router, or a part of one, puts out.
-use Rattle.std.specs.Prelude.{◌≡◌, ℕ, List, [], ◌∷◌, ◌++◌, Some}
+use Rattle.std.specs.Prelude.{◌≡◌, ℕ, List, [], ◌++◌, Some}
 use Rattle.std.specs.List.{All}
 use Rattle.ospf_base.specs.declared.ids.Addr.{Addr}
 use Rattle.ospf_base.specs.declared.ids.Instance.{Instance}
@@ -45,7 +45,3 @@ then_outputs a b =
 -- these datagrams, and nothing else
 abbrev pub sends : List SentValue → OutputsValue
 sends datagrams = record { sent = datagrams; taken = []; issued = []; ended = [] }
-
--- the outputs, and then this instance taken
-abbrev pub and_takes : OutputsValue → Instance → OutputsValue
-and_takes out i = record out { taken = out.taken ++ i ∷ [] }

@@ -7,11 +7,10 @@ use Rattle.ospf_area.specs.Outputs.{SentValue}
 use Rattle.ospf_area.specs.Sending.{datagrams, packet_from, way_out}
 use Rattle.ospf_area.specs.declared.sending.Own.{Own}
 use Rattle.ospf_area.specs.Packets.{Parcel}
-use Rattle.ospf_area.specs.State.{LinkValue}
 use Rattle.ospf_area.specs.declared.state.LinkSettings.{LinkSettings}
 use Rattle.ospf_exchange.specs.declared.rule.Local.{Local}
 
--- what a part needs to know of the router and of a link
+-- what a part needs to know of the router and of a link of these settings
 abbrev pub local_by : Own → LinkSettings → Local
 local_by own settings =
     record {
@@ -20,10 +19,6 @@ local_by own settings =
       tick = own.tick;
       passes_over = own.passes_over;
     }
-
--- what a part needs to know of the router and of this link
-abbrev pub local_of : Own → LinkValue → Local
-local_of own link = local_by own link.settings
 
 -- the router's next DD number, and the packets that go out
 pub record PostValue : Type 0 where

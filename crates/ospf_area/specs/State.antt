@@ -12,7 +12,8 @@ use Rattle.ospf_lsdb.specs.Database as lsdb
 use Rattle.ospf_lsdb.specs.Database.{Held, Entry, lsa_of}
 use Rattle.ospf_neighbour.specs.Laws.{Waits}
 use Rattle.ospf_neighbour.specs.Neighbour.{NeighbourValue}
-use Rattle.ospf_neighbour.specs.Neighbours.{neighbour_of, some_loading}
+use Rattle.ospf_neighbour.specs.Machine.{is_loading}
+use Rattle.ospf_neighbour.specs.Neighbours.{neighbour_of}
 use Rattle.ospf_neighbour.specs.declared.machine.NeighbourState.{NeighbourState}
 use Rattle.ospf_neighbour.specs.declared.machine.NeighbourState.TheVariants.{Down}
 use Rattle.ospf_area.specs.declared.state.LinkSettings.{LinkSettings}
@@ -96,7 +97,8 @@ copy_of s key = option_map lsa_of (database_entry s key)
 
 -- some neighbour of the router is in Exchange or Loading (13, step 4; 14)
 abbrev pub some_link_loading : List LinkValue → Bool
-some_link_loading links = list_any (λ (link : LinkValue). some_loading link.neighbours) links
+some_link_loading links =
+    list_any (λ (link : LinkValue). list_any (λ n. is_loading n.state) link.neighbours) links
 
 -- ---- numbers
 

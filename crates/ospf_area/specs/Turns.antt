@@ -6,9 +6,11 @@ use Rattle.ospf_exchange.specs.Requests.{asked_next, request_due}
 use Rattle.ospf_exchange.specs.declared.rule.Local.{Local}
 use Rattle.ospf_iface.specs.declared.machine.Iface.{Iface}
 use Rattle.ospf_neighbour.specs.Neighbour.{NeighbourValue}
-use Rattle.ospf_area.specs.Asking.{loaded, turned_to_next}
+use Rattle.ospf_neighbour.specs.declared.machine.NbrEvent.TheVariants as event
+use Rattle.ospf_area.specs.Asking.{turned_to_next}
 use Rattle.ospf_area.specs.Packets.{Parcel, parcel_if, request_parcel}
 use Rattle.ospf_area.specs.Posting.{PostValue}
+use Rattle.ospf_area.specs.Changes.{after_event}
 
 -- where a neighbour stands in a part of a step: the router's next DD number, and what goes out
 pub record Turn : Type 0 where
@@ -22,13 +24,14 @@ turn n p = record { neighbour = n; next = p.next; sent = p.sent }
 
 -- LoadingDone where nothing is left to request, and the next Request where one is due (10.3, 10.9)
 abbrev pub request_turn : Iface → Local → Turn → Turn
-request_turn i local t = record t {
-  neighbour = turned_to_next local.mtu local.tick t.neighbour;
-  sent =
-      t.sent
-      ++ parcel_if (request_due (loaded t.neighbour))
-      (request_parcel i (asked_next local.mtu local.tick (loaded t.neighbour)));
-}
+request_turn i local t =
+    let m = after_event event.LoadingDone 0 t.neighbour in
+    record t {
+      neighbour = turned_to_next local.mtu local.tick t.neighbour;
+      sent =
+          t.sent
+          ++ parcel_if (request_due m) (request_parcel i (asked_next local.mtu local.tick m));
+    }
 
 -- the next Request of a neighbour, where one is due (10.9)
 abbrev pub next_parcels : Iface → Local → NeighbourValue → List Parcel

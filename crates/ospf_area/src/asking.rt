@@ -5,10 +5,11 @@ ghost use Rattle.ospf_area.specs.Places.{flat_from};
 ghost use Rattle.ospf_neighbour.specs.Neighbours.{AreNeighbours};
 ghost use Rattle.ospf_exchange.specs.Requests.{request_due};
 ghost use Rattle.ospf_packet.specs.Said.{body_meant};
-ghost use Rattle.ospf_area.specs.Asking.{loaded, turned_to_next, entry_for, request_body, turned_link, turn_requests_on};
+ghost use Rattle.ospf_area.specs.Asking.{turned_to_next, request_body, turned_link, turn_requests_on};
 ghost use Rattle.ospf_area.specs.Posting.{and_parcels};
 ghost use Rattle.ospf_area.specs.Sending.{and_sends};
 ghost use Rattle.ospf_area.specs.Turns.{all_next_parcels, request_turn, turn};
+ghost use Rattle.ospf_area.specs.Changes.{after_event};
 
 use crate::outputs::Outputs;
 use crate::packets::send_request;
@@ -79,7 +80,8 @@ pub(crate) fn request_body(neighbour: &Neighbour, alloc: Global) -> Result<BodyV
 // and 10.9). Answers whether that Request is to be sent. No memory is taken.
 fn turn_one(neighbour: &mut Neighbour, mtu: u16, tick: u64) -> bool
     ensures after { neighbour.new ≡ turned_to_next mtu tick neighbour.old }
-    ensures due { result ≡ request_due (loaded neighbour.old) }
+    ensures due { result
+        ≡ request_due (after_event NbrEvent.LoadingDone 0 neighbour.old) }
 {
     let _ = neighbour.event(NbrEvent::LoadingDone, 0);
     if !is_request_due(neighbour) {
@@ -124,7 +126,11 @@ fn turn_all(neighbours: &mut [Neighbour], at: &OnLink, post: &mut Post) -> Resul
 }
 
 fn entry_for(header: &LsaHeader) -> RequestEntry
-    ensures { result ≡ entry_for header.now }
+    ensures { result ≡ record {
+      kind = header.now.kind;
+      id = header.now.id;
+      router = header.now.router;
+    } }
 {
     RequestEntry {
         kind: u32::from(header.kind),

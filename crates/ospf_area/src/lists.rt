@@ -1,7 +1,8 @@
 //! What leaves the retransmission lists of all neighbours.
 
-ghost use Rattle.std.specs.Prelude.{◌≡◌};
-ghost use Rattle.ospf_area.specs.Flooding.{released_link, released};
+ghost use Rattle.std.specs.Prelude.{◌≡◌, map};
+ghost use Rattle.ospf_neighbour.specs.Lists.{key_unlisted};
+ghost use Rattle.ospf_area.specs.Flooding.{released};
 
 use crate::state::AreaLink;
 use ospf_base::LsaKey;
@@ -17,7 +18,9 @@ pub fn release(links: &mut [AreaLink], key: &LsaKey)
 }
 
 fn release_link(link: &mut AreaLink, key: &LsaKey)
-    ensures { link.new ≡ released_link key.now link.old }
+    ensures { link.new ≡ record link.old {
+      neighbours = map (key_unlisted key.now) link.old.neighbours;
+    } }
 {
     link.neighbours.unlist_key(key);
 }

@@ -1,10 +1,12 @@
 //! How far the numbers of the router's own keys have come.
 
-ghost use Rattle.std.specs.Prelude.{◌≡◌, ◌==◌, OnOk, map};
+ghost use Rattle.std.specs.Prelude.{◌≡◌, ◌==◌, ◌++◌, ◌∷◌, [], None, OnOk, filter, if◌then◌else◌, map, not};
 ghost use Rattle.std.specs.Int.{int_max};
 ghost use Rattle.std.specs.List.{list_any};
-ghost use Rattle.ospf_area.specs.Numbers.{is_numbering_of, counted_one, counted, is_own, counts, greatest_after, is_self_originated, unmarked, marked};
+ghost use Rattle.ospf_area.specs.Numbers.{is_own, counts, is_self_originated, marked};
 ghost use Rattle.ospf_area.specs.State.{LinkValue};
+ghost use Rattle.ospf_area.specs.declared.state.Numbering.{Numbering};
+ghost use Rattle.ospf_base.specs.Keys.{same_key};
 ghost use Rattle.ospf_lsdb.specs.Moments.{among};
 
 use crate::state::{Area, AreaLink, Numbering};
@@ -15,7 +17,7 @@ use std::collections::BTreeSet;
 
 /// Whether the router has numbered the key.
 pub fn is_numbered(all: &[Numbering], key: &LsaKey) -> bool
-    ensures { result ≡ list_any (is_numbering_of key.now) all.now }
+    ensures { result ≡ list_any (λ n. same_key n.key key.now) all.now }
 {
     all.iter().any(|numbering| numbering.key.is_same(key))
 }
@@ -33,8 +35,8 @@ pub fn is_own(router: RouterId, key: &LsaKey) -> bool
 pub fn count_number(area: &mut Area, key: LsaKey, header: &LsaHeader) -> Result<(), AllocError>
     ensures { OnOk result (area.new ≡ record area.old {
       numbering = counts key header.now.number area.old;
-      greatest = greatest_after key
-          header.now.number area.old;
+      greatest = if is_own area.old.router key then int_max area.old.greatest header.now.number
+          else area.old.greatest;
     }) }
 {
     let number = header.number;
@@ -81,7 +83,13 @@ pub fn mark(sent: &mut BTreeSet<LsaKey>, key: LsaKey, went: bool) -> Result<(), 
 
 // A number of a key was issued or installed.
 fn count(all: &mut Vec<Numbering>, key: LsaKey, number: i32, floor: i32) -> Result<(), AllocError>
-    ensures { OnOk result (all.new.items ≡ counted key number floor all.old.items) }
+    ensures { OnOk result (all.new.items
+        ≡ (if list_any (λ n. same_key n.key key) all.old.items
+        then map (λ (n : Numbering).
+        if same_key n.key key then record n { kept = int_max n.kept number } else n)
+        all.old.items
+        else all.old.items
+        ++ record { key = key; kept = int_max floor number; issued_at = None } ∷ [])) }
 {
     if is_numbered(all, &key) {
         count_all(all, &key, number);
@@ -96,7 +104,10 @@ fn count(all: &mut Vec<Numbering>, key: LsaKey, number: i32, floor: i32) -> Resu
 }
 
 fn count_all(all: &mut [Numbering], key: &LsaKey, number: i32)
-    ensures { all.new ≡ map (counted_one key.now number) all.old }
+    ensures { all.new
+        ≡ map (λ (n : Numbering).
+        if same_key n.key key.now then record n { kept = int_max n.kept number } else n)
+        all.old }
 {
     for numbering in all.iter_mut() {
         count_one(numbering, key, number);
@@ -104,7 +115,10 @@ fn count_all(all: &mut [Numbering], key: &LsaKey, number: i32)
 }
 
 fn count_one(numbering: &mut Numbering, key: &LsaKey, number: i32)
-    ensures { numbering.new ≡ counted_one key.now number numbering.old }
+    ensures { numbering.new
+        ≡ (if same_key numbering.old.key key.now
+        then record numbering.old { kept = int_max numbering.old.kept number }
+        else numbering.old) }
 {
     if numbering.key.is_same(key) {
         numbering.kept = larger(numbering.kept, number);
@@ -128,7 +142,7 @@ fn has_address(links: &[AreaLink], address: u32) -> bool
 }
 
 fn unmark(sent: &mut BTreeSet<LsaKey>, key: &LsaKey)
-    ensures { sent.new.keys ≡ unmarked key.now sent.old.keys }
+    ensures { sent.new.keys ≡ filter (λ k. not (same_key k key.now)) sent.old.keys }
 {
     sent.remove(key);
 }

@@ -1,7 +1,7 @@
 //! What a part of a step works on beside neighbours: its link, and what it leaves.
 
 ghost use Rattle.std.specs.Prelude.{◌≡◌};
-ghost use Rattle.ospf_area.specs.Posting.{local_by, local_of};
+ghost use Rattle.ospf_area.specs.Posting.{local_by};
 
 use crate::outputs::Outputs;
 use crate::sending::{Own, send, way_out};
@@ -24,11 +24,13 @@ pub struct OnLink {
 
 impl OnLink {
     ghost use Rattle.std.specs.Prelude.{◌≡◌};
-    ghost use Rattle.ospf_area.specs.Posting.{local_of};
 
     /// A link as its neighbours' parts of a step work on it.
     pub fn of(own: Own, link: &AreaLink) -> OnLink
-        ensures { result ≡ record { iface = link.now.iface; local = local_of own link.now } }
+        ensures { result ≡ record {
+          iface = link.now.iface;
+          local = local_by own link.now.settings;
+        } }
     {
         OnLink {
             iface: link.iface,
@@ -135,7 +137,7 @@ impl Post {
 
 /// What the parts of a step need to know of the router and this link.
 pub fn local_of(own: Own, link: &AreaLink) -> Local
-    ensures { result ≡ local_of own link.now }
+    ensures { result ≡ local_by own link.now.settings }
 {
     local_by(own, link.settings)
 }

@@ -1,10 +1,12 @@
 //! How the neighbour stands that an Update or an Acknowledgment came from, and
 //! how what it sent is acknowledged.
 
-ghost use Rattle.std.specs.Prelude.{◌≡◌, OnOk};
+ghost use Rattle.std.specs.Prelude.{◌≡◌, false, is_some, None, OnOk, Some};
 ghost use Rattle.std.specs.Option.{option_copied};
-ghost use Rattle.ospf_area.specs.Standing.{origin_neighbour, is_taken_in, is_requested_of, is_awaited_of, answer_at, acknowledging};
-ghost use Rattle.ospf_area.specs.State.{some_link_loading};
+ghost use Rattle.ospf_area.specs.Standing.{answer_at, acknowledging};
+ghost use Rattle.ospf_area.specs.State.{neighbour_at, some_link_loading, state_in};
+ghost use Rattle.ospf_neighbour.specs.Lists.{is_listed, request_of};
+ghost use Rattle.ospf_neighbour.specs.Machine.{is_exchanging};
 
 use crate::changes::delay_at;
 use crate::flooding::Origin;
@@ -17,7 +19,7 @@ use std::alloc::AllocError;
 
 /// The neighbour of the origin.
 pub fn origin_of(links: &[AreaLink], from: Origin) -> Option<&Neighbour>
-    ensures { option_copied result ≡ origin_neighbour links.now from }
+    ensures { option_copied result ≡ neighbour_at links.now from.link from.router }
 {
     match links.get(from.link) {
         Some(link) => link.neighbours.get(from.router),
@@ -27,7 +29,8 @@ pub fn origin_of(links: &[AreaLink], from: Origin) -> Option<&Neighbour>
 
 /// Whether the neighbour of the origin is in Exchange or above.
 pub fn is_taken(links: &[AreaLink], from: Origin) -> bool
-    ensures { result ≡ is_taken_in (origin_neighbour links.now from) }
+    ensures { result
+        ≡ is_exchanging (state_in (neighbour_at links.now from.link from.router)) }
 {
     match origin_of(links, from) {
         Some(neighbour) => neighbour.is_exchanging(),
@@ -37,7 +40,10 @@ pub fn is_taken(links: &[AreaLink], from: Origin) -> bool
 
 /// Whether the request list of the neighbour of the origin has an entry of the key.
 pub fn is_requested(links: &[AreaLink], from: Origin, key: &LsaKey) -> bool
-    ensures { result ≡ is_requested_of key.now (origin_neighbour links.now from) }
+    ensures { result ≡ (elim (neighbour_at links.now from.link from.router) [
+      | None ↦ false
+      | Some n ↦ is_some (request_of key.now n.requests)
+    ]) }
 {
     match origin_of(links, from) {
         Some(neighbour) => neighbour.request_of(key).is_some(),
@@ -47,7 +53,10 @@ pub fn is_requested(links: &[AreaLink], from: Origin, key: &LsaKey) -> bool
 
 /// Whether the instance waits for an acknowledgement by the neighbour of the origin.
 pub fn is_awaited(links: &[AreaLink], from: Origin, instance: &Instance) -> bool
-    ensures { result ≡ is_awaited_of instance.now (origin_neighbour links.now from) }
+    ensures { result ≡ (elim (neighbour_at links.now from.link from.router) [
+      | None ↦ false
+      | Some n ↦ is_listed instance.now n.retransmission
+    ]) }
 {
     match origin_of(links, from) {
         Some(neighbour) => neighbour.is_listed(instance),

@@ -9,8 +9,7 @@ use Rattle.ospf_lsdb.proofs.Words.{AreKeysRising}
 use Rattle.ospf_lsdb.proofs.EntryLemmas.{key_of-with_age}
 use Rattle.ospf_neighbour.specs.OneAKey.{IsAloneOfKeys}
 use Rattle.ospf_neighbour.specs.declared.neighbour.Listed.{Listed}
-use Rattle.ospf_exchange.specs.Headers.{listed_at}
-use Rattle.ospf_exchange.proofs.Words.{expired_of}
+use Rattle.ospf_exchange.proofs.Words.{expired_of, listed_at}
 
 abbrev AllApart : LsaKey → List Listed → Type 0
 AllApart key ls = AllByRecursion (λ (l : Listed). same_key key l.instance.key ≡ false) ls

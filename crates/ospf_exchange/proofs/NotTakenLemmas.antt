@@ -6,9 +6,10 @@ use Rattle.ospf_lsdb.specs.Database.{Held}
 use Rattle.ospf_packet.specs.declared.body.Description.{Description}
 use Rattle.ospf_neighbour.specs.Neighbour.{NeighbourValue}
 use Rattle.ospf_neighbour.specs.declared.neighbour.Exchanging.{Exchanging}
-use Rattle.ospf_exchange.specs.Exchange.{after_rule, after_dd, all_told, answer_to, dd_answer}
+use Rattle.ospf_exchange.specs.Exchange.{after_dd, all_told, dd_answer}
 use Rattle.ospf_exchange.specs.Laws.{NotTakenIsUnchanged, is_not_taken}
-use Rattle.ospf_exchange.specs.Rules.{all_known, dd_rule, considered, rule_by_fields, rule_with, skips}
+use Rattle.ospf_exchange.specs.Rules.{all_known, dd_rule, considered, rule_by_fields, skips}
+use Rattle.ospf_exchange.proofs.Words.{after_rule, answer_to, rule_with}
 use Rattle.ospf_exchange.specs.declared.description.DdAnswer.TheVariants as answer
 use Rattle.ospf_exchange.specs.declared.fault.ExchangeFault.TheVariants as fault
 use Rattle.ospf_exchange.specs.declared.rule.Local.{Local}

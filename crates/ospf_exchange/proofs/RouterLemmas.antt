@@ -4,8 +4,9 @@ use Rattle.ospf_lsa.specs.declared.header.LsaHeader.{LsaHeader}
 use Rattle.ospf_lsdb.specs.Database.{Held}
 use Rattle.ospf_packet.specs.declared.body.Description.{Description}
 use Rattle.ospf_neighbour.specs.Neighbour.{NeighbourValue}
-use Rattle.ospf_exchange.specs.Exchange.{begun, accepted, describes, ends, all_told, turn_of_master, turn_of_slave, taken, after_rule, after_dd}
+use Rattle.ospf_exchange.specs.Exchange.{begun, accepted, describes, ends, all_told, taken, after_dd}
 use Rattle.ospf_exchange.specs.Headers.{wanted}
+use Rattle.ospf_exchange.proofs.Words.{after_rule, turn_of_master, turn_of_slave}
 use Rattle.ospf_exchange.specs.Laws.{DescriptionsKeepRouters, KeepsRouter}
 use Rattle.ospf_exchange.specs.Rules.{all_known, dd_rule, considered}
 use Rattle.ospf_exchange.specs.declared.rule.Local.{Local}

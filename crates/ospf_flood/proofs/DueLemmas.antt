@@ -4,7 +4,7 @@ use Rattle.std.proofs.lemmas.List.{append-nil, length-append, map-append, take-a
 use Rattle.std.proofs.lemmas.List.Elements.{filter-append}
 use Rattle.ospf_base.specs.declared.ids.Instance.{Instance}
 use Rattle.ospf_neighbour.specs.declared.neighbour.Listed.{Listed}
-use Rattle.ospf_flood.specs.Due.{is_resend_due}
+use Rattle.ospf_flood.proofs.Words.{is_resend_due}
 
 -- the instances of a list that are due
 abbrev pub due_of : ℕ → ℕ → List Listed → List Instance

@@ -10,13 +10,15 @@ use Rattle.ospf_headline.specs.World.{HasItsTable, RunsGoOn}
 use Rattle.ospf_headline.specs.declared.logs.Run.{Run}
 use Rattle.ospf_step.specs.Counts.{with_dropped}
 use Rattle.ospf_step.specs.Drops.{dropped_by}
+use Rattle.ospf_step.specs.Lawful.{IsLawful, StepsAreLawful}
 use Rattle.ospf_step.specs.Step.{Event}
+use Rattle.ospf_step.specs.Steps.{StepsArea}
 use Rattle.ospf_step.specs.declared.counts.DropCounts.{DropCounts}
 use Rattle.ospf_step.specs.declared.dropped.Dropped.{Dropped}
 use Rattle.ospf_lsdb.specs.Database.{listed}
 use Rattle.ospf_lsdb.specs.Moments.{among}
-use Rattle.ospf_router.specs.Routers.{RouterValue}
-use Rattle.ospf_router.specs.Steps.{Steps, IsLawful}
+use Rattle.ospf_router.specs.Routers.{IsKept, RouterValue}
+use Rattle.ospf_router.specs.Steps.{Steps}
 use Rattle.ospf_router.specs.declared.router.Step.{Step}
 use Rattle.ospf_headline.specs.Logs.{LogsTake, LogsValue, run_of}
 use Rattle.ospf_headline.specs.Running.{Fed, RunningValue, SettlesLogs, runs_in}
@@ -31,7 +33,8 @@ pub record TakesStep (e : Event) (before : RunningValue) (out : OutputsValue) (a
   pub was : before.router.area ≡ Some area
   pub is : after.router.area ≡ Some next
   pub dropped : Option Dropped
-  pub lawful : IsLawful e area dropped out next
+  pub steps : StepsArea e area dropped out next
+  pub lawful : IsLawful e area out next
   pub table : HasItsTable (runs_in after next)
   pub first : after.first ≡ before.first
   pub later : after.later ≡ before.later
@@ -60,6 +63,7 @@ fed_from r e before mid after out logs logs' g s = record {
   was = g.was;
   is = ap (λ (r : RouterValue). r.area) s.router ∙ g.is;
   dropped = g.dropped;
+  steps = g.steps;
   lawful = g.lawful;
   drops = s.drops ∙ g.drops;
   table = same_table mid after g.next s.router g.table;
@@ -67,16 +71,17 @@ fed_from r e before mid after out logs logs' g s = record {
   runs = goes_on r e before mid after out logs logs' g s;
 }
 
--- a step of the router
-pub goes : (e : Event) (r r' : RouterValue) (first : Run) (later : List (LsaKey × Run)) (drops drops' : List DropCounts) (t : Step) → Steps e r t r' → drops' ≡ with_dropped e t.dropped drops →
+-- a step of the router, by the rules, is lawful, since the router was fit for it
+pub goes : (e : Event) (r r' : RouterValue) (first : Run) (later : List (LsaKey × Run)) (drops drops' : List DropCounts) (t : Step) → StepsAreLawful → ((s : AreaValue) → r.area ≡ Some s → IsKept s) → Steps e r t r' → drops' ≡ with_dropped e t.dropped drops →
     TakesStep e (record { router = r; first = first; later = later; drops = drops }) t.out (record { router = r'; first = first; later = later; drops = drops' })
-goes e r r' first later drops drops' t s count = record {
+goes e r r' first later drops drops' t law kept s count = record {
   area = s.area;
   next = s.next;
   was = s.runs;
   is = s.is;
   dropped = t.dropped;
-  lawful = s.lawful;
+  steps = s.steps;
+  lawful = let is = kept s.area s.runs in law e s.area t.dropped t.out s.next is.fit is.sound s.steps;
   table = record { is_database = s.routes.database; is_listing = s.routes.listing; is_table = s.routes.routes };
   first = refl;
   later = refl;
@@ -95,14 +100,14 @@ settles_nothing r v out logs is = subst (λ (o : OutputsValue). SettlesLogs r v 
 
 -- an event that is dropped puts nothing out
 pub silent : (e : Event) (r r' : RouterValue) (t : Step) → Steps e r t r' → t.dropped ≢ None → t.out ≡ no_outputs
-silent e r r' t s dropped = s.lawful.steps.silent dropped
+silent e r r' t s dropped = s.steps.silent dropped
 
 same_area : (a b : AreaValue) → Some a ≡ Some b → a ≡ b
 same_area a b is = cc is
 
 -- one that is not may want memory
 pub needs : (e : Event) (r r' : RouterValue) (t : Step) → Steps e r t r' → t.dropped ≡ None → (s : AreaValue) → r.area ≡ Some s → dropped_by e s ≡ None
-needs e r r' t taken none s is = subst (λ (a : AreaValue). dropped_by e a ≡ None) (same_area taken.area s (sym taken.runs ∙ is)) (sym taken.lawful.steps.cause ∙ none)
+needs e r r' t taken none s is = subst (λ (a : AreaValue). dropped_by e a ≡ None) (same_area taken.area s (sym taken.runs ∙ is)) (sym taken.steps.cause ∙ none)
 
 pub not_none : (d : Option Dropped) → is_some d ≡ true → d ≢ None
 not_none d some none = let h : false ≡ true = sym (ap is_some none) ∙ some in cc

@@ -16,7 +16,8 @@ use Rattle.ospf_step.specs.declared.counts.DropCounts.{DropCounts}
 use Rattle.ospf_step.specs.declared.dropped.Dropped.{Dropped}
 use Rattle.ospf_router.specs.Routers.{RouterValue}
 use Rattle.ospf_router.specs.Starts.{IsAreaOf}
-use Rattle.ospf_router.specs.Steps.{IsLawful}
+use Rattle.ospf_step.specs.Lawful.{IsLawful}
+use Rattle.ospf_step.specs.Steps.{StepsArea}
 use Rattle.ospf_headline.specs.Logs.{BeginAgain, LogsTake, LogsValue}
 
 -- a router, the run of its keys since its start, the later runs of single keys, and what it dropped
@@ -75,7 +76,8 @@ pub record Fed (r : RouterId) (e : Event) (before : RunningValue) (logs : LogsVa
   pub was : before.router.area ≡ Some area
   pub is : after.router.area ≡ Some next
   pub dropped : Option Dropped
-  pub lawful : IsLawful e area dropped out next
+  pub steps : StepsArea e area dropped out next
+  pub lawful : IsLawful e area out next
   pub table : HasItsTable (runs_in after next)
   pub takes : LogsTake logs logs' r before.first before.later out
   pub runs : RunsGoOn logs'.issued out.ended (runs_in before area) (runs_in after next)

@@ -19,7 +19,8 @@ use Rattle.ospf_step.specs.Step.{Event}
 use Rattle.ospf_step.specs.declared.counts.DropCounts.{DropCounts}
 use Rattle.ospf_step.specs.declared.dropped.Dropped.{Dropped}
 use Rattle.ospf_router.specs.Routers.{RouterValue}
-use Rattle.ospf_router.specs.Steps.{IsLawful}
+use Rattle.ospf_step.specs.Lawful.{IsLawful}
+use Rattle.ospf_step.specs.Steps.{StepsArea}
 use Rattle.ospf_headline.specs.Logs.{LogsTake, LogsValue}
 use Rattle.ospf_headline.specs.Running.{Lives, RunningValue, StartsAs, delivery, running_of}
 
@@ -100,7 +101,8 @@ pub record SlotGoesOn (e : Event) (before : SlotValue) (logs : LogsValue) (after
   pub was : before.running ≡ Some x
   pub dropped : Option Dropped
   pub is : after ≡ with_running before (Some x') (with_dropped e dropped before.drops)
-  pub lawful : IsLawful e x.state dropped out x'.state
+  pub steps : StepsArea e x.state dropped out x'.state
+  pub lawful : IsLawful e x.state out x'.state
   pub table : HasItsTable x'
   pub takes : LogsTake logs logs' before.config.router_id x.first x.later out
   pub runs : RunsGoOn logs'.issued out.ended x x'

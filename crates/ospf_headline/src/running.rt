@@ -12,7 +12,7 @@ use ospf_area::Outputs;
 use ospf_base::{LsaKey, RouterId};
 use ospf_config::Config;
 use ospf_router::{Event, Router, StartFault, Step, Stopped};
-use ospf_step::DropCounts;
+use ospf_step::{DropCounts, steps_are_lawful};
 use std::alloc::Global;
 use std::marker::Model;
 
@@ -99,6 +99,9 @@ impl RunningRouter {
         ensures none { OnErr result (logs.new ≡ logs.old) }
         ensures memory { OnErr result (NeedsMemory (happening event.entry) self.old) }
     {
+        // For the proof.
+        steps_are_lawful();
+        self.router.keeps();
         let link = event.comes_on();
         let Step { out, dropped, .. } = self.router.step(event, alloc)?;
         self.drops.count(link, dropped);
@@ -127,6 +130,9 @@ impl RunningRouter {
         ensures memory { OnErr result (IfSome (slice_get logs.old.datagrams place)
             (λ g. NeedsMemory (delivery link g) self.old)) }
     {
+        // For the proof.
+        steps_are_lawful();
+        self.router.keeps();
         let event = arrival(&logs.datagrams()[place], link);
         let link = event.comes_on();
         let Step {

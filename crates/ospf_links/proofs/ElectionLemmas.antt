@@ -48,7 +48,7 @@ from_keeps (suc l) before after out out' (mid, mid_out, first, next) =
 if_ready : (b : Bool) (own : Own) (next : ℕ) (link link' : LinkValue) (next' : ℕ) (sent : List Parcel) → ElectsIf b own next link link' next' sent → IsReady link → IsReady link'
 if_ready false own next link link' next' sent e ready = subst IsReady (sym e.0) ready
 if_ready true own next link link' next' sent e ready =
-    let off : link'.elects ≡ false = ap (λ (x : LinkValue). x.elects) e.rest in
+    let off : link'.elects ≡ false = ap (λ (x : LinkValue). x.elects) e.1 in
     record { electing = λ on. absurd (let bad : false ≡ true = sym off ∙ on in cc); others = λ on. absurd (let bad : false ≡ true = sym off ∙ on in cc) }
 
 -- what stands in a list once one was put into it

@@ -15,8 +15,9 @@ use Rattle.ospf_neighbour.specs.Neighbour.{NeighbourValue}
 use Rattle.ospf_neighbour.specs.Neighbours.{AreNeighbours, AreNeighboursRising, neighbour_of, place_for}
 use Rattle.ospf_packet.specs.declared.body.Hello.{Hello}
 use Rattle.ospf_exchange.specs.declared.rule.Local.{Local}
-use Rattle.ospf_adjacency.specs.Heard.{Neighbourhood, hello_on, hello_turn, turn_of, sender_of, put}
-use Rattle.ospf_adjacency.specs.Links.{timed, is_inactive}
+use Rattle.ospf_adjacency.specs.Heard.{Neighbourhood, hello_on, hello_turn, turn_of, put}
+use Rattle.ospf_adjacency.specs.Links.{timed}
+use Rattle.ospf_adjacency.proofs.Words.{is_inactive, sender_of}
 use Rattle.ospf_adjacency.proofs.GoLemmas.{bool_cases, heard_router}
 use Rattle.ospf_neighbour.proofs.NeighbourLemmas.{place_within}
 use Rattle.ospf_adjacency.proofs.PutLemmas.{not_found, put_found, put_new}

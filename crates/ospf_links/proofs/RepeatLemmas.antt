@@ -9,7 +9,7 @@ use Rattle.ospf_area.specs.declared.sending.Own.{Own}
 use Rattle.ospf_area.specs.declared.state.LinkSettings.{LinkSettings}
 use Rattle.ospf_adjacency.proofs.QuietLemmas.{repeats_are_quiet}
 use Rattle.ospf_area.specs.Posting.{local_by}
-use Rattle.ospf_links.specs.Repeats.{neighbour_repeated}
+use Rattle.ospf_links.proofs.Words.{neighbour_repeated}
 
 repeated_router : (own : Own) (i : Iface) (settings : LinkSettings) (db : List Held) (n : NeighbourValue) → (neighbour_repeated own i settings db n).router ≡ n.router
 repeated_router own i settings db n = (repeats_are_quiet i (local_by own settings) settings.retransmit settings.transmit_delay db (record { neighbour = n; next = 0; sent = [] })).same.router

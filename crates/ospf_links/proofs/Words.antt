@@ -1,10 +1,14 @@
 -- Parts of definitions of specs/ by names of their own, for the proofs.
+use Rattle.std.specs.List.{flat_map}
 use Rattle.std.specs.Prelude.{ℕ, List, Option, None, Some, set, slice_get, false, ◌≡◌, []}
 use Rattle.ospf_area.specs.State.{LinkValue, AreaValue}
-use Rattle.ospf_adjacency.specs.Heard.{Neighbourhood, elects_by_change, put_back, turn_of}
+use Rattle.ospf_adjacency.specs.Heard.{Neighbourhood, put_back, turn_of}
+use Rattle.ospf_adjacency.specs.Links.{hello_parcel, hello_ticked}
+use Rattle.ospf_adjacency.specs.Repeats.{due_keys}
+use Rattle.ospf_adjacency.proofs.Words.{elects_by_change}
 use Rattle.ospf_area.specs.Outputs.{OutputsValue, SentValue}
 use Rattle.ospf_area.specs.declared.sending.Own.{Own}
-use Rattle.ospf_links.specs.Parts.{with_neighbourhood}
+use Rattle.ospf_links.specs.Parts.{link_up, with_neighbourhood}
 use Rattle.ospf_area.specs.Posting.{posted_all}
 use Rattle.ospf_base.specs.declared.ids.RouterId.{RouterId}
 use Rattle.ospf_iface.specs.declared.machine.Iface.{Iface}
@@ -17,7 +21,10 @@ use Rattle.ospf_adjacency.specs.Descriptions.{description_turn}
 use Rattle.ospf_packet.specs.declared.entry.RequestEntry.{RequestEntry}
 use Rattle.ospf_adjacency.specs.Answers.{answer_turn, answered_keys}
 use Rattle.ospf_base.specs.declared.ids.LsaKey.{LsaKey}
-use Rattle.ospf_area.specs.Packets.{Parcel}
+use Rattle.ospf_area.specs.Packets.{Parcel, parcel_if}
+use Rattle.ospf_area.specs.declared.state.LinkSettings.{LinkSettings}
+use Rattle.ospf_iface.specs.Machine.{is_down}
+use Rattle.ospf_links.specs.Repeats.{repeats_for}
 use Rattle.ospf_area.specs.Sending.{and_sends, own_of}
 use Rattle.ospf_links.specs.Elections.{ElectsIf}
 
@@ -46,6 +53,26 @@ some_changed o change l s = elim o [
   | None ↦ s
   | Some link ↦ record s { links = set s.links l (change link) }
 ]
+
+-- the first Hello of a link that goes up (9.5)
+abbrev pub up_parcels : LinkValue → List Parcel
+up_parcels link = parcel_if (is_down link.iface.state) (hello_parcel (link_up link).iface link.neighbours)
+
+-- the Hello timer of a link, a tick later (9.5)
+abbrev pub hello_sent : LinkValue → LinkValue
+hello_sent link = record link { iface = hello_ticked link.iface }
+
+-- a neighbour after what is sent again to it
+abbrev pub neighbour_repeated : Own → Iface → LinkSettings → List Held → NeighbourValue → NeighbourValue
+neighbour_repeated own i settings db n = (repeats_for own i settings db n).neighbour
+
+-- what goes out of link l to it
+abbrev pub repeats_to : Own → ℕ → Iface → LinkSettings → List Held → NeighbourValue → List SentValue
+repeats_to own l i settings db n = posted_all own l i (repeats_for own i settings db n).sent
+
+-- the keys of the LSAs that are sent again on a link
+abbrev pub keys_out : Own → List Held → LinkValue → List LsaKey
+keys_out own db link = flat_map (due_keys link.settings.retransmit own.tick db) link.neighbours
 
 -- a Database Description of a neighbour that may not be there; in Init it may bring an election about (10.6)
 abbrev pub description_by : Option NeighbourValue → Iface → Local → RouterId → Description → List LsaHeader → List Held → Neighbourhood → Neighbourhood

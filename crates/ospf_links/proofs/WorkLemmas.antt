@@ -12,9 +12,10 @@ use Rattle.ospf_packet.specs.declared.entry.RequestEntry.{RequestEntry}
 use Rattle.ospf_exchange.specs.declared.rule.Local.{Local}
 use Rattle.ospf_adjacency.specs.Descriptions.{description_turn}
 use Rattle.ospf_area.specs.Turns.{Turn, turn}
-use Rattle.ospf_area.specs.Posting.{PostValue, local_of, posted_all}
+use Rattle.ospf_area.specs.Posting.{PostValue, posted_all, local_by}
 use Rattle.ospf_adjacency.proofs.SameLemmas.{description_keeps_router}
-use Rattle.ospf_adjacency.specs.Heard.{Neighbourhood, neighbourhood, turn_of, put_back, elects_by_change, hello_on, put}
+use Rattle.ospf_adjacency.specs.Heard.{Neighbourhood, neighbourhood, turn_of, put_back, hello_on, put}
+use Rattle.ospf_adjacency.proofs.Words.{elects_by_change}
 use Rattle.std.proofs.Common.{Option, inl, inr}
 use Rattle.std.proofs.lemmas.Option.{slice_get_past, slice_get_read}
 use Rattle.std.proofs.Common.{get_or}
@@ -146,26 +147,26 @@ puts_back x link bare after ns elects due p' is_bare is_after is_due is = record
 
 pub hello_back : (own : Own) (f : Origin) (h : Hello) (named : Bool) (link bare after : LinkValue) (ns : List NeighbourValue) (elects due : Bool) (p p' : PostValue)
     → bare ≡ record link { neighbours = [] } → after ≡ record bare { neighbours = ns; elects = due } → due ≡ bare.elects || elects
-    → neighbourhood ns elects p' ≡ hello_on link.iface (local_of own link) f.router f.address h named (neighbourhood link.neighbours false p)
+    → neighbourhood ns elects p' ≡ hello_on link.iface (local_by own link.settings) f.router f.address h named (neighbourhood link.neighbours false p)
     → PutBack (hello_comes own f h named p link) link after p'
 hello_back own f h named link bare after ns elects due p p' is_bare is_after is_due is = puts_back _ link bare after ns elects due p' is_bare is_after is_due is
 
 pub description_back : (own : Own) (f : Origin) (d : Description) (hs : List LsaHeader) (db : List Held) (link bare after : LinkValue) (ns : List NeighbourValue) (elects due : Bool) (p p' : PostValue)
     → bare ≡ record link { neighbours = [] } → after ≡ record bare { neighbours = ns; elects = due } → due ≡ bare.elects || elects
-    → neighbourhood ns elects p' ≡ description_on link.iface (local_of own link) f.router d hs db (neighbourhood link.neighbours false p)
+    → neighbourhood ns elects p' ≡ description_on link.iface (local_by own link.settings) f.router d hs db (neighbourhood link.neighbours false p)
     → PutBack (description_comes own f d hs db p link) link after p'
 description_back own f d hs db link bare after ns elects due p p' is_bare is_after is_due is =
     subst (λ (x : Neighbourhood). PutBack x link after p')
-    (description_due link.iface (local_of own link) f.router d hs db link.neighbours link.elects p (neighbour_of link.neighbours f.router))
+    (description_due link.iface (local_by own link.settings) f.router d hs db link.neighbours link.elects p (neighbour_of link.neighbours f.router))
     (puts_back _ link bare after ns elects due p' is_bare is_after is_due is)
 
 pub request_back : (own : Own) (f : Origin) (db : List Held) (es : List RequestEntry) (link bare after : LinkValue) (ns : List NeighbourValue) (due : Bool) (p p' : PostValue)
     → bare ≡ record link { neighbours = [] } → after ≡ record bare { neighbours = ns; elects = due } → due ≡ bare.elects || false
-    → neighbourhood ns false p' ≡ request_on link.iface (local_of own link) f.router link.settings.transmit_delay db es (neighbourhood link.neighbours false p)
+    → neighbourhood ns false p' ≡ request_on link.iface (local_by own link.settings) f.router link.settings.transmit_delay db es (neighbourhood link.neighbours false p)
     → PutBack (request_at own f db es p link) link after p'
 request_back own f db es link bare after ns due p p' is_bare is_after is_due is =
     subst (λ (x : Neighbourhood). PutBack x link after p')
-    (request_due link.iface (local_of own link) f.router link.settings.transmit_delay db es link.neighbours link.elects p (neighbour_of link.neighbours f.router))
+    (request_due link.iface (local_by own link.settings) f.router link.settings.transmit_delay db es link.neighbours link.elects p (neighbour_of link.neighbours f.router))
     (puts_back _ link bare after ns false due p' is_bare is_after is_due is)
 
 same_is : (n m : NeighbourValue) → KeepsRouter n m → n.router ≡ m.router

@@ -1,5 +1,5 @@
 -- The elections that end a step, with AdjOK? (RFC 2328, section 9.4).
-use Rattle.std.specs.Prelude.{◌≡◌, ℕ, zero, suc, Bool, true, false, List, [], None, Some, set, length, slice_get}
+use Rattle.std.specs.Prelude.{◌≡◌, ℕ, zero, suc, Bool, true, false, List, [], None, Some, set, slice_get}
 use Rattle.ospf_adjacency.specs.Elections.{AreOfLink, ElectsOn, elects_in}
 use Rattle.ospf_area.specs.Packets.{Parcel}
 use Rattle.ospf_area.specs.Outputs.{OutputsValue}
@@ -7,14 +7,6 @@ use Rattle.ospf_area.specs.Sending.{and_sends, own_of}
 use Rattle.ospf_area.specs.State.{AreaValue, LinkValue}
 use Rattle.ospf_area.specs.declared.sending.Own.{Own}
 use Rattle.ospf_area.specs.Posting.{posted_all}
-
--- the election of a link on which one is due, and AdjOK? (9.4)
-pub record ElectsOnLink (mtu tick next : ℕ) (before after : LinkValue) (next' : ℕ)
-    (sent : List Parcel) : Type 0 where
-  pub elects :
-      ElectsOn mtu tick before.iface before.neighbours next sent after.iface after.neighbours next'
-  pub rest :
-      after ≡ record before { iface = after.iface; neighbours = after.neighbours; elects = false }
 
 -- where an election is due, one comes about
 pub record IsReady (link : LinkValue) : Type 0 where
@@ -25,11 +17,13 @@ pub record IsReady (link : LinkValue) : Type 0 where
 abbrev pub AreReady : List LinkValue → Type 0
 AreReady links = (l : ℕ) (link : LinkValue) → slice_get links l ≡ Some link → IsReady link
 
--- the election of a link, if one is due
+-- the election of a link, if one is due, with AdjOK?; then none is due any more (9.4)
 abbrev pub ElectsIf : Bool → Own → ℕ → LinkValue → LinkValue → ℕ → List Parcel → Type 0
 ElectsIf false own next link link' next' sent = (link' ≡ link) × (next' ≡ next) × (sent ≡ [])
 ElectsIf true own next link link' next' sent =
-    ElectsOnLink link.settings.mtu own.tick next link link' next' sent
+    ElectsOn link.settings.mtu own.tick link.iface link.neighbours next sent link'.iface
+    link'.neighbours next'
+    × (link' ≡ record link { iface = link'.iface; neighbours = link'.neighbours; elects = false })
 
 -- the election of link l, if it is due, and nothing where there is no such link: the router
 -- afterwards, and the outputs with what it sends
@@ -49,7 +43,3 @@ ElectsFrom zero before out out' after = (after ≡ before) × (out' ≡ out)
 ElectsFrom (suc l) before out out' after =
     (mid : AreaValue) × (mid_out : OutputsValue) × ElectsFrom l before out mid_out mid
     × ElectsAt l mid mid_out out' after
-
--- the elections of all links
-abbrev pub ElectsAll : AreaValue → OutputsValue → OutputsValue → AreaValue → Type 0
-ElectsAll before out out' after = ElectsFrom (length before.links) before out out' after

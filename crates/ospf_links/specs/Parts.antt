@@ -1,6 +1,6 @@
 -- What each part of a step makes of one link, and what goes out of it (RFC 2328, sections
 -- 9.3, 9.5, 10.2, 10.5 and 10.6).
-use Rattle.std.specs.Prelude.{◌||◌, ◌-◌, ℕ, Bool, false, List, [], Option, None, Some, if◌then◌else◌}
+use Rattle.std.specs.Prelude.{◌&&◌, ◌||◌, ◌-◌, not, nat_le, ℕ, Bool, false, List, [], Option, None, Some, if◌then◌else◌}
 use Rattle.ospf_base.specs.declared.ids.LsaKey.{LsaKey}
 use Rattle.ospf_base.specs.declared.ids.RouterId.{RouterId}
 use Rattle.ospf_iface.specs.declared.machine.Iface.{Iface}
@@ -16,12 +16,14 @@ use Rattle.ospf_area.specs.State.{LinkValue}
 use Rattle.ospf_area.specs.declared.flooding.Origin.{Origin}
 use Rattle.ospf_area.specs.declared.sending.Own.{Own}
 use Rattle.ospf_adjacency.specs.Descriptions.{description_turn}
-use Rattle.ospf_area.specs.Packets.{Parcel, parcel_if}
-use Rattle.ospf_adjacency.specs.Heard.{Neighbourhood, elects_by_change, hello_on, neighbourhood, put_back, turn_of}
-use Rattle.ospf_iface.specs.Machine.{is_down}
-use Rattle.ospf_adjacency.specs.Links.{down, elects_by_timers, hello_parcel, hello_ticked, is_hello_due, timed, up}
+use Rattle.ospf_area.specs.Packets.{parcel_if}
+use Rattle.ospf_adjacency.specs.Heard.{Neighbourhood, is_settled, hello_on, neighbourhood, put_back, turn_of}
+use Rattle.ospf_iface.specs.Election.{differs}
+use Rattle.ospf_iface.specs.Machine.{is_down, started}
+use Rattle.ospf_neighbour.specs.Machine.{is_two_way}
+use Rattle.ospf_adjacency.specs.Links.{down, elects_by_timers, hello_parcel, hello_ticked, timed}
 use Rattle.ospf_adjacency.specs.Answers.{answer_turn, answered_keys}
-use Rattle.ospf_area.specs.Posting.{PostValue, local_of, posted_all}
+use Rattle.ospf_area.specs.Posting.{PostValue, posted_all, local_by}
 
 -- the link's neighbours as a part finds them: nothing has gone out yet
 abbrev pub neighbourhood_of : LinkValue → ℕ → Neighbourhood
@@ -45,23 +47,25 @@ left_beside x = record { next = x.next; sent = x.sent }
 -- a Hello of the router f that comes on a link, and names this router or does not (10.5)
 abbrev pub hello_comes : Own → Origin → Hello → Bool → PostValue → LinkValue → Neighbourhood
 hello_comes own f h named p link =
-    hello_on link.iface (local_of own link) f.router f.address h named (neighbourhood_at link p)
+    hello_on link.iface (local_by own link.settings) f.router f.address h named
+    (neighbourhood_at link p)
 
 -- where nothing has gone out yet
 abbrev pub hello_part : Own → Origin → Hello → Bool → ℕ → LinkValue → Neighbourhood
 hello_part own f h named next link =
-    hello_on link.iface (local_of own link) f.router f.address h named (neighbourhood_of link next)
+    hello_on link.iface (local_by own link.settings) f.router f.address h named
+    (neighbourhood_of link next)
 
--- a Database Description of router q, which may be no neighbour; in Init it may
--- bring an election about (10.6)
+-- a Database Description of router q, which may be no neighbour (10.6). It may be 2-WayReceived:
+-- then an election is due by NeighborChange (9.3)
 abbrev pub description_on : Iface → Local → RouterId → Description → List LsaHeader → List Held
     → Neighbourhood → Neighbourhood
 description_on i local q d headers db x = elim (neighbour_of x.neighbours q) [
   | None ↦ x
   | Some n ↦
-      put_back
-      (elects_by_change i.state n (description_turn i local q d headers db (turn_of n x)).neighbour)
-      (description_turn i local q d headers db (turn_of n x)) x
+      let t = description_turn i local q d headers db (turn_of n x) in
+      let changes = differs (is_two_way n.state) (is_two_way t.neighbour.state) in
+      put_back (is_settled i.state && changes) t x
 ]
 
 -- a Database Description that comes on a link
@@ -69,13 +73,15 @@ abbrev pub description_comes : Own → Origin → Description → List LsaHeader
     → LinkValue
     → Neighbourhood
 description_comes own f d headers db p link =
-    description_on link.iface (local_of own link) f.router d headers db (neighbourhood_at link p)
+    description_on link.iface (local_by own link.settings) f.router d headers db
+    (neighbourhood_at link p)
 
 -- where nothing has gone out yet
 abbrev pub description_part : Own → Origin → Description → List LsaHeader → List Held → ℕ
     → LinkValue → Neighbourhood
 description_part own f d headers db next link =
-    description_on link.iface (local_of own link) f.router d headers db (neighbourhood_of link next)
+    description_on link.iface (local_by own link.settings) f.router d headers db
+    (neighbourhood_of link next)
 
 -- a Request of router q, which may be no neighbour (10.7)
 abbrev pub request_on : Iface → Local → RouterId → ℕ → List Held → List RequestEntry → Neighbourhood
@@ -90,15 +96,15 @@ request_on i local q delay db entries x =
 abbrev pub request_at : Own → Origin → List Held → List RequestEntry → PostValue → LinkValue
     → Neighbourhood
 request_at own f db entries p link =
-    request_on link.iface (local_of own link) f.router link.settings.transmit_delay db entries
-    (neighbourhood_at link p)
+    request_on link.iface (local_by own link.settings) f.router link.settings.transmit_delay db
+    entries (neighbourhood_at link p)
 
 -- where nothing has gone out yet
 abbrev pub request_part : Own → Origin → List Held → List RequestEntry → ℕ → LinkValue
     → Neighbourhood
 request_part own f db entries next link =
-    request_on link.iface (local_of own link) f.router link.settings.transmit_delay db entries
-    (neighbourhood_of link next)
+    request_on link.iface (local_by own link.settings) f.router link.settings.transmit_delay db
+    entries (neighbourhood_of link next)
 
 -- the keys whose copies answer a Request of router q on a link, where both are there (10.7)
 abbrev pub answered_on : Option LinkValue → RouterId → List Held → List RequestEntry → List LsaKey
@@ -108,14 +114,12 @@ answered_on (Some link) q db entries =
 
 -- ---- links that go up and down
 
--- a link that goes up, where it is down (9.3)
+-- a link that goes up: InterfaceUp, where it is down (9.3)
 abbrev pub link_up : LinkValue → LinkValue
-link_up link = record link { iface = up link.iface }
-
--- its first Hello (9.5)
-abbrev pub up_parcels : LinkValue → List Parcel
-up_parcels link =
-    parcel_if (is_down link.iface.state) (hello_parcel (up link.iface) link.neighbours)
+link_up link =
+    record link {
+      iface = (if is_down link.iface.state then started link.iface else link.iface);
+    }
 
 -- a link that goes down, where it is up: its neighbours get KillNbr, and no acknowledgement and
 -- no election waits any more (9.3)
@@ -134,12 +138,9 @@ link_timed link = record link {
   elects = link.elects || elects_by_timers link.iface link.neighbours;
 }
 
--- its Hello timer, a tick later (9.5)
-abbrev pub hello_sent : LinkValue → LinkValue
-hello_sent link = record link { iface = hello_ticked link.iface }
-
--- the Hello that goes out of link l, if one is due (9.5)
+-- the Hello that goes out of link l, if one is due: the link is up, and HelloInterval is over (9.5)
 abbrev pub hello_out : Own → ℕ → LinkValue → List SentValue
 hello_out own l link =
     posted_all own l (hello_ticked link.iface)
-    (parcel_if (is_hello_due link.iface) (hello_parcel link.iface link.neighbours))
+    (parcel_if (not (is_down link.iface.state) && nat_le link.iface.hello_in 1)
+    (hello_parcel link.iface link.neighbours))

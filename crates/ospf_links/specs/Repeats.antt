@@ -12,7 +12,7 @@ use Rattle.ospf_area.specs.Outputs.{SentValue}
 use Rattle.ospf_area.specs.State.{LinkValue}
 use Rattle.ospf_area.specs.declared.sending.Own.{Own}
 use Rattle.ospf_area.specs.declared.state.LinkSettings.{LinkSettings}
-use Rattle.ospf_adjacency.specs.Repeats.{due_keys, repeats_turn}
+use Rattle.ospf_adjacency.specs.Repeats.{repeats_turn}
 use Rattle.ospf_area.specs.Posting.{local_by, posted_all}
 
 -- copies of these keys went out in Updates in this tick (13, step 8)
@@ -27,29 +27,19 @@ repeats_for own i settings db n =
     repeats_turn i (local_by own settings) settings.retransmit settings.transmit_delay db
     (record { neighbour = n; next = 0; sent = [] })
 
--- the neighbour then
-abbrev pub neighbour_repeated : Own → Iface → LinkSettings → List Held → NeighbourValue
-    → NeighbourValue
-neighbour_repeated own i settings db n = (repeats_for own i settings db n).neighbour
-
--- what goes out of link l to it
-abbrev pub repeats_to : Own → ℕ → Iface → LinkSettings → List Held → NeighbourValue → List SentValue
-repeats_to own l i settings db n = posted_all own l i (repeats_for own i settings db n).sent
-
 -- ---- one link
 
 -- the link's neighbours after what is sent again to each
 abbrev pub link_repeated : Own → List Held → LinkValue → LinkValue
 link_repeated own db link =
     record link {
-      neighbours = map (neighbour_repeated own link.iface link.settings db) link.neighbours;
+      neighbours =
+          map (λ n. (repeats_for own link.iface link.settings db n).neighbour) link.neighbours;
     }
 
--- what is sent again to the neighbours of a link
+-- what is sent again to the neighbours of link l
 abbrev pub link_repeats_out : Own → List Held → ℕ → LinkValue → List SentValue
 link_repeats_out own db l link =
-    flat_map (repeats_to own l link.iface link.settings db) link.neighbours
-
--- the keys of the LSAs that are sent again on a link
-abbrev pub keys_out : Own → List Held → LinkValue → List LsaKey
-keys_out own db link = flat_map (due_keys link.settings.retransmit own.tick db) link.neighbours
+    flat_map
+    (λ n. posted_all own l link.iface (repeats_for own link.iface link.settings db n).sent)
+    link.neighbours

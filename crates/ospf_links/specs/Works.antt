@@ -6,8 +6,10 @@ use Rattle.ospf_area.specs.Sending.{and_sends, own_of}
 use Rattle.ospf_area.specs.State.{AreaValue, LinkValue}
 use Rattle.ospf_area.specs.declared.sending.Own.{Own}
 use Rattle.ospf_adjacency.specs.Heard.{Neighbourhood}
-use Rattle.ospf_adjacency.specs.Links.{up}
-use Rattle.ospf_links.specs.Parts.{up_parcels, with_neighbourhood}
+use Rattle.ospf_adjacency.specs.Links.{hello_parcel}
+use Rattle.ospf_area.specs.Packets.{parcel_if}
+use Rattle.ospf_iface.specs.Machine.{is_down}
+use Rattle.ospf_links.specs.Parts.{link_up, with_neighbourhood}
 use Rattle.ospf_area.specs.Posting.{posted_all}
 
 -- ---- parts on the neighbours of a link
@@ -41,7 +43,9 @@ link_changed change l s =
       | Some link ↦ record s { links = set s.links l (change link) }
     ]
 
--- the first Hello of a link that goes up, if it is there (9.5)
+-- the first Hello of a link that goes up, if it is there and was down (9.5)
 abbrev pub up_out_on : Option LinkValue → Own → ℕ → List SentValue
 up_out_on None own l = []
-up_out_on (Some link) own l = posted_all own l (up link.iface) (up_parcels link)
+up_out_on (Some link) own l =
+    let i = (link_up link).iface in
+    posted_all own l i (parcel_if (is_down link.iface.state) (hello_parcel i link.neighbours))

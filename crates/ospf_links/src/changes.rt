@@ -2,8 +2,10 @@
 
 ghost use Rattle.std.specs.Prelude.{◌≡◌, OnOk, slice_get};
 ghost use Rattle.ospf_area.specs.Sending.{and_sends, own_of};
-ghost use Rattle.ospf_adjacency.specs.Links.{up};
-ghost use Rattle.ospf_links.specs.Parts.{link_down, link_up, up_parcels};
+ghost use Rattle.ospf_iface.specs.Machine.{is_down};
+ghost use Rattle.ospf_adjacency.specs.Links.{hello_parcel};
+ghost use Rattle.ospf_area.specs.Packets.{parcel_if};
+ghost use Rattle.ospf_links.specs.Parts.{link_down, link_up};
 ghost use Rattle.ospf_area.specs.Posting.{posted_all};
 ghost use Rattle.ospf_links.specs.Works.{link_changed, up_out_on};
 
@@ -52,9 +54,12 @@ fn link_goes_up(
     alloc: Global,
 ) -> Result<(), AllocError>
     ensures after { OnOk result (link.new ≡ link_up link.old) }
-    ensures sent { OnOk result
+    ensures sent { let i = (link_up link.old).iface in
+        OnOk result
         (out.new
-        ≡ and_sends out.old (posted_all own number (up link.old.iface) (up_parcels link.old))) }
+        ≡ and_sends out.old
+        (posted_all own number i
+        (parcel_if (is_down link.old.iface.state) (hello_parcel i link.old.neighbours)))) }
 {
     if !go_up(&mut link.iface) {
         return Ok(());

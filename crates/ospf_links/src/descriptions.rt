@@ -1,11 +1,13 @@
 //! Database Descriptions that come.
 
-ghost use Rattle.std.specs.Prelude.{◌≡◌, false, IfOk, OnOk};
+ghost use Rattle.std.specs.Prelude.{◌≡◌, ◌&&◌, false, IfOk, OnOk};
+ghost use Rattle.ospf_iface.specs.Election.{differs};
+ghost use Rattle.ospf_neighbour.specs.Machine.{is_two_way};
 ghost use Rattle.ospf_neighbour.specs.Neighbours.{AreNeighboursRising};
 ghost use Rattle.ospf_area.specs.Sending.{own_of};
 ghost use Rattle.ospf_adjacency.specs.Descriptions.{description_turn};
 ghost use Rattle.ospf_area.specs.Turns.{turn};
-ghost use Rattle.ospf_adjacency.specs.Heard.{elects_by_change, neighbourhood};
+ghost use Rattle.ospf_adjacency.specs.Heard.{is_settled, neighbourhood};
 ghost use Rattle.ospf_links.specs.Parts.{description_comes, description_on, description_part, left_beside, with_neighbourhood};
 ghost use Rattle.ospf_links.specs.Works.{WorksOn};
 
@@ -115,7 +117,9 @@ fn describe(
         ≡ description_turn at.now.iface at.now.local from.router fields headers.entry database.now
         (turn neighbour.old post.old)) }
     ensures elects { IfOk result
-        (λ elects. elects ≡ elects_by_change at.now.iface.state neighbour.old neighbour.new) }
+        (λ elects. elects
+        ≡ (is_settled at.now.iface.state
+        && differs (is_two_way neighbour.old.state) (is_two_way neighbour.new.state))) }
 {
     let before = neighbour.state().is_two_way();
     describe_to(neighbour, from.router, fields, headers, database, at, post)?;

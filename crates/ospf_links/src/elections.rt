@@ -1,11 +1,11 @@
 //! The elections that end a step.
 
-ghost use Rattle.std.specs.Prelude.{◌≡◌, ◌++◌, true, List, OnOk};
+ghost use Rattle.std.specs.Prelude.{◌≡◌, ◌++◌, true, false, List, OnOk, length};
 ghost use Rattle.ospf_adjacency.specs.Elections.{AreOfLink, ElectsOn, elects_in};
 ghost use Rattle.ospf_area.specs.Packets.{Parcel};
 ghost use Rattle.ospf_area.specs.Posting.{posted_all};
 ghost use Rattle.ospf_area.specs.Sending.{and_sends};
-ghost use Rattle.ospf_links.specs.Elections.{ElectsIf, AreReady, ElectsAll, ElectsAt, ElectsOnLink, IsReady};
+ghost use Rattle.ospf_links.specs.Elections.{ElectsIf, AreReady, ElectsAt, ElectsFrom, IsReady};
 
 use crate::link::{iface_of, put_back, take_out};
 use ospf_adjacency::elect_on;
@@ -19,7 +19,7 @@ use std::alloc::{AllocError, Global};
 /// `AllocError` where memory runs out; then the router is to be stopped.
 pub fn elect(area: &mut Area, out: &mut Outputs, alloc: Global) -> Result<(), AllocError>
     requires { AreReady area.old.links }
-    ensures { OnOk result (ElectsAll area.old out.old out.new area.new) }
+    ensures { OnOk result (ElectsFrom (length area.old.links) area.old out.old out.new area.new) }
 {
     let count = area.links.len();
     for number in 0..count {
@@ -77,7 +77,13 @@ fn link_election(link: &mut AreaLink, local: Local, post: &mut Post) -> Result<(
     requires others { AreOfLink link.old.iface link.old.neighbours }
     ensures { OnOk result
         ((sent : List Parcel)
-        × ElectsOnLink local.mtu local.tick post.old.next link.old link.new post.new.next sent
+        × (ElectsOn local.mtu local.tick link.old.iface link.old.neighbours post.old.next sent
+        link.new.iface link.new.neighbours post.new.next
+        × (link.new ≡ record link.old {
+          iface = link.new.iface;
+          neighbours = link.new.neighbours;
+          elects = false;
+        }))
         × (post.new.sent ≡ post.old.sent ++ sent)) }
 {
     let mut all = take_out(link, post.alloc());

@@ -4,9 +4,10 @@ ghost use Rattle.std.specs.Prelude.{◌≡◌, OnOk, map};
 ghost use Rattle.std.specs.List.{flat_map};
 ghost use Rattle.ospf_adjacency.specs.Repeats.{due_keys};
 ghost use Rattle.ospf_area.specs.Sending.{and_sends};
-ghost use Rattle.ospf_area.specs.Posting.{local_by};
+ghost use Rattle.ospf_area.specs.Posting.{local_by, posted_all};
+ghost use Rattle.ospf_area.specs.State.{LinkValue};
 ghost use Rattle.ospf_area.specs.Places.{flat_from};
-ghost use Rattle.ospf_links.specs.Repeats.{keys_out, link_repeated, marked_all, neighbour_repeated, link_repeats_out, repeats_to};
+ghost use Rattle.ospf_links.specs.Repeats.{link_repeated, link_repeats_out, marked_all, repeats_for};
 
 use crate::link::{put_back, take_out};
 use crate::marks::mark_all;
@@ -36,7 +37,12 @@ pub fn repeat_all(
     ensures sent { OnOk result (out.new ≡ and_sends out.old
         (flat_from (link_repeats_out own database.now) 0 links.old)) }
     ensures marks { OnOk result (sent.new.keys
-        ≡ marked_all (flat_map (keys_out own database.now) links.old) sent.old.keys) }
+        ≡ marked_all
+        (flat_map
+        (λ (link : LinkValue). flat_map (due_keys link.settings.retransmit own.tick database.now)
+        link.neighbours)
+        links.old)
+        sent.old.keys) }
 {
     for (number, link) in links.iter_mut().enumerate() {
         repeat_on(link, number, database, own, sent, out, alloc)?;
@@ -67,7 +73,9 @@ fn repeat_on(
     ensures sent { OnOk result (out.new ≡ and_sends out.old
         (link_repeats_out own database.now number link.old)) }
     ensures marks { OnOk result (sent.new.keys
-        ≡ marked_all (keys_out own database.now link.old) sent.old.keys) }
+        ≡ marked_all
+        (flat_map (due_keys link.old.settings.retransmit own.tick database.now) link.old.neighbours)
+        sent.old.keys) }
 {
     let on = Repeating {
         own,
@@ -93,13 +101,15 @@ fn repeat_to_all(
 ) -> Result<(), AllocError>
     ensures after { OnOk result
         (all.new.items
-        ≡ map (neighbour_repeated on.now.own on.now.iface on.now.settings database.now)
+        ≡ map
+        (λ n. (repeats_for on.now.own on.now.iface on.now.settings database.now n).neighbour)
         all.old.items) }
     ensures sent { OnOk result
         (out.new
         ≡ and_sends out.old
         (flat_map
-        (repeats_to on.now.own on.now.number on.now.iface on.now.settings database.now)
+        (λ n. posted_all on.now.own on.now.number on.now.iface
+        (repeats_for on.now.own on.now.iface on.now.settings database.now n).sent)
         all.old.items)) }
     ensures marks { OnOk result
         (sent.new.keys
@@ -122,13 +132,16 @@ fn repeat_to_each(
     alloc: Global,
 ) -> Result<(), AllocError>
     ensures after { OnOk result
-        (all.new ≡ map (neighbour_repeated on.now.own on.now.iface on.now.settings database.now)
+        (all.new
+        ≡ map
+        (λ n. (repeats_for on.now.own on.now.iface on.now.settings database.now n).neighbour)
         all.old) }
     ensures sent { OnOk result
         (out.new
         ≡ and_sends out.old
         (flat_map
-        (repeats_to on.now.own on.now.number on.now.iface on.now.settings database.now)
+        (λ n. posted_all on.now.own on.now.number on.now.iface
+        (repeats_for on.now.own on.now.iface on.now.settings database.now n).sent)
         all.old)) }
     ensures marks { OnOk result
         (sent.new.keys
@@ -153,12 +166,13 @@ fn repeat_to(
 ) -> Result<(), AllocError>
     ensures after { OnOk result
         (neighbour.new
-        ≡ neighbour_repeated on.now.own on.now.iface on.now.settings database.now neighbour.old) }
+        ≡ (repeats_for on.now.own on.now.iface on.now.settings database.now
+        neighbour.old).neighbour) }
     ensures sent { OnOk result
         (out.new
         ≡ and_sends out.old
-        (repeats_to on.now.own on.now.number on.now.iface on.now.settings database.now
-        neighbour.old)) }
+        (posted_all on.now.own on.now.number on.now.iface
+        (repeats_for on.now.own on.now.iface on.now.settings database.now neighbour.old).sent)) }
     ensures marks { OnOk result
         (sent.new.keys
         ≡ marked_all

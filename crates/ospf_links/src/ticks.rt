@@ -3,8 +3,9 @@
 ghost use Rattle.std.specs.Prelude.{◌≡◌, ◌||◌, ◌-◌, OnOk, map};
 ghost use Rattle.ospf_area.specs.Places.{flat_from};
 ghost use Rattle.ospf_area.specs.Sending.{and_sends};
-ghost use Rattle.ospf_adjacency.specs.Links.{elects_by_timers, timed};
-ghost use Rattle.ospf_links.specs.Parts.{hello_out, hello_sent, link_timed};
+ghost use Rattle.ospf_area.specs.State.{LinkValue};
+ghost use Rattle.ospf_adjacency.specs.Links.{elects_by_timers, hello_ticked, timed};
+ghost use Rattle.ospf_links.specs.Parts.{hello_out, link_timed};
 
 use crate::link::{put_back, take_out};
 use ospf_adjacency::{send_due_hello, tick_timers};
@@ -31,7 +32,8 @@ pub fn send_hellos(
     out: &mut Outputs,
     alloc: Global,
 ) -> Result<(), AllocError>
-    ensures after { OnOk result (links.new ≡ map hello_sent links.old) }
+    ensures after { OnOk result (links.new
+        ≡ map (λ (link : LinkValue). record link { iface = hello_ticked link.iface }) links.old) }
     ensures sent { OnOk result (out.new ≡ and_sends out.old
         (flat_from (hello_out own) 0 links.old)) }
 {
@@ -69,7 +71,8 @@ fn send_hello_on(
     out: &mut Outputs,
     alloc: Global,
 ) -> Result<(), AllocError>
-    ensures after { OnOk result (link.new ≡ hello_sent link.old) }
+    ensures after { OnOk result (link.new
+        ≡ record link.old { iface = hello_ticked link.old.iface }) }
     ensures sent { OnOk result (out.new ≡ and_sends out.old (hello_out own number link.old)) }
 {
     let mut post = Post::new(0, alloc);

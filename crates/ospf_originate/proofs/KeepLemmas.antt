@@ -17,7 +17,7 @@ use Rattle.ospf_lsdb.proofs.MapLemmas.{bool_cases}
 use Rattle.ospf_lsdb.specs.Database.{Entry, is_fresh}
 use Rattle.ospf_area.specs.Numbers.{is_own}
 use Rattle.ospf_area.specs.State.{AreaValue, database_entry, kept_number}
-use Rattle.ospf_originate.specs.Actions.{own_action, wanted_action, unwanted_action, next_action, makes_room, is_due}
+use Rattle.ospf_originate.specs.Actions.{own_action, wanted_action, unwanted_action, next_action, is_due}
 use Rattle.ospf_originate.specs.Laws.{IsNextIssue}
 use Rattle.ospf_wanted.specs.Made.{lsa_value}
 use Rattle.ospf_originate.specs.Numbers.{waits}
@@ -26,6 +26,7 @@ use Rattle.ospf_originate.specs.Steps.{wants, action_of}
 use Rattle.ospf_wanted.specs.Wanted.{WantedValue, wanted_key, wanted_of}
 use Rattle.ospf_wanted.specs.Wanted.WantedValue.{RouterLsa, NetworkLsa}
 use Rattle.ospf_originate.specs.declared.action.OwnAction.TheVariants.{Leave, Flush, Issue}
+use Rattle.ospf_originate.proofs.Words.{makes_room}
 
 -- ---- the key and the number of an LSA that is made
 

@@ -6,16 +6,16 @@ use Rattle.ospf_base.specs.declared.ids.LsaKey.{LsaKey}
 use Rattle.ospf_lsa.specs.Header.{header_of}
 use Rattle.ospf_lsa.specs.Lsa.{key_of}
 use Rattle.ospf_area.proofs.NumberLemmas.{own_counted}
-use Rattle.ospf_area.specs.Numbers.{counted, counts, is_own}
+use Rattle.ospf_area.specs.Numbers.{counts, is_own}
 use Rattle.ospf_area.specs.Outputs.{OutputsValue}
 use Rattle.ospf_area.specs.State.{AreaValue, kept_number, numbering_of}
-use Rattle.ospf_area.proofs.Words.{kept_in}
+use Rattle.ospf_area.proofs.Words.{kept_in, counted}
 use Rattle.ospf_area.specs.declared.state.Numbering.{Numbering}
 use Rattle.ospf_update.specs.Aging.{turned_area}
-use Rattle.ospf_originate.specs.Numbers.{issued, issued_at_in}
+use Rattle.ospf_originate.specs.Numbers.{issued}
 use Rattle.ospf_originate.specs.Sound.{IsSound}
-use Rattle.ospf_originate.specs.Steps.{Acts, Issues, IssuesIf, OwnLsas, wants}
-use Rattle.ospf_originate.proofs.Words.{ActsInTurn}
+use Rattle.ospf_originate.specs.Steps.{Acts, Issues, OwnLsas, wants}
+use Rattle.ospf_originate.proofs.Words.{ActsInTurn, IssuesIf, issued_at_in}
 use Rattle.ospf_wanted.specs.Wanted.{WantedValue, wanted_key, wanted_of}
 use Rattle.ospf_originate.specs.declared.action.DueAction.{DueAction}
 use Rattle.ospf_originate.specs.declared.action.OwnAction.{OwnAction}

@@ -10,8 +10,8 @@ use Rattle.ospf_lsdb.proofs.Words.{AreKeysRising}
 use Rattle.ospf_area.specs.Numbers.{is_own}
 use Rattle.ospf_area.specs.Outputs.{OutputsValue}
 use Rattle.ospf_area.specs.State.{AreaValue, database_entry, kept_number, some_link_loading}
-use Rattle.ospf_update.specs.Removal.{RemovesOne, ends_run, is_last, is_leaving, leaving, lowest_number, reset, some_awaits}
-use Rattle.ospf_update.proofs.Words.{RemovesAll, Removes, key_of_entry}
+use Rattle.ospf_update.specs.Removal.{RemovesOne, ends_run, is_leaving, leaving, lowest_number, reset}
+use Rattle.ospf_update.proofs.Words.{RemovesAll, Removes, key_of_entry, is_last, some_awaits}
 use Rattle.ospf_originate.specs.Sound.{IsSound}
 use Rattle.ospf_originate.proofs.SoundLemmas.{Numbers, ended_numbers, fewer, known, last_is_high, numbers_of, sound_of}
 use Rattle.ospf_area.proofs.ShortLemmas.{removed_was}

@@ -16,8 +16,8 @@ use Rattle.ospf_wanted.specs.Wanted.{WantedValue, wanted_of}
 use Rattle.ospf_wanted.specs.Wanted.WantedValue.{RouterLsa, NetworkLsa}
 use Rattle.ospf_wanted.proofs.MakeLemmas.{found_made, wanted_made}
 use Rattle.ospf_originate.specs.Sound.{AreSetUp}
-use Rattle.ospf_originate.specs.Steps.{Acts, Issues, IssuesIf, OwnLsas, wants}
-use Rattle.ospf_originate.proofs.Words.{ActsInTurn}
+use Rattle.ospf_originate.specs.Steps.{Acts, Issues, OwnLsas, wants}
+use Rattle.ospf_originate.proofs.Words.{ActsInTurn, IssuesIf}
 use Rattle.ospf_originate.specs.declared.action.DueAction.{DueAction}
 use Rattle.ospf_originate.specs.declared.action.OwnAction.{OwnAction}
 use Rattle.ospf_originate.specs.declared.action.OwnAction.TheVariants.{Leave, Flush, Issue}

@@ -13,9 +13,9 @@ use Rattle.ospf_flood.specs.Rules.{max_sequence_number}
 use Rattle.ospf_lsa.specs.Header.{header_of}
 use Rattle.ospf_lsdb.specs.Database.{Entry, Held, entry_from, header_at, held_of}
 use Rattle.ospf_area.proofs.NumberLemmas.{own_counted}
-use Rattle.ospf_area.specs.Numbers.{counted, is_own}
+use Rattle.ospf_area.specs.Numbers.{is_own}
 use Rattle.ospf_area.specs.State.{AreaValue, kept_number, numbering_of}
-use Rattle.ospf_area.proofs.Words.{kept_in}
+use Rattle.ospf_area.proofs.Words.{kept_in, counted}
 use Rattle.ospf_area.specs.declared.state.Numbering.{Numbering}
 use Rattle.ospf_update.specs.Removal.{lowest_number, reset}
 use Rattle.ospf_originate.specs.Sound.{AreSetUp, IsSound}

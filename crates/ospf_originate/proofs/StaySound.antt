@@ -17,7 +17,7 @@ use Rattle.ospf_flood.specs.declared.acknowledgement.Acknowledgement.TheVariants
 use Rattle.ospf_flood.specs.declared.rule.LsaRule.{LsaRule}
 use Rattle.ospf_flood.specs.declared.rule.LsaRule.TheVariants.{AcknowledgesExpired, TooSoon, Installs, BadRequest, Duplicate, Stale}
 use Rattle.ospf_iface.specs.declared.machine.Iface.{Iface}
-use Rattle.ospf_exchange.specs.Headers.{copy_in_database}
+use Rattle.ospf_exchange.proofs.Words.{copy_in_database}
 use Rattle.ospf_lsa.specs.Header.{header_of, key_of_header}
 use Rattle.ospf_lsa.specs.Lsa.{key_of, instance_of}
 use Rattle.ospf_lsa.specs.declared.header.LsaHeader.{LsaHeader}
@@ -28,25 +28,24 @@ use Rattle.ospf_neighbour.specs.Lists.{key_unlisted}
 use Rattle.ospf_neighbour.specs.Neighbours.{max_neighbours}
 use Rattle.ospf_area.proofs.PlaceLemmas.{length-map_from}
 use Rattle.ospf_area.specs.Asking.{turned_to_next, turned_link}
-use Rattle.ospf_area.specs.Changes.{changed_at, changed_if, changed_link, changed_on, delayed_at, delayed_on}
-use Rattle.ospf_area.specs.Flooding.{flooded_link, flooded_links, flooded_neighbour, on_link, goes_anywhere, released, released_link}
-use Rattle.ospf_update.specs.Acks.{undelayed_link}
-use Rattle.ospf_area.specs.Numbers.{counts, greatest_after, is_self_originated, marked}
+use Rattle.ospf_area.specs.Changes.{changed_at, delayed_at}
+use Rattle.ospf_area.specs.Flooding.{flooded_links, on_link, goes_anywhere, released}
+use Rattle.ospf_area.specs.Numbers.{counts, is_self_originated, marked}
 use Rattle.ospf_area.specs.Outputs.{OutputsValue}
 use Rattle.ospf_area.specs.Places.{map_from}
 use Rattle.ospf_area.specs.Sending.{own_of}
 use Rattle.ospf_area.specs.Standing.{acknowledging}
 use Rattle.ospf_area.specs.State.{AreaValue, LinkValue, database_entry, numbering_of}
-use Rattle.ospf_area.proofs.Words.{kept_in}
+use Rattle.ospf_area.proofs.Words.{kept_in, changed_link, changed_on, delayed_on, flooded_link, released_link, changed_if, flooded_neighbour, greatest_after}
 use Rattle.ospf_area.specs.declared.changes.AdjacencyChange.{AdjacencyChange}
 use Rattle.ospf_area.specs.declared.flooding.Origin.{Origin}
 use Rattle.ospf_area.specs.declared.sending.Own.{Own}
 use Rattle.ospf_area.specs.declared.state.Numbering.{Numbering}
-use Rattle.ospf_update.specs.Aging.{Flushes, TickAges, copy_flooded, noted, turned_area}
+use Rattle.ospf_update.specs.Aging.{Flushes, TickAges, copy_flooded, turned_area}
 use Rattle.ospf_area.specs.Acting.{Becomes}
-use Rattle.ospf_update.specs.Meets.{MeetsLsa, MeetsRule, Stores, restarted, flooded_area, header_met, heard_by, named_by, replied, reply_to, rule_met}
-use Rattle.ospf_update.proofs.Words.{taken_off, copy_flooded_by, TakesSlices, copies_sent, copy_sent}
-use Rattle.ospf_update.specs.Updates.{MeetsAndTurns, TakesSlice, TakesUpdate}
+use Rattle.ospf_update.specs.Meets.{MeetsLsa, MeetsRule, Stores, restarted, header_met, heard_by, named_by, replied, reply_to, rule_met}
+use Rattle.ospf_update.proofs.Words.{taken_off, copy_flooded_by, TakesSlices, copies_sent, copy_sent, undelayed_link, noted, flooded_area, MeetsAndTurns}
+use Rattle.ospf_update.specs.Updates.{TakesSlice, TakesUpdate}
 use Rattle.ospf_update.specs.Updates.TakesSlice.{Met, PassedOver}
 use Rattle.ospf_update.proofs.PassLemmas.{passed}
 use Rattle.ospf_originate.specs.Laws.{LinksStaySetUp, PartsStaySound}
@@ -221,7 +220,7 @@ met_sound : (f : Origin) (lsa : List ℕ) (s : AreaValue) (o o' : OutputsValue) 
 met_sound f lsa s o o' s' is sound = along (turned_area is.mid) s' is.state (turned_sound is.mid (rule_sound _ f lsa s o is.so_far is.mid is.meets sound))
 
 slice_sound : (f : Origin) (bytes : List ℕ) (s : AreaValue) (o o' : OutputsValue) (s' : AreaValue) → TakesSlice f bytes s o o' s' → IsSound s → IsSound s'
-slice_sound f bytes s o o' s' (Met is meets) sound = met_sound f bytes s o o' s' meets sound
+slice_sound f bytes s o o' s' (Met is mid so_far meets state outputs) sound = met_sound f bytes s o o' s' (record { mid = mid; so_far = so_far; meets = meets; state = state; outputs = outputs }) sound
 slice_sound f bytes s o o' s' (PassedOver is_not passes outputs) sound =
     let p = passed s.passes_over f bytes s s' passes in
     along (record s { direct = p.direct }) s' p.state (rest s s.links p.direct s.tick s.next_dd s.sent s.heard sound.links sound)
@@ -299,9 +298,9 @@ flush_sound key s o o' s' is sound =
 pub age_sound : (s : AreaValue) (o o' : OutputsValue) (s' : AreaValue) → TickAges s o o' s' → IsSound s → IsSound s'
 age_sound s o o' s' is sound =
     let mid = is.mid in
-    let rise = is.rise.rest in
+    let rise = is.rest in
     let mid_sound = same_sound s mid (ap (λ (x : AreaValue). x.links) rise) (ap (λ (x : AreaValue). x.router) rise) (ap (λ (x : AreaValue). x.numbering) rise) (ap (λ (x : AreaValue). x.floor) rise)
-    (ap (λ (x : AreaValue). x.greatest) rise) (aged_known s.database mid.database is.rise.database) sound in
+    (ap (λ (x : AreaValue). x.greatest) rise) (aged_known s.database mid.database is.database) sound in
     let keys = reached_at max_age mid.database in
     along (copies_sent keys mid) s' (copies_become keys mid s' o o' is.sends).state (all_sent_sound keys mid mid_sound)
 

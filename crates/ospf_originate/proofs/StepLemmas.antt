@@ -6,7 +6,8 @@ use Rattle.ospf_lsa.specs.Value.{IsMade}
 use Rattle.ospf_area.specs.Outputs.{OutputsValue}
 use Rattle.ospf_area.specs.Sending.{and_sends}
 use Rattle.ospf_area.specs.State.{AreaValue}
-use Rattle.ospf_update.specs.Meets.{Stores, store_updates}
+use Rattle.ospf_update.specs.Meets.{Stores}
+use Rattle.ospf_update.proofs.Words.{store_updates}
 use Rattle.ospf_wanted.specs.Made.{lsa_value}
 use Rattle.ospf_originate.specs.Numbers.{issued}
 use Rattle.ospf_originate.specs.Steps.{Issues}

@@ -9,15 +9,13 @@ use Rattle.ospf_wanted.specs.Wanted.{WantedValue}
 use Rattle.ospf_originate.specs.declared.action.OwnAction.{OwnAction}
 use Rattle.ospf_originate.specs.declared.action.OwnAction.TheVariants.{Leave, Flush, Issue}
 
--- the copy makes room for the numbers to begin again, or does so already (12.1.6)
-abbrev pub makes_room : Option Entry → OwnAction
-makes_room None = Leave
-makes_room (Some copy) = if is_fresh copy then Flush else Leave
-
--- the LSA is issued with the number after the kept one, if there is one
+-- the LSA is issued with the number after the kept one, if there is one; else its copy makes room
+-- for the numbers to begin again, or does so already (12.1.6)
 abbrev pub next_action : Option Entry → ℤ → OwnAction
 next_action copy kept =
-    if int_eq kept max_sequence_number then makes_room copy else Issue (kept +ℤ pos 1)
+    if int_eq kept max_sequence_number
+    then elim copy [ None ↦ Leave | Some e ↦ (if is_fresh e then Flush else Leave) ]
+    else Issue (kept +ℤ pos 1)
 
 -- a wanted LSA is due: the database has no copy of it, or one that has come to
 -- LSRefreshTime or says something else (12.4)

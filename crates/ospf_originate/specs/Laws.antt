@@ -1,12 +1,12 @@
 -- Laws of own LSAs: their numbers, and what is kept for them; those of what is
 -- wanted stand in `ospf_wanted`.
-use Rattle.std.specs.Prelude.{◌≡◌, ◌&&◌, ◌+ℤ◌, ◌≤ℤ◌, ℕ, ℤ, pos, true, List, [], Option, Some, if◌then◌else◌, map}
+use Rattle.std.specs.Prelude.{◌≡◌, ◌&&◌, ◌+ℤ◌, ◌≤ℤ◌, ℕ, ℤ, pos, true, List, [], Option, Some, if◌then◌else◌, map, option_and_then}
 use Rattle.std.specs.Int.{int_max}
-use Rattle.ospf_update.specs.Acks.{undelayed_link}
 use Rattle.ospf_area.specs.Asking.{turned_link}
 use Rattle.ospf_base.specs.Keys.{same_key}
 use Rattle.ospf_base.specs.declared.ids.LsaKey.{LsaKey}
-use Rattle.ospf_lsa.specs.Lsa.{IsLsa}
+use Rattle.ospf_lsa.specs.Header.{header_of}
+use Rattle.ospf_lsa.specs.Lsa.{IsLsa, key_of}
 use Rattle.ospf_lsa.specs.Recency.{recency}
 use Rattle.ospf_lsa.specs.Value.{IsMade}
 use Rattle.ospf_lsa.specs.declared.header.LsaHeader.{LsaHeader}
@@ -15,7 +15,7 @@ use Rattle.ospf_lsdb.specs.Database.{IsDatabase}
 use Rattle.ospf_area.specs.Changes.{changed_at, delayed_at}
 use Rattle.ospf_area.specs.Flooding.{flooded_links, released}
 use Rattle.ospf_area.specs.Laws.{AreShort}
-use Rattle.ospf_area.specs.Numbers.{counts, greatest_after, is_own}
+use Rattle.ospf_area.specs.Numbers.{counts, is_own}
 use Rattle.ospf_area.specs.Outputs.{OutputsValue}
 use Rattle.ospf_area.specs.Standing.{acknowledging}
 use Rattle.ospf_area.specs.State.{AreaValue, LinkValue, kept_number, numbering_of}
@@ -26,10 +26,9 @@ use Rattle.ospf_flood.specs.declared.acknowledgement.Acknowledgement.{Acknowledg
 use Rattle.ospf_update.specs.Aging.{Flushes, SendsCopy, TickAges, turned_area}
 use Rattle.ospf_update.specs.Laws.{IsShortLsa}
 use Rattle.ospf_area.specs.Acting.{Becomes, InTurn}
-use Rattle.ospf_update.specs.Meets.{MeetsLsa, Stores, restarted, flooded_area, header_met}
+use Rattle.ospf_update.specs.Meets.{MeetsLsa, Stores, restarted, header_met}
 use Rattle.ospf_update.specs.Removal.{RemovesOne, leaving}
 use Rattle.ospf_update.specs.Updates.{TakesUpdate}
-use Rattle.ospf_originate.specs.Numbers.{issued_at_in}
 use Rattle.ospf_originate.specs.Sound.{AreSetUp, IsSound}
 use Rattle.ospf_originate.specs.Steps.{Issues, OwnLsas, wants, action_of}
 use Rattle.ospf_wanted.specs.Made.{CanBeMade, lsa_value}
@@ -53,9 +52,9 @@ abbrev pub IssuedWaits : Type 0
 IssuedWaits =
     (w : WantedValue) (number : ℤ) (s : AreaValue) (o o' : OutputsValue) (s' : AreaValue)
     → Issues w number s o o' s' → is_own s.router (wanted_key w) ≡ true → (key : LsaKey)
-    → issued_at_in (numbering_of s'.numbering key)
+    → option_and_then (λ n. n.issued_at) (numbering_of s'.numbering key)
     ≡ (if same_key (wanted_key w) key then Some s.tick
-    else issued_at_in (numbering_of s.numbering key))
+    else option_and_then (λ n. n.issued_at) (numbering_of s.numbering key))
 
 -- ---- the own LSAs that end a step
 
@@ -118,7 +117,8 @@ pub record LinksStaySetUp : Type 0 where
       → AreSetUp links → AreSetUp (changed_at f change tick links)
   pub delayed : (number : ℕ) (h : LsaHeader) (links : List LinkValue) → AreSetUp links
       → AreSetUp (delayed_at number h links)
-  pub undelayed : (links : List LinkValue) → AreSetUp links → AreSetUp (map undelayed_link links)
+  pub undelayed : (links : List LinkValue) → AreSetUp links
+      → AreSetUp (map (λ (l : LinkValue). record l { delayed = [] }) links)
 
 -- and so does each call of which these are made keep it
 pub record PartsStaySound : Type 0 where
@@ -127,7 +127,10 @@ pub record PartsStaySound : Type 0 where
       → IsSound (record s { links = links })
   pub counted : (key : LsaKey) (number : ℤ) (s : AreaValue) → IsSound s
       → IsSound
-      (record s { numbering = counts key number s; greatest = greatest_after key number s })
+      (record s {
+        numbering = counts key number s;
+        greatest = if is_own s.router key then int_max s.greatest number else s.greatest;
+      })
   pub acknowledging : (a : Acknowledgement) (f : Origin) (h : LsaHeader) (s : AreaValue) → IsSound s
       → IsSound (acknowledging a f h s)
   pub stored : (lsa : List ℕ) (from : Option Origin) (s s' : AreaValue) → Stores lsa from s s'
@@ -140,7 +143,8 @@ pub record PartsStaySound : Type 0 where
   pub copied : (key : LsaKey) (s : AreaValue) (o o' : OutputsValue) (s' : AreaValue)
       → SendsCopy key s o o' s' → IsSound s → IsSound s'
   pub flooded : (lsa : List ℕ) (from : Option Origin) (s : AreaValue) → IsSound s
-      → IsSound (flooded_area lsa from s)
+      → IsSound
+      (record s { links = flooded_links (key_of lsa) (header_of lsa) from s.tick s.links })
   pub answered : (s : AreaValue) → IsSound s → IsSound (record s { direct = [] })
   pub marked : (s : AreaValue) (sent : List LsaKey) → IsSound s → IsSound (record s { sent = sent })
 

@@ -1,21 +1,22 @@
 -- Own LSAs as they are issued and flushed (RFC 2328, sections 12.4, 13.4 and 14.1),
 -- over a router's part of an area.
-use Rattle.std.specs.Prelude.{◌≡◌, ◌++◌, ℕ, ℤ, false, List, [], ◌∷◌, Option, None, Some, map}
+use Rattle.std.specs.Prelude.{◌≡◌, ◌++◌, ℕ, ℤ, false, List, [], ◌∷◌, None, Some, map}
 use Rattle.std.specs.List.{flat_map}
 use Rattle.ospf_base.specs.Rising.{IsRisingBy}
 use Rattle.ospf_base.specs.Keys.{Precedes}
 use Rattle.ospf_base.specs.declared.ids.LsaKey.{LsaKey}
-use Rattle.ospf_lsa.specs.Lsa.{IsLsa}
+use Rattle.ospf_lsa.specs.Lsa.{IsLsa, key_of}
 use Rattle.ospf_lsa.specs.Value.{IsMade}
 use Rattle.ospf_lsdb.specs.Moments.{among}
+use Rattle.ospf_area.specs.Flooding.{flooding_updates, released}
 use Rattle.ospf_area.specs.Numbers.{is_own}
 use Rattle.ospf_area.specs.Outputs.{OutputsValue}
-use Rattle.ospf_area.specs.Sending.{and_sends}
+use Rattle.ospf_area.specs.Sending.{and_sends, own_of}
 use Rattle.ospf_area.specs.State.{AreaValue, database_entry, kept_number}
 use Rattle.ospf_area.specs.declared.state.Numbering.{Numbering}
 use Rattle.ospf_update.specs.Aging.{Flushes, turn_out, turned_area}
 use Rattle.ospf_area.specs.Acting.{Becomes, InTurn}
-use Rattle.ospf_update.specs.Meets.{Stores, store_updates}
+use Rattle.ospf_update.specs.Meets.{Stores}
 use Rattle.ospf_originate.specs.Actions.{IsUsed, own_action}
 use Rattle.ospf_wanted.specs.Made.{lsa_value}
 use Rattle.ospf_originate.specs.Numbers.{waits, issued}
@@ -40,7 +41,8 @@ pub record Issues (w : WantedValue) (number : ℤ) (before : AreaValue) (out out
       after ≡ record stored { numbering = issued (wanted_key w) before.tick stored.numbering }
   pub outputs : out'
       ≡ record out {
-        sent = out.sent ++ store_updates lsa None before;
+        sent = out.sent
+            ++ flooding_updates (own_of before) lsa None (released (key_of lsa) before.links);
         issued = out.issued ++ lsa ∷ [];
       }
 
@@ -65,45 +67,39 @@ pub record IssuesAndTurns (w : WantedValue) (number : ℤ) (before : AreaValue)
   pub turned : after ≡ turned_area mid
   pub outputs : out' ≡ and_sends mid_out (turn_out mid)
 
--- the wanted LSA of a key is issued with a number, if one is wanted
-abbrev pub IssuesIf : Option WantedValue → ℤ → AreaValue → OutputsValue → OutputsValue → AreaValue
-    → Type 0
-IssuesIf None number before out out' after = Becomes before out out' after
-IssuesIf (Some w) number before out out' after = IssuesAndTurns w number before out out' after
-
--- what an action does to the router, by what it wants
+-- what an action does to the router, by what it wants: an LSA of the key is issued with the number,
+-- if one is wanted
 abbrev pub Acts : OwnAction → List WantedValue → LsaKey → AreaValue → OutputsValue → OutputsValue
     → AreaValue → Type 0
 Acts Leave ws key before out out' after = Becomes before out out' after
 Acts Flush ws key before out out' after = Flushes key before out out' after
 Acts (Issue number) ws key before out out' after =
-    IssuesIf (wanted_of ws key) number before out out' after
-
--- what is due of a key
-abbrev pub due_as : OwnAction → LsaKey → List DueAction
-due_as Leave key = []
-due_as Flush key = record { key = key; action = Flush } ∷ []
-due_as (Issue number) key = record { key = key; action = Issue number } ∷ []
+    elim (wanted_of ws key) [
+      | None ↦ Becomes before out out' after
+      | Some w ↦ IssuesAndTurns w number before out out' after
+    ]
 
 -- what is due is no issue, or one with a number that is used
 abbrev pub HasUsedNumber : DueAction → Type 0
 HasUsedNumber d = IsUsed d.action
-
--- what is due of keys, in their order
-abbrev pub due_of : (LsaKey → OwnAction) → List LsaKey → List DueAction
-due_of action keys = flat_map (λ key. due_as (action key) key) keys
 
 -- the keys of which something may be due: those that are wanted, those that are
 -- numbered, and those that were heard
 abbrev pub candidates : List WantedValue → List Numbering → List LsaKey → List LsaKey
 candidates ws ns heard = map wanted_key ws ++ map (λ n. n.key) ns ++ heard
 
--- what is due in a state: of keys that rise, which leave out none of which something becomes
+-- what is due in a state, of one key after the other: the keys rise, and leave out none of which
+-- something becomes
 pub record IsDue (s : AreaValue) (due : List DueAction) : Type 0 where
   pub keys : List LsaKey
   pub rising : IsRisingBy Precedes keys
   pub whole : (key : LsaKey) → among keys key ≡ false → action_of s key ≡ Leave
-  pub is : due ≡ due_of (action_of s) keys
+  pub is : due
+      ≡ flat_map (λ key. elim (action_of s key) [
+        | Leave ↦ []
+        | Flush ↦ record { key = key; action = Flush } ∷ []
+        | Issue number ↦ record { key = key; action = Issue number } ∷ []
+      ]) keys
 
 -- the own LSAs that end a step, and the self-originated ones that are flushed: exactly those that
 -- are due in the state in which they begin, in order of key (12.4, 13.4)

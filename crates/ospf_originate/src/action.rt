@@ -1,9 +1,9 @@
 //! What becomes of an own LSA.
 
-ghost use Rattle.std.specs.Prelude.{◌≡◌, IfErr, IfOk, OnErr, false, option_map, option_copied};
+ghost use Rattle.std.specs.Prelude.{◌≡◌, IfErr, IfOk, None, OnErr, Some, false, if◌then◌else◌, option_map, option_copied};
 ghost use Rattle.ospf_lsa.specs.Value.{IsUnmade};
 ghost use Rattle.ospf_lsdb.specs.Database.{is_fresh};
-ghost use Rattle.ospf_originate.specs.Actions.{makes_room, next_action, is_due, wanted_action, unwanted_action, own_action, IsCompared, IsUsed};
+ghost use Rattle.ospf_originate.specs.Actions.{next_action, is_due, wanted_action, unwanted_action, own_action, IsCompared, IsUsed};
 ghost use Rattle.ospf_wanted.specs.Made.{IsUnmadeIf, Needs, first_number};
 ghost use Rattle.ospf_wanted.specs.Own.{wanted_value};
 
@@ -131,7 +131,10 @@ fn unwanted_action(copy: Option<EntryView<'_>>, heard: bool, own: bool) -> OwnAc
 
 // What an LSA without a next number comes to.
 fn makes_room(copy: Option<EntryView<'_>>) -> OwnAction
-    ensures is { result ≡ makes_room copy.entry }
+    ensures is { result ≡ (elim copy.entry [
+      | None ↦ OwnAction.Leave
+      | Some e ↦ (if is_fresh e then OwnAction.Flush else OwnAction.Leave)
+    ]) }
     ensures used { IsUsed result }
 {
     match copy {

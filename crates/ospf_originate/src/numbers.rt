@@ -1,8 +1,9 @@
 //! How far the numbers of a router's own LSAs have come, and when each was last issued.
 
-ghost use Rattle.std.specs.Prelude.{◌≡◌, None, Some};
+ghost use Rattle.std.specs.Prelude.{◌≡◌, None, Some, if◌then◌else◌, option_and_then};
 ghost use Rattle.ospf_area.specs.State.{numbering_of};
-ghost use Rattle.ospf_originate.specs.Numbers.{issued_at_in, waits, issued_one, issued};
+ghost use Rattle.ospf_originate.specs.Numbers.{waits, issued};
+ghost use Rattle.ospf_base.specs.Keys.{same_key};
 
 use ospf_area::Numbering;
 use ospf_base::{LsaKey, have_passed};
@@ -48,7 +49,7 @@ fn numbering_of(all: &[Numbering], key: &LsaKey) -> Option<Numbering>
 
 // When a key was last issued.
 fn issued_at(all: &[Numbering], key: &LsaKey) -> Option<u64>
-    ensures { result ≡ issued_at_in (numbering_of all.now key.now) }
+    ensures { result ≡ option_and_then (λ n. n.issued_at) (numbering_of all.now key.now) }
 {
     match numbering_of(all, key) {
         Some(numbering) => numbering.issued_at,
@@ -57,7 +58,8 @@ fn issued_at(all: &[Numbering], key: &LsaKey) -> Option<u64>
 }
 
 fn note_one(numbering: &mut Numbering, key: &LsaKey, tick: u64)
-    ensures { numbering.new ≡ issued_one key.now tick numbering.old }
+    ensures { numbering.new ≡ (if same_key numbering.old.key key.now
+        then record numbering.old { issued_at = Some tick } else numbering.old) }
 {
     if numbering.key.is_same(key) {
         numbering.issued_at = Some(tick);

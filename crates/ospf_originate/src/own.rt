@@ -1,8 +1,8 @@
 //! The own LSAs that end a step.
 
-ghost use Rattle.std.specs.Prelude.{◌≡◌, ◌++◌, [], false, IfOk, OnErr, OnOk, find, map, option_copied, option_map};
+ghost use Rattle.std.specs.Prelude.{◌≡◌, ◌++◌, ◌∷◌, [], false, IfOk, None, OnErr, OnOk, Some, find, map, option_copied, option_map};
 ghost use Rattle.std.specs.BTreeSet.{IsOrdered};
-ghost use Rattle.std.specs.List.{AllByRecursion, list_any};
+ghost use Rattle.std.specs.List.{AllByRecursion, flat_map, list_any};
 ghost use Rattle.ospf_base.specs.Rising.{IsRisingBy};
 ghost use Rattle.ospf_base.specs.Keys.{same_key, key_cmp, Precedes};
 ghost use Rattle.ospf_base.specs.declared.ids.LsaKey.{LsaKey};
@@ -13,9 +13,9 @@ ghost use Rattle.ospf_wanted.specs.Made.{CanBeMade, CanBeMadeIf, Needs};
 ghost use Rattle.ospf_originate.specs.Idle.{IsIdle};
 ghost use Rattle.ospf_wanted.specs.Own.{wanted_value};
 ghost use Rattle.ospf_originate.specs.Sound.{AreNumbered, IsSound};
-ghost use Rattle.ospf_area.specs.Acting.{InTurn};
+ghost use Rattle.ospf_area.specs.Acting.{Becomes, InTurn};
 ghost use Rattle.ospf_update.specs.Aging.{Flushes};
-ghost use Rattle.ospf_originate.specs.Steps.{wants, action_of, Acts, HasUsedNumber, IssuesAndTurns, IssuesIf, due_as, due_of, candidates, IsDue, OwnLsas};
+ghost use Rattle.ospf_originate.specs.Steps.{wants, action_of, Acts, HasUsedNumber, IssuesAndTurns, candidates, IsDue, OwnLsas};
 ghost use Rattle.ospf_wanted.specs.Wanted.{wanted_of, wanted_key};
 
 use crate::action::{DueAction, OwnAction, own_action};
@@ -162,7 +162,12 @@ fn due_of(
 ) -> Result<Vec<DueAction>, AllocError>
     requires wants { map wanted_value all.now ≡ wants area.now }
     requires made { AllByRecursion CanBeMade (wants area.now) }
-    ensures is { IfOk result (λ v. v.items ≡ due_of (action_of area.now) keys.now) }
+    ensures is { IfOk result (λ v. v.items
+        ≡ flat_map (λ key. elim (action_of area.now key) [
+          | OwnAction.Leave ↦ []
+          | OwnAction.Flush ↦ record { key = key; action = OwnAction.Flush } ∷ []
+          | OwnAction.Issue number ↦ record { key = key; action = OwnAction.Issue number } ∷ []
+        ]) keys.now) }
     ensures used { IfOk result (λ v. AllByRecursion HasUsedNumber v.items) }
 {
     let mut out = Vec::new(alloc);
@@ -223,7 +228,11 @@ fn is_heard(heard: &[LsaKey], key: &LsaKey) -> bool
 
 // Puts what is due of a key at the end.
 fn push_due(out: &mut Vec<DueAction>, key: LsaKey, action: OwnAction) -> Result<(), AllocError>
-    ensures { OnOk result (out.new.items ≡ out.old.items ++ due_as action key) }
+    ensures { OnOk result (out.new.items ≡ out.old.items ++ (elim action [
+      | OwnAction.Leave ↦ []
+      | OwnAction.Flush ↦ record { key = key; action = OwnAction.Flush } ∷ []
+      | OwnAction.Issue number ↦ record { key = key; action = OwnAction.Issue number } ∷ []
+    ])) }
 {
     match action {
         OwnAction::Leave => {}
@@ -297,9 +306,10 @@ fn issue_key(
     alloc: Global,
 ) -> Result<(), AllocError>
     requires { CanBeMadeIf number (option_map (λ w. wanted_value w.now) wanted) }
-    ensures { OnOk result (IssuesIf (option_map (λ w. wanted_value w.now) wanted.entry) number
-        area.old
-        out.old out.new area.new) }
+    ensures { OnOk result (elim (option_map (λ w. wanted_value w.now) wanted.entry) [
+      | None ↦ Becomes area.old out.old out.new area.new
+      | Some w ↦ IssuesAndTurns w number area.old out.old out.new area.new
+    ]) }
 {
     match wanted {
         Some(wanted) => issue_one(area, wanted, number, out, alloc),

@@ -4,6 +4,7 @@ mod TableLemmas
 pub mod KeepLemmas
 mod ServedLemmas
 mod ListingFacts
+mod KeptFacts
 pub mod StartLemmas
 mod SettledLemmas
 mod TouchedChains

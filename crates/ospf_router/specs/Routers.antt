@@ -1,6 +1,5 @@
 -- A router: its part of the area, and its routing table (RFC 2328, sections 5 and 11).
 use Rattle.std.specs.Prelude.{◌≡◌, ℕ, ℤ, Bool, false, List, [], Option, None, Some, length, slice_get}
-use Rattle.ospf_area.specs.Standing.{is_awaited_of}
 use Rattle.ospf_area.specs.State.{AreaValue, neighbour}
 use Rattle.ospf_base.specs.declared.ids.Instance.{Instance}
 use Rattle.ospf_base.specs.declared.ids.RouterId.{RouterId}
@@ -11,6 +10,7 @@ use Rattle.ospf_neighbour.specs.Neighbour.{NeighbourValue}
 use Rattle.ospf_router.specs.Listings.{ListsAs}
 use Rattle.ospf_router.specs.Routes.{AreRoutes, RoutesValue}
 use Rattle.ospf_step.specs.Fit.{IsFitRouter}
+use Rattle.ospf_neighbour.specs.Lists.{is_listed}
 
 -- a router: how many links it has, the floor of its start, its routing table, and its part of the
 -- area, which is `None` of one that has stopped
@@ -53,7 +53,10 @@ neighbours_on (Some s) l = elim (slice_get s.links l) [ None ↦ [] | Some link 
 -- an instance is on the retransmission list of a neighbour that may not be there (13.6)
 abbrev pub awaits_in : Option AreaValue → ℕ → RouterId → Instance → Bool
 awaits_in None link q i = false
-awaits_in (Some s) link q i = is_awaited_of i (neighbour s link q)
+awaits_in (Some s) link q i = elim (neighbour s link q) [
+  | None ↦ false
+  | Some n ↦ is_listed i n.retransmission
+]
 
 -- the greatest number of a key of its own that was issued or installed since the start, and
 -- not below the floor of the start

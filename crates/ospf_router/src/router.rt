@@ -12,7 +12,8 @@ ghost use Rattle.ospf_area.specs.State.{AreaValue};
 ghost use Rattle.ospf_router.specs.Routers.{IsKept, awaits_in, greatest_in, listing_of, neighbours_on, stopped};
 ghost use Rattle.ospf_router.specs.Routes.{AreRoutes};
 ghost use Rattle.ospf_router.specs.Starts.{IsStarted};
-ghost use Rattle.ospf_router.specs.Steps.{IsLawful, Steps};
+ghost use Rattle.ospf_router.specs.Steps.{Steps};
+ghost use Rattle.ospf_step.specs.Steps.{StepsArea};
 
 use crate::fault::{StartFault, Stopped};
 use crate::routes::KeptRoutes;
@@ -131,6 +132,15 @@ impl Router {
         }
     }
 
+    /// What each step needs of the state of a router that runs, and keeps: by it each step is
+    /// lawful (`ospf_step::steps_are_lawful`). It is there for proofs, and costs nothing.
+    pub fn keeps(&self)
+        ensures { (s : AreaValue) → self.now.area ≡ Some s → IsKept s }
+    {
+        // For the proof.
+        let _links = self.links;
+    }
+
     /// The routing table (RFC 2328, section 11); one that has stopped
     /// routes nothing. No memory is taken.
     pub fn table(&self) -> &RouteTable
@@ -247,7 +257,7 @@ fn advance(
     requires listing { ListsAs area.old.database routes.old.listing }
     requires router { routes.old.router ≡ area.old.router }
     // The area takes its step by the rules, stays the same router, and can be stepped again.
-    ensures lawful { IfOk result (λ a. IsLawful (happening event.entry) area.old a.taken.dropped
+    ensures steps { IfOk result (λ a. StepsArea (happening event.entry) area.old a.taken.dropped
         a.taken.out area.new) }
     ensures same { OnOk result (IsSameRouter area.old area.new) }
     ensures kept { OnOk result (IsKept area.new) }

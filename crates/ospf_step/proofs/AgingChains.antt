@@ -10,10 +10,9 @@ use Rattle.ospf_lsdb.specs.Database as lsdb
 use Rattle.ospf_lsdb.specs.Database.{Entry, IsDatabase, lsa_of, key_at, key_in, reached_at, entries}
 use Rattle.ospf_base.proofs.SameKeys.{same_key-eq, same_key-refl}
 use Rattle.ospf_exchange.proofs.LawLemmas.{of_copy}
-use Rattle.ospf_update.specs.Aging.{TickAges, Flushes, turn_out, noted, copy_flooded, copy_flood_out}
-use Rattle.ospf_update.proofs.Words.{copy_flooded_by, copy_flood_out_by, copies_out, copies_sent, copy_out, copy_sent}
+use Rattle.ospf_update.specs.Aging.{TickAges, Flushes, turn_out, copy_flooded}
+use Rattle.ospf_update.proofs.Words.{copy_flooded_by, copy_flood_out_by, copies_out, copies_sent, copy_out, copy_sent, noted, copy_flood_out, flooded_area}
 use Rattle.ospf_area.specs.Flooding.{flooded_links, flooding_updates, goes_anywhere}
-use Rattle.ospf_update.specs.Meets.{flooded_area}
 use Rattle.ospf_area.specs.Sending.{own_of}
 use Rattle.ospf_area.specs.Outputs.{no_outputs, sends, AreReadAsSent, OutputsValue}
 use Rattle.ospf_area.specs.State.{AreaValue, database_entry, kept_number}
@@ -131,7 +130,7 @@ TickAges-is_part before after out out' t is read =
         mid = t.mid;
         first_out = no_outputs;
         next_out = sends (copies_out keys t.mid);
-        first = record { rise = t.rise; outputs = refl };
+        first = record { database = t.database; rest = t.rest; outputs = refl };
         next = subst (λ s. Times n ExpiryStep t.mid (sends (copies_out keys t.mid)) s) (sym (copies_become keys t.mid after out out' t.sends).state) times;
         both = refl;
       },

@@ -8,7 +8,7 @@ use Rattle.ospf_flood.specs.declared.acknowledgement.Acknowledgement.{Acknowledg
 use Rattle.ospf_flood.specs.declared.acknowledgement.Acknowledgement.TheVariants as answer
 use Rattle.ospf_flood.specs.declared.rule.LsaRule.{LsaRule}
 use Rattle.ospf_flood.specs.declared.rule.LsaRule.TheVariants.{AcknowledgesExpired, TooSoon, Installs, BadRequest, Duplicate, Stale}
-use Rattle.ospf_exchange.specs.Headers.{copy_in_database}
+use Rattle.ospf_exchange.proofs.Words.{copy_in_database}
 use Rattle.ospf_lsa.specs.Header.{header_of, key_of_header}
 use Rattle.ospf_lsa.specs.Lsa.{key_of, instance_of}
 use Rattle.ospf_lsa.specs.declared.header.LsaHeader.{LsaHeader}
@@ -17,8 +17,8 @@ use Rattle.ospf_lsdb.specs.Database as lsdb
 use Rattle.ospf_neighbour.specs.Lists.{key_unlisted}
 use Rattle.ospf_area.proofs.NeighbourLemmas.{changed_if-router, flooded-router, turned-router}
 use Rattle.ospf_area.specs.Asking.{turned_to_next, turned_link}
-use Rattle.ospf_area.specs.Changes.{changed_at, changed_if, changed_link, changed_on, delayed_at, delayed_on}
-use Rattle.ospf_area.specs.Flooding.{came_from, flooded_link, flooded_links, flooded_neighbour, on_link, goes_anywhere, released, released_link}
+use Rattle.ospf_area.specs.Changes.{changed_at, delayed_at}
+use Rattle.ospf_area.specs.Flooding.{came_from, flooded_links, on_link, goes_anywhere, released}
 use Rattle.ospf_area.specs.Numbers.{is_self_originated}
 use Rattle.ospf_area.specs.Outputs.{OutputsValue}
 use Rattle.ospf_area.specs.Sending.{own_of}
@@ -27,22 +27,23 @@ use Rattle.ospf_area.specs.State.{AreaValue, LinkValue, database_entry}
 use Rattle.ospf_area.specs.declared.changes.AdjacencyChange.{AdjacencyChange}
 use Rattle.ospf_area.specs.declared.flooding.Origin.{Origin}
 use Rattle.ospf_area.specs.declared.sending.Own.{Own}
-use Rattle.ospf_update.specs.Aging.{Flushes, TickAges, copy_flooded, noted, turned_area}
-use Rattle.ospf_update.specs.Meets.{MeetsRule, Stores, flooded_area, header_met, heard_by, named_by, replied, reply_to, rule_met}
-use Rattle.ospf_update.proofs.Words.{taken_off, copy_flooded_by, RemovesAll, Removes, TakesSlices, copies_sent, copy_sent}
+use Rattle.ospf_update.specs.Aging.{Flushes, TickAges, copy_flooded, turned_area}
+use Rattle.ospf_update.specs.Meets.{MeetsRule, Stores, header_met, heard_by, named_by, replied, reply_to, rule_met}
+use Rattle.ospf_update.proofs.Words.{taken_off, copy_flooded_by, RemovesAll, Removes, TakesSlices, copies_sent, copy_sent, noted, flooded_area}
 use Rattle.ospf_update.specs.Removal.{leaving}
 use Rattle.ospf_update.specs.Updates.{TakesSlice, TakesUpdate}
 use Rattle.ospf_update.specs.Updates.TakesSlice.{Met, PassedOver}
 use Rattle.ospf_update.proofs.PassLemmas.{passed}
 use Rattle.ospf_step.specs.Puts.{headers_met}
-use Rattle.ospf_originate.specs.Steps.{Acts, Issues, IssuesIf, OwnLsas, wants}
-use Rattle.ospf_originate.proofs.Words.{ActsInTurn}
+use Rattle.ospf_originate.specs.Steps.{Acts, Issues, OwnLsas, wants}
+use Rattle.ospf_originate.proofs.Words.{ActsInTurn, IssuesIf}
 use Rattle.ospf_originate.specs.Wanted.{WantedValue, wanted_of}
 use Rattle.ospf_originate.specs.declared.action.DueAction.{DueAction}
 use Rattle.ospf_originate.specs.declared.action.OwnAction.{OwnAction}
 use Rattle.ospf_originate.specs.declared.action.OwnAction.TheVariants.{Leave, Flush, Issue}
 use Rattle.ospf_step.proofs.FitLemmas.{AllFit, IsFor, IsKin, along, fit_from, fit_map, kin_fit, ids_map}
 use Rattle.ospf_update.proofs.CopyLemmas.{copies_become}
+use Rattle.ospf_area.proofs.Words.{changed_link, changed_on, delayed_on, flooded_link, released_link, changed_if, flooded_neighbour}
 
 module _ (r : RouterId) where
   -- ---- links
@@ -113,7 +114,7 @@ module _ (r : RouterId) where
   rule_for (Some Stale) f lsa s o o' s' is fit = along r _ s' is.state (replied_for (reply_to s (key_of lsa)) f (key_of lsa) s fit)
 
   slice_for : (f : Origin) (bytes : List ℕ) (s : AreaValue) (o o' : OutputsValue) (s' : AreaValue) → TakesSlice f bytes s o o' s' → IsFor r s → IsFor r s'
-  slice_for f bytes s o o' s' (Met is meets) fit = along r (turned_area meets.mid) s' meets.state (turned_for meets.mid (rule_for (rule_met s f bytes) f bytes s o meets.so_far meets.mid meets.meets fit))
+  slice_for f bytes s o o' s' (Met is mid so_far meets state outputs) fit = along r (turned_area mid) s' state (turned_for mid (rule_for (rule_met s f bytes) f bytes s o so_far mid meets fit))
   slice_for f bytes s o o' s' (PassedOver is_not passes outputs) fit =
       let p = passed s.passes_over f bytes s s' passes in
       along r (record s { direct = p.direct }) s' p.state (record { own = fit.own; links = fit.links })
@@ -173,7 +174,7 @@ module _ (r : RouterId) where
       let mid = is.mid in
       let keys = reached_at max_age mid.database in
       along r (copies_sent keys mid) s' (copies_become keys mid s' out out' is.sends).state (all_sent_for keys mid
-      (aside_for s mid (ap (λ (x : AreaValue). x.router) is.rise.rest) (ap (λ (x : AreaValue). x.links) is.rise.rest) fit))
+      (aside_for s mid (ap (λ (x : AreaValue). x.router) is.rest) (ap (λ (x : AreaValue). x.links) is.rest) fit))
 
   -- ---- own LSAs
 

@@ -8,7 +8,7 @@ use Rattle.ospf_flood.specs.declared.acknowledgement.Acknowledgement.{Acknowledg
 use Rattle.ospf_flood.specs.declared.acknowledgement.Acknowledgement.TheVariants as answer
 use Rattle.ospf_flood.specs.declared.rule.LsaRule.{LsaRule}
 use Rattle.ospf_flood.specs.declared.rule.LsaRule.TheVariants.{AcknowledgesExpired, TooSoon, Installs, BadRequest, Duplicate, Stale}
-use Rattle.ospf_exchange.specs.Headers.{copy_in_database}
+use Rattle.ospf_exchange.proofs.Words.{copy_in_database}
 use Rattle.ospf_lsa.specs.Header.{header_of, key_of_header}
 use Rattle.ospf_lsa.specs.Lsa.{key_of, instance_of}
 use Rattle.ospf_lsa.specs.declared.header.LsaHeader.{LsaHeader}
@@ -17,8 +17,8 @@ use Rattle.ospf_lsdb.specs.Database as lsdb
 use Rattle.std.proofs.lemmas.List.{length-map}
 use Rattle.ospf_area.proofs.PlaceLemmas.{length-map_from}
 use Rattle.ospf_area.specs.Asking.{turned_link}
-use Rattle.ospf_area.specs.Changes.{changed_at, changed_on, delayed_on}
-use Rattle.ospf_area.specs.Flooding.{flooded_link, goes_anywhere, released, released_link}
+use Rattle.ospf_area.specs.Changes.{changed_at}
+use Rattle.ospf_area.specs.Flooding.{goes_anywhere, released}
 use Rattle.ospf_area.specs.Numbers.{is_self_originated}
 use Rattle.ospf_area.specs.Outputs.{OutputsValue}
 use Rattle.ospf_area.specs.Sending.{own_of}
@@ -26,21 +26,22 @@ use Rattle.ospf_area.specs.Standing.{acknowledging}
 use Rattle.ospf_area.specs.State.{AreaValue, LinkValue, database_entry}
 use Rattle.ospf_area.specs.declared.changes.AdjacencyChange.{AdjacencyChange}
 use Rattle.ospf_area.specs.declared.flooding.Origin.{Origin}
-use Rattle.ospf_update.specs.Aging.{Flushes, TickAges, copy_flooded, noted, turned_area}
-use Rattle.ospf_update.specs.Meets.{MeetsRule, Stores, flooded_area, header_met, heard_by, named_by, replied, reply_to, rule_met}
-use Rattle.ospf_update.proofs.Words.{taken_off, copy_flooded_by, RemovesAll, Removes, TakesSlices, copies_sent, copy_sent}
+use Rattle.ospf_update.specs.Aging.{Flushes, TickAges, copy_flooded, turned_area}
+use Rattle.ospf_update.specs.Meets.{MeetsRule, Stores, header_met, heard_by, named_by, replied, reply_to, rule_met}
+use Rattle.ospf_update.proofs.Words.{taken_off, copy_flooded_by, RemovesAll, Removes, TakesSlices, copies_sent, copy_sent, noted, flooded_area}
 use Rattle.ospf_update.specs.Removal.{leaving}
 use Rattle.ospf_update.specs.Updates.{TakesSlice, TakesUpdate}
 use Rattle.ospf_update.specs.Updates.TakesSlice.{Met, PassedOver}
 use Rattle.ospf_update.proofs.PassLemmas.{passed}
 use Rattle.ospf_step.specs.Puts.{headers_met}
-use Rattle.ospf_originate.specs.Steps.{Acts, Issues, IssuesIf, OwnLsas, wants}
-use Rattle.ospf_originate.proofs.Words.{ActsInTurn}
+use Rattle.ospf_originate.specs.Steps.{Acts, Issues, OwnLsas, wants}
+use Rattle.ospf_originate.proofs.Words.{ActsInTurn, IssuesIf}
 use Rattle.ospf_originate.specs.Wanted.{WantedValue, wanted_of}
 use Rattle.ospf_originate.specs.declared.action.DueAction.{DueAction}
 use Rattle.ospf_originate.specs.declared.action.OwnAction.{OwnAction}
 use Rattle.ospf_originate.specs.declared.action.OwnAction.TheVariants.{Leave, Flush, Issue}
 use Rattle.ospf_update.proofs.CopyLemmas.{copies_become}
+use Rattle.ospf_area.proofs.Words.{changed_on, delayed_on, flooded_link, released_link}
 
 -- a router of this Router ID, with so many links
 pub record IsAs (r : RouterId) (n : ℕ) (s : AreaValue) : Type 0 where
@@ -92,7 +93,7 @@ module _ (r : RouterId) (n : ℕ) where
   rule_as (Some Stale) f lsa s o o' s' is as_was = along r n _ s' is.state (replied_as (reply_to s (key_of lsa)) f (key_of lsa) s as_was)
 
   slice_as : (f : Origin) (bytes : List ℕ) (s : AreaValue) (o o' : OutputsValue) (s' : AreaValue) → TakesSlice f bytes s o o' s' → IsAs r n s → IsAs r n s'
-  slice_as f bytes s o o' s' (Met is meets) as_was = along r n (turned_area meets.mid) s' meets.state (turned_as meets.mid (rule_as (rule_met s f bytes) f bytes s o meets.so_far meets.mid meets.meets as_was))
+  slice_as f bytes s o o' s' (Met is mid so_far meets state outputs) as_was = along r n (turned_area mid) s' state (turned_as mid (rule_as (rule_met s f bytes) f bytes s o so_far mid meets as_was))
   slice_as f bytes s o o' s' (PassedOver is_not passes outputs) as_was =
       let p = passed s.passes_over f bytes s s' passes in
       along r n (record s { direct = p.direct }) s' p.state (record { own = as_was.own; many = as_was.many })
@@ -152,7 +153,7 @@ module _ (r : RouterId) (n : ℕ) where
       let mid = is.mid in
       let keys = reached_at max_age mid.database in
       along r n (copies_sent keys mid) s' (copies_become keys mid s' out out' is.sends).state (all_sent_as keys mid
-      (aside_as s mid (ap (λ (x : AreaValue). x.router) is.rise.rest) (ap (λ (x : AreaValue). x.links) is.rise.rest) as_was))
+      (aside_as s mid (ap (λ (x : AreaValue). x.router) is.rest) (ap (λ (x : AreaValue). x.links) is.rest) as_was))
 
   -- ---- own LSAs
 

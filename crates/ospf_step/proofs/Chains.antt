@@ -8,7 +8,7 @@ use Rattle.ospf_update.specs.Acks.{direct_out}
 use Rattle.ospf_update.specs.Aging.{turned_area, turn_out}
 use Rattle.ospf_area.specs.Acting.{Becomes}
 use Rattle.ospf_update.specs.Meets.{MeetsLsa, MeetsRule, rule_met}
-use Rattle.ospf_area.specs.Outputs.{OutputsValue, SentValue, no_outputs, sends, then_outputs, and_takes, AreReadAsSent}
+use Rattle.ospf_area.specs.Outputs.{OutputsValue, SentValue, no_outputs, sends, then_outputs, AreReadAsSent}
 use Rattle.ospf_area.specs.Sending.{and_sends}
 use Rattle.ospf_area.specs.State.{AreaValue}
 use Rattle.ospf_update.specs.Updates.{TakesSlice, TakesUpdate}
@@ -21,6 +21,7 @@ use Rattle.ospf_step.specs.Step.{Event, Part, IsPart, Chain, StepLaws, lsa_parts
 use Rattle.ospf_step.specs.Step.Part.{LsaComes, Requests, DirectAcknowledgements}
 use Rattle.ospf_step.proofs.Accountable.{then_nothing, AreRead-left, AreRead-right}
 use Rattle.ospf_step.proofs.TurnAccounts.{turned-quiet, nothing-quiet}
+use Rattle.ospf_area.proofs.Words.{and_takes}
 
 made : List SentValue → List Instance → List (List ℕ) → List LsaKey → OutputsValue
 made sent taken issued ended = record { sent = sent; taken = taken; issued = issued; ended = ended }
@@ -101,10 +102,10 @@ read_before R out out' read p = AreRead-left out p.own (subst (λ o. AreReadAsSe
 
 -- one slice, with the Requests that become due by it, in front of what follows
 slice_put : (f : Origin) (bytes : List ℕ) (parts : List Part) (s t u : AreaValue) (out mid_out out' : OutputsValue) → AreReadAsSent mid_out.sent → TakesSlice f bytes s out mid_out t → PutsOut (λ o. Chain parts t o u) mid_out out' → PutsOut (λ o. Chain (LsaComes f bytes ∷ Requests ∷ parts) s o u) out out'
-slice_put f bytes parts s t u out mid_out out' read (TakesSlice.Met is m) next =
-    let met = lsa_puts f bytes s out m.so_far m.mid m.meets in
-    puts_more (LsaComes f bytes) (Requests ∷ parts) s m.mid u out m.so_far out' (record { own = met.own; is = LsaPart.Meets is met.is; behind = met.behind })
-    (puts_more Requests parts m.mid t u m.so_far mid_out out' (requests_put m.mid t m.so_far mid_out m.state m.outputs read) next)
+slice_put f bytes parts s t u out mid_out out' read (TakesSlice.Met is mid so_far meets state outputs) next =
+    let met = lsa_puts f bytes s out so_far mid meets in
+    puts_more (LsaComes f bytes) (Requests ∷ parts) s mid u out so_far out' (record { own = met.own; is = LsaPart.Meets is met.is; behind = met.behind })
+    (puts_more Requests parts mid t u so_far mid_out out' (requests_put mid t so_far mid_out state outputs read) next)
 slice_put f bytes parts s t u out mid_out out' read (TakesSlice.PassedOver not_one passes outputs) next =
     let here : PutsOut (λ o. Chain parts t o u) out out' = subst (λ o. PutsOut (λ x. Chain parts t x u) o out') outputs next in
     puts_more (LsaComes f bytes) (Requests ∷ parts) s t u out out out' (record { own = no_outputs; is = LsaPart.PassedOver not_one passes refl; behind = sym (then_nothing out) })

@@ -1,5 +1,5 @@
 -- What is known of a packet that is not dropped, and of its sender.
-use Rattle.std.proofs.Common.{◌≡◌, ◌≢◌, ◌==◌, ℕ, Bool, true, false, not, List, [], ◌∷◌, Option, None, Some, if◌then◌else◌, is_some, length, slice_get, refl, sym, ap, subst, ◌∙◌}
+use Rattle.std.proofs.Common.{◌≡◌, ◌≢◌, ◌==◌, ℕ, Bool, true, false, not, List, [], ◌∷◌, Option, None, Some, if◌then◌else◌, is_some, length, slice_get, refl, sym, ap, subst, ◌∙◌, ◌&&◌, bit_and}
 use Rattle.std.proofs.lemmas.Bool.{true≢false}
 use Rattle.std.proofs.lemmas.Option.{none-some, same_Some}
 use Rattle.ospf_base.specs.declared.ids.AreaId.{AreaId}
@@ -16,19 +16,18 @@ use Rattle.ospf_packet.specs.Meaning.{BodyMeaning, Meaning, hello, description, 
 use Rattle.ospf_adjacency.specs.Adjacency.{is_broadcast}
 use Rattle.ospf_area.specs.Sending.{own_of}
 use Rattle.ospf_area.specs.State.{AreaValue, LinkValue}
-use Rattle.ospf_area.specs.Posting.{local_of}
 use Rattle.ospf_iface.specs.Hello.{agrees}
-use Rattle.ospf_step.specs.Receipt.{drop_by_body, drop_of_hello, drop_of_new, drop_of_packet, is_destination, is_elsewhere, is_foreign, sender_in}
+use Rattle.ospf_step.specs.Receipt.{drop_by_body, drop_of_hello, drop_of_packet, is_destination, sender_in}
 use Rattle.ospf_step.specs.Senders.{CanBeTaken, NotDroppedIsTaken}
 use Rattle.ospf_step.specs.declared.dropped.Dropped.{Dropped}
 use Rattle.ospf_step.specs.declared.dropped.Dropped.TheVariants as dropped
 use Rattle.ospf_iface.specs.Machine.{is_down}
-use Rattle.ospf_step.specs.Drops.{drop_on}
 use Rattle.ospf_step.specs.Fit.{IsFitRouter, IsFitLink}
 use Rattle.ospf_step.specs.Ready.{CanTakePacket, CanTakeOn}
 use Rattle.ospf_step.specs.Takes.{origin_of}
 use Rattle.ospf_step.proofs.FitLemmas.{eq_false, all_at}
 use Rattle.ospf_step.proofs.StepFit.{CanCome}
+use Rattle.ospf_area.specs.Posting.{local_by}
 
 -- a cause that does not apply
 peel : (b : Bool) (d : Dropped) (rest : Option Dropped) → (if b then Some d else rest) ≡ None → (b ≡ false) × (rest ≡ None)
@@ -50,7 +49,7 @@ heard local i ns area source destination m is =
     let same = peel (not (m.area.0 == area.0)) dropped.Area _ up.1 in
     let own = peel (m.router.0 == i.settings.router.0) dropped.OwnPacket _ same.1 in
     let here = peel (not (is_destination i destination)) dropped.Destination _ own.1 in
-    let near = peel (is_foreign i source) dropped.Subnet _ here.1 in
+    let near = peel (is_broadcast i && not (bit_and source.0 i.settings.mask == bit_and i.settings.address.0 i.settings.mask)) dropped.Subnet _ here.1 in
     record { other = eq_false m.router.0 i.settings.router.0 own.0; body = near.1 }
 
 -- ---- Hellos
@@ -64,11 +63,21 @@ pub alone : (i : Iface) (ns : List NeighbourValue) (q : RouterId) (source : Addr
 alone i ns q source kind none is =
     let by_ends : is_broadcast i ≡ false = ap (λ (k : InterfaceKind). elim k [ PointToPoint ↦ false | Broadcast ↦ true ]) kind in
     let sender : sender_in i ns q source ≡ None = ap (λ (b : Bool). if b then at_address ns source else neighbour_of ns q) by_ends ∙ none in
-    let new : drop_of_new i ns q ≡ None = subst (λ (o : Option NeighbourValue). drop_of_hello i ns q o ≡ None) sender is in
-    let here = peel (is_elsewhere i ns q) dropped.WrongRouter _ new in
+    let new : drop_of_hello i ns q None ≡ None = subst (λ (o : Option NeighbourValue). drop_of_hello i ns q o ≡ None) sender is in
+    let here = peel (if is_broadcast i then is_some (neighbour_of ns q) else not (is_empty ns)) dropped.WrongRouter _ new in
     no_length ns (subst (λ (b : Bool). (if b then is_some (neighbour_of ns q) else not (is_empty ns)) ≡ false) by_ends here.0)
 
 -- ---- what it needs
+
+-- why a datagram is dropped that comes on a link
+abbrev drop_on : Option LinkValue → AreaValue → Addr → Addr → Option Meaning → Option Dropped
+drop_on o s source destination packet = elim o [
+  | None ↦ Some dropped.Packet
+  | Some there ↦ elim packet [
+    | None ↦ Some dropped.Packet
+    | Some m ↦ drop_of_packet (local_by (own_of s) there.settings) there.iface there.neighbours s.area source destination m
+  ]
+]
 
 -- a datagram that is not dropped is a packet that is not
 pub not_dropped_as : (s : AreaValue) (link : ℕ) (source destination : Addr) (o : Option Meaning) (m : Meaning) → o ≡ Some m → drop_on (slice_get s.links link) s source destination o ≡ None
@@ -76,16 +85,16 @@ pub not_dropped_as : (s : AreaValue) (link : ℕ) (source destination : Addr) (o
 not_dropped_as s link source destination o m is taken = subst (λ (x : Option Meaning). drop_on (slice_get s.links link) s source destination x ≡ None) is taken
 
 module _ (law : NotDroppedIsTaken) (s : AreaValue) (link : ℕ) (source destination : Addr) (m : Meaning) (fit : IsFitRouter s) (is : drop_on (slice_get s.links link) s source destination (Some m) ≡ None) where
-  packet_is : (a : LinkValue) → slice_get s.links link ≡ Some a → drop_of_packet (local_of (own_of s) a) a.iface a.neighbours s.area source destination m ≡ None
+  packet_is : (a : LinkValue) → slice_get s.links link ≡ Some a → drop_of_packet (local_by (own_of s) a.settings) a.iface a.neighbours s.area source destination m ≡ None
   packet_is a at = subst (λ (o : Option LinkValue). drop_on o s source destination (Some m) ≡ None) at is
 
-  taken : (a : LinkValue) → slice_get s.links link ≡ Some a → CanBeTaken (local_of (own_of s) a) a.neighbours m.router m.body
-  taken a at = law (local_of (own_of s) a) a.iface a.neighbours s.area source destination m (all_at (IsFitLink s.router) s.links link a fit.links at).neighbours.rising (packet_is a at)
+  taken : (a : LinkValue) → slice_get s.links link ≡ Some a → CanBeTaken (local_by (own_of s) a.settings) a.neighbours m.router m.body
+  taken a at = law (local_by (own_of s) a.settings) a.iface a.neighbours s.area source destination m (all_at (IsFitLink s.router) s.links link a fit.links at).neighbours.rising (packet_is a at)
 
   pub can_take : CanTakePacket (origin_of link source m) m.body s
   can_take a at = by_body m.body (taken a at)
     where
-      by_body : (b : BodyMeaning) → CanBeTaken (local_of (own_of s) a) a.neighbours m.router b → CanTakeOn b (origin_of link source m) a
+      by_body : (b : BodyMeaning) → CanBeTaken (local_by (own_of s) a.settings) a.neighbours m.router b → CanTakeOn b (origin_of link source m) a
       by_body (hello fields names) can = can
       by_body (description fields headers) can = tt
       by_body (request entries) (n, found, exchanging) = λ other there. subst (λ (x : NeighbourValue). is_exchanging x.state ≡ true) (same_Some n other (sym found ∙ there)) exchanging
@@ -93,12 +102,12 @@ module _ (law : NotDroppedIsTaken) (s : AreaValue) (link : ℕ) (source destinat
       by_body (acknowledgment headers) can = tt
 
   pub can_come : (a : LinkValue) → slice_get s.links link ≡ Some a → CanCome m.body (origin_of link source m) a
-  can_come a at = by_body m.body (heard (local_of (own_of s) a) a.iface a.neighbours s.area source destination m (packet_is a at)).body (taken a at)
+  can_come a at = by_body m.body (heard (local_by (own_of s) a.settings) a.iface a.neighbours s.area source destination m (packet_is a at)).body (taken a at)
     where
-      by_body : (b : BodyMeaning) → drop_by_body (local_of (own_of s) a) b a.iface a.neighbours m.router (sender_in a.iface a.neighbours m.router source) ≡ None → CanBeTaken (local_of (own_of s) a) a.neighbours m.router b
+      by_body : (b : BodyMeaning) → drop_by_body (local_by (own_of s) a.settings) b a.iface a.neighbours m.router (sender_in a.iface a.neighbours m.router source) ≡ None → CanBeTaken (local_by (own_of s) a.settings) a.neighbours m.router b
           → CanCome b (origin_of link source m) a
       by_body (hello fields names) none can = record {
-        other = (heard (local_of (own_of s) a) a.iface a.neighbours s.area source destination m (packet_is a at)).other;
+        other = (heard (local_by (own_of s) a.settings) a.iface a.neighbours s.area source destination m (packet_is a at)).other;
         room = can;
         alone = λ kind unknown. alone a.iface a.neighbours m.router source kind unknown (holds (agrees a.iface fields) dropped.HelloMismatch _ none).1;
       }

@@ -20,7 +20,7 @@ use Rattle.ospf_step.specs.Puts.{PutsOut}
 use Rattle.ospf_step.proofs.LinkParts.{each_same, part_quiet, quiet_same}
 use Rattle.ospf_step.proofs.StateFacts.{Contains-nil}
 use Rattle.ospf_step.proofs.PutParts.{puts_sent}
-use Rattle.ospf_links.specs.Elections.{ElectsAll, ElectsFrom, ElectsIf}
+use Rattle.ospf_links.specs.Elections.{ElectsFrom, ElectsIf}
 use Rattle.ospf_links.proofs.Words.{ElectsThere}
 use Rattle.ospf_area.specs.Posting.{posted_all}
 use Rattle.ospf_step.proofs.Known.{AreBare, bare_known, first_bare, link_quiet, same_goes, both_known, none_known}
@@ -47,12 +47,12 @@ quietly s l n n' false link link' sent (same, number, none) = record {
   known = subst (λ ps. AreKnown s (posted_all (own_of s) l link.iface ps)) (sym none) (none_known s);
 }
 quietly s l n n' true link link' sent e =
-    let changed = is_changed link.iface e.elects.result in
+    let changed = is_changed link.iface e.0.result in
     record {
       quiet = link_quiet s link link'
-          (λ q. subst (λ ns. hellos.KeepsOrLosesLists (neighbour_of link.neighbours q) (neighbour_of ns q)) (sym e.elects.neighbours) (elected_goes changed link'.iface s.tick n link.neighbours q))
-          (λ h c. subst (λ hs. Contains hs h) (ap (λ (x : LinkValue). x.delayed) e.rest) c);
-      known = bare_known s l link.iface sent (subst AreBare (sym e.elects.sends) (elected_bare changed link'.iface link.settings.mtu s.tick n link.neighbours));
+          (λ q. subst (λ ns. hellos.KeepsOrLosesLists (neighbour_of link.neighbours q) (neighbour_of ns q)) (sym e.0.neighbours) (elected_goes changed link'.iface s.tick n link.neighbours q))
+          (λ h c. subst (λ hs. Contains hs h) (ap (λ (x : LinkValue). x.delayed) e.1) c);
+      known = bare_known s l link.iface sent (subst AreBare (sym e.0.sends) (elected_bare changed link'.iface link.settings.mtu s.tick n link.neighbours));
     }
 
 -- ---- a place of a list after it was written
@@ -142,11 +142,11 @@ done s t zero out out' (same, none) =
 done s t (suc l) out out' (mid, mid_out, first, there) = one_more s mid t l out mid_out out' (done s mid l out mid_out first) (slice_get mid.links l) refl there
 
 -- all of them
-pub elects_put : (s t : AreaValue) (out out' : OutputsValue) → AreReadAsSent out'.sent → ElectsAll s out out' t → PutsOut (λ o. Quiet s o t) out out'
+pub elects_put : (s t : AreaValue) (out out' : OutputsValue) → AreReadAsSent out'.sent → ElectsFrom (length s.links) s out out' t → PutsOut (λ o. Quiet s o t) out out'
 elects_put s t out out' read e =
     let d = done s t (length s.links) out out' e in
     puts_sent (λ o. Quiet s o t) out out' d.sent (part_quiet s t (sends d.sent) d.sent d.rest refl (read_sent out out' d.sent d.outputs read) d.each d.known) d.outputs
 
 -- they leave the database as it was
-pub elects_database : (s t : AreaValue) (out out' : OutputsValue) → ElectsAll s out out' t → t.database ≡ s.database
+pub elects_database : (s t : AreaValue) (out out' : OutputsValue) → ElectsFrom (length s.links) s out out' t → t.database ≡ s.database
 elects_database s t out out' e = ap (λ (a : AreaValue). a.database) (done s t (length s.links) out out' e).rest

@@ -133,7 +133,7 @@ lsa_keeps f lsa s out t (LsaPart.PassedOver other passes outputs) none = by_data
 
 ages_keep : (s : AreaValue) (out : OutputsValue) (t : AreaValue) → AgesPart s out t → Keeps s t
 unfolding aged
-ages_keep s out t part key e at fresh = by (database_entry s key) refl (sym (ages s.database t.database part.rise.database key) ∙ at)
+ages_keep s out t part key e at fresh = by (database_entry s key) refl (sym (ages s.database t.database part.database key) ∙ at)
   where
     by : (o : Option Entry) → database_entry s key ≡ o → option_map aged o ≡ Some e → (d : Entry) × (database_entry s key ≡ Some d) × (is_fresh d ≡ true) × (d.contents ≡ e.contents)
     by None was is = absurd (none_some e is)

@@ -32,7 +32,8 @@ use Rattle.ospf_exchange.specs.declared.rule.Local.{Local}
 use Rattle.ospf_adjacency.specs.Adjacency.{begins_by, event_taken, number_by}
 use Rattle.ospf_adjacency.specs.Descriptions.{event_turn}
 use Rattle.ospf_area.specs.Turns.{Turn}
-use Rattle.ospf_adjacency.specs.Elections.{adj_ok_for, first_dds}
+use Rattle.ospf_adjacency.specs.Elections.{first_dds}
+use Rattle.ospf_adjacency.proofs.Words.{adj_ok_for}
 use Rattle.ospf_adjacency.proofs.MemberLemmas.{cons_cases}
 use Rattle.std.proofs.lemmas.Bool.{false≢true}
 use Rattle.ospf_neighbour.specs.Neighbours.{neighbour_of}

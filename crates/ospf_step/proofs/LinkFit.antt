@@ -11,19 +11,20 @@ use Rattle.ospf_iface.specs.declared.machine.IfaceState.TheVariants as iface
 use Rattle.ospf_lsdb.specs.Database.{Held}
 use Rattle.ospf_neighbour.specs.Neighbour.{NeighbourValue, new_neighbour}
 use Rattle.ospf_adjacency.specs.Adjacency.{number_by}
-use Rattle.ospf_adjacency.specs.Elections.{AreOfLink, adj_ok_for, adjusted, elects_in}
+use Rattle.ospf_adjacency.specs.Elections.{AreOfLink, adjusted, elects_in}
 use Rattle.ospf_area.specs.Packets.{Parcel}
 use Rattle.ospf_area.specs.State.{LinkValue}
 use Rattle.ospf_area.specs.declared.sending.Own.{Own}
 use Rattle.ospf_adjacency.specs.HelloLaws.{ElectionsComeAbout, NeighboursStayOfLink}
-use Rattle.ospf_adjacency.specs.Links.{elects_by_timers, hello_ticked, is_inactive, timed}
-use Rattle.ospf_adjacency.proofs.Words.{inactivity_ticked}
-use Rattle.ospf_links.specs.Elections.{AreReady, ElectsIf, ElectsOnLink}
-use Rattle.ospf_links.specs.Parts.{hello_sent, link_down, link_timed, link_up}
+use Rattle.ospf_adjacency.specs.Links.{elects_by_timers, hello_ticked, timed}
+use Rattle.ospf_adjacency.proofs.Words.{adj_ok_for, inactivity_ticked, is_inactive}
+use Rattle.ospf_links.specs.Elections.{AreReady, ElectsIf}
+use Rattle.ospf_links.specs.Parts.{link_down, link_timed, link_up}
+use Rattle.ospf_links.proofs.Words.{hello_sent, neighbour_repeated}
 use Rattle.ospf_area.specs.Posting.{local_by}
-use Rattle.ospf_links.specs.Repeats.{link_repeated, neighbour_repeated}
+use Rattle.ospf_links.specs.Repeats.{link_repeated}
 use Rattle.ospf_adjacency.specs.ResendLaws.{RepeatsAreQuiet}
-use Rattle.ospf_update.specs.Acks.{undelayed_link}
+use Rattle.ospf_update.proofs.Words.{undelayed_link}
 use Rattle.ospf_originate.specs.Sound.{IsSetUp}
 use Rattle.ospf_step.specs.Fit.{IsFitLink}
 use Rattle.ospf_step.proofs.FitLemmas.{AllFit, ids, ids_map, of_link, as_many, Stays, all_at}
@@ -168,11 +169,11 @@ module _ (stay : NeighboursStayOfLink) where
   adjusts i j true tick next ns of = ((stay i ns of).adj_ok j tick next, subst (λ (n : ℕ). n ≤ length ns) (sym (adjusted_many j tick next ns)) (no_more (length ns)))
   adjusts i j false tick next ns of = (of, no_more (length ns))
 
-  elected_stays : (r : RouterId) (mtu tick next : ℕ) (a b : LinkValue) (next' : ℕ) (sent : List Parcel) → ElectsOnLink mtu tick next a b next' sent → IsFitLink r a → IsSetUp a → Stays r a b
-  elected_stays r mtu tick next a b next' sent is fit up =
-      let e = is.elects in
+  elected_stays : (r : RouterId) (own : Own) (next : ℕ) (a b : LinkValue) (next' : ℕ) (sent : List Parcel) → ElectsIf true own next a b next' sent → IsFitLink r a → IsSetUp a → Stays r a b
+  elected_stays r own next a b next' sent is fit up =
+      let e = is.0 in
       let settings : b.iface.settings ≡ a.iface.settings = ap (λ (i : Iface). i.settings) e.interface in
-      let both = adjusts a.iface b.iface (is_changed a.iface e.result) tick next a.neighbours fit.neighbours in
+      let both = adjusts a.iface b.iface (is_changed a.iface e.result) own.tick next a.neighbours fit.neighbours in
       let of : AreOfLink a.iface b.neighbours = subst (λ (ns : List NeighbourValue). AreOfLink a.iface ns) (sym e.neighbours) both.0 in
       let fewer : length b.neighbours ≤ length a.neighbours = subst (λ (ns : List NeighbourValue). length ns ≤ length a.neighbours) (sym e.neighbours) both.1 in
       record {
@@ -180,7 +181,7 @@ module _ (stay : NeighboursStayOfLink) where
         fit = record {
           own = ap (λ (i : IfaceSettings). i.router) settings ∙ fit.own;
           neighbours = record { rising = of.rising; others = subst (λ (i : IfaceSettings). AllByRecursion (λ (n : NeighbourValue). n.router.0 ≢ i.router.0) b.neighbours) (sym settings) of.others };
-          electing = λ due. absurd (let off = ap (λ (x : LinkValue). x.elects) is.rest in cc);
+          electing = λ due. absurd (let off = ap (λ (x : LinkValue). x.elects) is.1 in cc);
         };
         set_up = fewer_set_up a b settings fewer up;
       }
@@ -188,4 +189,4 @@ module _ (stay : NeighboursStayOfLink) where
   pub elects_stays : (r : RouterId) (due : Bool) (own : Own) (next : ℕ) (a b : LinkValue) (next' : ℕ) (sent : List Parcel) → ElectsIf due own next a b next' sent → IsFitLink r a → IsSetUp a → Stays r a b
   elects_stays r false own next a b next' sent is fit up =
       record { settings = ap (λ (x : LinkValue). x.iface.settings) is.0; fit = subst (λ (x : LinkValue). IsFitLink r x) (sym is.0) fit; set_up = subst (λ (x : LinkValue). IsSetUp x) (sym is.0) up }
-  elects_stays r true own next a b next' sent is fit up = elected_stays r a.settings.mtu own.tick next a b next' sent is fit up
+  elects_stays r true own next a b next' sent is fit up = elected_stays r own next a b next' sent is fit up

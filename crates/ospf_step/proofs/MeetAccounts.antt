@@ -15,29 +15,28 @@ use Rattle.ospf_lsa.specs.declared.recency.Recency.{Recency}
 use Rattle.ospf_lsa.specs.declared.recency.Recency.TheVariants.{Newer, Older, Same}
 use Rattle.ospf_lsdb.specs.Database as lsdb
 use Rattle.ospf_lsdb.specs.Database.{Entry, lsa_of, instance_at, header_at}
-use Rattle.ospf_exchange.specs.Headers as exchange
-use Rattle.ospf_flood.specs.Rules.{is_sent_back, lsa_rule, rule_over, came_just_now}
+use Rattle.ospf_exchange.proofs.Words as exchange
+use Rattle.ospf_flood.specs.Rules.{is_sent_back, lsa_rule}
 use Rattle.ospf_flood.specs.declared.acknowledgement.Acknowledgement.{Acknowledgement}
 use Rattle.ospf_flood.specs.declared.acknowledgement.Acknowledgement.TheVariants as answer
 use Rattle.ospf_flood.specs.declared.rule.LsaRule.{LsaRule}
 use Rattle.ospf_flood.specs.declared.rule.LsaRule.TheVariants as rule
 use Rattle.ospf_packet.specs.Meaning.{BodyMeaning, hello, description, request, update, acknowledgment, Meaning}
 use Rattle.ospf_neighbour.specs.Neighbour.{NeighbourValue}
-use Rattle.ospf_area.specs.Changes.{changed_on, delayed_on}
 use Rattle.ospf_area.specs.Acting.{Becomes}
-use Rattle.ospf_update.specs.Meets.{MeetsRule, MeetsLsa, Admits, duplicated, header_met, reply_to, reply_out, lsa_out_on, heard_by, first_dd_on, restarted, replied, named_by}
-use Rattle.ospf_update.proofs.Words.{reply_of, lsa_out, taken_off, first_dd, first_description}
+use Rattle.ospf_update.specs.Meets.{MeetsRule, MeetsLsa, Admits, duplicated, header_met, reply_to, reply_out, heard_by, first_dd_on, restarted, replied, named_by}
+use Rattle.ospf_update.proofs.Words.{reply_of, lsa_out, taken_off, first_dd, first_description, lsa_out_on}
 use Rattle.ospf_area.specs.Sending.{own_of, and_sends, packet_from, sent_lsa}
 use Rattle.ospf_area.specs.Numbers.{is_self_originated}
-use Rattle.ospf_area.specs.Outputs.{and_takes, OutputsValue, SentValue, no_outputs, AreReadAsSent}
+use Rattle.ospf_area.specs.Outputs.{OutputsValue, SentValue, no_outputs, AreReadAsSent}
 use Rattle.ospf_area.specs.Places.{map_from}
 use Rattle.ospf_area.specs.Flooding.{flooded_back, released}
-use Rattle.ospf_flood.specs.Links.{case_of_newer, case_of_same}
+use Rattle.ospf_flood.proofs.Words.{came_just_now, case_of_newer, case_of_same, rule_over}
 use Rattle.ospf_flood.specs.declared.acknowledgement.AcknowledgementCase.TheVariants.{Expired}
-use Rattle.ospf_area.specs.Standing.{acknowledging, answer_at, is_awaited_of, is_requested_of, is_taken_in, origin_neighbour}
+use Rattle.ospf_area.specs.Standing.{acknowledging, answer_at}
 use Rattle.ospf_lsdb.specs.Moments.{among}
-use Rattle.ospf_area.specs.State.{AreaValue, LinkValue, database_entry, copy_of, numbering_of, some_link_loading}
-use Rattle.ospf_area.proofs.Words.{copy_in, kept_in}
+use Rattle.ospf_area.specs.State.{AreaValue, LinkValue, database_entry, copy_of, numbering_of, some_link_loading, neighbour_at, state_in}
+use Rattle.ospf_area.proofs.Words.{copy_in, kept_in, changed_on, delayed_on, is_requested_of, and_takes, is_awaited_of}
 use Rattle.ospf_area.specs.declared.changes.AdjacencyChange.{AdjacencyChange}
 use Rattle.ospf_area.specs.declared.changes.AdjacencyChange.TheVariants as change
 use Rattle.ospf_area.specs.declared.flooding.Origin.{Origin}
@@ -55,6 +54,7 @@ use Rattle.ospf_step.proofs.SentFacts.{datagrams-packet}
 use Rattle.ospf_step.proofs.ShrinkAccounts.{ShrinksTo, ShrinkBy, Shrinks-accountable, same-shrinks, map_from-id, map-id, change_of, change-each, change-waiting, change-shrinks, delay-each, delay-waiting, IsTold}
 use Rattle.ospf_step.proofs.StoreAccounts.{Stores-by, Stores-accountable, Stores-kept, Stores-known, Stores-holds}
 use Rattle.ospf_base.specs.Constants.{max_age}
+use Rattle.ospf_neighbour.specs.Machine.{is_exchanging}
 
 one_of : {X : Type 0} (x y : X) → Contains (x ∷ []) y → y ≡ x
 one_of x y (zero, within, is) = sym is
@@ -337,7 +337,7 @@ module _ (heard : Option Received) (p : Meaning) (f : Origin) (lsa : List ℕ) (
           (sends_nothing before)
 
       how : Acknowledgement
-      how = answer_at (case_of_same (is_awaited_of (instance_of lsa) (origin_neighbour before.links f))) f before.links
+      how = answer_at (case_of_same (is_awaited_of (instance_of lsa) (neighbour_at before.links f.link f.router))) f before.links
 
       acknowledged : IsAccountable heard mid no_outputs (acknowledging how f (header_of lsa) mid)
       acknowledged = ack-accountable heard no_outputs how f (header_of lsa) (key_of lsa) false mid (sends_nothing mid) (named mid no_outputs (inl (CanName.InDatabase holds)))
@@ -387,14 +387,14 @@ module _ (heard : Option Received) (p : Meaning) (f : Origin) (lsa : List ℕ) (
   by_rule rule.Stale says m = stale m
 
   pub MeetsLsa-accountable : MeetsLsa f lsa before no_outputs out after → IsAccountable heard before out after
-  MeetsLsa-accountable m = go (is_taken_in (origin_neighbour before.links f)) m
+  MeetsLsa-accountable m = go (is_exchanging (state_in (neighbour_at before.links f.link f.router))) m
     where
       rule_here : LsaRule
-      rule_here = lsa_rule (header_of lsa) (database_entry before (key_of lsa)) (some_link_loading before.links) (is_requested_of (key_of lsa) (origin_neighbour before.links f)) before.tick
+      rule_here = lsa_rule (header_of lsa) (database_entry before (key_of lsa)) (some_link_loading before.links) (is_requested_of (key_of lsa) (neighbour_at before.links f.link f.router)) before.tick
 
       go : (b : Bool) → MeetsRule (cond b (Some rule_here) None) f lsa before no_outputs out after → IsAccountable heard before out after
       go false m = nothing m
-      go true m = by_rule rule_here (rule_says before lsa (some_link_loading before.links) (is_requested_of (key_of lsa) (origin_neighbour before.links f)) before.tick) m
+      go true m = by_rule rule_here (rule_says before lsa (some_link_loading before.links) (is_requested_of (key_of lsa) (neighbour_at before.links f.link f.router)) before.tick) m
 
 -- ---- a header of an Acknowledgment
 

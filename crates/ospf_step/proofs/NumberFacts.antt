@@ -9,9 +9,9 @@ use Rattle.std.proofs.lemmas.Int.{ints, clamps}
 use Rattle.ospf_base.specs.declared.ids.LsaKey.{LsaKey}
 use Rattle.ospf_base.specs.Keys.{same_key}
 use Rattle.ospf_base.proofs.SameKeys.{same_key-refl}
-use Rattle.ospf_area.specs.Numbers.{is_own, is_numbering_of, counted, counted_one, counts}
+use Rattle.ospf_area.specs.Numbers.{is_own, counts}
 use Rattle.ospf_area.specs.State.{AreaValue, numbering_of, kept_number}
-use Rattle.ospf_area.proofs.Words.{kept_in}
+use Rattle.ospf_area.proofs.Words.{kept_in, counted, counted_one, is_numbering_of}
 use Rattle.ospf_area.specs.declared.state.Numbering.{Numbering}
 use Rattle.ospf_step.proofs.StateFacts.{find-map}
 

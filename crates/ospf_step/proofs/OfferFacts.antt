@@ -24,8 +24,8 @@ use Rattle.ospf_neighbour.specs.declared.machine.NeighbourState.TheVariants as s
 use Rattle.ospf_neighbour.specs.declared.neighbour.Listed.{Listed}
 use Rattle.ospf_base.proofs.SameKeys.{same_key-refl}
 use Rattle.ospf_neighbour.proofs.LawLemmas.{takes_key, relist_waits}
-use Rattle.ospf_flood.specs.Offers.{instance_with, looked_at, offer_by, offer_to, flooded}
-use Rattle.ospf_flood.proofs.Words.{offer_over, after_offer}
+use Rattle.ospf_flood.specs.Offers.{instance_with, looked_at, offer_to, flooded}
+use Rattle.ospf_flood.proofs.Words.{offer_by, offer_over, after_offer}
 use Rattle.ospf_flood.specs.declared.offer.Offer.{Offer}
 use Rattle.ospf_flood.specs.declared.offer.Offer.TheVariants.{PassesOver, Satisfies, Lists}
 use Rattle.ospf_flood.proofs.LawLemmas.{flood_takes, flooded_is_put}

@@ -23,9 +23,8 @@ use Rattle.ospf_area.specs.Sending.{own_of}
 use Rattle.ospf_area.specs.State.{AreaValue, database_entry, kept_number, numbering_of}
 use Rattle.ospf_area.proofs.Words.{kept_in}
 use Rattle.ospf_area.proofs.NumberLemmas.{own_counted}
-use Rattle.ospf_update.specs.Aging.{Flushes, copy_flood_out, copy_flooded, noted, turn_out}
-use Rattle.ospf_update.proofs.Words.{copy_flooded_by, copy_flood_out_by, copy_out}
-use Rattle.ospf_update.specs.Meets.{flooded_area, store_updates}
+use Rattle.ospf_update.specs.Aging.{Flushes, copy_flooded, turn_out}
+use Rattle.ospf_update.proofs.Words.{copy_flooded_by, copy_flood_out_by, copy_out, copy_flood_out, noted, flooded_area, store_updates}
 use Rattle.ospf_step.specs.Neighbours.{Quiet}
 use Rattle.ospf_step.specs.Parts.{ExpiryPart, IssuePart, at_max_age}
 use Rattle.ospf_step.specs.Puts.{PutsOut}
@@ -37,10 +36,10 @@ use Rattle.ospf_step.proofs.StateFacts.{find-some, entry_of-key, key_of-lsa_of, 
 use Rattle.ospf_step.proofs.NumberFacts.{counts-kept, counts-known}
 use Rattle.ospf_step.proofs.PutParts.{own_end, own_more, own_none, puts_sent}
 use Rattle.ospf_step.proofs.TurnAccounts.{turned-quiet}
-use Rattle.ospf_originate.specs.Actions.{is_due, makes_room, next_action, own_action}
+use Rattle.ospf_originate.specs.Actions.{is_due, next_action, own_action}
 use Rattle.ospf_originate.specs.Numbers.{issued}
-use Rattle.ospf_originate.specs.Steps.{Issues, IssuesAndTurns, IssuesIf, OwnLsas, action_of, due_as, due_of, wants}
-use Rattle.ospf_originate.proofs.Words.{and_issues, ActsInTurn}
+use Rattle.ospf_originate.specs.Steps.{Issues, IssuesAndTurns, OwnLsas, action_of, wants}
+use Rattle.ospf_originate.proofs.Words.{and_issues, ActsInTurn, makes_room, IssuesIf, due_of, due_as}
 use Rattle.ospf_originate.specs.Wanted.{WantedValue, wanted_key, wanted_of}
 use Rattle.ospf_originate.specs.declared.action.OwnAction.{OwnAction}
 use Rattle.ospf_originate.specs.declared.action.OwnAction.TheVariants.{Leave, Flush, Issue}

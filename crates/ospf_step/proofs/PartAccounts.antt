@@ -29,17 +29,17 @@ use Rattle.ospf_neighbour.specs.Neighbours.{neighbour_of}
 use Rattle.ospf_base.proofs.SameKeys.{same_instance-refl}
 use Rattle.ospf_flood.specs.Offers.{flooded, instance_with}
 use Rattle.ospf_update.specs.Acks.{direct_out}
-use Rattle.ospf_area.specs.Flooding.{flooded_link}
 use Rattle.ospf_area.specs.Sending.{own_of}
 use Rattle.ospf_area.specs.Outputs.{OutputsValue, SentValue, no_outputs, sends, AreReadAsSent}
 use Rattle.ospf_area.specs.State.{AreaValue, LinkValue, neighbour, database_entry, copy_of, kept_number, some_link_loading, Awaits, WaitsIn, state_in}
-use Rattle.ospf_area.proofs.Words.{copy_in, neighbours_in}
+use Rattle.ospf_area.proofs.Words.{copy_in, neighbours_in, flooded_link}
 use Rattle.ospf_area.specs.declared.flooding.Origin.{Origin}
 use Rattle.ospf_area.specs.Acting.{Becomes}
 use Rattle.ospf_step.specs.Headers.{IsOfInstance, Lists}
 use Rattle.ospf_step.specs.Packets.{Received, lsas_of, headers_in_body}
 use Rattle.ospf_step.specs.Parts.{IssuePart, ExpiryPart, AgesPart, RemovalPart, at_max_age, leaves_if}
-use Rattle.ospf_update.specs.Removal.{some_awaits, lowest_number, is_last}
+use Rattle.ospf_update.specs.Removal.{lowest_number}
+use Rattle.ospf_update.proofs.Words.{some_awaits, is_last}
 use Rattle.ospf_area.specs.Numbers.{is_own}
 use Rattle.ospf_step.specs.Words.{CanName, HoldsInstance, HasCopy, Brings, IsSoundState, ListsAreHeld}
 use Rattle.ospf_lsdb.specs.Moments.{among}
@@ -318,10 +318,10 @@ still_held before after database i (lsa, c, is) = go (database_entry before (key
 pub AgesPart-accountable : (heard : Option Received) (before : AreaValue) (out : OutputsValue) (after : AreaValue) → heard ≡ None → AgesPart before out after → IsAccountable heard before out after
 AgesPart-accountable heard before out after silent a =
     Adjusts-accountable heard before out after
-    (OnlyDatabase-adjusts heard before out after (ap (λ s. s.links) a.rise.rest) (ap (λ s. s.router) a.rise.rest) (ap (λ s. s.direct) a.rise.rest) (ap (λ o. o.sent) a.outputs) (ap (λ o. o.taken) a.outputs) (ap (λ o. o.issued) a.outputs)
+    (OnlyDatabase-adjusts heard before out after (ap (λ s. s.links) a.rest) (ap (λ s. s.router) a.rest) (ap (λ s. s.direct) a.rest) (ap (λ o. o.sent) a.outputs) (ap (λ o. o.taken) a.outputs) (ap (λ o. o.issued) a.outputs)
     (λ lsa c. let was = copies_older before after entries lsa c in record { old = was.lsa; copy = was.copy; same = was.same; age = inr (inl silent) })
     (λ held l q i w. still_held before after entries i (held l q i (subst (λ o. WaitsIn o i) (neighbours_same l q) w)))
-    (λ key goes_on. ap (λ s. kept_number s key) a.rise.rest)
+    (λ key goes_on. ap (λ s. kept_number s key) a.rest)
     (λ key ends. absurd (none_ended out key (ap (λ o. o.ended) a.outputs) ends))
     (λ key ends. absurd (none_ended out key (ap (λ o. o.ended) a.outputs) ends))
     (λ key ends. absurd (none_ended out key (ap (λ o. o.ended) a.outputs) ends)))
@@ -329,10 +329,10 @@ AgesPart-accountable heard before out after silent a =
     (ap (λ o. o.ended) a.outputs)
   where
     entries : (key : LsaKey) → database_entry after key ≡ option_map aged (database_entry before key)
-    entries key = ages before.database after.database a.rise.database key
+    entries key = ages before.database after.database a.database key
 
     neighbours_same : (l : ℕ) (q : RouterId) → neighbour after l q ≡ neighbour before l q
-    neighbours_same l q = ap (λ ls. neighbour_of (neighbours_in (slice_get ls l)) q) (ap (λ s. s.links) a.rise.rest)
+    neighbours_same l q = ap (λ ls. neighbour_of (neighbours_in (slice_get ls l)) q) (ap (λ s. s.links) a.rest)
 
 -- ---- what was to be answered
 

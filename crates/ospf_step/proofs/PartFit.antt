@@ -15,18 +15,19 @@ use Rattle.ospf_area.specs.declared.flooding.Origin.{Origin}
 use Rattle.ospf_area.specs.declared.sending.Own.{Own}
 use Rattle.ospf_adjacency.specs.Elections.{AreOfLink, elects_in}
 use Rattle.ospf_adjacency.specs.Laws.{DescriptionKeepsRouter}
-use Rattle.ospf_adjacency.specs.Heard.{Neighbourhood, elects_by_hello, elects_by_change, hello_turn, sender_of, turn_of}
+use Rattle.ospf_adjacency.specs.Heard.{Neighbourhood, elects_by_hello, hello_turn, turn_of}
+use Rattle.ospf_adjacency.proofs.Words.{elects_by_change, sender_of}
 use Rattle.ospf_adjacency.proofs.GoLemmas.{heard_router}
 use Rattle.ospf_adjacency.specs.HelloLaws.{ElectionsComeAbout, NeighboursStayOfLink}
 use Rattle.ospf_links.specs.Parts.{description_part, hello_part, neighbourhood_of, request_part, with_neighbourhood}
 use Rattle.ospf_links.proofs.Words.{description_by, request_by}
-use Rattle.ospf_area.specs.Posting.{local_of}
 use Rattle.ospf_adjacency.specs.Answers.{answer_turn}
 use Rattle.ospf_adjacency.specs.ResendLaws.{AnswersAreQuiet}
 use Rattle.ospf_adjacency.specs.Descriptions.{description_turn}
 use Rattle.ospf_originate.specs.Sound.{IsSetUp}
 use Rattle.ospf_step.specs.Fit.{IsFitLink}
 use Rattle.ospf_step.proofs.FitLemmas.{ids, of_link, as_many, found_router, put_many, put_same, Stays}
+use Rattle.ospf_area.specs.Posting.{local_by}
 
 -- ---- a link with other neighbours, whose election may be due
 
@@ -68,7 +69,7 @@ module _ (stay : NeighboursStayOfLink) (come : ElectionsComeAbout) where
       x = neighbourhood_of a next
 
       local : Local
-      local = local_of own a
+      local = local_by own a.settings
 
       after : Neighbourhood
       after = hello_part own f h named next a
@@ -118,7 +119,7 @@ module _ (keeps : DescriptionKeepsRouter) (come : ElectionsComeAbout) where
       x = neighbourhood_of a next
 
       local : Local
-      local = local_of own a
+      local = local_by own a.settings
 
       by_found : (o : Option NeighbourValue) → neighbour_of a.neighbours f.router ≡ o → Stays r a (with_neighbourhood (description_by o a.iface local f.router d headers db x) a)
       by_found None none = same_stays r a x refl fit.electing fit up
@@ -139,7 +140,7 @@ module _ (quiet : AnswersAreQuiet) where
       x = neighbourhood_of a next
 
       local : Local
-      local = local_of own a
+      local = local_by own a.settings
 
       by_found : (o : Option NeighbourValue) → neighbour_of a.neighbours f.router ≡ o → Stays r a (with_neighbourhood (request_by o a.iface local a.settings.transmit_delay db entries x) a)
       by_found None none = same_stays r a x refl fit.electing fit up

@@ -1,5 +1,5 @@
 -- Hellos, links that go up and down, and timers are quiet parts.
-use Rattle.std.proofs.Common.{◌≡◌, inl, inr, ℕ, Bool, true, false, List, [], map, Option, None, Some, slice_get, refl, sym, ap, subst, if◌then◌else◌}
+use Rattle.std.proofs.Common.{◌≡◌, ◌&&◌, not, nat_le, inl, inr, ℕ, Bool, true, false, List, [], map, Option, None, Some, slice_get, refl, sym, ap, subst, if◌then◌else◌}
 use Rattle.std.specs.List.{Contains}
 use Rattle.ospf_iface.specs.declared.machine.Iface.{Iface}
 use Rattle.ospf_neighbour.specs.Neighbour.{NeighbourValue}
@@ -9,10 +9,11 @@ use Rattle.ospf_exchange.specs.declared.rule.Local.{Local}
 use Rattle.ospf_area.specs.Acting.{OnEachLink}
 use Rattle.ospf_area.specs.Turns.{Turn}
 use Rattle.ospf_area.specs.Packets.{parcel_if}
-use Rattle.ospf_adjacency.specs.Heard.{heard, hello_turn, naming_event, sender_of, turn_of}
+use Rattle.ospf_adjacency.specs.Heard.{hello_turn, turn_of}
+use Rattle.ospf_adjacency.proofs.Words.{heard, naming_event, sender_of}
 use Rattle.ospf_adjacency.specs.HelloLaws as hellos
 use Rattle.ospf_iface.specs.Machine.{is_down}
-use Rattle.ospf_adjacency.specs.Links.{down, hello_parcel, hello_ticked, is_hello_due, up}
+use Rattle.ospf_adjacency.specs.Links.{down, hello_parcel, hello_ticked}
 use Rattle.ospf_adjacency.proofs.GoLemmas.{hello_goes, timers_go}
 use Rattle.ospf_area.specs.Outputs.{AreReadAsSent, OutputsValue}
 use Rattle.ospf_area.specs.Places.{flat_from}
@@ -25,10 +26,10 @@ use Rattle.ospf_step.specs.Puts.{PutsOut}
 use Rattle.ospf_step.proofs.LinkParts.{one_quiet, quiet_same}
 use Rattle.ospf_step.proofs.StateFacts.{Contains-nil}
 use Rattle.ospf_step.proofs.PutParts.{puts_sent}
-use Rattle.ospf_links.specs.Parts.{hello_out, hello_part, hello_sent, link_down, link_timed, link_up, neighbourhood_of, up_parcels, with_neighbourhood}
-use Rattle.ospf_area.specs.Posting.{local_of, posted_all}
+use Rattle.ospf_links.specs.Parts.{hello_out, hello_part, link_down, link_timed, link_up, neighbourhood_of, with_neighbourhood}
+use Rattle.ospf_area.specs.Posting.{posted_all, local_by}
 use Rattle.ospf_links.specs.Works.{WorksOn, link_changed, up_out_on}
-use Rattle.ospf_links.proofs.Words.{some_changed}
+use Rattle.ospf_links.proofs.Words.{hello_sent, some_changed, up_parcels}
 use Rattle.ospf_step.specs.Invariants.{AreRising}
 use Rattle.ospf_step.proofs.Known.{AreBare, bare_if, bare_known, event_bare, link_quiet, same_goes, links_known, none_known}
 use Rattle.ospf_step.proofs.Works.{all_links_put, nothing_read, one_link, puts_nothing, read_sent, same_quiet, silent_links_put, work_puts}
@@ -45,7 +46,7 @@ pub hello_puts : (f : Origin) (h : Hello) (named : Bool) (s t : AreaValue) (out 
 hello_puts f h named s t out out' read is =
     work_puts (λ o. Quiet s o t) (hello_part (own_of s) f h named s.next_dd) f.link s.sent s t out out' is read (λ same. same_quiet s t same)
     (λ link one.
-    let local = local_of (own_of s) link in
+    let local = local_by (own_of s) link.settings in
     let start = neighbourhood_of link s.next_dd in
     let x = hello_part (own_of s) f h named s.next_dd link in
     one_quiet f.link link (with_neighbourhood x link) (posted_all (own_of s) f.link link.iface x.sent) s _ t one
@@ -69,7 +70,7 @@ up_puts l s t out out' read state outputs = by (slice_get s.links l) refl state 
         let ds = up_out_on (Some link) (own_of s) l in
         puts_sent (λ o. Quiet s o t) out out' ds
         (one_quiet l link (link_up link) ds s _ t (one_link l link (link_up link) s.next_dd s.sent ds s t at state (read_sent out out' ds outputs read)) (up_quiet s link)
-        (bare_known s l (up link.iface) (up_parcels link) (hello_if (is_down link.iface.state) (up link.iface) link.neighbours))) outputs
+        (bare_known s l (link_up link).iface (up_parcels link) (hello_if (is_down link.iface.state) (link_up link).iface link.neighbours))) outputs
 
 all_leave : (o : Option NeighbourValue) → hellos.KeepsOrLosesLists o None
 all_leave None = tt
@@ -105,4 +106,4 @@ pub due_hellos_put : (s t : AreaValue) (out out' : OutputsValue) → AreReadAsSe
 due_hellos_put s t out out' read is =
     all_links_put hello_sent (flat_from (hello_out (own_of s)) 0 s.links) s t out out' (ap (λ (a : AreaValue). a.links) is.state) (subst (λ a. ChangesLinks s a) (sym is.state) refl) is.outputs read
     (λ l link at. link_quiet s link (hello_sent link) (λ q. same_goes (neighbour_of link.neighbours q)) (λ h c. c))
-    (links_known s (hello_out (own_of s)) (λ k link is_in. bare_known s k (hello_ticked link.iface) (parcel_if (is_hello_due link.iface) (hello_parcel link.iface link.neighbours)) (hello_if (is_hello_due link.iface) link.iface link.neighbours)))
+    (links_known s (hello_out (own_of s)) (λ k link is_in. let due = not (is_down link.iface.state) && nat_le link.iface.hello_in 1 in bare_known s k (hello_ticked link.iface) (parcel_if due (hello_parcel link.iface link.neighbours)) (hello_if due link.iface link.neighbours)))

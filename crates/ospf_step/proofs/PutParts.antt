@@ -14,11 +14,11 @@ use Rattle.ospf_area.specs.Places.{flat_from}
 use Rattle.ospf_area.specs.Sending.{and_sends, own_of}
 use Rattle.ospf_area.specs.State.{AreaValue, LinkValue, database_entry}
 use Rattle.ospf_area.specs.declared.flooding.Origin.{Origin}
-use Rattle.ospf_update.specs.Acks.{delayed_out_on, undelayed_link}
+use Rattle.ospf_update.specs.Acks.{delayed_out_on}
 use Rattle.ospf_update.specs.Aging.{Flushes, TickAges}
 use Rattle.ospf_update.specs.Meets.{header_met}
-use Rattle.ospf_update.specs.Removal.{and_ends, ends_run, leaving}
-use Rattle.ospf_update.proofs.Words.{RemovesAll, Removes, copies_out, copies_sent, copy_out, copy_sent}
+use Rattle.ospf_update.specs.Removal.{ends_run, leaving}
+use Rattle.ospf_update.proofs.Words.{RemovesAll, Removes, copies_out, copies_sent, copy_out, copy_sent, undelayed_link, and_ends}
 use Rattle.ospf_step.specs.Links.{AllEach, AreKnown, ChangesLinks, IsKnownPacket, LinkQuiet}
 use Rattle.ospf_step.specs.Neighbours.{Quiet}
 use Rattle.ospf_step.specs.Parts.{ExpiryPart, RemovalPart}

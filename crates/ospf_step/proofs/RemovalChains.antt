@@ -11,12 +11,12 @@ use Rattle.ospf_lsdb.proofs.Words.{AreKeysRising}
 use Rattle.ospf_lsdb.proofs.MapLemmas.{after-none}
 use Rattle.ospf_base.specs.Keys.{same_key}
 use Rattle.ospf_base.proofs.SameKeys.{same_key-eq}
-use Rattle.ospf_area.specs.Numbers.{is_numbering_of, is_own}
+use Rattle.ospf_area.specs.Numbers.{is_own}
 use Rattle.ospf_area.specs.Outputs.{OutputsValue, no_outputs}
-use Rattle.ospf_update.specs.Removal.{is_leaving, leaving, is_last, ends_run, reset_one, reset, and_ends, RemovesOne, some_awaits, lowest_number}
-use Rattle.ospf_update.proofs.Words.{RemovesAll, Removes, key_of_entry}
+use Rattle.ospf_update.specs.Removal.{is_leaving, leaving, ends_run, reset, RemovesOne, lowest_number}
+use Rattle.ospf_update.proofs.Words.{RemovesAll, Removes, key_of_entry, is_last, reset_one, and_ends, some_awaits}
 use Rattle.ospf_area.specs.State.{AreaValue, database_entry, kept_number, numbering_of, some_link_loading}
-use Rattle.ospf_area.proofs.Words.{kept_in}
+use Rattle.ospf_area.proofs.Words.{kept_in, is_numbering_of}
 use Rattle.ospf_area.specs.declared.state.Numbering.{Numbering}
 use Rattle.ospf_step.specs.Parts.{RemovalPart, leaves_if}
 use Rattle.ospf_lsdb.specs.Moments.{among}

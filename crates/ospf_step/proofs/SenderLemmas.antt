@@ -1,5 +1,5 @@
 -- The sender of a packet, by its address and by its Router ID.
-use Rattle.std.proofs.Common.{◌≡◌, ◌==◌, ◌≢◌, ◌<◌, ◌∙◌, ℕ, suc, Bool, true, false, not, List, [], ◌∷◌, Option, None, Some, length, nat_lt, refl, sym, ap, subst, inl, inr, arith, if◌then◌else◌}
+use Rattle.std.proofs.Common.{◌≡◌, ◌==◌, ◌≢◌, ◌<◌, ◌∙◌, ℕ, suc, Bool, true, false, not, List, [], ◌∷◌, Option, None, Some, length, nat_lt, refl, sym, ap, subst, inl, inr, arith, if◌then◌else◌, is_some, ◌&&◌, bit_and}
 use Rattle.std.specs.List.{AllByRecursion}
 use Rattle.std.proofs.lemmas.Bool.Decides.{eqb_tells, leb_tells}
 use Rattle.ospf_base.specs.declared.ids.Addr.{Addr}
@@ -8,7 +8,7 @@ use Rattle.ospf_exchange.specs.declared.rule.Local.{Local}
 use Rattle.ospf_iface.specs.declared.machine.Iface.{Iface}
 use Rattle.ospf_lsa.specs.declared.header.LsaHeader.{LsaHeader}
 use Rattle.ospf_neighbour.specs.Machine.{is_exchanging}
-use Rattle.ospf_neighbour.specs.Neighbour.{NeighbourValue}
+use Rattle.ospf_neighbour.specs.Neighbour.{NeighbourValue, is_empty}
 use Rattle.ospf_neighbour.specs.Neighbours.{AreNeighboursRising, at_address, max_neighbours, neighbour_of}
 use Rattle.ospf_packet.specs.Meaning.{BodyMeaning, hello, description, request, update, acknowledgment}
 use Rattle.ospf_packet.specs.declared.body.Description.{Description}
@@ -16,7 +16,7 @@ use Rattle.ospf_adjacency.specs.Adjacency.{is_broadcast}
 use Rattle.ospf_adjacency.specs.Descriptions.{dd_dropped}
 use Rattle.ospf_iface.specs.Machine.{is_down}
 use Rattle.ospf_iface.specs.Hello.{agrees}
-use Rattle.ospf_step.specs.Receipt.{drop_below_exchange, drop_by_body, drop_of_description, drop_of_hello, is_destination, is_elsewhere, is_foreign, sender_in}
+use Rattle.ospf_step.specs.Receipt.{drop_below_exchange, drop_by_body, drop_of_description, drop_of_hello, is_destination, sender_in}
 use Rattle.ospf_step.specs.Senders.{CanBeTaken, IsExchanging, NotDroppedIsTaken, SendersAreNeighbours}
 use Rattle.ospf_step.specs.declared.dropped.Dropped.{Dropped}
 use Rattle.ospf_step.specs.declared.dropped.Dropped.TheVariants as dropped
@@ -61,7 +61,7 @@ few_new false n e = elim (leb_tells (suc n) max_neighbours) [ inl w ↦ omega (a
 
 -- a Hello of a known router needs no room
 room : (o : Option NeighbourValue) (i : Iface) (ns : List NeighbourValue) (q : RouterId) (source : Addr) → AreNeighboursRising ns → sender_in i ns q source ≡ o → drop_of_hello i ns q o ≡ None → neighbour_of ns q ≡ None → length ns < max_neighbours
-room None i ns q source rises is e none = few_new (is_elsewhere i ns q) (length ns) e
+room None i ns q source rises is e none = few_new (if is_broadcast i then is_some (neighbour_of ns q) else not (is_empty ns)) (length ns) e
 room (Some n) i ns q source rises is e none = elim (eqb_tells n.router.0 q.0) [
   | inl w ↦ absurd (let bad : None ≡ Some n = sym none ∙ senders i ns q source n rises is w.1 in cc)
   | inr w ↦ absurd (let bad : Some dropped.WrongRouter ≡ None = rw w.0 at e in cc)
@@ -111,5 +111,5 @@ else_of false d o e = e
 pub not_dropped : NotDroppedIsTaken
 not_dropped local i ns area source destination m rises e =
     by_body m.body local i ns m.router source rises
-    (else_of (is_foreign i source) dropped.Subnet _ (else_of (not (is_destination i destination)) dropped.Destination _ (else_of (m.router.0 == i.settings.router.0) dropped.OwnPacket _
+    (else_of (is_broadcast i && not (bit_and source.0 i.settings.mask == bit_and i.settings.address.0 i.settings.mask)) dropped.Subnet _ (else_of (not (is_destination i destination)) dropped.Destination _ (else_of (m.router.0 == i.settings.router.0) dropped.OwnPacket _
     (else_of (not (m.area.0 == area.0)) dropped.Area _ (else_of (is_down i.state) dropped.Packet _ e)))))

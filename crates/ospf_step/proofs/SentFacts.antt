@@ -8,7 +8,7 @@ use Rattle.ospf_lsa.specs.Header.{header_of}
 use Rattle.ospf_lsa.specs.Lsa.{key_of, with_age}
 use Rattle.ospf_packet.specs.Meaning.{update, Meaning, packet_bytes, acknowledgment}
 use Rattle.ospf_base.specs.Constants.{largest_packet}
-use Rattle.ospf_area.specs.Flooding.{flooding_update, flooding_updates, goes_out}
+use Rattle.ospf_area.specs.Flooding.{flooding_updates, goes_out}
 use Rattle.ospf_area.specs.Outputs.{SentValue}
 use Rattle.ospf_area.specs.Places.{flat_from}
 use Rattle.ospf_area.specs.Sending.{datagrams, packet_from, sent_lsa}
@@ -19,8 +19,9 @@ use Rattle.ospf_area.specs.declared.sending.Way.{Way}
 use Rattle.ospf_step.proofs.StateFacts.{Contains-nil}
 use Rattle.std.proofs.lemmas.List.{take-append-drop}
 use Rattle.ospf_lsa.specs.declared.header.LsaHeader.{LsaHeader}
-use Rattle.ospf_update.specs.Acks.{header_precedes, put_in_order, in_order, cut, packets, ack_room, ack_out, acks_out}
-use Rattle.ospf_update.proofs.Words.{direct_out_on, put_all_in_order}
+use Rattle.ospf_update.specs.Acks.{header_precedes, put_in_order, in_order, ack_room, cut, acks_out}
+use Rattle.ospf_update.proofs.Words.{direct_out_on, put_all_in_order, packets, ack_out}
+use Rattle.ospf_area.proofs.Words.{flooding_update}
 
 -- What the datagrams of an Update say.
 one_of : {X : Type 0} (x y : X) → Contains (x ∷ []) y → y ≡ x

@@ -17,7 +17,7 @@ use Rattle.ospf_neighbour.specs.declared.machine.NbrEvent.TheVariants as event
 use Rattle.ospf_neighbour.specs.declared.machine.NeighbourState.{NeighbourState}
 use Rattle.ospf_neighbour.specs.declared.machine.NeighbourState.TheVariants as state
 use Rattle.ospf_neighbour.proofs.LawLemmas.{takes_one, resend_keeps}
-use Rattle.ospf_area.specs.Changes.{neighbour_changed, changed_if, changed_link, changed_on, delayed_on}
+use Rattle.ospf_area.specs.Changes.{neighbour_changed}
 use Rattle.ospf_area.specs.Outputs.{OutputsValue}
 use Rattle.ospf_area.specs.Places.{map_from}
 use Rattle.ospf_area.specs.State.{AreaValue, LinkValue, neighbour, database_entry, kept_number, state_in}
@@ -30,6 +30,7 @@ use Rattle.ospf_step.proofs.Accountable.{IsAccountable, Adjusts-accountable}
 use Rattle.ospf_step.proofs.StateFacts.{Contains-nil, neighbour-changed, same_router}
 use Rattle.ospf_step.proofs.OfferFacts.{shorter_list}
 use Rattle.ospf_step.proofs.QuietAccounts.{OnlySendsKnown, IsNamed, Shrinks-adjusts}
+use Rattle.ospf_area.proofs.Words.{changed_link, changed_on, delayed_on, changed_if}
 
 -- ---- one neighbour
 

@@ -41,7 +41,7 @@ use Rattle.ospf_base.specs.declared.ids.Addr.{Addr}
 use Rattle.ospf_packet.specs.Meaning.{Meaning}
 use Rattle.ospf_step.specs.Step.{Part, parts_of_packet}
 use Rattle.ospf_area.specs.Numbers.{is_own}
-use Rattle.ospf_update.specs.Removal.{is_last}
+use Rattle.ospf_update.proofs.Words.{is_last}
 
 -- ---- parts of definitions of specs/ by names of their own
 

@@ -1,5 +1,5 @@
 -- That a tick, an event and the end of a step are the chains of their parts.
-use Rattle.std.proofs.Common.{◌≡◌, ◌++◌, List, ◌∷◌, refl, subst, ℕ, Bool, true, false, Some, sym, ap, slice_get, ◌∙◌, []}
+use Rattle.std.proofs.Common.{◌≡◌, ◌++◌, List, ◌∷◌, refl, subst, length, ℕ, Bool, true, false, Some, sym, ap, slice_get, ◌∙◌, []}
 use Rattle.ospf_base.specs.declared.ids.LsaKey.{LsaKey}
 use Rattle.ospf_lsdb.specs.Database.{IsDatabase}
 use Rattle.ospf_area.specs.Outputs.{AreReadAsSent, OutputsValue}
@@ -32,7 +32,7 @@ use Rattle.ospf_links.specs.Parts.{description_part, hello_part, link_down, link
 use Rattle.ospf_links.specs.Works.{WorksOn, link_changed, up_out_on}
 use Rattle.ospf_step.specs.Takes.{origin_of}
 use Rattle.ospf_update.proofs.Words.{Removes}
-use Rattle.ospf_links.specs.Elections.{ElectsAll}
+use Rattle.ospf_links.specs.Elections.{ElectsFrom}
 use Rattle.ospf_originate.specs.Steps.{OwnLsas}
 use Rattle.ospf_step.proofs.Elections.{elects_database, elects_put}
 use Rattle.ospf_step.proofs.OwnParts.{own_put}
@@ -147,7 +147,7 @@ module _ (l : ℕ) (rest : List Part) (s t u : AreaValue) (out mid_out out' : Ou
   down_chain state same = puts_more (LinkChanges l false) rest s t u out out out' (down_puts l s t out state) (subst (λ o. PutsOut (λ x. Chain rest t x u) o out') same next)
 
 -- The end of a step is the chain of its last parts.
-pub ends_put : (s t u v : AreaValue) (out out1 out2 out' : OutputsValue) → IsDatabase s.database → IsDatabase u.database → AreReadAsSent out'.sent → ElectsAll s out out1 t → OwnLsas t out1 out2 u → Removes u out2 out' v → PutsOut (λ o. Chain last_parts s o v) out out'
+pub ends_put : (s t u v : AreaValue) (out out1 out2 out' : OutputsValue) → IsDatabase s.database → IsDatabase u.database → AreReadAsSent out'.sent → ElectsFrom (length s.links) s out out1 t → OwnLsas t out1 out2 u → Removes u out2 out' v → PutsOut (λ o. Chain last_parts s o v) out out'
 ends_put s t u v out out1 out2 out' is_s is_u read elects own r =
     let removals = removals_put u v out2 out' is_u r in
     let read2 = read_before (λ o. IsPart Part.Removals u o v) out2 out' removals read in

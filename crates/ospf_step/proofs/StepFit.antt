@@ -12,17 +12,16 @@ use Rattle.ospf_area.specs.Outputs.{OutputsValue}
 use Rattle.ospf_area.specs.Sending.{own_of}
 use Rattle.ospf_area.specs.State.{AreaValue, LinkValue}
 use Rattle.ospf_area.specs.declared.flooding.Origin.{Origin}
-use Rattle.ospf_links.specs.Elections.{ElectsAll, ElectsAt, ElectsFrom}
-use Rattle.ospf_links.specs.Parts.{description_part, hello_part, hello_sent, link_down, link_timed, link_up, request_part, with_neighbourhood}
+use Rattle.ospf_links.specs.Elections.{ElectsAt, ElectsFrom}
+use Rattle.ospf_links.specs.Parts.{description_part, hello_part, link_down, link_timed, link_up, request_part, with_neighbourhood}
 use Rattle.ospf_links.specs.Repeats.{link_repeated}
 use Rattle.ospf_links.specs.Works.{link_changed}
-use Rattle.ospf_links.proofs.Words.{some_changed, worked, worked_by, ElectsThere}
+use Rattle.ospf_links.proofs.Words.{hello_sent, some_changed, worked, worked_by, ElectsThere}
 use Rattle.ospf_step.specs.Puts.{headers_met}
 use Rattle.ospf_packet.specs.Meaning.{BodyMeaning, hello, description, request, update, acknowledgment}
-use Rattle.ospf_update.specs.Acks.{undelayed_link}
 use Rattle.ospf_update.specs.Aging.{TickAges}
 use Rattle.ospf_update.specs.Meets.{header_met}
-use Rattle.ospf_update.proofs.Words.{Removes}
+use Rattle.ospf_update.proofs.Words.{Removes, undelayed_link}
 use Rattle.ospf_originate.specs.Laws.{AreaStaysSound, OwnStaySound}
 use Rattle.ospf_originate.specs.Sound.{IsSetUp, IsSound}
 use Rattle.ospf_originate.specs.Steps.{OwnLsas}
@@ -144,7 +143,7 @@ module _ (stay : NeighboursStayOfLink) where
   elects_from_fit zero s out s' out' is fit = moved s s' is.0 fit
   elects_from_fit (suc l) s out s' out' (mid, mid_out, first, last) fit = elects_at_fit l mid mid_out s' out' last (elects_from_fit l s out mid mid_out first fit)
 
-  pub elects_fit : (s : AreaValue) (out : OutputsValue) (s' : AreaValue) (out' : OutputsValue) → ElectsAll s out out' s' → IsFitRouter s → IsFitRouter s'
+  pub elects_fit : (s : AreaValue) (out : OutputsValue) (s' : AreaValue) (out' : OutputsValue) → ElectsFrom (length s.links) s out out' s' → IsFitRouter s → IsFitRouter s'
   elects_fit s out s' out' is fit = elects_from_fit (length s.links) s out s' out' is fit
 
 pub own_fit : (own : OwnStaySound) (s : AreaValue) (out out' : OutputsValue) (s' : AreaValue) → OwnLsas s out out' s' → IsFitRouter s → IsFitRouter s'

@@ -22,11 +22,12 @@ use Rattle.ospf_step.specs.Step.Event.{Datagram, Tick, LinkUp, LinkDown}
 use Rattle.ospf_step.specs.Words.{IsSoundState}
 use Rattle.ospf_step.proofs.Chains.{step_from_chain}
 use Rattle.ospf_step.proofs.StepAccounts.{StepLaws-accounts, StepLaws-sound}
-use Rattle.ospf_step.specs.Invariants.{AreRising}
 use Rattle.ospf_step.proofs.StepChains.{acknowledgment_chain, description_chain, down_chain, hello_chain, request_chain, up_chain, update_chain, ends_put, tick_puts}
 use Rattle.ospf_step.specs.Drops.{is_dropped}
 use Rattle.ospf_step.specs.Fit.{IsFitRouter, IsFitLink}
-use Rattle.ospf_step.specs.Ready.{IsReadyFor, IsSenderReady}
+use Rattle.ospf_step.specs.Lawful.{StepsAreLawful}
+use Rattle.ospf_step.specs.Invariants.{AreRising, NoneWaitsBelow}
+use Rattle.ospf_step.specs.Ready.{IsReadyFor}
 use Rattle.ospf_step.specs.Steps.{StepsArea, Takes}
 use Rattle.ospf_step.specs.Ticks.{TakesTick}
 use Rattle.ospf_step.proofs.Works.{acknowledged_is, tick_state}
@@ -45,15 +46,15 @@ links_rise s fit l link at = (all_at (IsFitLink s.router) s.links l link fit.lin
 -- ---- an event, in front of what follows
 
 module _ (stay : NeighboursStayOfLink) (come : ElectionsComeAbout) (repeats : RepeatsAreQuiet) (area : AreaStaysSound) (rest : List Part) (s t u : AreaValue) (out mid_out out' : OutputsValue) (read : AreReadAsSent out'.sent) (next : PutsOut (λ o. Chain rest t o u) mid_out out') where
-  datagram_puts : (link : ℕ) (source destination : Addr) (bytes : List ℕ) (o : Option Meaning) → packet_of bytes ≡ o → IsSenderReady link o s → TakesDatagram link source o s out mid_out t
+  datagram_puts : (link : ℕ) (source destination : Addr) (bytes : List ℕ) (o : Option Meaning) → packet_of bytes ≡ o → ((m : Meaning) → o ≡ Some m → IsDatabase s.database × NoneWaitsBelow s link m.router) → TakesDatagram link source o s out mid_out t
       → PutsOut (λ o. Chain (first_parts (Datagram link source destination bytes) ++ rest) s o u) out out'
   datagram_puts link source destination bytes None at ready is = absurd is
   datagram_puts link source destination bytes (Some m) at ready is = by_body m.body refl is
     where
       by_body : (b : BodyMeaning) → m.body ≡ b → TakesBody b (origin_of link source m) s out mid_out t → PutsOut (λ o. Chain (first_parts (Datagram link source destination bytes) ++ rest) s o u) out out'
       by_body (hello fields heard) says is = hello_chain link source destination bytes m at rest s t u out mid_out out' read next fields heard (names heard s.router) says is
-      by_body (description fields headers) says is = description_chain link source destination bytes m at rest s t u out mid_out out' read next fields headers ready.0 ready.1 says is
-      by_body (request entries) says is = request_chain link source destination bytes m at rest s t u out mid_out out' read next entries _ ready.0 says is
+      by_body (description fields headers) says is = description_chain link source destination bytes m at rest s t u out mid_out out' read next fields headers (ready m refl).0 (ready m refl).1 says is
+      by_body (request entries) says is = request_chain link source destination bytes m at rest s t u out mid_out out' read next entries _ (ready m refl).0 says is
       by_body (update lsas) says is = update_chain link source destination bytes m at rest s t u out mid_out out' read next lsas says is
       by_body (acknowledgment headers) says is = acknowledgment_chain link source destination bytes m at rest s t u out mid_out out' read next headers says is.state (none_sent out mid_out is.outputs)
 
@@ -74,22 +75,30 @@ module _ (stay : NeighboursStayOfLink) (come : ElectionsComeAbout) (repeats : Re
 -- ---- a step
 
 module _ (stay : NeighboursStayOfLink) (come : ElectionsComeAbout) (repeats : RepeatsAreQuiet) (area : AreaStaysSound) where
-  takes_laws : (e : Event) (s : AreaValue) (out : OutputsValue) (s' : AreaValue) → IsFitRouter s → IsReadyFor e s → is_dropped e s ≡ false → Takes e s out s' → StepLaws is_dropped e s out s'
-  takes_laws e s out s' fit ready taken is =
+  takes_laws : (e : Event) (s : AreaValue) (out : OutputsValue) (s' : AreaValue) → IsFitRouter s → is_dropped e s ≡ false → Takes e s out s' → StepLaws is_dropped e s out s'
+  takes_laws e s out s' fit taken is =
       let end = is.end in
       let ends = ends_put is.mid end.elected end.issued s' is.mid_out end.elected_out end.issued_out out end.database end.issued_database end.read end.elects end.own end.removes in
-      step_from_chain is_dropped e s out s' taken end.read (event_puts stay come repeats area last_parts s is.mid s' no_outputs is.mid_out out end.read ends e fit end.database ready is.event)
+      step_from_chain is_dropped e s out s' taken end.read (event_puts stay come repeats area last_parts s is.mid s' no_outputs is.mid_out out end.read ends e fit end.database is.ready is.event)
 
-  pub step_laws : (r : Result StepResult AllocError) (e : Event) (s s' : AreaValue) → IsFitRouter s → IfOk r (λ t. t.dropped ≡ None → IsReadyFor e s)
-      → IfOk r (λ t. StepsArea e s t.dropped t.out s') → IfOk r (λ t. StepLaws is_dropped e s t.out s')
-  step_laws (Err x) e s s' fit ready is = tt
-  step_laws (Ok t) e s s' fit ready is = by_cause t.dropped refl
+  pub steps_lawful : (e : Event) (s : AreaValue) (dropped : Option Dropped) (out : OutputsValue) (s' : AreaValue) → IsFitRouter s → StepsArea e s dropped out s' → StepLaws is_dropped e s out s'
+  steps_lawful e s dropped out s' fit is = by_cause dropped refl
     where
-      by_cause : (o : Option Dropped) → t.dropped ≡ o → StepLaws is_dropped e s t.out s'
-      by_cause None none = takes_laws e s t.out s' fit (ready none) (ap is_some (sym is.cause ∙ none)) (is.takes none)
+      by_cause : (o : Option Dropped) → dropped ≡ o → StepLaws is_dropped e s out s'
+      by_cause None none = takes_laws e s out s' fit (ap is_some (sym is.cause ∙ none)) (is.takes none)
       by_cause (Some d) some =
-          let dropped : t.dropped ≢ None = λ none. none-some d (sym none ∙ some) in
-          StepLaws.Drops (ap is_some (sym is.cause ∙ some)) (record { state = is.unchanged dropped; outputs = is.silent dropped })
+          let cut : dropped ≢ None = λ none. none-some d (sym none ∙ some) in
+          StepLaws.Drops (ap is_some (sym is.cause ∙ some)) (record { state = is.unchanged cut; outputs = is.silent cut })
+
+  pub step_laws : (r : Result StepResult AllocError) (e : Event) (s s' : AreaValue) → IsFitRouter s → IfOk r (λ t. StepsArea e s t.dropped t.out s') → IfOk r (λ t. StepLaws is_dropped e s t.out s')
+  step_laws (Err x) e s s' fit is = tt
+  step_laws (Ok t) e s s' fit is = steps_lawful e s t.dropped t.out s' fit is
+
+  -- the same of all steps, and what they answer for
+  pub all_lawful : StepsAreLawful
+  all_lawful e s dropped out s' fit sound is =
+      let laws = steps_lawful e s dropped out s' fit is in
+      record { laws = laws; accounts = StepLaws-accounts is_dropped e s out s' sound laws }
 
 -- ---- what a step answers for
 

@@ -11,17 +11,18 @@ use Rattle.ospf_area.specs.declared.flooding.Origin.{Origin}
 use Rattle.ospf_step.specs.Step.{Event}
 use Rattle.ospf_step.specs.Step.Event.{Datagram, Tick, LinkUp, LinkDown}
 use Rattle.ospf_links.specs.Elections.{ElectsAt, ElectsFrom}
-use Rattle.ospf_links.specs.Parts.{description_part, hello_part, hello_sent, link_down, link_timed, link_up, request_part, with_neighbourhood}
+use Rattle.ospf_links.specs.Parts.{description_part, hello_part, link_down, link_timed, link_up, request_part, with_neighbourhood}
 use Rattle.ospf_links.specs.Repeats.{link_repeated}
 use Rattle.ospf_links.specs.Works.{link_changed}
-use Rattle.ospf_links.proofs.Words.{some_changed, worked, worked_by, ElectsThere}
+use Rattle.ospf_links.proofs.Words.{hello_sent, some_changed, worked, worked_by, ElectsThere}
 use Rattle.ospf_packet.specs.Meaning.{BodyMeaning, Meaning, hello, description, request, update, acknowledgment}
 use Rattle.ospf_packet.specs.PacketOf.{packet_of}
-use Rattle.ospf_update.specs.Acks.{undelayed_link}
+use Rattle.ospf_update.proofs.Words.{undelayed_link}
 use Rattle.ospf_step.specs.Ends.{EndsStep}
 use Rattle.ospf_step.specs.Same.{IsSameRouter}
 use Rattle.ospf_step.specs.declared.dropped.Dropped.{Dropped}
 use Rattle.ospf_step.specs.Drops.{dropped_by}
+use Rattle.ospf_step.specs.Ready.{IsReadyFor}
 use Rattle.ospf_step.specs.Steps.{StepsArea, Takes}
 use Rattle.ospf_step.specs.declared.steps.StepResult.{StepResult}
 use Rattle.std.specs.declared.alloc.AllocError.{AllocError}
@@ -108,13 +109,13 @@ takes_same e s out s' is =
 
 -- a step whose event was taken, and that has ended
 pub taken_steps : (e : Event) (s mid after : AreaValue) (o mid_out out : OutputsValue) (d : Option Dropped) → o ≡ no_outputs → is_some d ≡ false → d ≡ dropped_by e s
-    → (d ≡ None → TakesEvent e s o mid_out mid) → EndsStep mid mid_out out after → StepsArea e s d out after
-taken_steps e s mid after o mid_out out (Some d) empty taken cause takes ends = absurd cc
-taken_steps e s mid after o mid_out out None empty taken cause takes ends = record {
+    → (d ≡ None → IsReadyFor e s) → (d ≡ None → TakesEvent e s o mid_out mid) → EndsStep mid mid_out out after → StepsArea e s d out after
+taken_steps e s mid after o mid_out out (Some d) empty taken cause ready takes ends = absurd cc
+taken_steps e s mid after o mid_out out None empty taken cause ready takes ends = record {
   cause = cause;
   unchanged = λ some. absurd (some refl);
   silent = λ some. absurd (some refl);
-  takes = λ none. record { mid = mid; mid_out = mid_out; event = subst (λ (x : OutputsValue). TakesEvent e s x mid_out mid) empty (takes none); end = ends };
+  takes = λ none. record { ready = ready none; mid = mid; mid_out = mid_out; event = subst (λ (x : OutputsValue). TakesEvent e s x mid_out mid) empty (takes none); end = ends };
 }
 
 -- a step whose event was dropped

@@ -20,13 +20,14 @@ use Rattle.ospf_lsdb.proofs.MapLaws.{installs}
 use Rattle.ospf_packet.specs.Meaning.{Meaning}
 use Rattle.ospf_neighbour.specs.Lists.{key_unlisted}
 use Rattle.ospf_neighbour.specs.Neighbour.{NeighbourValue}
-use Rattle.ospf_area.specs.Flooding.{on_link, came_from, flooded_neighbour, flooded_link, flooded_links, released, released_link}
-use Rattle.ospf_update.specs.Meets.{Stores, store_updates}
+use Rattle.ospf_area.specs.Flooding.{on_link, came_from, flooded_links, released}
+use Rattle.ospf_update.specs.Meets.{Stores}
+use Rattle.ospf_update.proofs.Words.{store_updates}
 use Rattle.ospf_area.specs.Sending.{own_of}
 use Rattle.ospf_area.specs.Outputs.{OutputsValue, AreReadAsSent}
 use Rattle.ospf_area.specs.Places.{map_from}
 use Rattle.ospf_area.specs.State.{AreaValue, LinkValue, database_entry, copy_of, kept_number}
-use Rattle.ospf_area.proofs.Words.{copy_in}
+use Rattle.ospf_area.proofs.Words.{copy_in, flooded_link, released_link, flooded_neighbour}
 use Rattle.ospf_area.specs.declared.flooding.Origin.{Origin}
 use Rattle.ospf_step.specs.Headers.{IsOfInstance, Lists}
 use Rattle.ospf_step.specs.Packets.{Received, lsas_of, headers_in_body}

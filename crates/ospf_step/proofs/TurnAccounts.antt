@@ -14,12 +14,12 @@ use Rattle.ospf_neighbour.specs.declared.machine.NbrEvent.TheVariants as event
 use Rattle.ospf_neighbour.specs.declared.machine.NeighbourState.{NeighbourState}
 use Rattle.ospf_neighbour.specs.declared.machine.NeighbourState.TheVariants as state
 use Rattle.ospf_update.specs.Aging.{turned_area, turn_out}
-use Rattle.ospf_area.specs.Asking.{loaded, turned_to_next, turned_link, request_body, turn_requests_on}
+use Rattle.ospf_area.specs.Asking.{turned_to_next, turned_link, request_body, turn_requests_on}
 use Rattle.ospf_area.specs.Sending.{own_of, datagrams, packet_from, to_address, way_out}
 use Rattle.ospf_area.specs.Outputs.{SentValue, no_outputs, sends, AreReadAsSent}
 use Rattle.ospf_area.specs.Places.{flat_from}
 use Rattle.ospf_area.specs.State.{AreaValue, LinkValue, neighbour, state_in}
-use Rattle.ospf_area.proofs.Words.{turn_request, neighbours_in}
+use Rattle.ospf_area.proofs.Words.{turn_request, neighbours_in, loaded}
 use Rattle.ospf_area.specs.declared.sending.Own.{Own}
 use Rattle.ospf_area.specs.declared.sending.Way.{Way}
 use Rattle.ospf_step.specs.Neighbours.{NeighbourGoes, NeighbourGoesOn, Quiet}

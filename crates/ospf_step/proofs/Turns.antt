@@ -44,9 +44,9 @@ use Rattle.ospf_step.specs.Words.{CanName}
 use Rattle.ospf_step.proofs.LinkParts.{goes_same, link_same, one_goes, one_quiet, quiet_same}
 use Rattle.ospf_step.proofs.StateFacts.{Contains-map_cases, Contains-nil, header_names, same_contents, copy_of-has, neighbour-router, same_router}
 use Rattle.ospf_links.specs.Parts.{description_part, neighbourhood_of, request_part, with_neighbourhood}
-use Rattle.ospf_links.proofs.Words.{description_by, request_by}
-use Rattle.ospf_area.specs.Posting.{local_by, local_of, posted_all}
-use Rattle.ospf_links.specs.Repeats.{link_repeated, neighbour_repeated, repeats_for, link_repeats_out, repeats_to}
+use Rattle.ospf_links.proofs.Words.{description_by, neighbour_repeated, repeats_to, request_by}
+use Rattle.ospf_area.specs.Posting.{local_by, posted_all}
+use Rattle.ospf_links.specs.Repeats.{link_repeated, repeats_for, link_repeats_out}
 use Rattle.ospf_links.specs.Works.{WorksOn}
 use Rattle.ospf_step.specs.Invariants.{AreRising, NoneWaitsBelow}
 use Rattle.ospf_step.proofs.Known.{goes_on, SaysKnown, both_known, links_known, none_known, posted_known, says_known, says_nothing}
@@ -84,13 +84,13 @@ of_area s l link r n at found = ap (λ o. neighbour_of (neighbours_in o) r) at �
 
 module _ (f : Origin) (p : Meaning) (d : Description) (s t : AreaValue) (is : IsDatabase s.database) (below : NoneWaitsBelow s f.link f.router) (sender : p.router ≡ f.router) where
   after : LinkValue → Option NeighbourValue → Neighbourhood
-  after link o = description_by o link.iface (local_of (own_of s) link) f.router d (dd_headers_of p.body) s.database (neighbourhood_of link s.next_dd)
+  after link o = description_by o link.iface (local_by (own_of s) link.settings) f.router d (dd_headers_of p.body) s.database (neighbourhood_of link s.next_dd)
 
   described : (link : LinkValue) (o : Option NeighbourValue) → neighbour_of link.neighbours f.router ≡ o → OnOneLink f.link link (with_neighbourhood (after link o) link) (posted_all (own_of s) f.link link.iface (after link o).sent) s (sends (posted_all (own_of s) f.link link.iface (after link o).sent)) t → NeighboursGo (Some (record { link = f.link; packet = p })) s (sends (posted_all (own_of s) f.link link.iface (after link o).sent)) t
   unfolding after
   described link None found one = one_goes (Some (record { link = f.link; packet = p })) f.link link link [] s _ t one (link_same s (told_by (Some (record { link = f.link; packet = p })) f.link) link) (none_known s)
   described link (Some n) found one =
-      let local = local_of (own_of s) link in
+      let local = local_by (own_of s) link.settings in
       let turn = turn_of n (neighbourhood_of link s.next_dd) in
       let u = description_turn link.iface local f.router d (dd_headers_of p.body) s.database turn in
       let at : neighbour s f.link f.router ≡ Some n = of_area s f.link link f.router n one.at found in
@@ -152,13 +152,13 @@ turn_known s l q n delay next u at is quiet p c = go (quiet.sends p c)
 
 module _ (f : Origin) (entries : List RequestEntry) (s t : AreaValue) (is : IsDatabase s.database) where
   answered : LinkValue → Option NeighbourValue → Neighbourhood
-  answered link o = request_by o link.iface (local_of (own_of s) link) link.settings.transmit_delay s.database entries (neighbourhood_of link s.next_dd)
+  answered link o = request_by o link.iface (local_by (own_of s) link.settings) link.settings.transmit_delay s.database entries (neighbourhood_of link s.next_dd)
 
   answers : (link : LinkValue) (o : Option NeighbourValue) → neighbour_of link.neighbours f.router ≡ o → OnOneLink f.link link (with_neighbourhood (answered link o) link) (posted_all (own_of s) f.link link.iface (answered link o).sent) s (sends (posted_all (own_of s) f.link link.iface (answered link o).sent)) t → Quiet s (sends (posted_all (own_of s) f.link link.iface (answered link o).sent)) t
   unfolding answered
   answers link None found one = one_quiet f.link link link [] s _ t one (quiet_same s link) (none_known s)
   answers link (Some n) found one =
-      let local = local_of (own_of s) link in
+      let local = local_by (own_of s) link.settings in
       let delay = link.settings.transmit_delay in
       let turn = turn_of n (neighbourhood_of link s.next_dd) in
       let u = answer_turn link.iface local delay s.database entries turn in

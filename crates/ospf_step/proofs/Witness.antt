@@ -54,7 +54,7 @@ rests t = record {
 }
 
 rises : AgesPart (at_tick 0) no_outputs (at_tick 1)
-rises = record { rise = record { database = λ key. refl; rest = refl }; outputs = refl }
+rises = record { database = λ key. refl; rest = refl; outputs = refl }
 
 removes : RemovalPart (at_tick 1) no_outputs (at_tick 1)
 removes = record {

@@ -14,14 +14,14 @@ use Rattle.ospf_step.proofs.Chains.{then_sends}
 use Rattle.ospf_step.proofs.LinkParts.{each_same, link_same, map_each, part_goes, part_quiet, quiet_same}
 use Rattle.ospf_step.proofs.StateFacts.{Contains-nil}
 use Rattle.ospf_step.proofs.PutParts.{puts_sent}
-use Rattle.ospf_links.specs.Parts.{hello_sent, link_timed, with_neighbourhood}
+use Rattle.ospf_links.specs.Parts.{link_timed, with_neighbourhood}
 use Rattle.std.specs.List.{flat_map}
-use Rattle.ospf_links.specs.Repeats.{keys_out, link_repeated, marked_all}
-use Rattle.ospf_update.specs.Acks.{undelayed_link}
+use Rattle.ospf_links.specs.Repeats.{link_repeated, marked_all}
+use Rattle.ospf_update.proofs.Words.{undelayed_link}
 use Rattle.ospf_step.specs.Ticks.{TakesTick}
 use Rattle.ospf_area.specs.Posting.{posted_all}
 use Rattle.ospf_links.specs.Works.{WorksOn}
-use Rattle.ospf_links.proofs.Words.{worked_by, work_sent_on}
+use Rattle.ospf_links.proofs.Words.{hello_sent, keys_out, worked_by, work_sent_on}
 use Rattle.ospf_step.proofs.Known.{none_known}
 
 -- what is sent behind the outputs so far is read where all is

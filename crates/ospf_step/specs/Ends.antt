@@ -1,8 +1,9 @@
 -- How every step ends: elections with AdjOK?, own LSAs, and removals (RFC
 -- 2328, sections 9.4, 12.4 and 14).
+use Rattle.std.specs.Prelude.{length}
 use Rattle.ospf_area.specs.Outputs.{AreReadAsSent, OutputsValue}
 use Rattle.ospf_area.specs.State.{AreaValue}
-use Rattle.ospf_links.specs.Elections.{ElectsAll}
+use Rattle.ospf_links.specs.Elections.{ElectsFrom}
 use Rattle.ospf_lsdb.specs.Database.{IsDatabase}
 use Rattle.ospf_originate.specs.Steps.{OwnLsas}
 use Rattle.ospf_area.specs.Acting.{InTurn}
@@ -12,10 +13,10 @@ use Rattle.ospf_update.specs.Removal.{RemovesOne, leaving}
 pub record EndsStep (s : AreaValue) (out out' : OutputsValue) (after : AreaValue) : Type 0 where
   -- the keys of the database rise, and no age is above MaxAge (12.2)
   pub database : IsDatabase s.database
-  -- the elections that are due, and AdjOK? (9.4)
+  -- the elections of all links on which one is due, and AdjOK? (9.4)
   pub elected : AreaValue
   pub elected_out : OutputsValue
-  pub elects : ElectsAll s out elected_out elected
+  pub elects : ElectsFrom (length s.links) s out elected_out elected
   -- the router's own LSAs (12.4)
   pub issued : AreaValue
   pub issued_out : OutputsValue

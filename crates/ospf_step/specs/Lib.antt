@@ -22,3 +22,4 @@ pub mod Steps
 pub mod Fit
 pub mod Ready
 pub mod Same
+pub mod Lawful

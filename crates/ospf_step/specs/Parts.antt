@@ -1,12 +1,14 @@
 -- The parts of a step that touch the database, acknowledge or flood (RFC
 -- 2328, sections 12.4, 13 and 14).
-use Rattle.std.specs.Prelude.{◌≡◌, ◌&&◌, ◌+ℤ◌, ◌≤ℤ◌, ℕ, pos, not, Bool, false, List, [], ◌∷◌, Option, None, Some, if◌then◌else◌}
+use Rattle.std.specs.Prelude.{◌≡◌, ◌&&◌, ◌+◌, ◌%◌, ◌^◌, ◌+ℤ◌, ◌≤ℤ◌, ℕ, pos, not, Bool, false, List, [], ◌∷◌, Option, None, Some, if◌then◌else◌}
+use Rattle.std.specs.Ordering.{int_eq}
 use Rattle.ospf_base.specs.Constants.{max_age}
 use Rattle.ospf_base.specs.Keys.{same_key}
 use Rattle.ospf_base.specs.declared.ids.LsaKey.{LsaKey}
+use Rattle.ospf_flood.specs.Rules.{max_sequence_number}
 use Rattle.ospf_lsa.specs.Header.{header_of}
 use Rattle.ospf_lsa.specs.Lsa.{IsLsa, key_of, instance_of}
-use Rattle.ospf_lsdb.specs.Database.{Entry, entry_from, lsa_of, Installs}
+use Rattle.ospf_lsdb.specs.Database.{Ages, Entry, entry_from, header_at, lsa_of, Installs}
 use Rattle.ospf_lsdb.specs.Moments.{among}
 use Rattle.ospf_area.specs.Flooding.{flooded_links, flooding_updates, released}
 use Rattle.ospf_area.specs.Numbers.{is_own}
@@ -14,9 +16,8 @@ use Rattle.ospf_area.specs.Outputs.{OutputsValue, no_outputs, sends}
 use Rattle.ospf_area.specs.Sending.{own_of}
 use Rattle.ospf_area.specs.State.{AreaValue, database_entry, kept_number, some_link_loading}
 use Rattle.ospf_area.specs.declared.flooding.Origin.{Origin}
-use Rattle.ospf_update.specs.Aging.{AgesRise}
 use Rattle.ospf_update.specs.Meets.{MeetsLsa}
-use Rattle.ospf_update.specs.Removal.{is_last, is_leaving, lowest_number}
+use Rattle.ospf_update.specs.Removal.{is_leaving, lowest_number}
 use Rattle.ospf_update.specs.Updates.{PassesOver}
 
 -- ---- Updates and Acknowledgments
@@ -72,9 +73,11 @@ pub record ExpiryPart (key : LsaKey) (copy : Entry) (before : AreaValue) (out : 
 
 -- ---- ages, and what leaves the database
 
--- a tick begins: all ages below MaxAge rise by one (14)
+-- a tick begins, in which nothing was sent: all ages below MaxAge rise by one (14)
 pub record AgesPart (before : AreaValue) (out : OutputsValue) (after : AreaValue) : Type 0 where
-  pub rise : AgesRise before after
+  pub database : Ages before.database after.database
+  pub rest : after
+      ≡ record before { database = after.database; tick = (before.tick + 1) % 2 ^ 64; sent = [] }
   pub outputs : out ≡ no_outputs
 
 -- an LSA at MaxAge that nobody waits for leaves the database (14)
@@ -100,5 +103,6 @@ pub record RemovalPart (before : AreaValue) (out : OutputsValue) (after : AreaVa
   pub ended : (key : LsaKey) → among out.ended key
       ≡ (elim (database_entry before key) [
         | None ↦ false
-        | Some e ↦ leaves_if before (Some e) && (is_own before.router key && is_last (Some e))
+        | Some e ↦ leaves_if before (Some e)
+            && (is_own before.router key && int_eq (header_at e).number max_sequence_number)
       ])

@@ -1,5 +1,5 @@
 -- What a router has so that a packet can be taken (RFC 2328, sections 10.5 and 10.7).
-use Rattle.std.specs.Prelude.{⊤, ◌≡◌, ◌<◌, ℕ, true, Option, Some, None, length, slice_get}
+use Rattle.std.specs.Prelude.{⊤, ◌≡◌, ◌<◌, true, Some, None, length, slice_get}
 use Rattle.ospf_area.specs.State.{AreaValue, LinkValue}
 use Rattle.ospf_area.specs.declared.flooding.Origin.{Origin}
 use Rattle.ospf_step.specs.Invariants.{NoneWaitsBelow}
@@ -29,13 +29,10 @@ CanTakePacket f body s =
     (link : LinkValue) → slice_get s.links f.link ≡ Some link → CanTakeOn body f link
 
 -- the database is one, and nothing waits for the sender of a packet below Exchange (10.1)
-abbrev pub IsSenderReady : ℕ → Option Meaning → AreaValue → Type 0
-IsSenderReady link None s = ⊤
-IsSenderReady link (Some m) s = IsDatabase s.database × NoneWaitsBelow s link m.router
-
--- and so for the packet of an event
 abbrev pub IsReadyFor : Event → AreaValue → Type 0
-IsReadyFor (Datagram link source destination bytes) s = IsSenderReady link (packet_of bytes) s
+IsReadyFor (Datagram link source destination bytes) s =
+    (m : Meaning) → packet_of bytes ≡ Some m
+    → IsDatabase s.database × NoneWaitsBelow s link m.router
 IsReadyFor Tick s = ⊤
 IsReadyFor (LinkUp link) s = ⊤
 IsReadyFor (LinkDown link) s = ⊤

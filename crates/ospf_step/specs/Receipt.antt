@@ -1,5 +1,5 @@
 -- Which datagrams are dropped, and why (RFC 2328, sections 8.2, 10.5 to 10.7, 13 and 13.7).
-use Rattle.std.specs.Prelude.{◌==◌, ◌&&◌, ◌||◌, not, nat_lt, Bool, List, Option, None, Some, length, is_some, bit_and, if◌then◌else◌}
+use Rattle.std.specs.Prelude.{◌==◌, ◌&&◌, ◌||◌, not, nat_lt, Bool, List, Option, None, Some, find, length, is_some, bit_and, if◌then◌else◌}
 use Rattle.ospf_base.specs.Addresses.{all_d_routers, all_spf_routers}
 use Rattle.ospf_base.specs.declared.ids.Addr.{Addr}
 use Rattle.ospf_base.specs.declared.ids.AreaId.{AreaId}
@@ -9,7 +9,7 @@ use Rattle.ospf_iface.specs.Machine.{is_down, is_dr_or_backup}
 use Rattle.ospf_iface.specs.declared.machine.Iface.{Iface}
 use Rattle.ospf_neighbour.specs.Machine.{is_exchanging}
 use Rattle.ospf_neighbour.specs.Neighbour.{NeighbourValue, is_empty}
-use Rattle.ospf_neighbour.specs.Neighbours.{at_address, max_neighbours, neighbour_of}
+use Rattle.ospf_neighbour.specs.Neighbours.{max_neighbours, neighbour_of}
 use Rattle.ospf_packet.specs.Meaning.{BodyMeaning, Meaning, hello, description, request, update, acknowledgment}
 use Rattle.ospf_lsa.specs.declared.header.LsaHeader.{LsaHeader}
 use Rattle.ospf_packet.specs.declared.body.Description.{Description}
@@ -28,35 +28,24 @@ is_destination i a =
     (a.0 == all_spf_routers.0) || (a.0 == i.settings.address.0)
     || ((a.0 == all_d_routers.0) && is_dr_or_backup i.state)
 
--- on a broadcast link it comes from another network (8.2)
-abbrev pub is_foreign : Iface → Addr → Bool
-is_foreign i a =
-    is_broadcast i
-    && not (bit_and a.0 i.settings.mask == bit_and i.settings.address.0 i.settings.mask)
-
 -- ---- who sent it
 
 -- the sender among the neighbours: by its address on broadcast links, by its Router
 -- ID on point-to-point links (8.2)
 abbrev pub sender_in : Iface → List NeighbourValue → RouterId → Addr → Option NeighbourValue
-sender_in i ns q source = if is_broadcast i then at_address ns source else neighbour_of ns q
+sender_in i ns q source =
+    if is_broadcast i then find (λ n. n.address.0 == source.0) ns else neighbour_of ns q
 
--- a neighbour has the Router ID at another address; on a point-to-point link any other
--- router is the neighbour (8.2, 10.5)
-abbrev pub is_elsewhere : Iface → List NeighbourValue → RouterId → Bool
-is_elsewhere i ns q = if is_broadcast i then is_some (neighbour_of ns q) else not (is_empty ns)
-
--- a Hello of a router that is not known
-abbrev pub drop_of_new : Iface → List NeighbourValue → RouterId → Option Dropped
-drop_of_new i ns q =
-    if is_elsewhere i ns q then Some dropped.WrongRouter
-    else if nat_lt (length ns) max_neighbours then None
-    else Some dropped.State
-
--- a Hello that agrees with the interface
+-- a Hello that agrees with the interface. Where its sender is not known, a neighbour may have its
+-- Router ID at another address, or on a point-to-point link any other router be the neighbour
+-- (8.2, 10.5), or there may be no room for one more
 abbrev pub drop_of_hello : Iface → List NeighbourValue → RouterId → Option NeighbourValue
     → Option Dropped
-drop_of_hello i ns q None = drop_of_new i ns q
+drop_of_hello i ns q None =
+    if (if is_broadcast i then is_some (neighbour_of ns q) else not (is_empty ns))
+    then Some dropped.WrongRouter
+    else if nat_lt (length ns) max_neighbours then None
+    else Some dropped.State
 drop_of_hello i ns q (Some n) = if n.router.0 == q.0 then None else Some dropped.WrongRouter
 
 -- a Database Description, which its neighbour takes or drops (10.6)
@@ -88,7 +77,8 @@ drop_by_body local (update lsas) i ns q sender = drop_below_exchange q sender
 drop_by_body local (acknowledgment headers) i ns q sender = drop_below_exchange q sender
 
 -- why a packet is dropped, if it is, the first of these: the link is down; another area; the Router
--- ID of this router; for another destination; from another network; and what its body brings
+-- ID of this router; for another destination; on a broadcast link from another network (8.2); and
+-- what its body brings
 abbrev pub drop_of_packet : Local → Iface → List NeighbourValue → AreaId → Addr → Addr → Meaning
     → Option Dropped
 drop_of_packet local i ns area source destination m =
@@ -96,12 +86,7 @@ drop_of_packet local i ns area source destination m =
     else if not (m.area.0 == area.0) then Some dropped.Area
     else if m.router.0 == i.settings.router.0 then Some dropped.OwnPacket
     else if not (is_destination i destination) then Some dropped.Destination
-    else if is_foreign i source then Some dropped.Subnet
+    else if is_broadcast i
+    && not (bit_and source.0 i.settings.mask == bit_and i.settings.address.0 i.settings.mask)
+    then Some dropped.Subnet
     else drop_by_body local m.body i ns m.router (sender_in i ns m.router source)
-
--- why a datagram is dropped, if it is; bytes that are no packet are, as `Packet`
-abbrev pub drop_of : Local → Iface → List NeighbourValue → AreaId → Addr → Addr → Option Meaning
-    → Option Dropped
-drop_of local i ns area source destination None = Some dropped.Packet
-drop_of local i ns area source destination (Some m) =
-    drop_of_packet local i ns area source destination m

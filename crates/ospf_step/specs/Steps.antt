@@ -6,10 +6,13 @@ use Rattle.ospf_step.specs.Step.{Event}
 use Rattle.ospf_step.specs.declared.dropped.Dropped.{Dropped}
 use Rattle.ospf_step.specs.Drops.{dropped_by}
 use Rattle.ospf_step.specs.Ends.{EndsStep}
+use Rattle.ospf_step.specs.Ready.{IsReadyFor}
 use Rattle.ospf_step.specs.Takes.{TakesEvent}
 
 -- the event is taken, and then the step ends
 pub record Takes (e : Event) (s : AreaValue) (out : OutputsValue) (after : AreaValue) : Type 0 where
+  -- the database is one, and nothing waits for the sender of a packet below Exchange (10.1)
+  pub ready : IsReadyFor e s
   pub mid : AreaValue
   pub mid_out : OutputsValue
   pub event : TakesEvent e s no_outputs mid_out mid

@@ -1,20 +1,25 @@
 -- What a tick does (RFC 2328, sections 9.3, 9.5, 10.3, 10.8, 10.9, 13.5, 13.6 and 14).
-use Rattle.std.specs.Prelude.{◌≡◌, map}
+use Rattle.std.specs.Prelude.{◌≡◌, [], map}
 use Rattle.std.specs.List.{flat_map}
 use Rattle.ospf_area.specs.Acting.{OnEachLink}
 use Rattle.ospf_area.specs.Outputs.{OutputsValue}
 use Rattle.ospf_area.specs.Sending.{own_of}
-use Rattle.ospf_area.specs.State.{AreaValue}
-use Rattle.ospf_links.specs.Parts.{hello_out, hello_sent, link_timed}
-use Rattle.ospf_links.specs.Repeats.{keys_out, link_repeated, link_repeats_out, marked_all}
-use Rattle.ospf_update.specs.Acks.{delayed_out_on, undelayed_link}
+use Rattle.ospf_area.specs.State.{AreaValue, LinkValue}
+use Rattle.ospf_adjacency.specs.Links.{hello_ticked}
+use Rattle.ospf_adjacency.specs.Repeats.{due_keys}
+use Rattle.ospf_links.specs.Parts.{hello_out, link_timed}
+use Rattle.ospf_links.specs.Repeats.{link_repeated, link_repeats_out, marked_all}
+use Rattle.ospf_update.specs.Acks.{delayed_out_on}
 use Rattle.ospf_update.specs.Aging.{TickAges}
 
 -- what is due is sent again on each link (10.8, 10.9, 13.6), and the keys whose copies
 -- go out are marked (13, step 8)
 abbrev pub RepeatsAll : AreaValue → OutputsValue → OutputsValue → AreaValue → Type 0
 RepeatsAll s out out' after =
-    let keys = flat_map (keys_out (own_of s) s.database) s.links in
+    let keys =
+    flat_map
+    (λ (link : LinkValue). flat_map (due_keys link.settings.retransmit s.tick s.database)
+    link.neighbours) s.links in
     let marked = record s { sent = marked_all keys s.sent } in
     OnEachLink (link_repeated (own_of s) s.database) (link_repeats_out (own_of s) s.database)
     marked out out' after
@@ -28,14 +33,15 @@ pub record TakesTick (s : AreaValue) (out out' : OutputsValue) (after : AreaValu
   -- the timers of each link, a tick later (9.3, 10.3)
   pub timed : AreaValue
   pub timers : timed ≡ record aged { links = map link_timed aged.links }
-  -- the Hellos that are due (9.5)
+  -- the Hellos that are due, and the Hello timer of each link, a tick later (9.5)
   pub helloed : AreaValue
   pub helloed_out : OutputsValue
-  pub hellos : OnEachLink hello_sent (hello_out (own_of timed)) timed aged_out helloed_out helloed
-  -- the delayed acknowledgements (13.5)
+  pub hellos : OnEachLink (λ link. record link { iface = hello_ticked link.iface })
+      (hello_out (own_of timed)) timed aged_out helloed_out helloed
+  -- the delayed acknowledgements, of which none waits any more (13.5)
   pub acknowledged : AreaValue
   pub acknowledged_out : OutputsValue
-  pub acknowledgements : OnEachLink undelayed_link (delayed_out_on (own_of helloed)) helloed
-      helloed_out acknowledged_out acknowledged
+  pub acknowledgements : OnEachLink (λ link. record link { delayed = [] })
+      (delayed_out_on (own_of helloed)) helloed helloed_out acknowledged_out acknowledged
   -- what is sent again (10.8, 10.9, 13.6)
   pub repeats : RepeatsAll acknowledged acknowledged_out out' after

@@ -5,9 +5,13 @@ ghost use Rattle.ospf_area.specs.Outputs.{OutputsValue, then_outputs};
 ghost use Rattle.ospf_area.specs.State.{AreaValue};
 ghost use Rattle.ospf_step.specs.Packets.{Received};
 ghost use Rattle.ospf_step.specs.Accounts.{Accounts, NoneEntersExchange};
+ghost use Rattle.ospf_step.specs.Lawful.{StepsAreLawful};
 ghost use Rattle.ospf_step.specs.Neighbours.{NeighboursGo};
 ghost use Rattle.ospf_step.specs.Step.{Event, StepLaws, heard_in};
 ghost use Rattle.ospf_step.specs.Words.{IsSoundState};
+
+use ospf_adjacency::{elections_come_about, neighbours_stay_of_link, repeats_are_quiet};
+use ospf_originate::area_stays_sound;
 
 /// What one part answers for and then the next, the two answer for together.
 pub fn accounts_add_up()
@@ -33,6 +37,17 @@ pub fn steps_account()
         (out : OutputsValue) (after : AreaValue) →
         IsSoundState before → StepLaws is_dropped event before out after → IsSoundState after }
 {}
+
+/// A step by the rules, from a state that is fit and sound, is the chain of its parts, each of a
+/// stated kind, and the router answers to others for all that it does.
+pub fn steps_are_lawful()
+    ensures { StepsAreLawful }
+{
+    neighbours_stay_of_link();
+    elections_come_about();
+    repeats_are_quiet();
+    area_stays_sound();
+}
 
 /// There are sound states, and steps from them by which time goes on.
 pub fn some_state_ticks()

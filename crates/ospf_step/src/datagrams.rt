@@ -1,14 +1,15 @@
 //! Datagrams that come.
 
-ghost use Rattle.std.specs.Prelude.{◌≡◌, ◌≢◌, None, Some, IfErr, IfOk, OnErr, OnOk, slice_get};
+ghost use Rattle.std.specs.Prelude.{◌≡◌, ◌≢◌, None, Some, IfErr, IfOk, OnErr, OnOk};
 ghost use Rattle.ospf_area.specs.Sending.{own_of};
 ghost use Rattle.ospf_step.specs.Puts.{headers_met};
-ghost use Rattle.ospf_area.specs.Posting.{local_of};
 ghost use Rattle.ospf_packet.specs.PacketOf.{packet_of};
 ghost use Rattle.ospf_packet.specs.Said.{body_said, said};
-ghost use Rattle.ospf_step.specs.Drops.{drop_on};
+ghost use Rattle.ospf_step.specs.Drops.{dropped_by};
+ghost use Rattle.ospf_step.specs.Step.Event.{Datagram};
 ghost use Rattle.ospf_step.specs.Fit.{IsFitRouter};
-ghost use Rattle.ospf_step.specs.Ready.{CanTakePacket, IsSenderReady};
+ghost use Rattle.ospf_step.specs.Ready.{CanTakePacket, IsReadyFor};
+ghost use Rattle.ospf_step.specs.Step.{Event};
 ghost use Rattle.ospf_step.specs.Takes.{TakesBody, TakesDatagram};
 
 use crate::dropped::Dropped;
@@ -39,18 +40,18 @@ pub(crate) fn take_datagram(
 ) -> Result<Option<Dropped>, AllocError>
     requires { IsFitRouter area.old }
     // It is dropped for the cause that applies, if one does, or else taken by the rules.
-    ensures dropped { IfOk result (λ d. d ≡ drop_on (slice_get area.old.links link) area.old source
-        destination (packet_of bytes.now)) }
+    ensures dropped { IfOk result (λ d. d
+        ≡ dropped_by (Datagram link source destination bytes.now) area.old) }
     ensures sender { IfOk result (λ d. d ≡ None →
-        IsSenderReady link (packet_of bytes.now) area.old) }
+        IsReadyFor (Event.Datagram link source destination bytes.now) area.old) }
     ensures takes { IfOk result (λ d. d ≡ None →
         TakesDatagram link source (packet_of bytes.now) area.old out.old out.new area.new) }
     // One that is dropped changes nothing, and puts nothing out.
     ensures unchanged { IfOk result (λ d. d ≢ None → area.new ≡ area.old) }
     ensures silent { IfOk result (λ d. d ≢ None → out.new ≡ out.old) }
     // One that is dropped needs no memory, and the area is fit for what follows.
-    ensures memory { OnErr result (drop_on (slice_get area.old.links link) area.old source
-        destination (packet_of bytes.now) ≡ None) }
+    ensures memory { OnErr result
+        (dropped_by (Datagram link source destination bytes.now) area.old ≡ None) }
     ensures fit { OnOk result (IsFitRouter area.new) }
 {
     // For the proof.
@@ -86,10 +87,10 @@ fn receive_on<'a>(
     bytes: &'a [u8],
 ) -> Result<Packet<'a>, Dropped>
     ensures packet { IfOk result (λ p. packet_of bytes.now ≡ Some (said p)) }
-    ensures taken { OnOk result (drop_on (slice_get area.now.links link) area.now source destination
-        (packet_of bytes.now) ≡ None) }
-    ensures dropped { IfErr result (λ d. drop_on (slice_get area.now.links link) area.now source
-        destination (packet_of bytes.now) ≡ Some d) }
+    ensures taken { OnOk result
+        (dropped_by (Datagram link source destination bytes.now) area.now ≡ None) }
+    ensures dropped { IfErr result (λ d.
+        dropped_by (Datagram link source destination bytes.now) area.now ≡ Some d) }
 {
     let Some(there) = area.links.get(link) else {
         return Err(Dropped::Packet);

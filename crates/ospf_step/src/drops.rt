@@ -1,12 +1,14 @@
 //! The causes that a datagram is dropped for, in their order.
 
-ghost use Rattle.std.specs.Prelude.{◌≡◌, IfErr, IfOk, None, OnOk, Some};
+ghost use Rattle.std.specs.Prelude.{◌≡◌, ◌==◌, ◌&&◌, IfErr, bit_and, IfOk, None, OnOk, Some, if◌then◌else◌, is_some, not};
 ghost use Rattle.std.specs.Option.{option_copied};
+ghost use Rattle.ospf_adjacency.specs.Adjacency.{is_broadcast};
+ghost use Rattle.ospf_neighbour.specs.Neighbour.{is_empty};
 ghost use Rattle.ospf_neighbour.specs.Neighbours.{at_address, neighbour_of};
 ghost use Rattle.ospf_packet.specs.PacketOf.{packet_of};
 ghost use Rattle.ospf_packet.specs.Said.{body_said, said};
 ghost use Rattle.ospf_iface.specs.Hello.{agrees};
-ghost use Rattle.ospf_step.specs.Receipt.{is_destination, is_foreign, is_elsewhere, sender_in, drop_of_new, drop_of_hello, drop_of_description, drop_below_exchange, drop_by_body, drop_of_packet, drop_of};
+ghost use Rattle.ospf_step.specs.Receipt.{is_destination, sender_in, drop_of_hello, drop_of_description, drop_below_exchange, drop_by_body, drop_of_packet};
 
 use crate::dropped::Dropped;
 use ospf_adjacency::{is_broadcast, is_dropped};
@@ -29,10 +31,14 @@ pub fn receive<'a>(
     local: Local,
 ) -> Result<Packet<'a>, Dropped>
     ensures packet { IfOk result (λ p. packet_of bytes.now ≡ Some (said p)) }
-    ensures taken { OnOk result (drop_of local iface.now neighbours.now area source destination
-        (packet_of bytes.now) ≡ None) }
-    ensures dropped { IfErr result (λ d. drop_of local iface.now neighbours.now area source
-        destination (packet_of bytes.now) ≡ Some d) }
+    ensures taken { OnOk result ((elim (packet_of bytes.now) [
+      | None ↦ Some Dropped.Packet
+      | Some m ↦ drop_of_packet local iface.now neighbours.now area source destination m
+    ]) ≡ None) }
+    ensures dropped { IfErr result (λ d. (elim (packet_of bytes.now) [
+      | None ↦ Some Dropped.Packet
+      | Some m ↦ drop_of_packet local iface.now neighbours.now area source destination m
+    ]) ≡ Some d) }
 {
     let packet = match Packet::read(bytes) {
         Ok(packet) => packet,
@@ -94,7 +100,9 @@ fn is_destination(iface: &Iface, destination: Addr) -> bool
 
 // Whether it comes from another network.
 fn is_foreign(iface: &Iface, source: Addr) -> bool
-    ensures { result ≡ is_foreign iface.now source }
+    ensures { result ≡ (is_broadcast iface.now
+        && not (bit_and source.0 iface.now.settings.mask
+        == bit_and iface.now.settings.address.0 iface.now.settings.mask)) }
 {
     let mask = iface.settings.mask;
     is_broadcast(iface) && source.0 & mask != iface.settings.address.0 & mask
@@ -169,7 +177,10 @@ fn drop_of_hello(
     ensures { result ≡ drop_of_hello iface.now neighbours.now router (option_copied sender.entry) }
 {
     match sender {
-        None => drop_of_new(iface, neighbours, router),
+        // A router that is not known.
+        None if is_elsewhere(iface, neighbours, router) => Some(Dropped::WrongRouter),
+        None if neighbours.len() < MAX_NEIGHBOURS => None,
+        None => Some(Dropped::State),
         Some(neighbour) => {
             if neighbour.router().0 == router.0 {
                 None
@@ -180,22 +191,10 @@ fn drop_of_hello(
     }
 }
 
-// Why a Hello of a router that is not known is dropped.
-fn drop_of_new(iface: &Iface, neighbours: &[Neighbour], router: RouterId) -> Option<Dropped>
-    ensures { result ≡ drop_of_new iface.now neighbours.now router }
-{
-    if is_elsewhere(iface, neighbours, router) {
-        Some(Dropped::WrongRouter)
-    } else if neighbours.len() < MAX_NEIGHBOURS {
-        None
-    } else {
-        Some(Dropped::State)
-    }
-}
-
 // Whether a router that was not found is a neighbour elsewhere.
 fn is_elsewhere(iface: &Iface, neighbours: &[Neighbour], router: RouterId) -> bool
-    ensures { result ≡ is_elsewhere iface.now neighbours.now router }
+    ensures { result ≡ (if is_broadcast iface.now then is_some (neighbour_of neighbours.now router)
+        else not (is_empty neighbours.now)) }
 {
     if is_broadcast(iface) {
         matches!(of_router(neighbours, router), Some(_))

@@ -1,7 +1,7 @@
 //! How every step ends.
 
-ghost use Rattle.std.specs.Prelude.{OnOk};
-ghost use Rattle.ospf_links.specs.Elections.{ElectsAll};
+ghost use Rattle.std.specs.Prelude.{OnOk, length};
+ghost use Rattle.ospf_links.specs.Elections.{ElectsFrom};
 ghost use Rattle.ospf_lsdb.specs.Database.{IsDatabase};
 ghost use Rattle.ospf_originate.specs.Steps.{OwnLsas};
 ghost use Rattle.ospf_step.specs.Ends.{EndsStep};
@@ -37,7 +37,8 @@ pub(crate) fn end(area: &mut Area, out: &mut Outputs, alloc: Global) -> Result<(
 // As `ospf_links::elect`, and the router stays fit.
 fn elect(area: &mut Area, out: &mut Outputs, alloc: Global) -> Result<(), AllocError>
     requires { IsFitRouter area.old }
-    ensures elects { OnOk result (ElectsAll area.old out.old out.new area.new) }
+    ensures elects { OnOk result (ElectsFrom (length area.old.links) area.old
+        out.old out.new area.new) }
     ensures fit { OnOk result (IsFitRouter area.new) }
 {
     // For the proof.

@@ -9,7 +9,7 @@
 //! The laws say that this is the chain of a step's parts (`datagrams_are_chains`,
 //! `link_changes_are_chains`, `ticks_are_chains`, `ends_are_chains`), what each part answers
 //! for to other routers (`specs/Accounts`), and that it adds up over a step
-//! (`accounts_add_up`, `steps_account`).
+//! (`accounts_add_up`, `steps_account`, `steps_are_lawful`).
 #![tactic(auto)]
 
 mod account_laws;
@@ -31,7 +31,7 @@ mod tick_laws;
 mod ticks;
 
 pub use crate::account_laws::{
-    accounts_add_up, quiet_parts_account, some_state_ticks, steps_account,
+    accounts_add_up, quiet_parts_account, some_state_ticks, steps_account, steps_are_lawful,
 };
 pub use crate::counts::{DropCounts, count_dropped, none_dropped_on};
 pub use crate::dropped::Dropped;

@@ -2,7 +2,7 @@
 //! after, is a part put behind them.
 
 ghost use Rattle.std.specs.Prelude.{◌≡◌, ◌++◌, ◌∷◌, [], Bool, false, List, Some, map, suc, ℕ};
-ghost use Rattle.ospf_update.specs.Acks.{undelayed_link, delayed_out_on};
+ghost use Rattle.ospf_update.specs.Acks.{delayed_out_on};
 ghost use Rattle.ospf_base.specs.declared.ids.LsaKey.{LsaKey};
 ghost use Rattle.ospf_lsa.specs.declared.header.LsaHeader.{LsaHeader};
 ghost use Rattle.ospf_lsdb.specs.Database.{Entry, IsDatabase};
@@ -76,7 +76,8 @@ pub fn next_requests_put_out()
 pub fn acknowledgements_put_out()
     ensures { (s t : AreaValue) (out out' : OutputsValue) →
         AreReadAsSent out'.sent →
-        OnEachLink undelayed_link (delayed_out_on (own_of s)) s out out' t →
+        OnEachLink (λ link. record link { delayed = [] }) (delayed_out_on (own_of s)) s out
+        out' t →
         PutsOut (λ o. Quiet s o t) out out' }
 {}
 

@@ -9,7 +9,8 @@ ghost use Rattle.ospf_area.specs.Outputs.{AreReadAsSent, OutputsValue};
 ghost use Rattle.ospf_area.specs.Acting.{OnEachLink};
 ghost use Rattle.ospf_area.specs.Sending.{own_of};
 ghost use Rattle.ospf_area.specs.State.{AreaValue};
-ghost use Rattle.ospf_links.specs.Parts.{hello_out, hello_sent, link_timed};
+ghost use Rattle.ospf_adjacency.specs.Links.{hello_ticked};
+ghost use Rattle.ospf_links.specs.Parts.{hello_out, link_timed};
 ghost use Rattle.ospf_step.specs.Begins.{BeginsChain};
 ghost use Rattle.ospf_step.specs.Puts.{PutsOut};
 ghost use Rattle.ospf_step.specs.Step.{Chain, Event, IsPart, Part};
@@ -26,7 +27,9 @@ pub fn timers_put_out()
 /// The Hellos that are due.
 pub fn due_hellos_put_out()
     ensures { (s t : AreaValue) (out out' : OutputsValue) →
-        AreReadAsSent out'.sent → OnEachLink hello_sent (hello_out (own_of s)) s out out' t →
+        AreReadAsSent out'.sent →
+        OnEachLink (λ link. record link { iface = hello_ticked link.iface }) (hello_out (own_of s))
+        s out out' t →
         PutsOut (λ o. IsPart Part.Hellos s o t) out out' }
 {}
 

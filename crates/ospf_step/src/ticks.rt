@@ -1,12 +1,13 @@
 //! Ticks.
 
-ghost use Rattle.std.specs.Prelude.{◌≡◌, OnOk, map};
+ghost use Rattle.std.specs.Prelude.{◌≡◌, [], OnOk, map};
 ghost use Rattle.ospf_area.specs.Acting.{OnEachLink};
 ghost use Rattle.ospf_area.specs.Sending.{own_of};
-ghost use Rattle.ospf_links.specs.Parts.{hello_out, hello_sent, link_timed};
+ghost use Rattle.ospf_adjacency.specs.Links.{hello_ticked};
+ghost use Rattle.ospf_links.specs.Parts.{hello_out, link_timed};
 ghost use Rattle.ospf_step.specs.Fit.{IsFitRouter};
 ghost use Rattle.ospf_step.specs.Ticks.{RepeatsAll, TakesTick};
-ghost use Rattle.ospf_update.specs.Acks.{delayed_out_on, undelayed_link};
+ghost use Rattle.ospf_update.specs.Acks.{delayed_out_on};
 
 use ospf_adjacency::{elections_come_about, neighbours_stay_of_link, repeats_are_quiet};
 use ospf_area::{Area, Outputs, own_of};
@@ -53,8 +54,8 @@ fn count_timers(area: &mut Area, alloc: Global)
 
 // As `ospf_links::send_hellos`, over the links of an area.
 fn send_hellos(area: &mut Area, out: &mut Outputs, alloc: Global) -> Result<(), AllocError>
-    ensures { OnOk result (OnEachLink hello_sent (hello_out (own_of area.old))
-        area.old out.old out.new area.new) }
+    ensures { OnOk result (OnEachLink (λ link. record link { iface = hello_ticked link.iface })
+        (hello_out (own_of area.old)) area.old out.old out.new area.new) }
 {
     let own = own_of(area);
     ospf_links::send_hellos(&mut area.links, own, out, alloc)
@@ -62,8 +63,8 @@ fn send_hellos(area: &mut Area, out: &mut Outputs, alloc: Global) -> Result<(), 
 
 // As `ospf_update::send_delayed`, over the links of an area.
 fn send_delayed(area: &mut Area, out: &mut Outputs, alloc: Global) -> Result<(), AllocError>
-    ensures { OnOk result (OnEachLink undelayed_link (delayed_out_on (own_of area.old))
-        area.old out.old out.new area.new) }
+    ensures { OnOk result (OnEachLink (λ link. record link { delayed = [] })
+        (delayed_out_on (own_of area.old)) area.old out.old out.new area.new) }
 {
     let own = own_of(area);
     ospf_update::send_delayed(&mut area.links, own, out, alloc)

@@ -3,7 +3,8 @@ use Rattle.std.proofs.Common.{◌≡◌, ◌<◌, ◌≤◌, ℕ, zero, suc, min
 use Rattle.std.specs.List.{flat_map}
 use Rattle.std.proofs.lemmas.List.{length-drop}
 use Rattle.ospf_lsa.specs.declared.header.LsaHeader.{LsaHeader}
-use Rattle.ospf_update.specs.Acks.{ack_out, ack_parcel, ack_parcels, ack_room, acks_out, cut, in_order, packed_parcels, packets}
+use Rattle.ospf_update.specs.Acks.{ack_parcel, ack_parcels, ack_room, acks_out, cut, in_order, packed_parcels}
+use Rattle.ospf_update.proofs.Words.{ack_out, packets}
 use Rattle.ospf_base.specs.declared.ids.Addr.{Addr}
 use Rattle.ospf_iface.specs.declared.machine.Iface.{Iface}
 use Rattle.ospf_area.specs.Outputs.{SentValue}

@@ -17,16 +17,16 @@ use Rattle.ospf_neighbour.specs.Machine.{is_exchanging}
 use Rattle.ospf_neighbour.specs.Neighbour.{NeighbourValue}
 use Rattle.ospf_area.proofs.LawLemmas.{flooded_there, turns_there}
 use Rattle.ospf_area.proofs.WaitLemmas.{flood_waits, reaches, turn_waits}
-use Rattle.ospf_area.specs.Flooding.{flooded_neighbour, goes_anywhere}
+use Rattle.ospf_area.specs.Flooding.{goes_anywhere}
 use Rattle.ospf_area.specs.Laws.{IsSpared}
 use Rattle.ospf_area.specs.Sending.{and_sends, own_of}
 use Rattle.ospf_area.specs.State.{AreaValue, Awaits, WaitsIn, database_entry, kept_number, neighbour}
 use Rattle.ospf_area.specs.Acting.{Becomes, InTurn}
 use Rattle.ospf_area.specs.Outputs.{OutputsValue}
 use Rattle.ospf_area.proofs.SendingLemmas.{sends_more, sends_none}
-use Rattle.ospf_update.specs.Aging.{SendsCopy, copy_flooded, noted, turned_area}
-use Rattle.ospf_update.proofs.Words.{copies_out, copies_sent, copy_flooded_by, copy_out, copy_sent}
-use Rattle.ospf_update.specs.Meets.{flooded_area}
+use Rattle.ospf_update.specs.Aging.{SendsCopy, copy_flooded, turned_area}
+use Rattle.ospf_update.proofs.Words.{copies_out, copies_sent, copy_flooded_by, copy_out, copy_sent, noted, flooded_area}
+use Rattle.ospf_area.proofs.Words.{flooded_neighbour}
 
 -- ---- what stays as it is
 

@@ -10,13 +10,14 @@ use Rattle.ospf_neighbour.specs.Laws.{Waits}
 use Rattle.ospf_neighbour.specs.Lists.{key_unlisted}
 use Rattle.ospf_neighbour.specs.Machine.{is_exchanging}
 use Rattle.ospf_neighbour.specs.Neighbour.{NeighbourValue}
-use Rattle.ospf_area.specs.Flooding.{flooded_links, flooded_neighbour, on_link, released}
+use Rattle.ospf_area.specs.Flooding.{flooded_links, on_link, released}
 use Rattle.ospf_area.specs.Laws.{IsSpared}
 use Rattle.ospf_area.specs.Laws.IsSpared.{Came, Described}
 use Rattle.ospf_area.specs.State.{LinkValue, WaitsIn, neighbour_at}
 use Rattle.ospf_area.specs.declared.flooding.Origin.{Origin}
 use Rattle.ospf_area.proofs.LawLemmas.{flooded_there, released_there}
 use Rattle.ospf_area.proofs.WaitLemmas.{flood_waits, reaches as flood_reaches, release_waits}
+use Rattle.ospf_area.proofs.Words.{flooded_neighbour}
 
 pub stored : (key : LsaKey) (h : LsaHeader) (from : Option Origin) (tick : ℕ) (links : List LinkValue) (l : ℕ) (q : RouterId)
     → neighbour_at (flooded_links key h from tick (released key links)) l q

@@ -1,11 +1,12 @@
 -- What an LSA of an Update, and a header, leave as they are.
-use Rattle.std.proofs.Common.{◌≡◌, ◌⊎◌, ◌++◌, inl, inr, if◌then◌else◌, ℕ, Bool, true, false, Option, None, Some, List, [], ◌∷◌, refl, sym, subst, ◌∙◌}
+use Rattle.std.proofs.Common.{◌≡◌, ◌⊎◌, ◌++◌, inl, inr, if◌then◌else◌, ℕ, Bool, true, false, Option, None, Some, Result, Ok, Err, OnOk, List, [], ◌∷◌, refl, sym, subst, ap, ◌∙◌}
 use Rattle.ospf_base.specs.declared.ids.Instance.{Instance}
 use Rattle.ospf_base.specs.declared.ids.LsaKey.{LsaKey}
-use Rattle.ospf_exchange.specs.Headers.{copy_in_database}
-use Rattle.ospf_flood.specs.Links.{case_of_newer, case_of_same}
+use Rattle.ospf_exchange.proofs.Words.{copy_in_database}
+use Rattle.ospf_flood.proofs.Words.{case_of_newer, case_of_same}
 use Rattle.ospf_flood.specs.declared.acknowledgement.Acknowledgement.{Acknowledgement}
 use Rattle.ospf_flood.specs.declared.acknowledgement.Acknowledgement.TheVariants as answer
+use Rattle.ospf_flood.specs.declared.acknowledgement.AcknowledgementCase.{AcknowledgementCase}
 use Rattle.ospf_flood.specs.declared.acknowledgement.AcknowledgementCase.TheVariants.{Expired}
 use Rattle.ospf_flood.specs.declared.rule.LsaRule.{LsaRule}
 use Rattle.ospf_flood.specs.declared.rule.LsaRule.TheVariants.{AcknowledgesExpired, TooSoon, Installs, BadRequest, Duplicate, Stale}
@@ -16,14 +17,15 @@ use Rattle.ospf_area.specs.Changes.{changed_at}
 use Rattle.ospf_area.specs.Flooding.{flooded_back, released}
 use Rattle.ospf_area.specs.Numbers.{is_self_originated}
 use Rattle.ospf_area.specs.Outputs.{OutputsValue}
-use Rattle.ospf_area.specs.Standing.{acknowledging, answer_at, is_awaited_of, origin_neighbour}
-use Rattle.ospf_area.specs.State.{AreaValue}
+use Rattle.ospf_area.specs.Standing.{acknowledging, answer_at}
+use Rattle.ospf_area.specs.State.{AreaValue, neighbour_at}
 use Rattle.ospf_area.specs.declared.changes.AdjacencyChange.TheVariants.{Acknowledges}
 use Rattle.ospf_area.specs.declared.flooding.Origin.{Origin}
 use Rattle.ospf_update.specs.Laws.{is_installed}
-use Rattle.ospf_update.specs.Meets.{MeetsLsa, MeetsRule, Stores, header_met, heard_by, named_by, replied, reply_to, rule_met}
+use Rattle.ospf_update.specs.Meets.{MeetsLsa, MeetsRule, Stores, duplicated, header_met, heard_by, named_by, replied, reply_to, rule_met}
 use Rattle.ospf_update.proofs.Words.{taken_off}
 use Rattle.ospf_update.proofs.CopyLemmas.{KeepsAll}
+use Rattle.ospf_area.proofs.Words.{is_awaited_of}
 
 pub keeps_both : (s m t : AreaValue) → KeepsAll s m → KeepsAll m t → KeepsAll s t
 keeps_both s m t one next = record { database = next.database ∙ one.database; numbers = λ k. next.numbers k ∙ one.numbers k }
@@ -57,7 +59,7 @@ abbrev on_newer : Origin → List ℕ → AreaValue → AreaValue → Acknowledg
 on_newer f lsa s m = answer_at (case_of_newer (flooded_back (key_of lsa) (header_of lsa) (Some f) (released (key_of lsa) s.links))) f m.links
 
 abbrev on_same : Origin → List ℕ → AreaValue → Acknowledgement
-on_same f lsa s = answer_at (case_of_same (is_awaited_of (instance_of lsa) (origin_neighbour s.links f))) f s.links
+on_same f lsa s = answer_at (case_of_same (is_awaited_of (instance_of lsa) (neighbour_at s.links f.link f.router))) f s.links
 
 -- it was stored, or nothing is changed
 pub met_cases : (f : Origin) (lsa : List ℕ) (s : AreaValue) (o o' : OutputsValue) (t : AreaValue) → MeetsLsa f lsa s o o' t
@@ -98,3 +100,16 @@ header_keeps f h s = by_name (named_by h (copy_in_database s.database (key_of_he
     by_name : (o : Option Instance) → KeepsAll s (taken_off f o s)
     by_name None = record { database = refl; numbers = λ k. refl }
     by_name (Some i) = record { database = refl; numbers = λ k. refl }
+
+-- the same instance, as it is met call by call
+pub duplicated_by : {T E : Type 0} (r : Result T E) (f : Origin) (lsa : List ℕ) (s b t : AreaValue) (awaited : Bool) (how : AcknowledgementCase) (answer : Acknowledgement) (h : LsaHeader) (i : Instance)
+    → i ≡ instance_of lsa → awaited ≡ is_awaited_of (instance_of lsa) (neighbour_at s.links f.link f.router) → how ≡ case_of_same awaited → answer ≡ answer_at how f s.links
+    → b ≡ record s { links = changed_at f (Acknowledges i) s.tick s.links } → h ≡ header_of lsa → OnOk r (t ≡ acknowledging answer f h b) → OnOk r (t ≡ duplicated f lsa s)
+duplicated_by (Err e) f lsa s b t awaited how answer h i of_i of_awaited of_how of_answer of_b of_h is = tt
+duplicated_by (Ok x) f lsa s b t awaited how answer h i of_i of_awaited of_how of_answer of_b of_h is =
+    let same : answer ≡ answer_at (case_of_same (is_awaited_of (instance_of lsa) (neighbour_at s.links f.link f.router))) f s.links =
+    of_answer ∙ ap (λ (c : AcknowledgementCase). answer_at c f s.links) (of_how ∙ ap case_of_same of_awaited) in
+    is ∙ ap (λ (a : Acknowledgement). acknowledging a f h b) same
+    ∙ ap (λ (x : LsaHeader). acknowledging (on_same f lsa s) f x b) of_h
+    ∙ ap (λ (x : AreaValue). acknowledging (on_same f lsa s) f (header_of lsa) x) of_b
+    ∙ ap (λ (x : Instance). acknowledging (on_same f lsa s) f (header_of lsa) (record s { links = changed_at f (Acknowledges x) s.tick s.links })) of_i

@@ -16,17 +16,17 @@ use Rattle.ospf_lsa.specs.declared.header.LsaHeader.{LsaHeader}
 use Rattle.ospf_lsdb.specs.Database.{Held, held_of, is_expired, reached_at, removed}
 use Rattle.ospf_lsdb.specs.Moments.{among}
 use Rattle.ospf_area.proofs.NumberLemmas.{own_counted}
-use Rattle.ospf_area.specs.Numbers.{is_numbering_of, is_own}
+use Rattle.ospf_area.specs.Numbers.{is_own}
 use Rattle.ospf_area.specs.Outputs.{OutputsValue}
 use Rattle.ospf_area.specs.State.{AreaValue, kept_number, numbering_of}
-use Rattle.ospf_area.proofs.Words.{kept_in}
+use Rattle.ospf_area.proofs.Words.{kept_in, is_numbering_of}
 use Rattle.ospf_area.specs.declared.flooding.Origin.{Origin}
 use Rattle.ospf_area.specs.declared.state.Numbering.{Numbering}
 use Rattle.ospf_update.specs.Aging.{Flushes, TickAges}
 use Rattle.ospf_update.specs.Laws.{is_installed}
 use Rattle.ospf_update.specs.Meets.{MeetsLsa, Stores, header_met, rule_met}
-use Rattle.ospf_update.specs.Removal.{RemovesOne, ends_run, is_last, lowest_number, reset, reset_one}
-use Rattle.ospf_update.proofs.Words.{RemovesAll, TakesSlices}
+use Rattle.ospf_update.specs.Removal.{RemovesOne, ends_run, lowest_number, reset}
+use Rattle.ospf_update.proofs.Words.{RemovesAll, TakesSlices, is_last, reset_one}
 use Rattle.ospf_update.specs.Updates.{TakesSlice, TakesUpdate}
 use Rattle.ospf_update.specs.Updates.TakesSlice.{Met, PassedOver}
 use Rattle.ospf_update.proofs.CopyLemmas.{copies_become, copies_keep, copy_keeps}
@@ -63,9 +63,9 @@ no_less true x y n is = omega (arith, ints, clamps, is)
 no_less false x y n is = omega (arith, ints, is)
 
 slice_numbers : (f : Origin) (bytes : List ℕ) (s : AreaValue) (o o' : OutputsValue) (t : AreaValue) → TakesSlice f bytes s o o' t → (key : LsaKey) → kept_number s key ≤ℤ kept_number t key
-slice_numbers f bytes s o o' t (Met is takes) key =
+slice_numbers f bytes s o o' t (Met is mid so_far meets state outputs) key =
     no_less (is_installed (rule_met s f bytes) && (same_key (key_of bytes) key && is_own s.router key)) (kept_number s key) (kept_number t key) (header_of bytes).number
-    (ap (λ (x : AreaValue). kept_number x key) takes.state ∙ met_numbers f bytes s o takes.so_far takes.mid takes.meets key)
+    (ap (λ (x : AreaValue). kept_number x key) state ∙ met_numbers f bytes s o so_far mid meets key)
 slice_numbers f bytes s o o' t (PassedOver not_lsa is outputs) key = no_less false (kept_number s key) (kept_number t key) (kept_number s key) (ap (λ (x : AreaValue). kept_number x key) (passed s.passes_over f bytes s t is).state)
 
 slices_numbers : (f : Origin) (slices : List (List ℕ)) (s : AreaValue) (o o' : OutputsValue) (t : AreaValue) → TakesSlices f slices s o o' t → (key : LsaKey) → kept_number s key ≤ℤ kept_number t key
@@ -89,7 +89,7 @@ flush_numbers key s o o' t is k =
 pub ages_numbers : (s : AreaValue) (o o' : OutputsValue) (t : AreaValue) → TickAges s o o' t → (key : LsaKey) → kept_number t key ≡ kept_number s key
 ages_numbers s o o' t is key =
     ap (λ (x : AreaValue). kept_number x key) (copies_become (reached_at max_age is.mid.database) is.mid t o o' is.sends).state ∙ (copies_keep (reached_at max_age is.mid.database) is.mid).numbers key
-    ∙ ap (λ (x : AreaValue). kept_number x key) is.rise.rest
+    ∙ ap (λ (x : AreaValue). kept_number x key) is.rest
 
 -- ---- numbering runs that end
 

@@ -1,5 +1,5 @@
 -- Acknowledgments have all headers, in order of key, as many in each as fit.
-use Rattle.ospf_update.proofs.Words.{put_all_in_order}
+use Rattle.ospf_update.proofs.Words.{put_all_in_order, packets}
 use Rattle.std.proofs.Common.{◌≡◌, ◌≢◌, ◌⊎◌, inl, ◌+◌, ◌-◌, ◌*◌, ◌<◌, ◌≤◌, ℕ, zero, suc, min, Bool, true, false, if◌then◌else◌, List, [], ◌∷◌, ◌++◌, Some, length, length-append, take, drop, refl, ap, subst, ◌∙◌, arith, add-one, append-nil}
 use Rattle.std.specs.List.{AllByRecursion, flat_map, slice_get}
 use Rattle.std.specs.List.Sorted.{IsPermutation}
@@ -13,7 +13,7 @@ use Rattle.ospf_packet.proofs.BodyLengths.{acknowledgment_length}
 use Rattle.ospf_area.specs.Packing.{IsFull, IsWithin, ip_length}
 use Rattle.ospf_area.specs.declared.sending.Own.{Own}
 use Rattle.ospf_area.proofs.PackLemmas.{ip_length-is, room_passed, room_used}
-use Rattle.ospf_update.specs.Acks.{ack_room, cut, header_precedes, in_order, packets, put_in_order}
+use Rattle.ospf_update.specs.Acks.{ack_room, cut, header_precedes, in_order, put_in_order}
 use Rattle.ospf_update.proofs.OrderLemmas.{in_order_rises, in_order_stable}
 use Rattle.ospf_update.specs.AckLaws.{AcknowledgementsAreOrdered, AcknowledgementsArePacked, acknowledgment_of}
 

@@ -9,10 +9,10 @@ use Rattle.ospf_exchange.specs.Rules.{is_other}
 use Rattle.ospf_lsa.specs.Header.{header_of, key_of_header}
 use Rattle.ospf_lsa.specs.Lsa.{type_of}
 use Rattle.ospf_lsa.specs.declared.header.LsaHeader.{LsaHeader}
-use Rattle.ospf_area.specs.State.{AreaValue}
+use Rattle.ospf_area.specs.State.{AreaValue, neighbour_at, state_in}
 use Rattle.ospf_area.specs.declared.flooding.Origin.{Origin}
-use Rattle.ospf_update.specs.Updates.{PassesOver}
-use Rattle.ospf_update.specs.Updates.AnswersOther.{Acknowledged, LeftAlone}
+use Rattle.ospf_neighbour.specs.Machine.{is_exchanging}
+use Rattle.ospf_update.specs.Updates.{IsOtherLsa, PassesOver}
 
 -- LS types 3, 4 and 5 have no key
 keyless : (type id : ℕ) (router : RouterId) → is_other type ≡ true → key_from type id router ≡ None
@@ -31,12 +31,23 @@ pub record Passes (s t : AreaValue) : Type 0 where
 
 pub passed : (passes_over : Bool) (f : Origin) (bytes : List ℕ) (s t : AreaValue) → PassesOver passes_over f bytes s t → Passes s t
 passed false f bytes s t is = record { direct = s.direct; state = is; nameless = λ h there. inl there }
-passed true f bytes s t (Acknowledged comes is) = record {
+passed true f bytes s t (inl ((taken, other), is)) = record {
   direct = s.direct ++ header_of bytes ∷ [];
   state = is;
   nameless = λ h there. elim (Contains-push_cases s.direct (header_of bytes) h there) [
     | inl old ↦ inl old
-    | inr new ↦ inr (subst (λ (x : LsaHeader). key_of_header x ≡ None) new (keyless (type_of bytes) (header_of bytes).id (header_of bytes).router comes.lsa.kind))
+    | inr new ↦ inr (subst (λ (x : LsaHeader). key_of_header x ≡ None) new (keyless (type_of bytes) (header_of bytes).id (header_of bytes).router other.kind))
   ];
 }
-passed true f bytes s t (LeftAlone other is) = record { direct = s.direct; state = is; nameless = λ h there. inl there }
+passed true f bytes s t (inr (none, is)) = record { direct = s.direct; state = is; nameless = λ h there. inl there }
+
+-- where one comes that is to be acknowledged, and where none does
+pub acknowledged : (passes_over : Bool) (f : Origin) (bytes : List ℕ) (s t : AreaValue) → passes_over ≡ true → is_exchanging (state_in (neighbour_at s.links f.link f.router)) ≡ true → IsOtherLsa bytes
+    → t ≡ record s { direct = s.direct ++ header_of bytes ∷ [] } → PassesOver passes_over f bytes s t
+acknowledged false f bytes s t passes taken other is = absurd (cc)
+acknowledged true f bytes s t passes taken other is = inl ((taken, other), is)
+
+pub left_alone : (passes_over : Bool) (f : Origin) (bytes : List ℕ) (s : AreaValue)
+    → (passes_over ≡ true → is_exchanging (state_in (neighbour_at s.links f.link f.router)) ≡ true → IsOtherLsa bytes → ⊥) → PassesOver passes_over f bytes s s
+left_alone false f bytes s none = refl
+left_alone true f bytes s none = inr ((λ comes. none refl comes.0 comes.1), refl)

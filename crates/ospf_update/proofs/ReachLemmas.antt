@@ -24,8 +24,6 @@ use Rattle.ospf_neighbour.specs.declared.machine.NbrEvent.TheVariants.{LoadingDo
 use Rattle.ospf_neighbour.specs.declared.machine.NeighbourState.{NeighbourState}
 use Rattle.ospf_neighbour.specs.declared.machine.NeighbourState.TheVariants.{Down, Init, TwoWay, ExStart, Exchange, Loading, Full}
 use Rattle.ospf_area.proofs.LawLemmas.{turns_there}
-use Rattle.ospf_area.specs.Asking.{loaded}
-use Rattle.ospf_area.specs.Flooding.{flooded_neighbour}
 use Rattle.ospf_area.specs.Laws.{IsSpared, turned_there}
 use Rattle.ospf_area.specs.Laws.IsSpared.{Came, Described}
 use Rattle.ospf_area.specs.Sending.{own_of}
@@ -34,6 +32,7 @@ use Rattle.ospf_area.specs.declared.sending.Own.{Own}
 use Rattle.ospf_update.specs.Aging.{copy_flooded}
 use Rattle.ospf_update.proofs.Words.{copies_sent, copy_flooded_by, copy_sent}
 use Rattle.ospf_update.proofs.CopyLemmas.{copies_wait, copy_keeps, copy_reaches, flooded_copy}
+use Rattle.ospf_area.proofs.Words.{loaded, flooded_neighbour}
 
 -- a neighbour that is in Exchange or above still, and has no other request of the key than before
 record IsStill (key : LsaKey) (n m : NeighbourValue) : Type 0 where

@@ -40,7 +40,7 @@ met_short f lsa s o o' t meets short old = elim (met_cases f lsa s o o' t meets)
 ]
 
 slice_short : (f : Origin) (bytes : List ℕ) (s : AreaValue) (o o' : OutputsValue) (t : AreaValue) → TakesSlice f bytes s o o' t → IsShortLsa bytes → AreShort s.database → AreShort t.database
-slice_short f bytes s o o' t (Met is takes) short old = same takes.mid t (ap (λ (x : AreaValue). x.database) takes.state) (met_short f bytes s o takes.so_far takes.mid takes.meets short old)
+slice_short f bytes s o o' t (Met is mid so_far meets state outputs) short old = same mid t (ap (λ (x : AreaValue). x.database) state) (met_short f bytes s o so_far mid meets short old)
 slice_short f bytes s o o' t (PassedOver not_lsa is outputs) short old = same s t (ap (λ (x : AreaValue). x.database) (passed s.passes_over f bytes s t is).state) old
 
 slices_short : (f : Origin) (slices : List (List ℕ)) (s : AreaValue) (o o' : OutputsValue) (t : AreaValue) → TakesSlices f slices s o o' t → AllByRecursion IsShortLsa slices
@@ -62,7 +62,7 @@ flush_short key s o o' t is old =
 
 pub ages_short : (s : AreaValue) (o o' : OutputsValue) (t : AreaValue) → TickAges s o o' t → AreShort s.database → AreShort t.database
 ages_short s o o' t is old =
-    same is.mid t (ap (λ (x : AreaValue). x.database) (copies_become (reached_at max_age is.mid.database) is.mid t o o' is.sends).state ∙ (copies_keep (reached_at max_age is.mid.database) is.mid).database) (short_aged s.database is.mid.database is.rise.database old)
+    same is.mid t (ap (λ (x : AreaValue). x.database) (copies_become (reached_at max_age is.mid.database) is.mid t o o' is.sends).state ∙ (copies_keep (reached_at max_age is.mid.database) is.mid).database) (short_aged s.database is.mid.database is.database old)
 
 pub removes_short : (keys : List LsaKey) (s : AreaValue) (o o' : OutputsValue) (t : AreaValue) → RemovesAll keys s o o' t → AreShort s.database → AreShort t.database
 removes_short [] s o o' t is old = same s t (ap (λ (x : AreaValue). x.database) is.state) old

@@ -7,12 +7,14 @@ use Rattle.ospf_lsa.specs.declared.header.LsaHeader.{LsaHeader}
 use Rattle.ospf_lsdb.specs.Database as lsdb
 use Rattle.ospf_lsdb.specs.Database.{Held, entry_from}
 use Rattle.ospf_area.specs.Flooding.{flooded_links, goes_anywhere, released}
-use Rattle.ospf_update.specs.Meets.{flooded_area, InstallsIn, Stores}
-use Rattle.ospf_area.specs.Numbers.{counts, greatest_after, marked}
+use Rattle.ospf_update.specs.Meets.{InstallsIn, Stores}
+use Rattle.ospf_update.proofs.Words.{flooded_area}
+use Rattle.ospf_area.specs.Numbers.{counts, marked}
 use Rattle.ospf_area.specs.Sending.{own_of}
 use Rattle.ospf_area.specs.State.{AreaValue, LinkValue}
 use Rattle.ospf_area.specs.declared.flooding.Origin.{Origin}
 use Rattle.ospf_area.specs.declared.sending.Own.{Own}
+use Rattle.ospf_area.proofs.Words.{greatest_after}
 
 abbrev releasing : LsaKey → AreaValue → AreaValue
 releasing key s = record s { links = released key s.links }

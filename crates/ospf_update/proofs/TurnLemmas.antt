@@ -5,7 +5,7 @@ use Rattle.ospf_base.specs.declared.ids.Instance.{Instance}
 use Rattle.ospf_base.specs.declared.ids.LsaKey.{LsaKey}
 use Rattle.ospf_base.specs.declared.ids.RouterId.{RouterId}
 use Rattle.ospf_exchange.specs.Requests.{asked_next, request_due}
-use Rattle.ospf_flood.specs.Links.{case_of_same}
+use Rattle.ospf_flood.proofs.Words.{case_of_same}
 use Rattle.ospf_flood.specs.declared.acknowledgement.Acknowledgement.{Acknowledgement}
 use Rattle.ospf_flood.specs.declared.acknowledgement.Acknowledgement.TheVariants as answer
 use Rattle.ospf_flood.specs.declared.acknowledgement.AcknowledgementCase.TheVariants.{Expired}
@@ -24,20 +24,21 @@ use Rattle.ospf_neighbour.specs.declared.machine.NeighbourState.TheVariants.{Dow
 use Rattle.ospf_neighbour.specs.declared.neighbour.Listed.{Listed}
 use Rattle.ospf_area.proofs.NeighbourLemmas.{turned-router}
 use Rattle.ospf_area.proofs.SendingLemmas.{sends_none}
-use Rattle.ospf_area.specs.Asking.{loaded, turn_requests_on, turned_to_next, turned_link}
-use Rattle.ospf_area.proofs.Words.{request_to, turn_request}
-use Rattle.ospf_area.specs.Changes.{changed_at, delayed_on}
+use Rattle.ospf_area.specs.Asking.{turn_requests_on, turned_to_next, turned_link}
+use Rattle.ospf_area.proofs.Words.{request_to, turn_request, delayed_on, loaded, is_awaited_of}
+use Rattle.ospf_area.specs.Changes.{changed_at}
 use Rattle.ospf_area.specs.Outputs.{OutputsValue, SentValue}
 use Rattle.ospf_area.specs.Places.{flat_from, map_from}
 use Rattle.ospf_area.specs.Sending.{and_sends, own_of}
-use Rattle.ospf_area.specs.Standing.{acknowledging, answer_at, is_awaited_of, origin_neighbour}
-use Rattle.ospf_area.specs.State.{AreaValue, LinkValue}
+use Rattle.ospf_area.specs.Standing.{acknowledging, answer_at}
+use Rattle.ospf_area.specs.State.{AreaValue, LinkValue, neighbour_at}
 use Rattle.ospf_area.specs.declared.changes.AdjacencyChange.TheVariants.{Acknowledges, IsSent}
 use Rattle.ospf_area.specs.declared.flooding.Origin.{Origin}
 use Rattle.ospf_area.specs.declared.sending.Own.{Own}
 use Rattle.ospf_update.specs.Aging.{turn_out, turned_area}
 use Rattle.ospf_update.specs.Meets.{MeetsRule, replied, reply_to, rule_met}
-use Rattle.ospf_update.specs.Updates.{AreTurned, IsTurned, MeetsAndTurns, leaves_turned}
+use Rattle.ospf_update.specs.Updates.{AreTurned, IsTurned, leaves_turned}
+use Rattle.ospf_update.proofs.Words.{MeetsAndTurns}
 
 -- ---- lists
 
@@ -287,7 +288,7 @@ rule_rests (Some BadRequest) f lsa s o o' t leaves is turned_to_next = absurd (c
 rule_rests (Some Duplicate) f lsa s o o' t leaves is turned_to_next =
     let i = instance_of lsa in
     subst IsTurned (sym is.state)
-    (acknowledging_rests (answer_at (case_of_same (is_awaited_of i (origin_neighbour s.links f))) f s.links) f (header_of lsa) (record s { links = changed_at f (Acknowledges i) s.tick s.links })
+    (acknowledging_rests (answer_at (case_of_same (is_awaited_of i (neighbour_at s.links f.link f.router))) f s.links) f (header_of lsa) (record s { links = changed_at f (Acknowledges i) s.tick s.links })
     (acknowledged_rests (own_of s) f i s.tick s.links turned_to_next))
 rule_rests (Some Stale) f lsa s o o' t leaves is turned_to_next = subst IsTurned (sym is.state) (replied_rests (reply_to s (key_of lsa)) f (key_of lsa) s turned_to_next)
 

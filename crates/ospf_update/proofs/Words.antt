@@ -1,13 +1,21 @@
 -- Parts of definitions of specs/ by names of their own, for the proofs.
-use Rattle.std.specs.Prelude.{◌++◌, ◌∷◌, ℕ, Bool, Option, None, Some, List, if◌then◌else◌, slice_get, []}
+use Rattle.std.specs.Prelude.{◌≡◌, ◌++◌, ◌∷◌, ℕ, Bool, true, false, Option, None, Some, List, if◌then◌else◌, length, slice_get, []}
+use Rattle.std.specs.Ordering.{int_eq}
+use Rattle.ospf_flood.specs.Rules.{max_sequence_number}
+use Rattle.ospf_neighbour.specs.Lists.{is_listed}
+use Rattle.ospf_neighbour.specs.Neighbour.{NeighbourValue}
+use Rattle.ospf_area.specs.Numbers.{marked}
+use Rattle.ospf_area.specs.declared.sending.Way.{Way}
+use Rattle.ospf_area.specs.declared.state.Numbering.{Numbering}
+use Rattle.ospf_packet.specs.Meaning as meaning
 use Rattle.ospf_flood.specs.Rules.{is_sent_back}
-use Rattle.ospf_lsdb.specs.Database.{Entry, key_in, lsa_of}
+use Rattle.ospf_lsdb.specs.Database.{Entry, header_at, key_in, lsa_of}
 use Rattle.ospf_area.specs.Outputs.{SentValue, OutputsValue}
-use Rattle.ospf_area.specs.Sending.{own_of, to_address, way_out}
-use Rattle.ospf_area.specs.State.{AreaValue, LinkValue}
+use Rattle.ospf_area.specs.Sending.{and_sends, datagrams, own_of, packet_from, sent_lsa, to_address, update_out, way_out}
+use Rattle.ospf_area.specs.State.{AreaValue, LinkValue, database_entry}
 use Rattle.ospf_area.specs.declared.flooding.Origin.{Origin}
 use Rattle.ospf_area.specs.Acting.{InTurn}
-use Rattle.ospf_update.specs.Meets.{lsa_out_on, first_dd_on, flooded_area}
+use Rattle.ospf_update.specs.Meets.{MeetsLsa, first_dd_on}
 use Rattle.ospf_base.specs.declared.ids.Instance.{Instance}
 use Rattle.ospf_area.specs.Changes.{changed_at}
 use Rattle.ospf_area.specs.declared.changes.AdjacencyChange.TheVariants.{Acknowledges}
@@ -17,14 +25,70 @@ use Rattle.ospf_packet.specs.declared.body.Description.{Description}
 use Rattle.ospf_base.specs.declared.ids.LsaKey.{LsaKey}
 use Rattle.ospf_lsa.specs.Header.{header_of}
 use Rattle.ospf_lsa.specs.Lsa.{key_of}
-use Rattle.ospf_area.specs.Flooding.{goes_anywhere, flooding_updates}
-use Rattle.ospf_update.specs.Aging.{copy_flooded, copy_flood_out, noted, turn_out, turned_area}
-use Rattle.ospf_update.specs.Removal.{RemovesOne, leaving}
+use Rattle.ospf_area.specs.Flooding.{flooded_links, flooding_updates, goes_anywhere, released}
+use Rattle.ospf_update.specs.Aging.{copy_flooded, turn_out, turned_area}
+use Rattle.ospf_update.specs.Removal.{RemovesOne, leaving, lowest_number}
 use Rattle.ospf_update.specs.Updates.{TakesSlice}
 use Rattle.ospf_lsa.specs.declared.header.LsaHeader.{LsaHeader}
 use Rattle.ospf_area.specs.declared.sending.Own.{Own}
-use Rattle.ospf_update.specs.Acks.{acks_out, put_in_order}
-use Rattle.std.specs.List.{fold}
+use Rattle.ospf_update.specs.Acks.{acks_out, cut, put_in_order}
+use Rattle.std.specs.List.{fold, list_any}
+use Rattle.ospf_area.proofs.Words.{is_numbering_of}
+
+-- it is flooded out of all links
+abbrev pub flooded_area : List ℕ → Option Origin → AreaValue → AreaValue
+flooded_area lsa from s = record s { links = flooded_links (key_of lsa) (header_of lsa) from s.tick s.links }
+
+-- the Updates by which it is, where its old copy left all lists before
+abbrev pub store_updates : List ℕ → Option Origin → AreaValue → List SentValue
+store_updates lsa from s = flooding_updates (own_of s) lsa from (released (key_of lsa) s.links)
+
+-- an LSA in an Update to the neighbour
+abbrev pub lsa_out_on : Own → Origin → List ℕ → Option LinkValue → List SentValue
+lsa_out_on own f lsa o = elim o [
+  | None ↦ []
+  | Some link ↦ update_out own (way_out f.link link.iface (to_address link.iface f.address)) (sent_lsa link.settings.transmit_delay lsa ∷ [])
+]
+
+-- an LSA meets its rule, and directly after it come LoadingDone and the next Requests
+pub record MeetsAndTurns (f : Origin) (lsa : List ℕ) (before : AreaValue) (out out' : OutputsValue) (after : AreaValue) : Type 0 where
+  pub mid : AreaValue
+  pub so_far : OutputsValue
+  pub meets : MeetsLsa f lsa before out so_far mid
+  pub state : after ≡ turned_area mid
+  pub outputs : out' ≡ and_sends so_far (turn_out mid)
+
+-- it was sent in an Update in this tick, if it was (13, step 8)
+abbrev pub noted : LsaKey → Bool → AreaValue → AreaValue
+noted key went s = if went then record s { sent = marked key true s.sent } else s
+
+-- the headers of each packet, where this many have room in one
+abbrev pub packets : ℕ → List LsaHeader → List (List LsaHeader)
+packets room hs = cut (length hs) room hs
+
+-- an Acknowledgment
+abbrev pub ack_out : Own → Way → List LsaHeader → List SentValue
+ack_out own way hs = datagrams way (packet_from own (meaning.acknowledgment hs))
+
+-- a link on which no acknowledgement waits
+abbrev pub undelayed_link : LinkValue → LinkValue
+undelayed_link link = record link { delayed = [] }
+
+-- some neighbour of the router has yet to acknowledge the instance
+abbrev pub some_awaits : Instance → List LinkValue → Bool
+some_awaits i links = list_any (λ (link : LinkValue). list_any (λ (n : NeighbourValue). is_listed i n.retransmission) link.neighbours) links
+
+-- the copy's number is the last one
+abbrev pub is_last : Option Entry → Bool
+is_last o = elim o [ None ↦ false | Some e ↦ int_eq (header_at e).number max_sequence_number ]
+
+-- the numbering of this key begins anew (12.1.6)
+abbrev pub reset_one : LsaKey → Numbering → Numbering
+reset_one key n = if is_numbering_of key n then record n { kept = lowest_number } else n
+
+-- it is told that this key has left
+abbrev pub and_ends : OutputsValue → LsaKey → OutputsValue
+and_ends out key = record out { ended = out.ended ++ key ∷ [] }
 
 -- the copy that goes back: there is none where it was sent in an Update in this tick, or is about to leave (13, step 8)
 abbrev pub reply_of : Option Entry → Bool → Option (List ℕ)
@@ -61,6 +125,10 @@ copy_flood_out_by o s = elim o [
   | None ↦ []
   | Some e ↦ flooding_updates (own_of s) (lsa_of e) None s.links
 ]
+
+-- the Updates that flood the database's copy of a key (13.3)
+abbrev pub copy_flood_out : LsaKey → AreaValue → List SentValue
+copy_flood_out key s = copy_flood_out_by (database_entry s key) s
 
 -- a copy that went to all, and the Requests that came of it
 abbrev pub copy_sent : LsaKey → AreaValue → AreaValue

@@ -6,10 +6,10 @@ use Rattle.ospf_base.specs.Constants.{ip_header, lsa_header, packet_header}
 use Rattle.ospf_lsa.specs.declared.header.LsaHeader.{LsaHeader}
 use Rattle.ospf_packet.specs.Meaning.{Meaning, acknowledgment}
 use Rattle.ospf_area.specs.Packing.{ArePacked, IsWithin}
-use Rattle.ospf_area.specs.Sending.{packet_from}
+use Rattle.ospf_area.specs.Sending.{datagrams, packet_from}
 use Rattle.ospf_area.specs.declared.sending.Own.{Own}
 use Rattle.ospf_area.specs.declared.sending.Way.{Way}
-use Rattle.ospf_update.specs.Acks.{ack_out, acks_out, header_precedes, in_order}
+use Rattle.ospf_update.specs.Acks.{acks_out, header_precedes, in_order}
 
 -- ---- in order of key
 
@@ -33,7 +33,8 @@ acknowledgment_of own headers = packet_from own (acknowledgment headers)
 -- many in each as fit, and each fits
 pub record AreAcknowledgments (own : Own) (way : Way) (mtu : ℕ) (headers : List LsaHeader)
     (packets : List (List LsaHeader)) : Type 0 where
-  pub sent : acks_out own way mtu headers ≡ flat_map (ack_out own way) packets
+  pub sent : acks_out own way mtu headers
+      ≡ flat_map (λ hs. datagrams way (acknowledgment_of own hs)) packets
   pub packed : ArePacked (acknowledgment_of own) mtu (in_order headers) packets
   pub fit : AllByRecursion (IsWithin (acknowledgment_of own) mtu) packets
 

@@ -47,17 +47,11 @@ cut (suc n) room (h ∷ hs) =
     take (min room (length (h ∷ hs))) (h ∷ hs)
     ∷ cut n room (drop (min room (length (h ∷ hs))) (h ∷ hs))
 
--- the headers of each packet, where this many have room in one
-abbrev pub packets : ℕ → List LsaHeader → List (List LsaHeader)
-packets room hs = cut (length hs) room hs
-
--- an Acknowledgment
-abbrev pub ack_out : Own → Way → List LsaHeader → List SentValue
-ack_out own way hs = datagrams way (packet_from own (meaning.acknowledgment hs))
-
 -- Acknowledgments of these headers in their order, as many in each as fit
 abbrev pub acks_out : Own → Way → ℕ → List LsaHeader → List SentValue
-acks_out own way mtu hs = flat_map (ack_out own way) (packets (ack_room mtu) (in_order hs))
+acks_out own way mtu hs =
+    flat_map (λ chunk. datagrams way (packet_from own (meaning.acknowledgment chunk)))
+    (cut (length (in_order hs)) (ack_room mtu) (in_order hs))
 
 -- ---- as they are put to go out
 
@@ -67,7 +61,7 @@ ack_parcel destination hs = record { destination = destination; body = meaning.a
 
 -- so many headers in each
 abbrev pub packed_parcels : Addr → ℕ → List LsaHeader → List Parcel
-packed_parcels destination room hs = map (ack_parcel destination) (packets room hs)
+packed_parcels destination room hs = map (ack_parcel destination) (cut (length hs) room hs)
 
 -- in order of key, as many in each as fit
 abbrev pub ack_parcels : Addr → ℕ → List LsaHeader → List Parcel
@@ -86,11 +80,7 @@ direct_out f s = elim (slice_get s.links f.link) [
 
 -- ---- delayed ones, at the next tick
 
--- to where flooded Updates go
+-- to where flooded Updates go: they wait on the link until then
 abbrev pub delayed_out_on : Own → ℕ → LinkValue → List SentValue
 delayed_out_on own l link =
     acks_out own (way_out l link.iface (flooding_address link.iface)) link.settings.mtu link.delayed
-
--- a link on which no acknowledgement waits
-abbrev pub undelayed_link : LinkValue → LinkValue
-undelayed_link link = record link { delayed = [] }

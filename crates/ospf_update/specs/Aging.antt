@@ -1,5 +1,5 @@
 -- LSAs at MaxAge (RFC 2328, sections 14 and 14.1).
-use Rattle.std.specs.Prelude.{◌≡◌, ◌+◌, ◌%◌, ◌^◌, ◌++◌, Bool, true, None, Some, List, [], option_map, if◌then◌else◌, map}
+use Rattle.std.specs.Prelude.{◌≡◌, ◌+◌, ◌%◌, ◌^◌, ◌++◌, true, None, Some, List, [], option_map, if◌then◌else◌, map}
 use Rattle.ospf_area.specs.Places.{flat_from}
 use Rattle.ospf_area.specs.Asking.{turn_requests_on, turned_link}
 use Rattle.ospf_base.specs.Constants.{max_age}
@@ -8,8 +8,7 @@ use Rattle.ospf_lsdb.specs.Database as lsdb
 use Rattle.ospf_lsdb.specs.Database.{Ages, Puts, held_of, lsa_of, reached_at}
 use Rattle.ospf_lsa.specs.Header.{header_of}
 use Rattle.ospf_lsa.specs.Lsa.{key_of}
-use Rattle.ospf_area.specs.Flooding.{flooding_updates, goes_anywhere}
-use Rattle.ospf_update.specs.Meets.{flooded_area}
+use Rattle.ospf_area.specs.Flooding.{flooded_links, flooding_updates, goes_anywhere}
 use Rattle.ospf_area.specs.Numbers.{marked}
 use Rattle.ospf_area.specs.Acting.{Becomes, InTurn}
 use Rattle.ospf_area.specs.Outputs.{OutputsValue, SentValue}
@@ -28,46 +27,40 @@ turn_out s = flat_from (turn_requests_on (own_of s)) 0 s.links
 
 -- ---- a copy goes to all
 
--- it was sent in an Update in this tick, if it was (13, step 8)
-abbrev pub noted : LsaKey → Bool → AreaValue → AreaValue
-noted key went s = if went then record s { sent = marked key true s.sent } else s
-
--- the database's copy of a key is flooded to all neighbours, and stays where it is (14, 14.1)
+-- the database's copy of a key is flooded to all neighbours, and stays where it is (14, 14.1);
+-- where it goes out at all, it was sent in an Update in this tick (13, step 8)
 abbrev pub copy_flooded : LsaKey → AreaValue → AreaValue
 copy_flooded key s = elim (database_entry s key) [
   | None ↦ s
   | Some e ↦
-      noted key (goes_anywhere (key_of (lsa_of e)) (header_of (lsa_of e)) None s.links)
-      (flooded_area (lsa_of e) None s)
+      let k = key_of (lsa_of e) in
+      let h = header_of (lsa_of e) in
+      let flooded = record s { links = flooded_links k h None s.tick s.links } in
+      if goes_anywhere k h None s.links then record flooded { sent = marked key true s.sent }
+      else flooded
 ]
 
--- the Updates that flood the database's copy of a key (13.3)
-abbrev pub copy_flood_out : LsaKey → AreaValue → List SentValue
-copy_flood_out key s =
-    elim (database_entry s key) [
-      | None ↦ []
-      | Some e ↦ flooding_updates (own_of s) (lsa_of e) None s.links
-    ]
-
--- and directly after it come LoadingDone and the next Requests
+-- the database's copy of a key goes out in the Updates that flood it (13.3), and directly after it
+-- come LoadingDone and the next Requests
 abbrev pub SendsCopy : LsaKey → AreaValue → OutputsValue → OutputsValue → AreaValue → Type 0
 SendsCopy key before out out' after =
+    let updates : List SentValue = elim (database_entry before key) [
+      | None ↦ []
+      | Some e ↦ flooding_updates (own_of before) (lsa_of e) None before.links
+    ] in
     Becomes (turned_area (copy_flooded key before))
-    (and_sends out (copy_flood_out key before ++ turn_out (copy_flooded key before))) out' after
+    (and_sends out (updates ++ turn_out (copy_flooded key before))) out' after
 
 -- ---- a tick (14)
 
--- all ages rise, and a tick begins in which nothing was sent
-pub record AgesRise (before after : AreaValue) : Type 0 where
-  pub database : Ages before.database after.database
-  pub rest : after
-      ≡ record before { database = after.database; tick = (before.tick + 1) % 2 ^ 64; sent = [] }
-
--- all ages rise, and the copies that come to MaxAge go to all, in order of key
+-- all ages rise, and a tick begins in which nothing was sent; then the copies that come to MaxAge
+-- go to all, in order of key
 pub record TickAges (before : AreaValue) (out out' : OutputsValue) (after : AreaValue)
     : Type 0 where
   pub mid : AreaValue
-  pub rise : AgesRise before mid
+  pub database : Ages before.database mid.database
+  pub rest : mid
+      ≡ record before { database = mid.database; tick = (before.tick + 1) % 2 ^ 64; sent = [] }
   pub sends : InTurn SendsCopy (reached_at max_age mid.database) mid out out' after
 
 -- ---- a flush (14.1)

@@ -7,7 +7,7 @@ use Rattle.ospf_base.specs.Constants.{largest_lsa, max_age}
 use Rattle.ospf_base.specs.declared.ids.Instance.{Instance}
 use Rattle.ospf_base.specs.declared.ids.LsaKey.{LsaKey}
 use Rattle.ospf_base.specs.declared.ids.RouterId.{RouterId}
-use Rattle.ospf_flood.specs.Offers.{instance_with}
+use Rattle.ospf_flood.specs.Offers.{instance_with, flooded}
 use Rattle.ospf_lsa.specs.Header.{header_of}
 use Rattle.ospf_lsa.specs.Lsa.{key_of}
 use Rattle.ospf_lsdb.specs.Database as lsdb
@@ -17,7 +17,7 @@ use Rattle.ospf_neighbour.specs.Lists.{key_unlisted}
 use Rattle.ospf_base.specs.Keys.{same_key}
 use Rattle.ospf_neighbour.specs.Machine.{is_exchanging}
 use Rattle.ospf_neighbour.specs.Neighbour.{NeighbourValue}
-use Rattle.ospf_area.specs.Flooding.{flooded_neighbour, on_link}
+use Rattle.ospf_area.specs.Flooding.{on_link, came_from}
 use Rattle.ospf_area.specs.Laws.{AreShort, IsSpared}
 use Rattle.ospf_flood.specs.declared.rule.LsaRule.{LsaRule}
 use Rattle.ospf_flood.specs.declared.rule.LsaRule.TheVariants.{AcknowledgesExpired, TooSoon, Installs, BadRequest, Duplicate, Stale}
@@ -41,7 +41,8 @@ StoredNeighbours =
     (lsa : List ℕ) (from : Option Origin) (before after : AreaValue) → Stores lsa from before after
     → (l : ℕ) (q : RouterId)
     → neighbour after l q
-    ≡ option_map (flooded_neighbour (key_of lsa) (header_of lsa) (on_link from l) before.tick)
+    ≡ option_map (λ n.
+    flooded (key_of lsa) (header_of lsa) (came_from (on_link from l) n) before.tick n)
     (option_map (key_unlisted (key_of lsa)) (neighbour before l q))
 
 -- the database has the LSA in place of its key's, and nothing else changes (13.2)

@@ -1,16 +1,14 @@
 -- What an LSA of an Update does, and a header of an Acknowledgment
 -- (RFC 2328, sections 13 and 13.7).
-use Rattle.std.specs.Prelude.{◌≡◌, ◌+◌, ◌%◌, ◌^◌, ◌++◌, ℕ, Bool, true, Option, None, Some, is_some, List, [], ◌∷◌, slice_get, if◌then◌else◌}
+use Rattle.std.specs.Prelude.{◌≡◌, ◌+◌, ◌%◌, ◌^◌, ◌++◌, ℕ, Bool, true, Option, None, Some, is_some, List, [], ◌∷◌, option_and_then, slice_get, if◌then◌else◌, false}
 use Rattle.ospf_base.specs.Constants.{router_options}
 use Rattle.ospf_base.specs.declared.ids.Instance.{Instance}
 use Rattle.ospf_base.specs.declared.ids.LsaKey.{LsaKey}
-use Rattle.ospf_exchange.specs.Headers.{copy_in_database}
 use Rattle.ospf_lsa.specs.Header.{key_of_header}
 use Rattle.ospf_exchange.specs.Flags.{first_flags}
-use Rattle.ospf_flood.specs.Links.{case_of_newer, case_of_same}
 use Rattle.ospf_flood.specs.Rules.{is_sent_back, lsa_rule}
 use Rattle.ospf_lsdb.specs.Database.{header_at, instance_at}
-use Rattle.ospf_flood.specs.declared.acknowledgement.AcknowledgementCase.TheVariants.{Expired}
+use Rattle.ospf_flood.specs.declared.acknowledgement.AcknowledgementCase.TheVariants.{Expired, FloodedBack, Implied, NotFloodedBack, NotImplied}
 use Rattle.ospf_flood.specs.declared.rule.LsaRule.{LsaRule}
 use Rattle.ospf_flood.specs.declared.rule.LsaRule.TheVariants.{AcknowledgesExpired, TooSoon, Installs, BadRequest, Duplicate, Stale}
 use Rattle.ospf_lsa.specs.Header.{header_of}
@@ -19,37 +17,31 @@ use Rattle.ospf_lsa.specs.Recency.{recency}
 use Rattle.ospf_lsa.specs.declared.header.LsaHeader.{LsaHeader}
 use Rattle.ospf_lsa.specs.declared.recency.Recency.TheVariants.{Same}
 use Rattle.ospf_lsdb.specs.Database as lsdb
-use Rattle.ospf_lsdb.specs.Database.{Entry, entry_from, lsa_of}
+use Rattle.ospf_lsdb.specs.Database.{Entry, entry_from, entry_of, lsa_of}
 use Rattle.ospf_packet.specs.Meaning as meaning
 use Rattle.ospf_area.specs.Acting.{Becomes}
 use Rattle.ospf_area.specs.Changes.{changed_at}
 use Rattle.ospf_area.specs.Flooding.{flooded_back, flooded_links, flooding_updates, goes_anywhere, released}
-use Rattle.ospf_area.specs.Numbers.{counts, greatest_after, is_self_originated, marked}
-use Rattle.ospf_area.specs.Outputs.{OutputsValue, SentValue, and_takes}
+use Rattle.ospf_area.specs.Numbers.{counts, is_self_originated, marked, is_own}
+use Rattle.ospf_area.specs.Outputs.{OutputsValue, SentValue}
 use Rattle.ospf_area.specs.Sending.{and_sends, datagrams, own_of, packet_from, sent_lsa, to_address, update_out, way_out}
-use Rattle.ospf_area.specs.Standing.{acknowledging, answer_at, is_awaited_of, is_requested_of, is_taken_in, origin_neighbour}
+use Rattle.ospf_area.specs.Standing.{acknowledging, answer_at}
 use Rattle.ospf_lsdb.specs.Moments.{among}
-use Rattle.ospf_area.specs.State.{AreaValue, LinkValue, database_entry, some_link_loading}
+use Rattle.ospf_area.specs.State.{AreaValue, LinkValue, database_entry, some_link_loading, neighbour_at, state_in}
 use Rattle.ospf_area.specs.declared.changes.AdjacencyChange.TheVariants.{Acknowledges, IsSent, Restarts}
 use Rattle.ospf_area.specs.declared.flooding.Origin.{Origin}
 use Rattle.ospf_area.specs.declared.sending.Own.{Own}
+use Rattle.ospf_neighbour.specs.Lists.{request_of, is_listed}
+use Rattle.ospf_neighbour.specs.Machine.{is_exchanging}
+use Rattle.std.specs.Int.{int_max}
 
 -- ---- an LSA is stored and flooded
-
--- it is flooded out of all links
-abbrev pub flooded_area : List ℕ → Option Origin → AreaValue → AreaValue
-flooded_area lsa from s =
-    record s { links = flooded_links (key_of lsa) (header_of lsa) from s.tick s.links }
 
 -- it is put in its key's place (13.2)
 pub record InstallsIn (lsa : List ℕ) (by_flooding : Bool) (before after : AreaValue) : Type 0 where
   pub database :
       lsdb.Installs (entry_from lsa before.tick by_flooding) before.database after.database
   pub rest : after ≡ record before { database = after.database }
-
--- the Updates by which it is
-abbrev pub store_updates : List ℕ → Option Origin → AreaValue → List SentValue
-store_updates lsa from s = flooding_updates (own_of s) lsa from (released (key_of lsa) s.links)
 
 -- its old copy leaves all retransmission lists, then it is flooded, then it takes the old copy's
 -- place (13, steps 5b to 5d). It came from a neighbour, or is the router's own
@@ -66,7 +58,9 @@ pub record Stores (lsa : List ℕ) (from : Option Origin) (before after : AreaVa
         (goes_anywhere (key_of lsa) (header_of lsa) from (released (key_of lsa) before.links))
         before.sent;
     numbering = counts (key_of lsa) (header_of lsa).number before;
-    greatest = greatest_after (key_of lsa) (header_of lsa).number before;
+    greatest =
+        if is_own before.router (key_of lsa) then int_max before.greatest (header_of lsa).number
+        else before.greatest;
   }
 
 -- ---- the rules of an Update
@@ -74,10 +68,13 @@ pub record Stores (lsa : List ℕ) (from : Option Origin) (before after : AreaVa
 -- which rule an LSA meets, if its sender is in Exchange or above
 abbrev pub rule_met : AreaValue → Origin → List ℕ → Option LsaRule
 rule_met s f lsa =
-    let sender = origin_neighbour s.links f in
+    let sender = neighbour_at s.links f.link f.router in
     let copy = database_entry s (key_of lsa) in
-    let requested = is_requested_of (key_of lsa) sender in
-    if is_taken_in sender
+    let requested : Bool = elim sender [
+      | None ↦ false
+      | Some n ↦ is_some (request_of (key_of lsa) n.requests)
+    ] in
+    if is_exchanging (state_in sender)
     then Some (lsa_rule (header_of lsa) copy (some_link_loading s.links) requested s.tick)
     else None
 
@@ -95,10 +92,12 @@ pub record Admits (f : Origin) (lsa : List ℕ) (before : AreaValue) (out out' :
   pub state :
       let links = released (key_of lsa) before.links in
       let back = flooded_back (key_of lsa) (header_of lsa) (Some f) links in
-      let answer = answer_at (case_of_newer back) f mid.links in
+      let answer = answer_at (if back then FloodedBack else NotFloodedBack) f mid.links in
       after ≡ heard_by (key_of lsa) (acknowledging answer f (header_of lsa) mid)
   pub outputs :
-      out' ≡ and_takes (and_sends out (store_updates lsa (Some f) before)) (instance_of lsa)
+      let links = released (key_of lsa) before.links in
+      let updates = flooding_updates (own_of before) lsa (Some f) links in
+      out' ≡ record out { sent = out.sent ++ updates; taken = out.taken ++ instance_of lsa ∷ [] }
 
 -- ---- the exchange of databases begins again
 
@@ -129,8 +128,11 @@ restarted f s =
 -- where it was waited for, that ends; it is acknowledged by the table (13, step 7)
 abbrev pub duplicated : Origin → List ℕ → AreaValue → AreaValue
 duplicated f lsa s =
-    let awaited = is_awaited_of (instance_of lsa) (origin_neighbour s.links f) in
-    let answer = answer_at (case_of_same awaited) f s.links in
+    let awaited : Bool = elim (neighbour_at s.links f.link f.router) [
+      | None ↦ false
+      | Some n ↦ is_listed (instance_of lsa) n.retransmission
+    ] in
+    let answer = answer_at (if awaited then Implied else NotImplied) f s.links in
     acknowledging answer f (header_of lsa)
     (record s { links = changed_at f (Acknowledges (instance_of lsa)) s.tick s.links })
 
@@ -144,17 +146,15 @@ reply_to s key = elim (database_entry s key) [
   | Some copy ↦ (if is_sent_back copy (among s.sent key) then Some (lsa_of copy) else None)
 ]
 
--- an LSA in an Update to the neighbour
-abbrev pub lsa_out_on : Own → Origin → List ℕ → Option LinkValue → List SentValue
-lsa_out_on own f lsa None = []
-lsa_out_on own f lsa (Some link) =
-    update_out own (way_out f.link link.iface (to_address link.iface f.address))
-    (sent_lsa link.settings.transmit_delay lsa ∷ [])
-
--- it goes back
+-- it goes back in an Update to the neighbour
 abbrev pub reply_out : Option (List ℕ) → Origin → AreaValue → List SentValue
 reply_out None f s = []
-reply_out (Some lsa) f s = lsa_out_on (own_of s) f lsa (slice_get s.links f.link)
+reply_out (Some lsa) f s = elim (slice_get s.links f.link) [
+  | None ↦ []
+  | Some link ↦
+      update_out (own_of s) (way_out f.link link.iface (to_address link.iface f.address))
+      (sent_lsa link.settings.transmit_delay lsa ∷ [])
+]
 
 -- it was sent to the neighbour, and in an Update in this tick
 abbrev pub replied : Option (List ℕ) → Origin → LsaKey → AreaValue → AreaValue
@@ -176,7 +176,7 @@ MeetsRule None f lsa before out out' after = Becomes before out out' after
 -- and not stored (step 4)
 MeetsRule (Some AcknowledgesExpired) f lsa before out out' after =
     Becomes (acknowledging (answer_at Expired f before.links) f (header_of lsa) before)
-    (and_takes out (instance_of lsa)) out' after
+    (record out { taken = out.taken ++ instance_of lsa ∷ [] }) out' after
 -- its copy came less than MinLSArrival ago: nothing happens (step 5a)
 MeetsRule (Some TooSoon) f lsa before out out' after = Becomes before out out' after
 -- it is newer than the copy, or there is none (step 5)
@@ -209,7 +209,7 @@ named_by h (Some copy) =
 -- the router once the neighbour acknowledged it
 abbrev pub header_met : Origin → LsaHeader → AreaValue → AreaValue
 header_met f h s =
-    elim (named_by h (copy_in_database s.database (key_of_header h))) [
+    elim (named_by h (option_and_then (entry_of s.database) (key_of_header h))) [
       | None ↦ s
       | Some i ↦ record s { links = changed_at f (Acknowledges i) s.tick s.links }
     ]

@@ -1,5 +1,5 @@
 -- A Link State Update (RFC 2328, section 13).
-use Rattle.std.specs.Prelude.{◌≡◌, ◌≤◌, ◌++◌, ℕ, Bool, true, false, length, Option, Some, List, [], ◌∷◌, map}
+use Rattle.std.specs.Prelude.{◌≡◌, ◌≤◌, ◌++◌, ◌⊎◌, ℕ, Bool, true, false, length, Option, Some, List, [], ◌∷◌, map}
 use Rattle.ospf_area.specs.Places.{flat_from}
 use Rattle.ospf_area.specs.Asking.{turn_requests_on, turned_link}
 use Rattle.ospf_flood.specs.declared.rule.LsaRule.{LsaRule}
@@ -16,19 +16,10 @@ use Rattle.ospf_area.specs.Acting.{InTurn}
 use Rattle.ospf_update.specs.Meets.{MeetsLsa}
 use Rattle.ospf_area.specs.Outputs.{OutputsValue}
 use Rattle.ospf_area.specs.Sending.{and_sends, own_of}
-use Rattle.ospf_area.specs.Standing.{is_taken_in, origin_neighbour}
-use Rattle.ospf_area.specs.State.{AreaValue, LinkValue}
+use Rattle.ospf_area.specs.State.{AreaValue, LinkValue, neighbour_at, state_in}
 use Rattle.ospf_area.specs.declared.flooding.Origin.{Origin}
 use Rattle.ospf_area.specs.declared.sending.Own.{Own}
-
--- an LSA meets its rule, and directly after it come LoadingDone and the next Requests
-pub record MeetsAndTurns (f : Origin) (lsa : List ℕ) (before : AreaValue) (out out' : OutputsValue)
-    (after : AreaValue) : Type 0 where
-  pub mid : AreaValue
-  pub so_far : OutputsValue
-  pub meets : MeetsLsa f lsa before out so_far mid
-  pub state : after ≡ turned_area mid
-  pub outputs : out' ≡ and_sends so_far (turn_out mid)
+use Rattle.ospf_neighbour.specs.Machine.{is_exchanging}
 
 -- the bytes are an LSA of LS type 3, 4 or 5, as far as that is looked at: they are as long as it
 -- says, and its checksum holds (13, step 1)
@@ -38,29 +29,23 @@ pub record IsOtherLsa (bytes : List ℕ) : Type 0 where
   pub kind : is_other (type_of bytes) ≡ true
   pub sum : HasRightSum bytes
 
--- one that comes from a neighbour in Exchange or above
-pub record ComesToBePassed (f : Origin) (bytes : List ℕ) (s : AreaValue) : Type 0 where
-  pub taken : is_taken_in (origin_neighbour s.links f) ≡ true
-  pub lsa : IsOtherLsa bytes
-
--- it is acknowledged to its sender (13.5), and nothing else
-pub data AnswersOther (f : Origin) (bytes : List ℕ) (before after : AreaValue) : Type 0 where
-  Acknowledged : ComesToBePassed f bytes before
-      → after ≡ record before { direct = before.direct ++ header_of bytes ∷ [] }
-      → AnswersOther f bytes before after
-  LeftAlone : (ComesToBePassed f bytes before → ⊥) → after ≡ before
-      → AnswersOther f bytes before after
-
--- a slice that is no LSA of a known LS type: nothing happens, but where those of LS
--- types 3, 4 and 5 are passed over
+-- a slice that is no LSA of a known LS type: nothing happens. But where those of LS types 3, 4 and
+-- 5 are passed over, one of these from a neighbour in Exchange or above is acknowledged (13.5)
 abbrev pub PassesOver : Bool → Origin → List ℕ → AreaValue → AreaValue → Type 0
 PassesOver false f bytes before after = after ≡ before
-PassesOver true f bytes before after = AnswersOther f bytes before after
+PassesOver true f bytes before after =
+    let sender = state_in (neighbour_at before.links f.link f.router) in
+    let Comes = (is_exchanging sender ≡ true) × IsOtherLsa bytes in
+    (Comes × (after ≡ record before { direct = before.direct ++ header_of bytes ∷ [] }))
+    ⊎ ((Comes → ⊥) × (after ≡ before))
 
--- a slice is an LSA, or is passed over (13, steps 1 to 3)
+-- a slice is an LSA, which meets its rule, and directly after it come LoadingDone and the next
+-- Requests; or it is passed over (13, steps 1 to 3)
 pub data TakesSlice (f : Origin) (bytes : List ℕ) (before : AreaValue) (out out' : OutputsValue)
     (after : AreaValue) : Type 0 where
-  Met : IsLsa bytes → MeetsAndTurns f bytes before out out' after
+  Met : IsLsa bytes → (mid : AreaValue) (so_far : OutputsValue)
+      → MeetsLsa f bytes before out so_far mid
+      → after ≡ turned_area mid → out' ≡ and_sends so_far (turn_out mid)
       → TakesSlice f bytes before out out' after
   PassedOver : (IsLsa bytes → ⊥) → PassesOver before.passes_over f bytes before after → out' ≡ out
       → TakesSlice f bytes before out out' after

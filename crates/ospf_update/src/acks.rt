@@ -3,9 +3,10 @@
 ghost use Rattle.std.specs.Prelude.{◌≡◌, ◌<◌, ◌∷◌, [], IfOk, OnOk, Some, slice_get, map, None};
 ghost use Rattle.std.specs.Ordering.{is_lt};
 ghost use Rattle.ospf_area.specs.Places.{flat_from};
-ghost use Rattle.ospf_update.specs.Acks.{header_precedes, in_order, ack_room, ack_parcel, ack_parcels, packed_parcels, direct_out, delayed_out_on, undelayed_link, acks_out};
+ghost use Rattle.ospf_update.specs.Acks.{header_precedes, in_order, ack_room, ack_parcel, ack_parcels, packed_parcels, direct_out, delayed_out_on, acks_out};
 ghost use Rattle.ospf_area.specs.Posting.{and_parcels};
 ghost use Rattle.ospf_area.specs.Sending.{and_sends, own_of, to_address, way_out};
+ghost use Rattle.ospf_area.specs.State.{LinkValue};
 
 use ospf_area::{Area, AreaLink, LinkSettings, Origin, Outputs, Own, Post, own_of, to_address};
 use ospf_base::{Addr, IP_HEADER, LSA_HEADER, PACKET_HEADER};
@@ -58,7 +59,8 @@ pub fn send_delayed(
     out: &mut Outputs,
     alloc: Global,
 ) -> Result<(), AllocError>
-    ensures after { OnOk result (links.new ≡ map undelayed_link links.old) }
+    ensures after { OnOk result (links.new
+        ≡ map (λ (l : LinkValue). record l { delayed = [] }) links.old) }
     ensures sent { OnOk result (out.new ≡ and_sends out.old
         (flat_from (delayed_out_on own) 0 links.old)) }
 {
@@ -167,7 +169,7 @@ fn send_delayed_on(
     out: &mut Outputs,
     alloc: Global,
 ) -> Result<(), AllocError>
-    ensures after { OnOk result (link.new ≡ undelayed_link link.old) }
+    ensures after { OnOk result (link.new ≡ record link.old { delayed = [] }) }
     ensures sent { OnOk result (out.new ≡ and_sends out.old (delayed_out_on own number link.old)) }
 {
     let mut post = Post::new(0, alloc);

@@ -1,16 +1,16 @@
 //! LSAs at MaxAge: ages that rise, copies that are flooded to all, and flushes.
 
-ghost use Rattle.std.specs.Prelude.{◌≡◌, None, OnOk, IfOk, length, option_map};
+ghost use Rattle.std.specs.Prelude.{◌≡◌, ◌+◌, ◌%◌, ◌^◌, [], true, None, Some, OnOk, IfOk, length, option_map, if◌then◌else◌};
 ghost use Rattle.ospf_base.specs.Constants.{max_age};
-ghost use Rattle.ospf_lsdb.specs.Database.{Puts, expired, held_of, reached_at};
+ghost use Rattle.ospf_lsdb.specs.Database.{Ages, Puts, expired, held_of, lsa_of, reached_at};
 ghost use Rattle.ospf_area.specs.Acting.{InTurn};
-ghost use Rattle.ospf_update.specs.Aging.{turned_area, turn_out, noted, copy_flooded, copy_flood_out, AgesRise, Flushes, SendsCopy, TickAges};
-ghost use Rattle.ospf_area.specs.Flooding.{flooding_updates, goes_anywhere};
+ghost use Rattle.ospf_update.specs.Aging.{turned_area, turn_out, copy_flooded, Flushes, SendsCopy, TickAges};
+ghost use Rattle.ospf_area.specs.Flooding.{flooded_links, flooding_updates, goes_anywhere};
+ghost use Rattle.ospf_area.specs.Numbers.{marked};
 ghost use Rattle.ospf_area.specs.Sending.{and_sends, own_of};
-ghost use Rattle.ospf_area.specs.State.{copy_of};
+ghost use Rattle.ospf_area.specs.State.{copy_of, database_entry};
 ghost use Rattle.ospf_lsa.specs.Header.{header_of};
 ghost use Rattle.ospf_lsa.specs.Lsa.{key_of};
-ghost use Rattle.ospf_update.specs.Meets.{flooded_area};
 
 use ospf_area::{Area, Outputs, flood, mark, own_of, turn_requests};
 use ospf_base::{LsaKey, MAX_AGE};
@@ -84,7 +84,11 @@ fn flood_copy(
     alloc: Global,
 ) -> Result<(), AllocError>
     ensures after { OnOk result (area.new ≡ copy_flooded key area.old) }
-    ensures sent { OnOk result (out.new ≡ and_sends out.old (copy_flood_out key area.old)) }
+    ensures sent { OnOk result (out.new ≡ and_sends out.old
+        (elim (database_entry area.old key) [
+          | None ↦ []
+          | Some e ↦ flooding_updates (own_of area.old) (lsa_of e) None area.old.links
+        ])) }
 {
     let Some(copy) = copy_of(area, &key, alloc)? else {
         return Ok(());
@@ -100,7 +104,10 @@ fn flood_to_all(
     out: &mut Outputs,
     alloc: Global,
 ) -> Result<bool, AllocError>
-    ensures after { OnOk result (area.new ≡ flooded_area lsa.now None area.old) }
+    ensures after { OnOk result (area.new ≡ record area.old {
+      links = flooded_links (key_of lsa.now) (header_of lsa.now) None area.old.tick
+          area.old.links;
+    }) }
     ensures went { IfOk result (λ went. went
         ≡ goes_anywhere (key_of lsa.now) (header_of lsa.now) None area.old.links) }
     ensures sent { OnOk result (out.new ≡ and_sends out.old
@@ -124,7 +131,9 @@ fn copy_of(area: &Area, key: &LsaKey, alloc: Global) -> Result<Option<Lsa>, Allo
 }
 
 fn note(area: &mut Area, key: LsaKey, went: bool) -> Result<(), AllocError>
-    ensures { OnOk result (area.new ≡ noted key went area.old) }
+    ensures { OnOk result (area.new
+        ≡ (if went then record area.old { sent = marked key true area.old.sent }
+        else area.old)) }
 {
     if went {
         mark(&mut area.sent, key, true)?;
@@ -134,7 +143,12 @@ fn note(area: &mut Area, key: LsaKey, went: bool) -> Result<(), AllocError>
 
 // Answers how many copies come to `MAX_AGE`.
 fn rise(area: &mut Area) -> u64
-    ensures rise { AgesRise area.old area.new }
+    ensures database { Ages area.old.database area.new.database }
+    ensures rest { area.new ≡ record area.old {
+      database = area.new.database;
+      tick = (area.old.tick + 1) % 2 ^ 64;
+      sent = [];
+    } }
     ensures expired { result ≡ length (reached_at max_age area.new.database) }
 {
     area.tick = area.tick.wrapping_add(1);

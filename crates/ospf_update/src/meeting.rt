@@ -1,17 +1,16 @@
 //! What an LSA of an Update does, and a header of an Acknowledgment.
 
-ghost use Rattle.std.specs.Prelude.{◌≡◌, ◌==◌, IfOk, None, OnOk, Some, slice_get};
+ghost use Rattle.std.specs.Prelude.{◌≡◌, ◌==◌, ◌++◌, ◌∷◌, [], IfOk, None, OnOk, Some, option_and_then, slice_get};
 ghost use Rattle.ospf_base.specs.Constants.{max_age};
-ghost use Rattle.ospf_exchange.specs.Headers.{copy_in_database};
 ghost use Rattle.ospf_lsa.specs.Header.{key_of_header};
+ghost use Rattle.ospf_lsdb.specs.Database.{entry_of};
 ghost use Rattle.ospf_lsa.specs.Header.{header_of};
 ghost use Rattle.ospf_lsa.specs.Lsa.{instance_of, key_of};
-ghost use Rattle.ospf_area.specs.Flooding.{flooded_back, released};
+ghost use Rattle.ospf_area.specs.Flooding.{flooded_back, flooding_updates, released};
 ghost use Rattle.ospf_area.specs.Numbers.{marked};
 ghost use Rattle.ospf_area.specs.Acting.{Becomes};
-ghost use Rattle.ospf_update.specs.Meets.{InstallsIn, store_updates, Stores, rule_met, heard_by, Admits, first_dd_on, duplicated, replied, reply_out, reply_to, restarted, lsa_out_on, MeetsRule, MeetsLsa, named_by, header_met};
-ghost use Rattle.ospf_area.specs.Outputs.{and_takes};
-ghost use Rattle.ospf_area.specs.Sending.{and_sends, own_of};
+ghost use Rattle.ospf_update.specs.Meets.{InstallsIn, Stores, rule_met, heard_by, Admits, first_dd_on, duplicated, replied, reply_out, reply_to, restarted, MeetsRule, MeetsLsa, named_by, header_met};
+ghost use Rattle.ospf_area.specs.Sending.{and_sends, own_of, sent_lsa, to_address, update_out, way_out};
 ghost use Rattle.ospf_area.specs.Standing.{acknowledging, answer_at};
 ghost use Rattle.ospf_flood.specs.declared.acknowledgement.AcknowledgementCase.TheVariants.{Expired};
 
@@ -61,7 +60,8 @@ pub fn store(
     ensures after { OnOk result (Stores lsa from area.old area.new) }
     ensures back { IfOk result (λ f. f.back
         ≡ flooded_back (key_of lsa) (header_of lsa) from (released (key_of lsa) area.old.links)) }
-    ensures sent { OnOk result (out.new ≡ and_sends out.old (store_updates lsa from area.old)) }
+    ensures sent { OnOk result (out.new ≡ and_sends out.old
+        (flooding_updates (own_of area.old) lsa from (released (key_of lsa) area.old.links))) }
 {
     let own = own_of(area);
     let key = lsa.view().key();
@@ -167,8 +167,8 @@ pub(crate) fn follow(
 }
 
 fn named_in(area: &Area, header: &LsaHeader) -> Option<Instance>
-    ensures { result ≡ named_by header.now (copy_in_database area.now.database (key_of_header
-        header.now)) }
+    ensures { result ≡ named_by header.now
+        (option_and_then (entry_of area.now.database) (key_of_header header.now)) }
 {
     let key = header.key()?;
     named_by(header, area.database.get(&key))
@@ -253,7 +253,9 @@ fn on_expired(
     out: &mut Outputs,
 ) -> Result<(), AllocError>
     ensures { OnOk result (Becomes (acknowledging (answer_at Expired from area.old.links) from
-        (header_of lsa.now) area.old) (and_takes out.old (instance_of lsa.now)) out.new area.new) }
+        (header_of lsa.now) area.old) (record out.old {
+          taken = out.old.taken ++ instance_of lsa.now ∷ [];
+        }) out.new area.new) }
 {
     let answer = answer_at(&area.links, AcknowledgementCase::Expired, from);
     acknowledge_by(area, answer, from, &lsa.header())?;
@@ -261,7 +263,8 @@ fn on_expired(
 }
 
 fn take(out: &mut Outputs, instance: Instance) -> Result<(), AllocError>
-    ensures { OnOk result (out.new ≡ and_takes out.old instance) }
+    ensures { OnOk result
+        (out.new ≡ record out.old { taken = out.old.taken ++ instance ∷ [] }) }
 {
     out.taken.push(instance)?;
     Ok(())
@@ -367,7 +370,12 @@ fn send_back(
     alloc: Global,
 ) -> Result<(), AllocError>
     ensures { OnOk result (out.new ≡ and_sends out.old
-        (lsa_out_on own from lsa.now (slice_get links.now from.link))) }
+        (elim (slice_get links.now from.link) [
+          | None ↦ []
+          | Some link ↦ update_out own (way_out from.link link.iface
+              (to_address link.iface from.address))
+              (sent_lsa link.settings.transmit_delay lsa.now ∷ [])
+        ])) }
 {
     match links.get(from.link) {
         Some(link) => send_back_on(link, own, from, lsa, out, alloc),
@@ -384,7 +392,9 @@ fn send_back_on(
     alloc: Global,
 ) -> Result<(), AllocError>
     ensures { OnOk result (out.new ≡ and_sends out.old
-        (lsa_out_on own from lsa.now (Some link.now))) }
+        (update_out own
+        (way_out from.link link.now.iface (to_address link.now.iface from.address))
+        (sent_lsa link.now.settings.transmit_delay lsa.now ∷ []))) }
 {
     let mut post = Post::new(0, alloc);
     let copy = sent_lsa(link.settings, lsa, alloc)?;

@@ -1,12 +1,17 @@
 //! LSAs that leave the database.
 
-ghost use Rattle.std.specs.Prelude.{◌≡◌, IfOk, OnOk, map, filter};
+ghost use Rattle.std.specs.Prelude.{◌≡◌, ◌++◌, ◌∷◌, [], false, IfOk, None, OnOk, Some, map, filter, if◌then◌else◌};
 ghost use Rattle.std.specs.List.{list_any};
-ghost use Rattle.ospf_lsdb.specs.Database.{entries, held_of, is_some_and, key_in};
+ghost use Rattle.std.specs.Ordering.{int_eq};
+ghost use Rattle.ospf_flood.specs.Rules.{max_sequence_number};
+ghost use Rattle.ospf_lsdb.specs.Database.{entries, header_at, held_of, is_some_and, key_in};
 ghost use Rattle.ospf_area.specs.Acting.{InTurn};
+ghost use Rattle.ospf_area.specs.State.{LinkValue};
+ghost use Rattle.ospf_area.specs.declared.state.Numbering.{Numbering};
 ghost use Rattle.ospf_neighbour.specs.Lists.{is_listed};
 ghost use Rattle.ospf_neighbour.specs.Neighbour.{NeighbourValue};
-ghost use Rattle.ospf_update.specs.Removal.{some_awaits, is_leaving, leaving, is_last, ends_run, reset_one, reset, and_ends, RemovesOne};
+ghost use Rattle.ospf_update.specs.Removal.{is_leaving, leaving, ends_run, lowest_number, reset, RemovesOne};
+ghost use Rattle.ospf_base.specs.Keys.{same_key};
 
 use ospf_area::{Area, AreaLink, Numbering, Outputs, is_numbered, is_own, some_link_loading};
 use ospf_base::{Instance, LsaKey, MAX_AGE, MAX_SEQUENCE_NUMBER, NO_FLOOR};
@@ -15,7 +20,9 @@ use std::alloc::{AllocError, Global};
 
 /// Whether some neighbour has yet to acknowledge an instance.
 pub fn some_awaits(instance: &Instance, links: &[AreaLink]) -> bool
-    ensures { result ≡ some_awaits instance.now links.now }
+    ensures { result ≡ list_any (λ (link : LinkValue). list_any
+        (λ (n : NeighbourValue). is_listed instance.now n.retransmission) link.neighbours)
+        links.now }
 {
     links.iter().any(|link| some_awaits_on(instance, link))
 }
@@ -114,7 +121,10 @@ fn ends_run(area: &Area, key: &LsaKey) -> bool
 }
 
 fn is_last(copy: Option<EntryView<'_>>) -> bool
-    ensures { result ≡ is_last copy.entry }
+    ensures { result ≡ (elim copy.entry [
+      | None ↦ false
+      | Some e ↦ int_eq (header_at e).number max_sequence_number
+    ]) }
 {
     match copy {
         Some(copy) => copy.header().number == MAX_SEQUENCE_NUMBER,
@@ -139,7 +149,8 @@ fn reset(all: &mut Vec<Numbering>, key: LsaKey) -> Result<(), AllocError>
 }
 
 fn reset_all(all: &mut [Numbering], key: &LsaKey)
-    ensures { all.new ≡ map (reset_one key.now) all.old }
+    ensures { all.new ≡ map (λ (n : Numbering). if same_key n.key key.now
+        then record n { kept = lowest_number } else n) all.old }
 {
     for numbering in all.iter_mut() {
         reset_one(numbering, key);
@@ -147,7 +158,8 @@ fn reset_all(all: &mut [Numbering], key: &LsaKey)
 }
 
 fn reset_one(numbering: &mut Numbering, key: &LsaKey)
-    ensures { numbering.new ≡ reset_one key.now numbering.old }
+    ensures { numbering.new ≡ (if same_key numbering.old.key key.now
+        then record numbering.old { kept = lowest_number } else numbering.old) }
 {
     if numbering.key.is_same(key) {
         numbering.kept = NO_FLOOR;
@@ -155,7 +167,7 @@ fn reset_one(numbering: &mut Numbering, key: &LsaKey)
 }
 
 fn end_run(out: &mut Outputs, key: LsaKey) -> Result<(), AllocError>
-    ensures { OnOk result (out.new ≡ and_ends out.old key) }
+    ensures { OnOk result (out.new ≡ record out.old { ended = out.old.ended ++ key ∷ [] }) }
 {
     out.ended.push(key)?;
     Ok(())

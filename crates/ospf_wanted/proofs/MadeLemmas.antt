@@ -4,8 +4,9 @@ use Rattle.std.specs.Str.{bytes_eq}
 use Rattle.std.proofs.lemmas.List.{length-take-le}
 use Rattle.ospf_base.specs.Sums.{contents}
 use Rattle.ospf_lsa.specs.Value.{IsMade, contents_bytes}
-use Rattle.ospf_wanted.specs.Made.{lsa_value, aside}
+use Rattle.ospf_wanted.specs.Made.{lsa_value}
 use Rattle.ospf_wanted.specs.Wanted.{WantedValue}
+use Rattle.ospf_wanted.proofs.Words.{aside}
 use Rattle.ospf_wanted.specs.Wanted.WantedValue.{RouterLsa, NetworkLsa}
 
 pub and_assoc : (a b c : Bool) → ((a && b) && c) ≡ (a && (b && c))

@@ -22,8 +22,8 @@ use Rattle.ospf_area.specs.State.{LinkValue}
 use Rattle.ospf_wanted.specs.Made.{CanBeMade, CanBeMadeIf, IsUnmadeIf, Needs, first_number}
 use Rattle.ospf_wanted.specs.SetUp.{AreSetUp, IsSetUp}
 use Rattle.ospf_iface.specs.Machine.{is_down}
-use Rattle.ospf_wanted.specs.Wanted.{attached_routers, is_full, is_full_before, is_full_behind, is_transit, through_metric, router_link, network_link, subnet_link, links_of_link, network_of, wanted_lsas, wanted_key, wanted_of, WantedValue}
-use Rattle.ospf_wanted.proofs.Words.{broadcast_link, links_of_kind}
+use Rattle.ospf_wanted.specs.Wanted.{attached_routers, is_full, is_transit, router_link, network_link, subnet_link, links_of_link, network_of, wanted_lsas, wanted_key, wanted_of, WantedValue}
+use Rattle.ospf_wanted.proofs.Words.{broadcast_link, is_full_before, is_full_behind, links_of_kind, through_metric}
 use Rattle.ospf_wanted.proofs.WantedLemmas.{map_all, all_networks}
 
 -- ---- lists

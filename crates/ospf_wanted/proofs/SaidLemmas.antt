@@ -14,8 +14,8 @@ use Rattle.ospf_lsa.specs.Lsa.{HasLinks, HasRouters, IsLsa, IsNetworkLsa, IsRout
 use Rattle.ospf_lsa.specs.declared.fault.LsaFault.TheVariants as fault
 use Rattle.ospf_neighbour.specs.Neighbour.{NeighbourValue}
 use Rattle.ospf_iface.specs.Machine.{is_down}
-use Rattle.ospf_wanted.specs.Wanted.{attached_routers, is_full, is_full_before, is_full_behind, links_of_link, router_link, subnet_link}
-use Rattle.ospf_wanted.proofs.Words.{broadcast_link, links_of_kind}
+use Rattle.ospf_wanted.specs.Wanted.{attached_routers, is_full, links_of_link, router_link, subnet_link}
+use Rattle.ospf_wanted.proofs.Words.{aside, broadcast_link, is_full_before, is_full_behind, links_of_kind}
 use Rattle.ospf_wanted.specs.Wanted.WantedValue.{RouterLsa, NetworkLsa}
 use Rattle.ospf_base.specs.Sums.{contents}
 use Rattle.std.proofs.lemmas.List.Folds.{flat_map-map}
@@ -26,7 +26,7 @@ use Rattle.ospf_lsa.specs.Link.{entry_bytes, link_bytes, plain}
 use Rattle.ospf_lsa.specs.Value.{contents_bytes, network_value, router_value}
 use Rattle.ospf_lsa.specs.declared.link.Link.{Link}
 use Rattle.ospf_lsa.specs.declared.header.LsaHeader.{LsaHeader}
-use Rattle.ospf_wanted.specs.Made.{aside, says}
+use Rattle.ospf_wanted.specs.Made.{says}
 use Rattle.ospf_wanted.specs.Said.{behind, is_end, links_bytes, router_link_bytes, lower_bytes, higher_bytes}
 use Rattle.ospf_wanted.proofs.MadeLemmas.{bytes_eq-append}
 

@@ -35,10 +35,9 @@ abbrev pub IsUnmadeIf : Option WantedValue → LsaFault → Type 0
 IsUnmadeIf None f = ⊥
 IsUnmadeIf (Some w) f = IsUnmade (Needs first_number w) f
 
--- the contents of an LSA, number and checksum aside
-abbrev pub aside : List ℕ → List ℕ
-aside contents = take 10 contents ++ drop 16 contents
-
--- whether an LSA of these contents is the wanted one, number and checksum aside (12.4)
+-- whether an LSA of these contents is the wanted one, number and checksum aside: these are the six
+-- bytes behind the first ten (12.4)
 unfoldable pub says : List ℕ → WantedValue → Bool
-says contents w = bytes_eq (aside contents) (aside (contents_bytes (lsa_value (pos 0) w)))
+says contents w =
+    let made = contents_bytes (lsa_value (pos 0) w) in
+    bytes_eq (take 10 contents ++ drop 16 contents) (take 10 made ++ drop 16 made)

@@ -1,5 +1,5 @@
 -- LSAs compared as they stand, piece by piece (RFC 2328, section 12.4).
-use Rattle.std.specs.Prelude.{ℕ, Bool, true, false, List, [], ◌∷◌, Option, None, Some, length, take, drop, if◌then◌else◌}
+use Rattle.std.specs.Prelude.{ℕ, Bool, true, false, List, [], ◌∷◌, ◌&&◌, Option, None, Some, length, take, drop, nat_lt, if◌then◌else◌}
 use Rattle.std.specs.List.{flat_map}
 use Rattle.std.specs.Str.{bytes_eq}
 use Rattle.ospf_area.specs.State.{LinkValue}
@@ -7,7 +7,7 @@ use Rattle.ospf_base.specs.declared.ids.RouterId.{RouterId}
 use Rattle.ospf_lsa.specs.Attached.{router_bytes}
 use Rattle.ospf_lsa.specs.Link.{link_bytes}
 use Rattle.ospf_neighbour.specs.Neighbour.{NeighbourValue}
-use Rattle.ospf_wanted.specs.Wanted.{is_full, is_full_before, is_full_behind, links_of_link, router_link}
+use Rattle.ospf_wanted.specs.Wanted.{is_full, links_of_link, router_link}
 
 -- what stands behind these bytes, where others begin with them
 unfoldable pub behind : List ℕ → Option (List ℕ) → Option (List ℕ)
@@ -32,8 +32,10 @@ links_bytes stub_router a = flat_map link_bytes (links_of_link stub_router a)
 
 -- the bytes of a neighbour that a network-LSA names before the router itself, if it does (12.4.2)
 unfoldable pub lower_bytes : RouterId → NeighbourValue → List ℕ
-lower_bytes router n = if is_full_before router n then router_bytes n.router else []
+lower_bytes router n =
+    if is_full n && nat_lt n.router.0 router.0 then router_bytes n.router else []
 
 -- the bytes of a neighbour that a network-LSA names behind the router itself, if it does
 unfoldable pub higher_bytes : RouterId → NeighbourValue → List ℕ
-higher_bytes router n = if is_full_behind router n then router_bytes n.router else []
+higher_bytes router n =
+    if is_full n && nat_lt router.0 n.router.0 then router_bytes n.router else []

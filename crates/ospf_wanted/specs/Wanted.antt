@@ -40,29 +40,24 @@ is_transit a =
 
 -- ---- the links of the router-LSA
 
--- the metric of links to routers and to transit networks: a stub
--- router's are MaxLinkMetric (RFC 6987)
-abbrev pub through_metric : Bool → ℕ → ℕ
-through_metric stub_router cost = if stub_router then 0xffff else cost
-
--- to a router (12.4.1.1)
+-- to a router (12.4.1.1). The metric of a stub router's is MaxLinkMetric (RFC 6987)
 abbrev pub router_link : Bool → LinkValue → NeighbourValue → Link
 router_link stub_router a n =
     record {
       id = n.router.0;
       link_data = a.iface.settings.address.0;
       kind = PointToPoint;
-      metric = through_metric stub_router a.settings.cost;
+      metric = (if stub_router then 0xffff else a.settings.cost);
     }
 
--- to a transit network (12.4.1.2)
+-- to a transit network (12.4.1.2). The metric of a stub router's is MaxLinkMetric (RFC 6987)
 abbrev pub network_link : Bool → LinkValue → Link
 network_link stub_router a =
     record {
       id = a.iface.dr.0;
       link_data = a.iface.settings.address.0;
       kind = Transit;
-      metric = through_metric stub_router a.settings.cost;
+      metric = (if stub_router then 0xffff else a.settings.cost);
     }
 
 -- to the link's own subnet (12.4.1.1, option 2, and 12.4.1.2)
@@ -89,19 +84,12 @@ links_of_link stub_router a =
 
 -- ---- network-LSAs
 
--- the neighbour is Full, and its Router ID is less than the router's own
-abbrev pub is_full_before : RouterId → NeighbourValue → Bool
-is_full_before router n = is_full n && nat_lt n.router.0 router.0
-
--- the neighbour is Full, and its Router ID is greater than the router's own
-abbrev pub is_full_behind : RouterId → NeighbourValue → Bool
-is_full_behind router n = is_full n && nat_lt router.0 n.router.0
-
--- the routers of the network: this one and those fully adjacent to it, whose IDs rise (12.4.2)
+-- the routers of the network (12.4.2): the fully adjacent ones whose Router IDs are less than
+-- this router's own, this one, and the fully adjacent ones whose Router IDs are greater
 abbrev pub attached_routers : RouterId → List NeighbourValue → List RouterId
 attached_routers router ns =
-    map (λ n. n.router) (filter (is_full_before router) ns)
-    ++ (router ∷ map (λ n. n.router) (filter (is_full_behind router) ns))
+    map (λ n. n.router) (filter (λ n. is_full n && nat_lt n.router.0 router.0) ns)
+    ++ (router ∷ map (λ n. n.router) (filter (λ n. is_full n && nat_lt router.0 n.router.0) ns))
 
 -- the network-LSA of a link, which its Designated Router wants (12.4.2)
 unfoldable pub network_of : RouterId → LinkValue → WantedValue

@@ -1,10 +1,10 @@
 //! Own LSAs as they are made, and what a copy says.
 
-ghost use Rattle.std.specs.Prelude.{◌≡◌, ◌≤◌, IfOk, IfErr, OnOk, length, take, drop};
+ghost use Rattle.std.specs.Prelude.{◌≡◌, ◌≤◌, IfOk, IfErr, OnOk, length, take, drop, ◌++◌};
 ghost use Rattle.std.specs.Str.{bytes_eq};
 ghost use Rattle.ospf_base.specs.Sums.{contents};
 ghost use Rattle.ospf_lsa.specs.Value.{HasAll, IsMade, IsUnmade};
-ghost use Rattle.ospf_wanted.specs.Made.{lsa_value, Needs, aside, first_number, says};
+ghost use Rattle.ospf_wanted.specs.Made.{lsa_value, Needs, first_number, says};
 ghost use Rattle.ospf_wanted.specs.Own.{wanted_value};
 
 use crate::wants::OwnLsa;
@@ -48,7 +48,8 @@ impl OwnLsa {
 
 // Whether two LSAs say the same, numbers and checksums aside.
 fn same_aside(a: &LsaView<'_>, b: &LsaView<'_>) -> bool
-    ensures { result ≡ bytes_eq (aside (contents a.now)) (aside (contents b.now)) }
+    ensures { result ≡ bytes_eq (take 10 (contents a.now) ++ drop 16 (contents a.now))
+        (take 10 (contents b.now) ++ drop 16 (contents b.now)) }
 {
     let (a, b) = (a.as_bytes(), b.as_bytes());
     let front = same_front(a, b);

@@ -1,9 +1,9 @@
 //! The LSAs of its own that a router wants.
 
-ghost use Rattle.std.specs.Prelude.{◌≡◌, ◌++◌, ◌∷◌, [], IfOk, OnOk, map, filter, ◌&&◌, ◌==◌, if◌then◌else◌};
+ghost use Rattle.std.specs.Prelude.{◌≡◌, ◌++◌, ◌∷◌, [], IfOk, OnOk, map, filter, nat_lt, ◌&&◌, ◌==◌, if◌then◌else◌};
 ghost use Rattle.std.specs.List.{list_any, flat_map};
 ghost use Rattle.ospf_neighbour.specs.Neighbour.{NeighbourValue};
-ghost use Rattle.ospf_wanted.specs.Wanted.{is_full, is_dr_of, is_transit, through_metric, router_link, network_link, subnet_link, links_of_link, is_full_before, is_full_behind, attached_routers, network_of, wanted_lsas, wanted_key};
+ghost use Rattle.ospf_wanted.specs.Wanted.{is_full, is_dr_of, is_transit, router_link, network_link, subnet_link, links_of_link, attached_routers, network_of, wanted_lsas, wanted_key};
 ghost use Rattle.ospf_wanted.specs.Own.{wanted_value};
 
 use ospf_area::AreaLink;
@@ -233,7 +233,8 @@ fn full_before(
     alloc: Global,
 ) -> Result<Vec<RouterId>, AllocError>
     ensures { IfOk result (λ v. v.items
-        ≡ map (λ n. n.router) (filter (is_full_before router) neighbours.now)) }
+        ≡ map (λ n. n.router)
+        (filter (λ n. is_full n && nat_lt n.router.0 router.0) neighbours.now)) }
 {
     neighbours
         .iter()
@@ -249,7 +250,8 @@ fn full_behind(
     alloc: Global,
 ) -> Result<Vec<RouterId>, AllocError>
     ensures { IfOk result (λ v. v.items
-        ≡ map (λ n. n.router) (filter (is_full_behind router) neighbours.now)) }
+        ≡ map (λ n. n.router)
+        (filter (λ n. is_full n && nat_lt router.0 n.router.0) neighbours.now)) }
 {
     neighbours
         .iter()
@@ -260,7 +262,7 @@ fn full_behind(
 
 // The metric of links to routers and to transit networks.
 fn through_metric(stub_router: bool, cost: u16) -> u16
-    ensures { result ≡ through_metric stub_router cost }
+    ensures { result ≡ (if stub_router then 0xffff else cost) }
 {
     if stub_router { MAX_LINK_METRIC } else { cost }
 }

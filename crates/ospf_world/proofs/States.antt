@@ -5,7 +5,7 @@ use Rattle.ospf_area.specs.Outputs.{OutputsValue, no_outputs}
 use Rattle.ospf_area.specs.Sending.{and_sends, own_of}
 use Rattle.ospf_area.specs.State.{AreaValue, LinkValue}
 use Rattle.ospf_area.specs.Flooding.{flooded_links, goes_anywhere, released}
-use Rattle.ospf_area.specs.Numbers.{counts, greatest_after, marked}
+use Rattle.ospf_area.specs.Numbers.{counts, marked}
 use Rattle.ospf_base.specs.declared.ids.Kind.TheVariants.{Router}
 use Rattle.ospf_base.specs.declared.ids.LsaKey.{LsaKey}
 use Rattle.ospf_base.specs.declared.ids.RouterId.{RouterId}
@@ -28,11 +28,12 @@ use Rattle.ospf_originate.specs.Numbers.{issued}
 use Rattle.ospf_originate.proofs.Words.{and_issues}
 use Rattle.ospf_router.specs.Starts.{IsAreaOf, area_of, iface_of}
 use Rattle.ospf_update.specs.Aging.{turned_area}
-use Rattle.ospf_update.specs.Meets.{store_updates}
+use Rattle.ospf_update.proofs.Words.{store_updates}
 use Rattle.ospf_update.specs.Removal.{lowest_number}
 use Rattle.ospf_wanted.specs.Made.{lsa_value}
 use Rattle.ospf_wanted.specs.Wanted.{WantedValue}
 use Rattle.ospf_world.proofs.Config.{config, interface, it}
+use Rattle.ospf_area.proofs.Words.{greatest_after}
 
 -- ---- the LSA
 

@@ -1,5 +1,5 @@
 -- The steps of the router: a tick, by which its LSA is issued, and its link that goes up, by which a Hello is sent.
-use Rattle.std.proofs.Common.{◌≡◌, ◌||◌, ℕ, zero, suc, negsuc, Bool, true, false, List, [], ◌∷◌, None, Some, is_some, slice_get, if◌then◌else◌, refl, sym, ap, subst, ◌∙◌, arith, lit<, lit≤}
+use Rattle.std.proofs.Common.{◌≡◌, ◌||◌, ℕ, zero, suc, negsuc, Bool, true, false, List, [], ◌∷◌, None, Some, is_some, length, slice_get, if◌then◌else◌, refl, sym, ap, subst, ◌∙◌, arith, lit<, lit≤}
 use Rattle.std.specs.Option.{option_map}
 use Rattle.std.proofs.lemmas.Bool.{false≢true}
 use Rattle.std.proofs.lemmas.Option.{none-some, same_Some}
@@ -12,12 +12,12 @@ use Rattle.ospf_base.specs.declared.ids.Instance.{Instance}
 use Rattle.ospf_base.specs.declared.ids.RouterId.{RouterId}
 use Rattle.ospf_step.proofs.StepChains.{up_chain, ends_put, tick_puts}
 use Rattle.ospf_step.specs.Invariants.{AreRising}
-use Rattle.ospf_adjacency.specs.Links.{hello_parcel, up}
+use Rattle.ospf_adjacency.specs.Links.{hello_parcel}
 use Rattle.ospf_step.proofs.Chains.{step_from_chain}
 use Rattle.ospf_step.proofs.StepAccounts.{StepLaws-accounts, StepLaws-sound}
 use Rattle.ospf_step.specs.Step.{Event, StepLaws, last_parts}
 use Rattle.ospf_step.specs.Words.{IsSoundState}
-use Rattle.ospf_links.specs.Elections.{ElectsAll}
+use Rattle.ospf_links.specs.Elections.{ElectsFrom}
 use Rattle.ospf_links.specs.Parts.{link_up}
 use Rattle.ospf_lsdb.specs.Database.{Held, IsDatabase, entry_from, key_in, reached_at}
 use Rattle.ospf_neighbour.specs.Neighbours.{AreNeighboursRising}
@@ -30,7 +30,7 @@ use Rattle.ospf_originate.specs.declared.action.DueAction.{DueAction}
 use Rattle.ospf_originate.specs.declared.action.OwnAction.TheVariants.{Issue}
 use Rattle.ospf_packet.proofs.RoundTrip.{read_again}
 use Rattle.ospf_packet.specs.Meaning.{Meaning, MeaningFits}
-use Rattle.ospf_router.specs.Steps.{IsLawful}
+use Rattle.ospf_step.specs.Lawful.{IsLawful}
 use Rattle.ospf_step.specs.Drops.{is_dropped}
 use Rattle.ospf_step.specs.Ends.{EndsStep}
 use Rattle.ospf_step.specs.Steps.{StepsArea}
@@ -47,7 +47,7 @@ unfolding reached_at cut
 takes_tick = record {
   aged = ticked;
   aged_out = no_outputs;
-  ages = record { mid = ticked; rise = record { database = λ k. refl; rest = refl }; sends = record { state = refl; outputs = refl } };
+  ages = record { mid = ticked; database = λ k. refl; rest = refl; sends = record { state = refl; outputs = refl } };
   timed = ticked;
   timers = refl;
   helloed = ticked;
@@ -59,7 +59,7 @@ takes_tick = record {
   repeats = record { state = refl; outputs = refl };
 }
 
-none_elects : ElectsAll ticked no_outputs no_outputs ticked
+none_elects : ElectsFrom (length ticked.links) ticked no_outputs no_outputs ticked
 none_elects = (ticked, no_outputs, (refl, refl), (down_link, 1, [], (refl, refl, refl), refl, refl))
 
 is_numbered : AreNumbered ticked
@@ -127,13 +127,13 @@ tick_step = record {
   cause = refl;
   unchanged = λ some. absurd (some refl);
   silent = λ some. absurd (some refl);
-  takes = λ none. record { mid = ticked; mid_out = no_outputs; event = takes_tick; end = ends_tick };
+  takes = λ none. record { ready = tt; mid = ticked; mid_out = no_outputs; event = takes_tick; end = ends_tick };
 }
 
 -- ---- a link that goes up
 
 abbrev pub hello_said : Meaning
-hello_said = packet_from (own_of has_issued) (hello_parcel (up down_link.iface) []).body
+hello_said = packet_from (own_of has_issued) (hello_parcel (link_up down_link).iface []).body
 
 pub hello_fits : MeaningFits hello_said
 hello_fits = record {
@@ -198,7 +198,7 @@ up_step = record {
   cause = refl;
   unchanged = λ some. absurd (some refl);
   silent = λ some. absurd (some refl);
-  takes = λ none. record { mid = linked; mid_out = linked_out; event = record { state = refl; outputs = refl }; end = ends_up };
+  takes = λ none. record { ready = tt; mid = linked; mid_out = linked_out; event = record { state = refl; outputs = refl }; end = ends_up };
 }
 
 -- ---- what they come to
@@ -241,11 +241,11 @@ begun_sound = record {
   lists = λ l q i waits. absurd (waits_none l q i waits);
 }
 
-pub tick_lawful : IsLawful Event.Tick begun None issuing_out has_issued
-tick_lawful = record { steps = tick_step; laws = tick_laws; accounts = StepLaws-accounts is_dropped Event.Tick begun issuing_out has_issued begun_sound tick_laws }
+pub tick_lawful : IsLawful Event.Tick begun issuing_out has_issued
+tick_lawful = record { laws = tick_laws; accounts = StepLaws-accounts is_dropped Event.Tick begun issuing_out has_issued begun_sound tick_laws }
 
 issued_sound : IsSoundState has_issued
 issued_sound = StepLaws-sound is_dropped Event.Tick begun issuing_out has_issued begun_sound tick_laws
 
-pub up_lawful : IsLawful (Event.LinkUp 0) has_issued None linked_out linked
-up_lawful = record { steps = up_step; laws = up_laws; accounts = StepLaws-accounts is_dropped (Event.LinkUp 0) has_issued linked_out linked issued_sound up_laws }
+pub up_lawful : IsLawful (Event.LinkUp 0) has_issued linked_out linked
+up_lawful = record { laws = up_laws; accounts = StepLaws-accounts is_dropped (Event.LinkUp 0) has_issued linked_out linked issued_sound up_laws }

@@ -13,7 +13,6 @@ use Rattle.ospf_headline.specs.Logs.{run_of}
 use Rattle.ospf_headline.specs.declared.logs.Datagram.{Datagram}
 use Rattle.ospf_headline.specs.declared.logs.Run.{Run}
 use Rattle.ospf_headline.specs.declared.event.WorldEvent.TheVariants.{Start, Tick, LinkUp}
-use Rattle.ospf_adjacency.specs.Links.{up}
 use Rattle.ospf_iface.specs.Hello.{own_hello}
 use Rattle.ospf_step.specs.Counts.{none_dropped_on}
 use Rattle.ospf_step.specs.Step.{Event}
@@ -34,7 +33,7 @@ use Rattle.ospf_world.specs.Worlds.{WorldValue, new_world, no_logs}
 use Rattle.ospf_world.specs.declared.ticks.Ticked.{Ticked}
 use Rattle.ospf_world.proofs.Config.{config, it, its_address}
 use Rattle.ospf_world.proofs.States.{begun, down_link, has_issued, header_fits, is_area, is_lsa, is_table, issuing_out, linked, linked_out, own_lsa}
-use Rattle.ospf_world.proofs.Steps.{hello_fits, hello_said, issued_database, tick_lawful, up_lawful}
+use Rattle.ospf_world.proofs.Steps.{hello_fits, hello_said, issued_database, tick_lawful, tick_step, up_lawful, up_step}
 use Rattle.ospf_world.specs.Works.{SomeRouterWorks}
 
 -- ---- the networks
@@ -116,6 +115,7 @@ ticks_on = record {
   was = refl;
   is = refl;
   dropped = None;
+  steps = tick_step;
   lawful = tick_lawful;
   table = issued_table;
   takes = record { datagrams = refl; issued = refl; held = refl };
@@ -145,6 +145,7 @@ goes_up = record {
   was = refl;
   is = refl;
   dropped = None;
+  steps = up_step;
   lawful = up_lawful;
   table = linked_table;
   takes = record { datagrams = refl; issued = refl; held = refl };
@@ -182,6 +183,6 @@ some_router_works = record {
   entry = issued_in first_run [] own_lsa;
   has_issued = record { issued = (0, lit< tt, refl); is_lsa = is_lsa; own = refl; held = refl };
   datagram = greeting;
-  fields = own_hello (up down_link.iface);
+  fields = own_hello (link_up down_link).iface;
   has_greeted = record { sent = (0, lit< tt, refl); by = refl; reads = read_again hello_said hello_fits; says = refl };
 }

@@ -1,5 +1,5 @@
 use Rattle.std.proofs.Common.{◌≡◌}
-use Rattle.ospf_adjacency.specs.Answers.{resent_keys}
+use Rattle.ospf_adjacency.proofs.Words.{resent_keys}
 use Rattle.ospf_adjacency.proofs.answering.resend_keys.Given as goal
 
 -- the copies of the keys that are left are still to be counted

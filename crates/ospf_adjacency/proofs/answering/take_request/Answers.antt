@@ -4,7 +4,8 @@ use Rattle.ospf_exchange.specs.Requests.{all_held}
 use Rattle.ospf_adjacency.specs.Descriptions.{event_turn}
 use Rattle.ospf_area.specs.Turns.{turn}
 use Rattle.ospf_neighbour.specs.declared.machine.NbrEvent.TheVariants.{BadLsReq}
-use Rattle.ospf_adjacency.specs.Answers.{asked_keys, copies_turn}
+use Rattle.ospf_adjacency.specs.Answers.{copies_turn}
+use Rattle.ospf_adjacency.proofs.Words.{asked_keys}
 use Rattle.ospf_adjacency.proofs.KeyLists.{answers_are}
 use Rattle.ospf_adjacency.proofs.answering.take_request.Goals as goal
 

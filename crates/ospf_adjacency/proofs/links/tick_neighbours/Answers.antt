@@ -2,8 +2,8 @@ use Rattle.std.proofs.Common.{◌≡◌, ◌∙◌, Bool, true, false, cond, not
 use Rattle.std.proofs.RetainMut.{retains_is_retain_mut}
 use Rattle.std.specs.List.{retain_mut}
 use Rattle.ospf_neighbour.specs.Neighbour.{NeighbourValue}
-use Rattle.ospf_adjacency.specs.Links.{is_inactive, timed}
-use Rattle.ospf_adjacency.proofs.Words.{inactivity_ticked}
+use Rattle.ospf_adjacency.specs.Links.{timed}
+use Rattle.ospf_adjacency.proofs.Words.{inactivity_ticked, is_inactive}
 use Rattle.ospf_adjacency.proofs.links.tick_neighbours.Goals as goal
 
 timed_if : (b : Bool) (n : NeighbourValue) (kept : List NeighbourValue) → cond b (inactivity_ticked n ∷ map inactivity_ticked kept) (map inactivity_ticked kept) ≡ map inactivity_ticked (cond b (n ∷ kept) kept)

@@ -1,6 +1,7 @@
 use Rattle.std.proofs.Common.{◌≡◌, ◌-◌, [], map}
 use Rattle.ospf_area.specs.Posting.{and_parcels}
-use Rattle.ospf_adjacency.specs.Packing.{bytes_in, packed, update_to, copies_of}
+use Rattle.ospf_adjacency.specs.Packing.{bytes_in, packed, copies_of}
+use Rattle.ospf_adjacency.proofs.Words.{update_to}
 use Rattle.ospf_adjacency.proofs.packing.send_copies.Given as goal
 
 -- what is packed and what is still to be packed go out behind what went out before

@@ -1,5 +1,5 @@
 use Rattle.std.proofs.Common.{◌≡◌, map, take}
-use Rattle.ospf_area.specs.Asking.{entry_for}
+use Rattle.ospf_area.proofs.Words.{entry_for}
 use Rattle.ospf_area.proofs.asking.request_body.Given as goal
 
 abbrev pub invariant-loop-header : goal.invariant-loop-header

@@ -3,16 +3,18 @@ use Rattle.std.proofs.Common.{◌≡◌, ◌∙◌, ℕ, Bool, ap, set, sym, get
 use Rattle.std.proofs.lemmas.List.Edits.{map_over_more}
 use Rattle.std.proofs.lemmas.List.Folds.{list_any_more}
 use Rattle.ospf_base.specs.declared.ids.LsaKey.{LsaKey}
-use Rattle.ospf_flood.specs.Offers.{flooded, lists, offer_to}
+use Rattle.ospf_flood.specs.Offers.{flooded, offer_to}
 use Rattle.ospf_lsa.specs.Header.{header_of}
 use Rattle.ospf_lsa.specs.declared.header.LsaHeader.{LsaHeader}
 use Rattle.ospf_lsa.specs.Lsa.{key_of}
 use Rattle.ospf_neighbour.specs.Neighbour.{NeighbourValue}
-use Rattle.ospf_area.specs.Flooding.{came_from, flooded_neighbour, some_listed}
+use Rattle.ospf_area.specs.Flooding.{came_from}
 use Rattle.ospf_area.specs.declared.flooding.Origin.{Origin}
 use Rattle.ospf_neighbour.proofs.NeighbourLemmas.{AreNeighbours-same, routers-set}
 use Rattle.ospf_area.proofs.NeighbourLemmas.{flooded-router}
 use Rattle.ospf_area.proofs.PlaceLemmas.{map_read, or_set, or_left}
+use Rattle.ospf_area.proofs.Words.{some_listed, flooded_neighbour}
+use Rattle.ospf_flood.proofs.Words.{lists}
 use Rattle.ospf_area.proofs.flooding.flood_neighbours.Goals as goal
 use Rattle.ospf_area.proofs.flooding.flood_neighbours.Goals.{then-branch, else-branch}
 

@@ -1,8 +1,8 @@
 use Rattle.std.proofs.Common.{◌≡◌, ◌++◌, map, take, drop}
 use Rattle.ospf_lsa.specs.Header.{header_of}
 use Rattle.ospf_lsa.specs.Lsa.{key_of}
-use Rattle.ospf_area.specs.Flooding.{flooded_neighbour, some_listed}
 use Rattle.ospf_neighbour.proofs.NeighbourLemmas.{routers}
+use Rattle.ospf_area.proofs.Words.{some_listed, flooded_neighbour}
 use Rattle.ospf_area.proofs.flooding.flood_neighbours.Given as goal
 
 abbrev pub invariant-loop-neighbour : goal.invariant-loop-neighbour

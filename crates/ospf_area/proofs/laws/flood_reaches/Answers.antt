@@ -3,10 +3,11 @@ use Rattle.std.specs.Option.{option_map}
 use Rattle.ospf_neighbour.specs.Neighbour.{NeighbourValue}
 use Rattle.ospf_area.specs.State.{WaitsIn}
 use Rattle.ospf_flood.specs.Offers.{instance_with}
-use Rattle.ospf_area.specs.Flooding.{flooded_neighbour, on_link}
+use Rattle.ospf_area.specs.Flooding.{on_link}
 use Rattle.ospf_area.specs.Laws.{IsSpared}
 use Rattle.ospf_area.proofs.LawLemmas.{flooded_there}
 use Rattle.ospf_area.proofs.WaitLemmas.{reaches}
+use Rattle.ospf_area.proofs.Words.{flooded_neighbour}
 use Rattle.ospf_area.proofs.laws.flood_reaches.Goals as goal
 
 pub returns : goal.returns

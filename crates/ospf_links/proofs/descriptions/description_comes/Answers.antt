@@ -4,25 +4,25 @@ use Rattle.ospf_neighbour.specs.Neighbours.{AreNeighbours}
 use Rattle.ospf_area.specs.declared.post.OnLink.{OnLink}
 use Rattle.ospf_adjacency.specs.Heard.{Neighbourhood, neighbourhood}
 use Rattle.ospf_links.specs.Parts.{description_on}
-use Rattle.ospf_area.specs.Posting.{local_of}
 use Rattle.ospf_links.proofs.WorkLemmas.{described_stays, description_back}
+use Rattle.ospf_area.specs.Posting.{local_by}
 use Rattle.ospf_links.proofs.descriptions.description_comes.Goals as goal
 use Rattle.ospf_links.proofs.descriptions.description_comes.Goals.{In_ok-elects}
 
 -- what the Database Description has made of the link's neighbours
 described : (c : In_ok-elects) → neighbourhood c.describe_in.new.all.items c.in_ok-elects.elects c.describe_in.new.post
-    ≡ description_on c.args.link.now.iface (local_of c.args.own c.args.link.now) c.args.from.router c.args.fields c.args.headers c.args.database.now (neighbourhood c.args.link.now.neighbours false c.args.post.now)
+    ≡ description_on c.args.link.now.iface (local_by c.args.own c.args.link.now.settings) c.args.from.router c.args.fields c.args.headers c.args.database.now (neighbourhood c.args.link.now.neighbours false c.args.post.now)
 described c =
     let on = λ (a : OnLink) (ns : List NeighbourValue). description_on a.iface a.local c.args.from.router c.args.fields c.args.headers c.args.database.now (neighbourhood ns false c.args.post.now) in
     c.in_ok-elects.ensures
     ∙ ap (λ (a : OnLink). on a c.take_out-all.result.items) c.of-at.ensures
-    ∙ ap (λ (ns : List NeighbourValue). on (record { iface = c.args.link.now.iface; local = local_of c.args.own c.args.link.now }) ns) c.take_out-all.ensures.neighbours
+    ∙ ap (λ (ns : List NeighbourValue). on (record { iface = c.args.link.now.iface; local = local_by c.args.own c.args.link.now.settings }) ns) c.take_out-all.ensures.neighbours
 
 pub put_back-requires : goal.put_back-requires
 put_back-requires c =
     let is = described (goal.at.put_back-requires c).In_ok-elects in
     subst AreNeighbours (sym (ap (λ (x : Neighbourhood). x.neighbours) is))
-    (described_stays c.args.link.now.iface (local_of c.args.own c.args.link.now) c.args.from.router c.args.fields c.args.headers c.args.database.now
+    (described_stays c.args.link.now.iface (local_by c.args.own c.args.link.now.settings) c.args.from.router c.args.fields c.args.headers c.args.database.now
     (neighbourhood c.args.link.now.neighbours false c.args.post.now) c.take_out-all.ensures.rising)
 
 pub returns : goal.returns

@@ -3,7 +3,8 @@ use Rattle.std.proofs.lemmas.List.Edits.{map_over_more}
 use Rattle.ospf_area.specs.State.{LinkValue}
 use Rattle.ospf_area.proofs.PlaceLemmas.{map_read}
 use Rattle.ospf_area.proofs.SendingLemmas.{sends_step_from}
-use Rattle.ospf_links.specs.Repeats.{keys_out, link_repeated, link_repeats_out}
+use Rattle.ospf_links.specs.Repeats.{link_repeated, link_repeats_out}
+use Rattle.ospf_links.proofs.Words.{keys_out}
 use Rattle.ospf_links.proofs.MarkLemmas.{marks_step}
 use Rattle.ospf_links.proofs.repeats.repeat_all.Goals as goal
 

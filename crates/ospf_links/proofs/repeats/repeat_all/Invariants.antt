@@ -2,7 +2,8 @@ use Rattle.std.proofs.Common.{◌≡◌, ◌++◌, map, take, drop}
 use Rattle.std.specs.List.{flat_map}
 use Rattle.ospf_area.specs.Places.{flat_from}
 use Rattle.ospf_area.specs.Sending.{and_sends}
-use Rattle.ospf_links.specs.Repeats.{keys_out, link_repeated, marked_all, link_repeats_out}
+use Rattle.ospf_links.specs.Repeats.{link_repeated, marked_all, link_repeats_out}
+use Rattle.ospf_links.proofs.Words.{keys_out}
 use Rattle.ospf_links.proofs.repeats.repeat_all.Given as goal
 
 abbrev pub invariant-loop-number : goal.invariant-loop-number

@@ -4,7 +4,7 @@ use Rattle.ospf_adjacency.specs.Repeats.{due_keys}
 use Rattle.ospf_neighbour.specs.Neighbour.{NeighbourValue}
 use Rattle.ospf_area.proofs.PlaceLemmas.{map_read}
 use Rattle.ospf_area.proofs.SendingLemmas.{sends_step}
-use Rattle.ospf_links.specs.Repeats.{neighbour_repeated, repeats_to}
+use Rattle.ospf_links.proofs.Words.{neighbour_repeated, repeats_to}
 use Rattle.ospf_links.proofs.MarkLemmas.{marks_step}
 use Rattle.ospf_links.proofs.repeats.repeat_to_each.Goals as goal
 

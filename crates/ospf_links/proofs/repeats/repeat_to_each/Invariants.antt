@@ -2,7 +2,8 @@ use Rattle.std.proofs.Common.{◌≡◌, ◌++◌, map, take, drop}
 use Rattle.std.specs.List.{flat_map}
 use Rattle.ospf_adjacency.specs.Repeats.{due_keys}
 use Rattle.ospf_area.specs.Sending.{and_sends}
-use Rattle.ospf_links.specs.Repeats.{marked_all, neighbour_repeated, repeats_to}
+use Rattle.ospf_links.specs.Repeats.{marked_all}
+use Rattle.ospf_links.proofs.Words.{neighbour_repeated, repeats_to}
 use Rattle.ospf_links.proofs.repeats.repeat_to_each.Given as goal
 
 abbrev pub invariant-loop-neighbour : goal.invariant-loop-neighbour

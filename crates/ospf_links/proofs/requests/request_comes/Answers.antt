@@ -5,28 +5,28 @@ use Rattle.ospf_area.specs.declared.post.OnLink.{OnLink}
 use Rattle.ospf_adjacency.specs.Heard.{Neighbourhood, neighbourhood}
 use Rattle.ospf_area.specs.State.{LinkValue}
 use Rattle.ospf_links.specs.Parts.{request_at, request_on}
-use Rattle.ospf_area.specs.Posting.{local_of}
 use Rattle.ospf_links.proofs.RequestLemmas.{requested_stays}
 use Rattle.ospf_links.proofs.WorkLemmas.{PutBack, request_back}
+use Rattle.ospf_area.specs.Posting.{local_by}
 use Rattle.ospf_links.proofs.requests.request_comes.Goals as goal
 use Rattle.ospf_links.proofs.requests.request_comes.Goals.{In_ok-keys}
 
 -- what the Request has made of the link's neighbours
 requested : (c : In_ok-keys) → neighbourhood c.answer_in.new.all.items false c.answer_in.new.post
-    ≡ request_on c.args.link.now.iface (local_of c.args.own c.args.link.now) c.args.from.router c.args.link.now.settings.transmit_delay c.args.database.now c.args.requests (neighbourhood c.args.link.now.neighbours false c.args.post.now)
+    ≡ request_on c.args.link.now.iface (local_by c.args.own c.args.link.now.settings) c.args.from.router c.args.link.now.settings.transmit_delay c.args.database.now c.args.requests (neighbourhood c.args.link.now.neighbours false c.args.post.now)
 requested c =
     let on = λ (a : OnLink) (delay : ℕ) (ns : List NeighbourValue). request_on a.iface a.local c.args.from.router delay c.args.database.now c.args.requests (neighbourhood ns false c.args.post.now) in
     let delay = c.args.link.now.settings.transmit_delay in
     c.in_ok-keys.ensures.turn
     ∙ ap (λ (l : LinkValue). on c.of-at.result l.settings.transmit_delay c.take_out-all.result.items) c.link.view_is
     ∙ ap (λ (a : OnLink). on a delay c.take_out-all.result.items) c.of-at.ensures
-    ∙ ap (λ (ns : List NeighbourValue). on (record { iface = c.args.link.now.iface; local = local_of c.args.own c.args.link.now }) delay ns) c.take_out-all.ensures.neighbours
+    ∙ ap (λ (ns : List NeighbourValue). on (record { iface = c.args.link.now.iface; local = local_by c.args.own c.args.link.now.settings }) delay ns) c.take_out-all.ensures.neighbours
 
 pub put_back-requires : goal.put_back-requires
 put_back-requires c =
     let is = requested (goal.at.put_back-requires c).In_ok-keys in
     subst AreNeighbours (sym (ap (λ (x : Neighbourhood). x.neighbours) is))
-    (requested_stays c.args.link.now.iface (local_of c.args.own c.args.link.now) c.args.from.router c.args.link.now.settings.transmit_delay c.args.database.now c.args.requests
+    (requested_stays c.args.link.now.iface (local_by c.args.own c.args.link.now.settings) c.args.from.router c.args.link.now.settings.transmit_delay c.args.database.now c.args.requests
     (neighbourhood c.args.link.now.neighbours false c.args.post.now) c.take_out-all.ensures.rising)
 
 back : (c : In_ok-keys) (bare after : LinkValue) (due : Bool) → bare ≡ record c.args.link.now { neighbours = [] }

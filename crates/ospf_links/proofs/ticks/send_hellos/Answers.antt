@@ -1,6 +1,7 @@
 use Rattle.std.proofs.Common.{◌≡◌, ◌∙◌, ap, set, sym, get_or}
 use Rattle.std.proofs.lemmas.List.Edits.{map_over_more}
-use Rattle.ospf_links.specs.Parts.{hello_out, hello_sent}
+use Rattle.ospf_links.specs.Parts.{hello_out}
+use Rattle.ospf_links.proofs.Words.{hello_sent}
 use Rattle.ospf_area.specs.State.{LinkValue}
 use Rattle.ospf_area.proofs.PlaceLemmas.{map_read}
 use Rattle.ospf_area.proofs.SendingLemmas.{sends_step_from}

@@ -1,5 +1,6 @@
 use Rattle.std.proofs.Common.{◌≡◌, ◌++◌, map, take, drop}
-use Rattle.ospf_links.specs.Parts.{hello_out, hello_sent}
+use Rattle.ospf_links.specs.Parts.{hello_out}
+use Rattle.ospf_links.proofs.Words.{hello_sent}
 use Rattle.ospf_area.specs.Places.{flat_from}
 use Rattle.ospf_area.specs.Sending.{and_sends}
 use Rattle.ospf_links.proofs.ticks.send_hellos.Given as goal

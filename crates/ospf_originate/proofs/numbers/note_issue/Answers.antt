@@ -1,5 +1,5 @@
 use Rattle.ospf_area.proofs.PlaceLemmas.{map_over_copied}
-use Rattle.ospf_originate.specs.Numbers.{issued_one}
+use Rattle.ospf_originate.proofs.Words.{issued_one}
 use Rattle.ospf_originate.proofs.numbers.note_issue.Goals as goal
 
 pub loop-numbering-preserved : goal.loop-numbering-preserved

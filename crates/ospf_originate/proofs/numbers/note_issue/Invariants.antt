@@ -1,5 +1,5 @@
 use Rattle.std.proofs.Common.{◌≡◌, ◌++◌, map, take, drop}
-use Rattle.ospf_originate.specs.Numbers.{issued_one}
+use Rattle.ospf_originate.proofs.Words.{issued_one}
 use Rattle.ospf_originate.proofs.numbers.note_issue.Given as goal
 
 abbrev pub invariant-loop-numbering : goal.invariant-loop-numbering

@@ -1,6 +1,7 @@
 use Rattle.std.proofs.Common.{◌≡◌, take}
 use Rattle.std.specs.List.{AllByRecursion}
-use Rattle.ospf_originate.specs.Steps.{HasUsedNumber, action_of, due_of}
+use Rattle.ospf_originate.specs.Steps.{HasUsedNumber, action_of}
+use Rattle.ospf_originate.proofs.Words.{due_of}
 use Rattle.ospf_originate.proofs.own.due_of.Given as goal
 
 abbrev pub invariant-loop-key : goal.invariant-loop-key

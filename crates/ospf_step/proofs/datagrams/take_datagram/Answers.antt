@@ -1,8 +1,9 @@
 -- ospf_step/proofs/datagrams/take_datagram/Answers.antt
-use Rattle.std.proofs.Common.{Option, subst, sym}
+use Rattle.std.proofs.Common.{Option, subst, sym, ◌∙◌}
+use Rattle.std.proofs.lemmas.Option.{same_Some}
 use Rattle.ospf_packet.specs.Meaning.{Meaning}
 use Rattle.ospf_packet.specs.Said.{said}
-use Rattle.ospf_step.specs.Ready.{IsSenderReady}
+use Rattle.ospf_step.specs.Invariants.{NoneWaitsBelow}
 use Rattle.ospf_step.specs.Takes.{TakesDatagram, origin_of}
 use Rattle.ospf_step.proofs.DropFacts.{can_come, can_take, not_dropped_as}
 use Rattle.ospf_step.proofs.StepFit.{body_fit}
@@ -16,8 +17,10 @@ take_body-requires c =
     (not_dropped_as s c.args.link c.args.source c.args.destination _ m c.in-Ok.ensures.packet c.in-Ok.ensures.taken)
 
 pub returns-clause-sender : goal.returns-clause-sender
-returns-clause-sender c = λ none.
-    subst (λ (o : Option Meaning). IsSenderReady c.args.link o c.args.area.now) (sym c.in-Ok.ensures.packet) (c.database_is_one.ensures, c.none_waits_below.ensures)
+returns-clause-sender c = λ none m at. (
+  c.database_is_one.ensures,
+  subst (λ (p : Meaning). NoneWaitsBelow c.args.area.now c.args.link p.router) (same_Some (said c.in-Ok.packet) m (sym c.in-Ok.ensures.packet ∙ at)) c.none_waits_below.ensures,
+)
 
 pub returns-clause-takes : goal.returns-clause-takes
 returns-clause-takes c = λ none.

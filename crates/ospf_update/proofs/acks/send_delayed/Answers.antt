@@ -1,6 +1,7 @@
 use Rattle.std.proofs.Common.{◌≡◌, ◌∙◌, ap, set, sym, get_or}
 use Rattle.std.proofs.lemmas.List.Edits.{map_over_more}
-use Rattle.ospf_update.specs.Acks.{undelayed_link, delayed_out_on}
+use Rattle.ospf_update.specs.Acks.{delayed_out_on}
+use Rattle.ospf_update.proofs.Words.{undelayed_link}
 use Rattle.ospf_area.specs.State.{LinkValue}
 use Rattle.ospf_area.proofs.PlaceLemmas.{map_read}
 use Rattle.ospf_area.proofs.SendingLemmas.{sends_step_from}

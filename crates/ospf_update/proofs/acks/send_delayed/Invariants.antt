@@ -1,5 +1,6 @@
 use Rattle.std.proofs.Common.{◌≡◌, ◌++◌, map, take, drop}
-use Rattle.ospf_update.specs.Acks.{undelayed_link, delayed_out_on}
+use Rattle.ospf_update.specs.Acks.{delayed_out_on}
+use Rattle.ospf_update.proofs.Words.{undelayed_link}
 use Rattle.ospf_area.specs.Places.{flat_from}
 use Rattle.ospf_area.specs.Sending.{and_sends}
 use Rattle.ospf_update.proofs.acks.send_delayed.Given as goal

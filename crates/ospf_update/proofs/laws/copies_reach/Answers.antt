@@ -22,5 +22,5 @@ returns c = record {
       let database = ap (λ (s : AreaValue). s.database) state ∙ (copies_keep keys ages.mid).database in
       subst (λ (s : AreaValue). Awaits s l q (instance_with key (header_at copy)) ⊎ IsSpared key (header_at copy) None n) (sym state)
       (copies_reach keys ages.mid key (sym (ap (λ db. among (reached_at max_age db) key) database) ∙ reached) copy (sym (ap (λ db. lsdb.entry_of db key) database) ∙ at) l q n
-      (ap (λ (s : AreaValue). neighbour s l q) ages.rise.rest ∙ is) up);
+      (ap (λ (s : AreaValue). neighbour s l q) ages.rest ∙ is) up);
 }

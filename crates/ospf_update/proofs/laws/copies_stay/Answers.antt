@@ -18,5 +18,5 @@ returns c = record {
       let database = ap (λ (s : AreaValue). s.database) state ∙ (copies_keep keys ages.mid).database in
       subst (λ (ks : List LsaKey). Awaits after l q j ⊎ (among ks j.key ≡ true)) (sym (ap (reached_at max_age) database))
       (subst (λ (s : AreaValue). Awaits s l q j ⊎ (among keys j.key ≡ true)) (sym state)
-      (copies_wait keys ages.mid l q j (subst (λ (s : AreaValue). Awaits s l q j) (sym ages.rise.rest) waits)));
+      (copies_wait keys ages.mid l q j (subst (λ (s : AreaValue). Awaits s l q j) (sym ages.rest) waits)));
 }

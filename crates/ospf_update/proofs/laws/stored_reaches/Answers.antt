@@ -5,11 +5,12 @@ use Rattle.ospf_lsa.specs.Header.{header_of}
 use Rattle.ospf_lsa.specs.Lsa.{key_of}
 use Rattle.ospf_neighbour.specs.Lists.{key_unlisted}
 use Rattle.ospf_neighbour.specs.Neighbour.{NeighbourValue}
-use Rattle.ospf_area.specs.Flooding.{flooded_neighbour, on_link}
+use Rattle.ospf_area.specs.Flooding.{on_link}
 use Rattle.ospf_area.specs.Laws.{IsSpared}
 use Rattle.ospf_area.specs.State.{AreaValue, WaitsIn, neighbour}
 use Rattle.ospf_update.proofs.LawLemmas.{stored}
 use Rattle.ospf_update.proofs.LawLemmas.{reaches}
+use Rattle.ospf_area.proofs.Words.{flooded_neighbour}
 use Rattle.ospf_update.proofs.laws.stored_reaches.Goals as goal
 
 pub returns : goal.returns

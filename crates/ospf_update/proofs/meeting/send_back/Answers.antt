@@ -1,5 +1,5 @@
 use Rattle.std.proofs.Common.{◌≡◌, ◌∙◌, ap, sym, Option, None, slice_get, arith}
-use Rattle.ospf_update.specs.Meets.{lsa_out_on}
+use Rattle.ospf_update.proofs.Words.{lsa_out_on}
 use Rattle.ospf_area.specs.Sending.{and_sends}
 use Rattle.ospf_area.specs.State.{LinkValue}
 use Rattle.std.proofs.lemmas.Option.{slice_get_past}

@@ -1,4 +1,4 @@
-use Rattle.ospf_update.specs.Removal.{reset_one}
+use Rattle.ospf_update.proofs.Words.{reset_one}
 use Rattle.ospf_area.proofs.PlaceLemmas.{map_over_copied}
 use Rattle.ospf_update.proofs.removal.reset_all.Goals as goal
 

@@ -1,5 +1,5 @@
 use Rattle.std.proofs.Common.{◌≡◌, ◌++◌, map, take, drop}
-use Rattle.ospf_update.specs.Removal.{reset_one}
+use Rattle.ospf_update.proofs.Words.{reset_one}
 use Rattle.ospf_update.proofs.removal.reset_all.Given as goal
 
 abbrev pub invariant-loop-numbering : goal.invariant-loop-numbering

@@ -1,9 +1,10 @@
 use Rattle.std.proofs.Common.{List, ℕ, ap, ◌∙◌}
 use Rattle.std.specs.Str.{bytes_eq}
 use Rattle.ospf_base.specs.Sums.{contents}
-use Rattle.ospf_wanted.specs.Made.{aside, says}
+use Rattle.ospf_wanted.specs.Made.{says}
 use Rattle.ospf_wanted.specs.Own.{wanted_value}
 use Rattle.ospf_wanted.proofs.MadeLemmas.{aside_made}
+use Rattle.ospf_wanted.proofs.Words.{aside}
 use Rattle.ospf_wanted.proofs.wants.OwnLsa.is_said_by.Goals as goal
 
 pub returns-clause-ok : goal.returns-clause-ok

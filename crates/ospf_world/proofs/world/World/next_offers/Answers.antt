@@ -1,5 +1,5 @@
 use Rattle.std.proofs.Common.{refl}
-use Rattle.ospf_world.proofs.RoundFacts.{next_none, next_some, next_stands}
+use Rattle.ospf_world.proofs.RoundFacts.{next_none, next_some}
 use Rattle.ospf_world.proofs.world.World.next_offers.Goals as goal
 
 pub returns-in_ok-offers_of-in-Some-clause-next : goal.returns-in_ok-offers_of-in-Some-clause-next

@@ -1,0 +1,23 @@
+-- What follows of a step for other routers.
+use Rattle.std.specs.Prelude.{Option}
+use Rattle.ospf_area.specs.Outputs.{OutputsValue}
+use Rattle.ospf_area.specs.State.{AreaValue}
+use Rattle.ospf_step.specs.Accounts.{Accounts}
+use Rattle.ospf_step.specs.Drops.{is_dropped}
+use Rattle.ospf_step.specs.Fit.{IsFitRouter}
+use Rattle.ospf_step.specs.Step.{Event, StepLaws, heard_in}
+use Rattle.ospf_step.specs.Steps.{StepsArea}
+use Rattle.ospf_step.specs.Words.{IsSoundState}
+use Rattle.ospf_step.specs.declared.dropped.Dropped.{Dropped}
+
+-- its parts in their order, each of a stated kind, and what the router answers for
+pub record IsLawful (e : Event) (s : AreaValue) (out : OutputsValue) (after : AreaValue)
+    : Type 0 where
+  pub laws : StepLaws is_dropped e s out after
+  pub accounts : Accounts (heard_in e) s out after
+
+-- each step by the rules is so, from a state that is fit and sound
+abbrev pub StepsAreLawful : Type 0
+StepsAreLawful =
+    (e : Event) (s : AreaValue) (dropped : Option Dropped) (out : OutputsValue) (after : AreaValue)
+    → IsFitRouter s → IsSoundState s → StepsArea e s dropped out after → IsLawful e s out after
