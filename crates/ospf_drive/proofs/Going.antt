@@ -8,6 +8,7 @@ use Rattle.ospf_step.specs.Step.{Event}
 use Rattle.ospf_router.specs.Routers.{RouterValue}
 use Rattle.ospf_drive.proofs.Turning.{same_known}
 use Rattle.ospf_drive.specs.Drives.{DriverGoesOn, last_told}
+use Rattle.ospf_drive.specs.Machines.{Rules}
 use Rattle.ospf_drive.specs.Moments.{at, Moment, Done, HasNoEnd, IsChain, event_of, events_of, events_done, left_by, sent_by, table_of, tables_published}
 use Rattle.ospf_drive.specs.Traffic.{Heard, Carried, and_goes, ticks_in}
 use Rattle.ospf_drive.specs.Traffic.Carried.{Full, Ticks, Untold}
@@ -36,9 +37,9 @@ pub left_by-append : (r : RouterValue) (xs ys : List Done) → left_by r (xs ++ 
 left_by-append r [] ys = refl
 left_by-append r (x ∷ xs) ys = left_by-append x.after xs ys
 
-pub chain-append : (r : RouterValue) (xs ys : List Done) → IsChain r xs → IsChain (left_by r xs) ys → IsChain r (xs ++ ys)
-chain-append r [] ys p q = q
-chain-append r (x ∷ xs) ys p q = (p.0, chain-append x.after xs ys p.1 q)
+pub chain-append : (rules : Rules) (r : RouterValue) (xs ys : List Done) → IsChain rules r xs → IsChain rules (left_by r xs) ys → IsChain rules r (xs ++ ys)
+chain-append rules r [] ys p q = q
+chain-append rules r (x ∷ xs) ys p q = (p.0, chain-append rules x.after xs ys p.1 q)
 
 pub sent_by-append : (xs ys : List Done) → sent_by (xs ++ ys) ≡ sent_by xs ++ sent_by ys
 sent_by-append [] ys = refl
@@ -86,8 +87,8 @@ told-later (z ∷ xs) [] k' x told = cc
 told-later (z ∷ xs) (y ∷ ys) k' x told = told
 
 -- it has not begun
-pub goes_none : {r : RouterValue} {t : Carried} {f : ℕ} {k : Known} → DriverGoesOn (at r t f k) (at r t f k) None
-goes_none {r} {t} {f} {k} = record {
+pub goes_none : {rules : Rules} {r : RouterValue} {t : Carried} {f : ℕ} {k : Known} → DriverGoesOn rules (at r t f k) (at r t f k) None
+goes_none {rules} {r} {t} {f} {k} = record {
   taken = [];
   steps = [];
   no_end = tt;
@@ -103,8 +104,8 @@ goes_none {r} {t} {f} {k} = record {
 }
 
 -- it goes on, and on again
-both : {a m b : Moment} {told told' : Option Known} (x : DriverGoesOn a m told) (y : DriverGoesOn m b told') (last : Option Known) → last ≡ last_told (tables_published x.steps ++ tables_published y.steps) b.known → DriverGoesOn a b last
-both {a} {m} {b} {told} {told'} x y last tells = record {
+both : {rules : Rules} {a m b : Moment} {told told' : Option Known} (x : DriverGoesOn rules a m told) (y : DriverGoesOn rules m b told') (last : Option Known) → last ≡ last_told (tables_published x.steps ++ tables_published y.steps) b.known → DriverGoesOn rules a b last
+both {rules} {a} {m} {b} {told} {told'} x y last tells = record {
   taken = x.taken ++ y.taken;
   steps = x.steps ++ y.steps;
   no_end = no_end-append x.taken y.taken x.no_end y.no_end;
@@ -113,7 +114,7 @@ both {a} {m} {b} {told} {told'} x y last tells = record {
       ∙ ap (λ es. es ++ events_done y.steps) x.events
       ∙ ap (λ es. events_of a.router.links x.taken ++ es) (y.events ∙ ap (λ n. events_of n y.taken) x.links)
       ∙ sym (events_of-append a.router.links x.taken y.taken);
-  chain = chain-append a.router x.steps y.steps x.chain (subst (λ r. IsChain r y.steps) x.router y.chain);
+  chain = chain-append rules a.router x.steps y.steps x.chain (subst (λ r. IsChain rules r y.steps) x.router y.chain);
   router = y.router ∙ ap (λ r. left_by r y.steps) x.router ∙ sym (left_by-append a.router x.steps y.steps);
   links = y.links ∙ x.links;
   traffic =
@@ -130,16 +131,16 @@ both {a} {m} {b} {told} {told'} x y last tells = record {
 }
 
 -- a turn that published nothing
-pub goes_on_untold : {a m b : Moment} {told : Option Known} → DriverGoesOn a m told → DriverGoesOn m b None → DriverGoesOn a b told
-goes_on_untold {a} {m} {b} {told} x y =
+pub goes_on_untold : {rules : Rules} {a m b : Moment} {told : Option Known} → DriverGoesOn rules a m told → DriverGoesOn rules m b None → DriverGoesOn rules a b told
+goes_on_untold {rules} {a} {m} {b} {told} x y =
     both x y told (x.tells ∙ told-same (tables_published x.steps) (tables_published y.steps) m.known b.known (none_published m.known b.known (tables_published y.steps) y.fib y.tables y.tells) y.tells)
 
 -- a turn that published
-pub goes_on_told : {a m b : Moment} {told : Option Known} {last : Known} → DriverGoesOn a m told → DriverGoesOn m b (Some last) → DriverGoesOn a b (Some last)
-goes_on_told {a} {m} {b} {told} {last} x y =
+pub goes_on_told : {rules : Rules} {a m b : Moment} {told : Option Known} {last : Known} → DriverGoesOn rules a m told → DriverGoesOn rules m b (Some last) → DriverGoesOn rules a b (Some last)
+goes_on_told {rules} {a} {m} {b} {told} {last} x y =
     both x y (Some last) (told-later (tables_published x.steps) (tables_published y.steps) b.known last y.tells)
 
 -- a turn that went on
-pub turned_on : {a b : Moment} {came : Course} {o told : Option Known} → Turns a b came → came ≡ On o → o ≡ told → DriverGoesOn a b told
-turned_on {a} {b} {came} {o} {told} turns is told_is =
-    subst (λ (v : Course). Turns a b v) (is ∙ ap (λ (v : Option Known). On v) told_is) turns
+pub turned_on : {rules : Rules} {a b : Moment} {came : Course} {o told : Option Known} → Turns rules a b came → came ≡ On o → o ≡ told → DriverGoesOn rules a b told
+turned_on {rules} {a} {b} {came} {o} {told} turns is told_is =
+    subst (λ (v : Course). Turns rules a b v) (is ∙ ap (λ (v : Option Known). On v) told_is) turns

@@ -3,6 +3,7 @@ use Rattle.std.proofs.Common.{◌≡◌, ◌++◌, ℕ, suc, List, [], ◌∷◌
 use Rattle.std.proofs.lemmas.List.{append-nil}
 use Rattle.std.specs.List.{AllZip}
 use Rattle.ospf_drive.specs.Driven.{IsDriven, IsThreadJoined, IsDriverStarted, Outcome}
+use Rattle.ospf_drive.specs.Machines.{Rules}
 use Rattle.ospf_drive.specs.Moments.{Moment}
 use Rattle.ospf_drive.specs.declared.fault.DriveFault.{DriveFault}
 
@@ -14,18 +15,18 @@ pairs_then P (w ∷ xs) [] x y ps p = absurd ps
 pairs_then P (w ∷ xs) (z ∷ ys) x y ps p = (ps.0, pairs_then P xs ys x y ps.1 p)
 
 -- what came of a thread that was started there
-joined : (a : Moment) (thread : Result Moment DriveFault) (outcome : Outcome) → IsDriverStarted a thread → IsThreadJoined thread outcome → IsDriven a outcome
-joined a (Ok begins) outcome started is = subst (λ (m : Moment). IsDriven m outcome) started is
-joined a (Err f) outcome started is = subst (λ (o : Outcome). IsDriven a o) (sym (is ∙ ap (λ (g : DriveFault). Err g) started)) tt
+joined : (rules : Rules) (a : Moment) (thread : Result Moment DriveFault) (outcome : Outcome) → IsDriverStarted a thread → IsThreadJoined rules thread outcome → IsDriven rules a outcome
+joined rules a (Ok begins) outcome started is = subst (λ (m : Moment). IsDriven rules m outcome) started is
+joined rules a (Err f) outcome started is = subst (λ (o : Outcome). IsDriven rules a o) (sym (is ∙ ap (λ (g : DriveFault). Err g) started)) tt
 
 -- what came of all
-pub all_joined : {J : Type 0} (begins : J → Moment) (jobs : List J) (threads : List (Result Moment DriveFault)) (outcomes : List Outcome) → AllZip (λ job thread. IsDriverStarted (begins job) thread) jobs threads → AllZip IsThreadJoined threads outcomes → AllZip (λ job outcome. IsDriven (begins job) outcome) jobs outcomes
-all_joined begins [] [] [] ps qs = tt
-all_joined begins [] [] (o ∷ os) ps qs = absurd qs
-all_joined begins [] (t ∷ ts) os ps qs = absurd ps
-all_joined begins (j ∷ js) [] os ps qs = absurd ps
-all_joined begins (j ∷ js) (t ∷ ts) [] ps qs = absurd qs
-all_joined begins (j ∷ js) (t ∷ ts) (o ∷ os) ps qs = (joined (begins j) t o ps.0 qs.0, all_joined begins js ts os ps.1 qs.1)
+pub all_joined : {J : Type 0} (rules : Rules) (begins : J → Moment) (jobs : List J) (threads : List (Result Moment DriveFault)) (outcomes : List Outcome) → AllZip (λ job thread. IsDriverStarted (begins job) thread) jobs threads → AllZip (IsThreadJoined rules) threads outcomes → AllZip (λ job outcome. IsDriven rules (begins job) outcome) jobs outcomes
+all_joined rules begins [] [] [] ps qs = tt
+all_joined rules begins [] [] (o ∷ os) ps qs = absurd qs
+all_joined rules begins [] (t ∷ ts) os ps qs = absurd ps
+all_joined rules begins (j ∷ js) [] os ps qs = absurd ps
+all_joined rules begins (j ∷ js) (t ∷ ts) [] ps qs = absurd qs
+all_joined rules begins (j ∷ js) (t ∷ ts) (o ∷ os) ps qs = (joined rules (begins j) t o ps.0 qs.0, all_joined rules begins js ts os ps.1 qs.1)
 
 -- one more is taken off what is left
 pub walked_on : {A : Type 0} (all yielded left later : List A) (x : A) → all ≡ yielded ++ left → left ≡ x ∷ later → all ≡ (yielded ++ x ∷ []) ++ later

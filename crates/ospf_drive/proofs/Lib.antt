@@ -1,4 +1,5 @@
 pub mod Sends
+pub mod Stopping
 pub mod Turning
 pub mod Going
 pub mod Jobs

@@ -7,9 +7,9 @@ use Rattle.ospf_index.specs.Known.{Known, Table}
 use Rattle.ospf_area.specs.Outputs.{SentValue}
 use Rattle.ospf_step.specs.Step.{Event}
 use Rattle.ospf_router.specs.Routers.{RouterValue}
-use Rattle.ospf_router.specs.Steps.{Steps}
 use Rattle.ospf_router.specs.declared.router.Step.{Step}
 use Rattle.ospf_drive.specs.Drives.{DriverGoesOn, FailsToSend, FailsToPublish, last_told}
+use Rattle.ospf_drive.specs.Machines.{Rules}
 use Rattle.ospf_drive.specs.Moments.{at, Done, event_of, events_of, is_heard_end, table_of}
 use Rattle.ospf_drive.specs.Traffic.{Heard, Carried, heard_from, and_hears, and_sent, and_goes, tick_in}
 use Rattle.ospf_drive.specs.Traffic.Carried.{Full, Ticks, Untold}
@@ -52,8 +52,8 @@ not_end-of links Heard.End e some = cc
 pub events_of-some : (links : ℕ) (h : Heard) (e : Event) → event_of links h ≡ Some e → events_of links (h ∷ []) ≡ e ∷ []
 events_of-some links h e is = ap (λ (o : Option Event). cons_option o []) is
 
-pub passed_over : (h : Heard) {r : RouterValue} {t t' : Carried} {f f' : ℕ} {k : Known} → is_heard_end h ≡ false → event_of r.links h ≡ None → t' ≡ and_hears h t → f' ≡ f → DriverGoesOn (at r t f k) (at r t' f' k) None
-passed_over h {r} {t} {t'} {f} {f'} {k} not none took same = record {
+pub passed_over : {rules : Rules} (h : Heard) {r : RouterValue} {t t' : Carried} {f f' : ℕ} {k : Known} → is_heard_end h ≡ false → event_of r.links h ≡ None → t' ≡ and_hears h t → f' ≡ f → DriverGoesOn rules (at r t f k) (at r t' f' k) None
+passed_over {rules} h {r} {t} {t'} {f} {f'} {k} not none took same = record {
   taken = h ∷ [];
   steps = [];
   no_end = (not, tt);
@@ -68,8 +68,8 @@ passed_over h {r} {t} {t'} {f} {f'} {k} not none took same = record {
   tells = refl;
 }
 
-pub stepped : (h : Heard) (e : Event) (g : Step) {r r' : RouterValue} {t t₁ t₂ : Carried} {f f' : ℕ} {k k' : Known} {told : Option Known} → is_heard_end h ≡ false → event_of r.links h ≡ Some e → t₁ ≡ and_hears h t → Steps e r g r' → t₂ ≡ and_sent g.out.sent t₁ → f' ≡ f → k'.fib ≡ k.fib → k'.tables ≡ k.tables ++ table_of (record { event = e; gives = g; after = r' }) → told ≡ last_told (table_of (record { event = e; gives = g; after = r' })) k' → DriverGoesOn (at r t f k) (at r' t₂ f' k') told
-stepped h e g {r} {r'} {t} {t₁} {t₂} {f} {f'} {k} {k'} {told} not some took steps sent same fib tables tells =
+pub stepped : {rules : Rules} (h : Heard) (e : Event) (g : Step) {r r' : RouterValue} {t t₁ t₂ : Carried} {f f' : ℕ} {k k' : Known} {told : Option Known} → is_heard_end h ≡ false → event_of r.links h ≡ Some e → t₁ ≡ and_hears h t → rules.steps e r g r' → r'.links ≡ r.links → t₂ ≡ and_sent g.out.sent t₁ → f' ≡ f → k'.fib ≡ k.fib → k'.tables ≡ k.tables ++ table_of (record { event = e; gives = g; after = r' }) → told ≡ last_told (table_of (record { event = e; gives = g; after = r' })) k' → DriverGoesOn rules (at r t f k) (at r' t₂ f' k') told
+stepped {rules} h e g {r} {r'} {t} {t₁} {t₂} {f} {f'} {k} {k'} {told} not some took steps links sent same fib tables tells =
     let d : Done = record { event = e; gives = g; after = r' } in
     record {
       taken = h ∷ [];
@@ -78,7 +78,7 @@ stepped h e g {r} {r'} {t} {t₁} {t₂} {f} {f'} {k} {k'} {told} not some took 
       events = sym (events_of-some r.links h e some);
       chain = (steps, tt);
       router = refl;
-      links = steps.same_links;
+      links = links;
       traffic = sent ∙ ap (and_sent g.out.sent) took ∙ goes-sent h g.out.sent t ∙ ap (λ s. and_goes (h ∷ []) s t) (sym (append-nil g.out.sent));
       failed = same;
       fib = fib;
@@ -86,8 +86,8 @@ stepped h e g {r} {r'} {t} {t₁} {t₂} {f} {f'} {k} {k'} {told} not some took 
       tells = tells ∙ ap (λ s. last_told s k') (sym (append-nil (table_of d)));
     }
 
-pub failed_to_send : (h : Heard) (e : Event) (g : Step) (count : ℕ) {r r' : RouterValue} {t t₁ t₂ : Carried} {f f' : ℕ} {k : Known} → event_of r.links h ≡ Some e → t₁ ≡ and_hears h t → Steps e r g r' → count < length g.out.sent → t₂ ≡ and_sent (take count g.out.sent) t₁ → f' ≡ f + 1 → FailsToSend (at r t f k) (at r' t₂ f' k)
-failed_to_send h e g count {r} {r'} {t} {t₁} {t₂} {f} {f'} {k} some took steps short sent more = record {
+pub failed_to_send : {rules : Rules} (h : Heard) (e : Event) (g : Step) (count : ℕ) {r r' : RouterValue} {t t₁ t₂ : Carried} {f f' : ℕ} {k : Known} → event_of r.links h ≡ Some e → t₁ ≡ and_hears h t → rules.steps e r g r' → count < length g.out.sent → t₂ ≡ and_sent (take count g.out.sent) t₁ → f' ≡ f + 1 → FailsToSend rules (at r t f k) (at r' t₂ f' k)
+failed_to_send {rules} h e g count {r} {r'} {t} {t₁} {t₂} {f} {f'} {k} some took steps short sent more = record {
   arrival = h;
   step = record { event = e; gives = g; after = r' };
   count = count;
@@ -100,8 +100,8 @@ failed_to_send h e g count {r} {r'} {t} {t₁} {t₂} {f} {f'} {k} some took ste
   known = refl;
 }
 
-pub failed_to_publish : (h : Heard) (e : Event) (g : Step) {r r' : RouterValue} {t t₁ t₂ : Carried} {f f' : ℕ} {k k' : Known} → event_of r.links h ≡ Some e → t₁ ≡ and_hears h t → Steps e r g r' → t₂ ≡ and_sent g.out.sent t₁ → f' ≡ f → g.table_changed ≡ true → k' ≡ k → FailsToPublish (at r t f k) (at r' t₂ f' k')
-failed_to_publish h e g {r} {r'} {t} {t₁} {t₂} {f} {f'} {k} {k'} some took steps sent same changed known = record {
+pub failed_to_publish : {rules : Rules} (h : Heard) (e : Event) (g : Step) {r r' : RouterValue} {t t₁ t₂ : Carried} {f f' : ℕ} {k k' : Known} → event_of r.links h ≡ Some e → t₁ ≡ and_hears h t → rules.steps e r g r' → t₂ ≡ and_sent g.out.sent t₁ → f' ≡ f → g.table_changed ≡ true → k' ≡ k → FailsToPublish rules (at r t f k) (at r' t₂ f' k')
+failed_to_publish {rules} h e g {r} {r'} {t} {t₁} {t₂} {f} {f'} {k} {k'} some took steps sent same changed known = record {
   arrival = h;
   step = record { event = e; gives = g; after = r' };
   event = some;
@@ -114,18 +114,18 @@ failed_to_publish h e g {r} {r'} {t} {t₁} {t₂} {f} {f'} {k} {k'} some took s
 }
 
 -- a step that left the table as it was
-pub stepped_quietly : (h : Heard) (e : Event) (g : Step) {r r' : RouterValue} {t t₁ t₂ : Carried} {f f₁ f' : ℕ} {k : Known} → is_heard_end h ≡ false → event_of r.links h ≡ Some e → t₁ ≡ and_hears h t → Steps e r g r' → t₂ ≡ and_sent g.out.sent t₁ → f₁ ≡ f → f' ≡ f₁ → g.table_changed ≡ false → DriverGoesOn (at r t f k) (at r' t₂ f' k) None
-stepped_quietly h e g {r} {r'} {t} {t₁} {t₂} {f} {f₁} {f'} {k} not some took steps sent heard_same sent_same changed =
+pub stepped_quietly : {rules : Rules} (h : Heard) (e : Event) (g : Step) {r r' : RouterValue} {t t₁ t₂ : Carried} {f f₁ f' : ℕ} {k : Known} → is_heard_end h ≡ false → event_of r.links h ≡ Some e → t₁ ≡ and_hears h t → rules.steps e r g r' → r'.links ≡ r.links → t₂ ≡ and_sent g.out.sent t₁ → f₁ ≡ f → f' ≡ f₁ → g.table_changed ≡ false → DriverGoesOn rules (at r t f k) (at r' t₂ f' k) None
+stepped_quietly {rules} h e g {r} {r'} {t} {t₁} {t₂} {f} {f₁} {f'} {k} not some took steps links sent heard_same sent_same changed =
     let none : table_of (record { event = e; gives = g; after = r' }) ≡ [] = rw changed in
-    stepped h e g not some took steps sent (sent_same ∙ heard_same) refl
+    stepped h e g not some took steps links sent (sent_same ∙ heard_same) refl
     (sym (append-nil k.tables) ∙ ap (λ s. k.tables ++ s) (sym none))
     (ap (λ s. last_told s k) (sym none))
 
 -- a step whose table was published
-pub stepped_published : (h : Heard) (e : Event) (g : Step) {r r' : RouterValue} {t t₁ t₂ : Carried} {f f₁ f' : ℕ} {k k' told : Known} {table : Table} → is_heard_end h ≡ false → event_of r.links h ≡ Some e → t₁ ≡ and_hears h t → Steps e r g r' → t₂ ≡ and_sent g.out.sent t₁ → f₁ ≡ f → f' ≡ f₁ → g.table_changed ≡ true → table ≡ r'.table → k'.fib ≡ k.fib → k'.tables ≡ k.tables ++ table ∷ [] → told ≡ k' → DriverGoesOn (at r t f k) (at r' t₂ f' k') (Some told)
-stepped_published h e g {r} {r'} {t} {t₁} {t₂} {f} {f₁} {f'} {k} {k'} {told} {table} not some took steps sent heard_same sent_same changed same_table fib tables tells =
+pub stepped_published : {rules : Rules} (h : Heard) (e : Event) (g : Step) {r r' : RouterValue} {t t₁ t₂ : Carried} {f f₁ f' : ℕ} {k k' told : Known} {table : Table} → is_heard_end h ≡ false → event_of r.links h ≡ Some e → t₁ ≡ and_hears h t → rules.steps e r g r' → r'.links ≡ r.links → t₂ ≡ and_sent g.out.sent t₁ → f₁ ≡ f → f' ≡ f₁ → g.table_changed ≡ true → table ≡ r'.table → k'.fib ≡ k.fib → k'.tables ≡ k.tables ++ table ∷ [] → told ≡ k' → DriverGoesOn rules (at r t f k) (at r' t₂ f' k') (Some told)
+stepped_published {rules} h e g {r} {r'} {t} {t₁} {t₂} {f} {f₁} {f'} {k} {k'} {told} {table} not some took steps links sent heard_same sent_same changed same_table fib tables tells =
     let one : table_of (record { event = e; gives = g; after = r' }) ≡ r'.table ∷ [] = rw changed in
-    stepped h e g not some took steps sent (sent_same ∙ heard_same) fib
+    stepped h e g not some took steps links sent (sent_same ∙ heard_same) fib
     (tables ∙ ap (λ x. k.tables ++ x ∷ []) same_table ∙ ap (λ s. k.tables ++ s) (sym one))
     (ap (λ v. Some v) tells ∙ ap (λ s. last_told s k') (sym one))
 

@@ -3,6 +3,7 @@ use Rattle.std.specs.Prelude.{⊤, ◌≡◌, ℕ, Option, Result, Ok, Err}
 use Rattle.ospf_index.specs.Known.{Known}
 use Rattle.ospf_router.specs.Routers.{RouterValue}
 use Rattle.ospf_drive.specs.Drives.{Drives}
+use Rattle.ospf_drive.specs.Machines.{Rules}
 use Rattle.ospf_drive.specs.Moments.{Moment, at}
 use Rattle.ospf_drive.specs.Traffic.{Carried}
 use Rattle.ospf_drive.specs.declared.fault.DriveFault.{DriveFault}
@@ -13,22 +14,22 @@ abbrev pub Outcome : Type 0
 Outcome = Result (RouterValue × Known × Option Known) DriveFault
 
 -- the driver came to the end of what its wire handed over, with these
-pub record DrivesToEnd (a : Moment) (router : RouterValue) (known : Known) (told : Option Known)
-    : Type 0 where
+pub record DrivesToEnd (rules : Rules) (a : Moment) (router : RouterValue) (known : Known)
+    (told : Option Known) : Type 0 where
   pub traffic : Carried
   pub failed : ℕ
-  pub drives : Drives a (at router traffic failed known) (Ok told)
+  pub drives : Drives rules a (at router traffic failed known) (Ok told)
 
 -- the driver ended before that
-pub record DrivesInto (a : Moment) (f : DriveFault) : Type 0 where
+pub record DrivesInto (rules : Rules) (a : Moment) (f : DriveFault) : Type 0 where
   pub last : Moment
-  pub drives : Drives a last (Err f)
+  pub drives : Drives rules a last (Err f)
 
 -- what came of a driver that began there; nothing where its thread did not start
-abbrev pub IsDriven : Moment → Outcome → Type 0
-IsDriven a (Ok driven) = DrivesToEnd a driven.0 driven.1 driven.2
-IsDriven a (Err fault.Thread) = ⊤
-IsDriven a (Err f) = DrivesInto a f
+abbrev pub IsDriven : Rules → Moment → Outcome → Type 0
+IsDriven rules a (Ok driven) = DrivesToEnd rules a driven.0 driven.1 driven.2
+IsDriven rules a (Err fault.Thread) = ⊤
+IsDriven rules a (Err f) = DrivesInto rules a f
 
 -- a driver that began there runs, or its thread did not start
 abbrev pub IsDriverStarted : Moment → Result Moment DriveFault → Type 0
@@ -36,6 +37,6 @@ IsDriverStarted a (Ok begins) = begins ≡ a
 IsDriverStarted a (Err f) = f ≡ fault.Thread
 
 -- what came of a thread
-abbrev pub IsThreadJoined : Result Moment DriveFault → Outcome → Type 0
-IsThreadJoined (Ok begins) outcome = IsDriven begins outcome
-IsThreadJoined (Err f) outcome = outcome ≡ Err f
+abbrev pub IsThreadJoined : Rules → Result Moment DriveFault → Outcome → Type 0
+IsThreadJoined rules (Ok begins) outcome = IsDriven rules begins outcome
+IsThreadJoined rules (Err f) outcome = outcome ≡ Err f

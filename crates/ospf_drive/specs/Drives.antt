@@ -2,11 +2,9 @@
 use Rattle.std.specs.Prelude.{◌≡◌, ◌+◌, ◌<◌, ◌++◌, ℕ, List, [], ◌∷◌, true, Option, None, Some, Result, Ok, Err, take, length}
 use Rattle.ospf_index.specs.Known.{Known, Table}
 use Rattle.ospf_area.specs.Outputs.{SentValue}
-use Rattle.ospf_area.specs.State.{AreaValue}
-use Rattle.ospf_step.specs.Drops.{dropped_by}
 use Rattle.ospf_step.specs.Step.{Event}
 use Rattle.ospf_router.specs.Routers.{stopped}
-use Rattle.ospf_router.specs.Steps.{Steps}
+use Rattle.ospf_drive.specs.Machines.{Rules}
 use Rattle.ospf_drive.specs.Moments.{Moment, Done, event_of, events_of, events_done, HasNoEnd, IsChain, left_by, sent_by, tables_published}
 use Rattle.ospf_drive.specs.Traffic.{Heard, IsOver, and_goes}
 use Rattle.ospf_drive.specs.Traffic.Heard.{End}
@@ -19,14 +17,15 @@ last_told [] known = None
 last_told (table ∷ tables) known = Some known
 
 -- From one moment to the other the driver took arrivals that are no end. Each that is not passed
--- over was a step of the router. What the steps sent went out, in order, where the wire tells its
--- traffic, and each table that a step changed was published, in order.
-pub record DriverGoesOn (a b : Moment) (told : Option Known) : Type 0 where
+-- over was a step of the router, by the rules of its machine. What the steps sent went out, in
+-- order, where the wire tells its traffic, and each table that a step changed was published, in
+-- order.
+pub record DriverGoesOn (rules : Rules) (a b : Moment) (told : Option Known) : Type 0 where
   pub taken : List Heard
   pub steps : List Done
   pub no_end : HasNoEnd taken
   pub events : events_done steps ≡ events_of a.router.links taken
-  pub chain : IsChain a.router steps
+  pub chain : IsChain rules a.router steps
   pub router : b.router ≡ left_by a.router steps
   pub links : b.router.links ≡ a.router.links
   pub traffic : b.traffic ≡ and_goes taken (sent_by steps) a.traffic
@@ -55,25 +54,24 @@ pub record FailsToHear (a b : Moment) : Type 0 where
   pub known : b.known ≡ a.known
 
 -- an arrival was a step, and the wire failed before all that it sent had gone out
-pub record FailsToSend (a b : Moment) : Type 0 where
+pub record FailsToSend (rules : Rules) (a b : Moment) : Type 0 where
   pub arrival : Heard
   pub step : Done
   pub count : ℕ
   pub event : event_of a.router.links arrival ≡ Some step.event
-  pub steps : Steps step.event a.router step.gives step.after
+  pub steps : rules.steps step.event a.router step.gives step.after
   pub router : b.router ≡ step.after
   pub short : count < length step.gives.out.sent
   pub traffic : TrafficGoes a (arrival ∷ []) (take count step.gives.out.sent) b
   pub failed : b.failed ≡ a.failed + 1
   pub known : b.known ≡ a.known
 
--- an arrival was an event at which the router stopped, which is none that is dropped: that takes no
--- memory
-pub record Stops (a b : Moment) : Type 0 where
+-- an arrival was an event at which the router stopped, as its machine may
+pub record Stops (rules : Rules) (a b : Moment) : Type 0 where
   pub arrival : Heard
   pub event : Event
   pub is_event : event_of a.router.links arrival ≡ Some event
-  pub taken : (s : AreaValue) → a.router.area ≡ Some s → dropped_by event s ≡ None
+  pub may_stop : rules.stops event a.router
   pub router : b.router ≡ stopped a.router
   pub traffic : TrafficGoes a (arrival ∷ []) [] b
   pub failed : b.failed ≡ a.failed
@@ -81,11 +79,11 @@ pub record Stops (a b : Moment) : Type 0 where
 
 -- an arrival was a step that changed the table, all that it sent went out,
 -- and the table was not published
-pub record FailsToPublish (a b : Moment) : Type 0 where
+pub record FailsToPublish (rules : Rules) (a b : Moment) : Type 0 where
   pub arrival : Heard
   pub step : Done
   pub event : event_of a.router.links arrival ≡ Some step.event
-  pub steps : Steps step.event a.router step.gives step.after
+  pub steps : rules.steps step.event a.router step.gives step.after
   pub changed : step.gives.table_changed ≡ true
   pub router : b.router ≡ step.after
   pub traffic : TrafficGoes a (arrival ∷ []) step.gives.out.sent b
@@ -93,22 +91,24 @@ pub record FailsToPublish (a b : Moment) : Type 0 where
   pub known : b.known ≡ a.known
 
 -- how a driver's last turn ends
-abbrev pub Fails : Moment → Moment → DriveFault → Type 0
-Fails a b fault.Recv = FailsToHear a b
-Fails a b fault.Send = FailsToSend a b
-Fails a b fault.Stopped = Stops a b
-Fails a b fault.Publish = FailsToPublish a b
-Fails a b fault.Thread = ⊥
+abbrev pub Fails : Rules → Moment → Moment → DriveFault → Type 0
+Fails rules a b fault.Recv = FailsToHear a b
+Fails rules a b fault.Send = FailsToSend rules a b
+Fails rules a b fault.Stopped = Stops rules a b
+Fails rules a b fault.Publish = FailsToPublish rules a b
+Fails rules a b fault.Thread = ⊥
 
 -- a drive ends well, with what the router was last told, or by this fault
-abbrev pub EndsDrive : Moment → Option Known → Moment → Result (Option Known) DriveFault → Type 0
-EndsDrive a told b (Ok last) = Ended a b × (last ≡ told)
-EndsDrive a told b (Err fault) = Fails a b fault
+abbrev pub EndsDrive : Rules → Moment → Option Known → Moment
+    → Result (Option Known) DriveFault → Type 0
+EndsDrive rules a told b (Ok last) = Ended a b × (last ≡ told)
+EndsDrive rules a told b (Err fault) = Fails rules a b fault
 
 -- The driver takes arrivals, and then it ends: well, by the end that comes, or by a fault before
 -- it.
-pub record Drives (a b : Moment) (result : Result (Option Known) DriveFault) : Type 0 where
+pub record Drives (rules : Rules) (a b : Moment) (result : Result (Option Known) DriveFault)
+    : Type 0 where
   pub last : Moment
   pub told : Option Known
-  pub goes_on : DriverGoesOn a last told
-  pub ends : EndsDrive last told b result
+  pub goes_on : DriverGoesOn rules a last told
+  pub ends : EndsDrive rules last told b result

@@ -1,4 +1,5 @@
 pub mod Faults
+pub mod Machines
 pub mod Traffic
 pub mod Moments
 pub mod Drives

@@ -5,8 +5,8 @@ use Rattle.ospf_index.specs.Known.{Known, Table}
 use Rattle.ospf_area.specs.Outputs.{SentValue}
 use Rattle.ospf_step.specs.Step.{Event}
 use Rattle.ospf_router.specs.Routers.{RouterValue}
-use Rattle.ospf_router.specs.Steps.{Steps}
 use Rattle.ospf_router.specs.declared.router.Step.{Step}
+use Rattle.ospf_drive.specs.Machines.{Rules}
 use Rattle.ospf_drive.specs.Traffic.{Heard, Carried}
 use Rattle.ospf_drive.specs.Traffic.Heard.{Datagram, Tick, LinkUp, LinkDown, End}
 
@@ -58,10 +58,10 @@ pub record Done : Type 0 where
 abbrev pub events_done : List Done → List Event
 events_done ds = map (λ (d : Done). d.event) ds
 
--- each of them is a step of the router, from where the one before left it
-abbrev pub IsChain : RouterValue → List Done → Type 0
-IsChain old [] = Unit {0}
-IsChain old (d ∷ ds) = Steps d.event old d.gives d.after × IsChain d.after ds
+-- each of them is a step by the rules, from where the one before left the router
+abbrev pub IsChain : Rules → RouterValue → List Done → Type 0
+IsChain rules old [] = Unit {0}
+IsChain rules old (d ∷ ds) = rules.steps d.event old d.gives d.after × IsChain rules d.after ds
 
 -- where they leave the router
 abbrev pub left_by : RouterValue → List Done → RouterValue

@@ -1,12 +1,11 @@
 -- A whole call of a driver: the arrivals that it took, and one list of steps.
-use Rattle.std.specs.Prelude.{◌≡◌, ◌+◌, ◌<◌, ◌++◌, ℕ, List, [], ◌∷◌, true, Option, None, Some, Result, Ok, Err, take, length}
+use Rattle.std.specs.Prelude.{◌≡◌, ◌+◌, ◌<◌, ◌++◌, ℕ, List, [], ◌∷◌, true, Option, Result, Ok, Err, take, length}
 use Rattle.ospf_area.specs.Outputs.{SentValue}
-use Rattle.ospf_area.specs.State.{AreaValue}
-use Rattle.ospf_step.specs.Drops.{dropped_by}
 use Rattle.ospf_step.specs.Step.{Event}
 use Rattle.ospf_index.specs.Known.{Known, Table}
 use Rattle.ospf_router.specs.Routers.{stopped}
 use Rattle.ospf_drive.specs.Drives.{Drives, last_told}
+use Rattle.ospf_drive.specs.Machines.{Rules}
 use Rattle.ospf_drive.specs.Moments.{Moment, Done, HasNoEnd, IsChain, events_done, events_of, left_by, sent_by, tables_published}
 use Rattle.ospf_drive.specs.Traffic.{EndsAfter, Heard, IsOver, and_goes, ticks_in}
 use Rattle.ospf_drive.specs.Traffic.Carried.{Ticks}
@@ -64,12 +63,11 @@ pub record EndsUnsent (a b : Moment) (taken : List Heard) (steps : List Done) (o
   pub published : tables ≡ tables_published before
   pub failed : b.failed ≡ a.failed + 1
 
--- the router stopped at the event that came after the steps, which is none that is dropped
-pub record EndsStopped (a b : Moment) (taken : List Heard) (steps : List Done)
+-- the router stopped at the event that came after the steps, as its machine may
+pub record EndsStopped (rules : Rules) (a b : Moment) (taken : List Heard) (steps : List Done)
     (out : List SentValue) (tables : List Table) : Type 0 where
   pub event : Event
-  pub is_taken : (s : AreaValue) → (left_by a.router steps).area ≡ Some s
-      → dropped_by event s ≡ None
+  pub may_stop : rules.stops event (left_by a.router steps)
   pub no_end : HasNoEnd taken
   pub events : events_done steps ++ event ∷ [] ≡ events_of a.router.links taken
   pub router : b.router ≡ stopped (left_by a.router steps)
@@ -92,38 +90,41 @@ pub record EndsUnpublished (a b : Moment) (taken : List Heard) (steps : List Don
   pub failed : b.failed ≡ a.failed
 
 -- the whole call, by its result
-abbrev pub EndsAs : Moment → Moment → List Heard → List Done → List SentValue → List Table
+abbrev pub EndsAs : Rules → Moment → Moment → List Heard → List Done → List SentValue → List Table
     → Result (Option Known) DriveFault → Type 0
-EndsAs a b taken steps out tables (Ok told) = EndsWell a b taken steps out tables told
-EndsAs a b taken steps out tables (Err fault.Recv) = EndsUnheard a b taken steps out tables
-EndsAs a b taken steps out tables (Err fault.Send) = EndsUnsent a b taken steps out tables
-EndsAs a b taken steps out tables (Err fault.Stopped) = EndsStopped a b taken steps out tables
-EndsAs a b taken steps out tables (Err fault.Publish) = EndsUnpublished a b taken steps out tables
-EndsAs a b taken steps out tables (Err fault.Thread) = ⊥
+EndsAs rules a b taken steps out tables (Ok told) = EndsWell a b taken steps out tables told
+EndsAs rules a b taken steps out tables (Err fault.Recv) = EndsUnheard a b taken steps out tables
+EndsAs rules a b taken steps out tables (Err fault.Send) = EndsUnsent a b taken steps out tables
+EndsAs rules a b taken steps out tables (Err fault.Stopped) =
+    EndsStopped rules a b taken steps out tables
+EndsAs rules a b taken steps out tables (Err fault.Publish) =
+    EndsUnpublished a b taken steps out tables
+EndsAs rules a b taken steps out tables (Err fault.Thread) = ⊥
 
 -- From one moment to the other the driver took these arrivals, the router made these steps, one
 -- after another, these datagrams went out and these tables were published; and so it ended.
-pub record Whole (a b : Moment) (result : Result (Option Known) DriveFault) : Type 0 where
+pub record Whole (rules : Rules) (a b : Moment) (result : Result (Option Known) DriveFault)
+    : Type 0 where
   pub taken : List Heard
   pub steps : List Done
   pub out : List SentValue
   pub tables : List Table
-  pub chain : IsChain a.router steps
+  pub chain : IsChain rules a.router steps
   pub traffic : b.traffic ≡ and_goes taken out a.traffic
   pub fib : b.known.fib ≡ a.known.fib
   pub published : b.known.tables ≡ a.known.tables ++ tables
-  pub ends : EndsAs a b taken steps out tables result
+  pub ends : EndsAs rules a b taken steps out tables result
 
--- what a driver does turn by turn is that
-abbrev pub DrivesAreWhole : Type 0
-DrivesAreWhole =
-    (a b : Moment) (result : Result (Option Known) DriveFault) → Drives a b result
-    → Whole a b result
+-- what a driver of a machine of these rules does turn by turn is that
+abbrev pub DrivesAreWhole : Rules → Type 0
+DrivesAreWhole rules =
+    (a b : Moment) (result : Result (Option Known) DriveFault) → Drives rules a b result
+    → Whole rules a b result
 
 -- where the wire counts its ticks, a driver that comes to the end has taken as many as stand before
 -- the end: all of them, and no more, where the wire cannot be told to end
-abbrev pub AllTicksAreTaken : Type 0
-AllTicksAreTaken =
-    (a b : Moment) (told : Option Known) (handed : ℕ) (span : Span) (drives : Drives a b (Ok told))
-    → a.traffic ≡ Ticks handed span
+abbrev pub AllTicksAreTaken : Rules → Type 0
+AllTicksAreTaken rules =
+    (a b : Moment) (told : Option Known) (handed : ℕ) (span : Span)
+    (drives : Drives rules a b (Ok told)) → a.traffic ≡ Ticks handed span
     → EndsAfter span (handed + ticks_in drives.goes_on.taken)

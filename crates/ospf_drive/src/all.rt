@@ -7,6 +7,7 @@ ghost use Rattle.ospf_drive.specs.Moments.{at};
 
 use crate::driver::drive;
 use crate::fault::DriveFault;
+use crate::machine::Machine;
 use crate::wire::Wire;
 use ospf_fib::{Told, Writer};
 use ospf_router::Router;
@@ -17,25 +18,26 @@ use std::sync::Wait;
 use std::thread;
 use std::thread::{Promise, PromisedHandle, Threads};
 
-/// What a driver of `drive_all` is given: a router, its wire, and the writer of its table.
-pub type DriverJob<W, R> = (Router, W, Writer<R>);
+/// What a driver of `drive_all` is given: a machine, its wire, and the writer of its table.
+pub type DriverJob<M, W, R> = (M, W, Writer<R>);
 
 /// What a driver of `drive_all` gives back: the router, the writer, and what the last publish told.
 pub type Driven<R> = Result<(Router, Writer<R>, Option<Told>), DriveFault>;
 
-/// Drives each router in a thread of its own, and waits for all of them. The results are in
-/// the order of the routers: what `drive` answers, or `Thread` where a thread did not
+/// Drives each machine in a thread of its own, and waits for all of them. The results are in
+/// the order of the jobs: what `drive` answers, or `Thread` where a thread did not
 /// start. One that fails ends no other.
 ///
 /// `AllocError` where memory runs out; then none of them ran.
 pub fn drive_all<
+    M: Machine + Send + Drop + 'static,
     W: Wire + Send + Drop + 'static,
     R: Wait + Send + Drop + 'static,
     S: Threads + Wait + Copy + Send + 'static,
->(rt: &S, alloc: Global, jobs: Vec<DriverJob<W, R>>) -> Result<Vec<Driven<R>>, AllocError>
+>(rt: &S, alloc: Global, jobs: Vec<DriverJob<M, W, R>>) -> Result<Vec<Driven<R>>, AllocError>
     requires { All (λ job. W.failed job.1 + 1 < 2 ^ 64) jobs.items }
-    ensures { IfOk result (λ all. AllZip
-        (λ job driven. IsDriven (at job.0 (W.traffic job.1) (W.failed job.1) job.2) driven)
+    ensures { IfOk result (λ all. AllZip (λ job driven. IsDriven M.rules
+        (at (M.value job.0) (W.traffic job.1) (W.failed job.1) job.2) driven)
         jobs.items all.items) }
 {
     let mut results = Vec::with_capacity(alloc, jobs.len())?;
@@ -47,45 +49,48 @@ pub fn drive_all<
 
 // What a thread will give back: what comes of its job.
 #[derive(Drop)]
-struct DriveOf<W: Wire + Drop, R: Wait + Drop>(Snapshot<DriverJob<W, R>>);
+struct DriveOf<M: Machine + Drop, W: Wire + Drop, R: Wait + Drop>(Snapshot<DriverJob<M, W, R>>);
 
-impl<W: Wire + Drop, R: Wait + Drop> Promise<Driven<R>> for DriveOf<W, R> {
-    ghost kept_by = { λ p r. IsDriven
-        (at p.0.value.0 (W.traffic p.0.value.1) (W.failed p.0.value.1) p.0.value.2) r };
+impl<M: Machine + Drop, W: Wire + Drop, R: Wait + Drop> Promise<Driven<R>> for DriveOf<M, W, R> {
+    ghost kept_by = { λ p r. IsDriven M.rules
+        (at (M.value p.0.value.0) (W.traffic p.0.value.1) (W.failed p.0.value.1) p.0.value.2) r };
 }
 
 // A driver that runs in its thread. Proofs see where it began.
 #[derive(Drop)]
-struct Running<W: Wire + Drop, R: Wait + Send + Drop + 'static> {
-    handle: PromisedHandle<Driven<R>, DriveOf<W, R>>,
+struct Running<M: Machine + Drop, W: Wire + Drop, R: Wait + Send + Drop + 'static> {
+    handle: PromisedHandle<Driven<R>, DriveOf<M, W, R>>,
 }
 
-impl<W: Wire + Drop, R: Wait + Send + Drop + 'static> Model for Running<W, R> {
+impl<M: Machine + Drop, W: Wire + Drop, R: Wait + Send + Drop + 'static> Model
+    for Running<M, W, R> {
     ghost use Rattle.ospf_drive.specs.Moments.{Moment, at as moment};
 
     ghost Value = { Moment };
 
-    ghost view = { λ r. moment r.handle.promise.0.value.0 (W.traffic r.handle.promise.0.value.1)
-        (W.failed r.handle.promise.0.value.1) r.handle.promise.0.value.2 };
+    ghost view = { λ r. moment (M.value r.handle.promise.0.value.0)
+        (W.traffic r.handle.promise.0.value.1) (W.failed r.handle.promise.0.value.1)
+        r.handle.promise.0.value.2 };
 }
 
 // Starts a driver's thread for each job, in order.
 fn start_all<
+    M: Machine + Send + Drop + 'static,
     W: Wire + Send + Drop + 'static,
     R: Wait + Send + Drop + 'static,
     S: Threads + Wait + Copy + Send + 'static,
 >(
     rt: S,
     alloc: Global,
-    jobs: Vec<DriverJob<W, R>>,
-    threads: &mut Vec<Result<Running<W, R>, DriveFault>>,
+    jobs: Vec<DriverJob<M, W, R>>,
+    threads: &mut Vec<Result<Running<M, W, R>, DriveFault>>,
 )
     requires fresh { All (λ job. W.failed job.1 + 1 < 2 ^ 64) jobs.items }
     requires none { threads.old.items ≡ [] }
     requires room { vec_len jobs ≤ vec_capacity threads.old }
-    ensures { AllZip (λ job thread. IsDriverStarted (at job.0 (W.traffic job.1) (W.failed job.1)
-        job.2)
-        thread) jobs.items threads.new.items }
+    ensures { AllZip (λ job thread. IsDriverStarted
+        (at (M.value job.0) (W.traffic job.1) (W.failed job.1) job.2) thread)
+        jobs.items threads.new.items }
 {
     for job in jobs {
         let Ok(()) = threads.push(start(rt, alloc, job)) else {
@@ -96,12 +101,14 @@ fn start_all<
 
 // Starts a driver's thread.
 fn start<
+    M: Machine + Send + Drop + 'static,
     W: Wire + Send + Drop + 'static,
     R: Wait + Send + Drop + 'static,
     S: Threads + Wait + Copy + Send + 'static,
->(rt: S, alloc: Global, job: DriverJob<W, R>) -> Result<Running<W, R>, DriveFault>
+>(rt: S, alloc: Global, job: DriverJob<M, W, R>) -> Result<Running<M, W, R>, DriveFault>
     requires { W.failed job.1 + 1 < 2 ^ 64 }
-    ensures { IsDriverStarted (at job.0 (W.traffic job.1) (W.failed job.1) job.2) result }
+    ensures { IsDriverStarted (at (M.value job.0) (W.traffic job.1) (W.failed job.1) job.2)
+        result }
 {
     let promise = DriveOf(Snapshot::of(&job));
     let thread = thread::spawn_with(
@@ -117,29 +124,30 @@ fn start<
     }
 }
 
-// Drives one router.
-fn drive_one<W: Wire + Drop, R: Wait + Drop, S: Wait>(
+// Drives one machine.
+fn drive_one<M: Machine + Drop, W: Wire + Drop, R: Wait + Drop, S: Wait>(
     rt: &S,
     alloc: Global,
-    job: DriverJob<W, R>,
+    job: DriverJob<M, W, R>,
 ) -> Driven<R>
     requires { W.failed job.1 + 1 < 2 ^ 64 }
-    ensures { IsDriven (at job.0 (W.traffic job.1) (W.failed job.1) job.2) result }
+    ensures { IsDriven M.rules (at (M.value job.0) (W.traffic job.1) (W.failed job.1) job.2)
+        result }
 {
-    let (mut router, mut wire, mut writer) = job;
-    let told = drive(rt, alloc, &mut router, &mut wire, &mut writer)?;
-    Ok((router, writer, told))
+    let (mut machine, mut wire, mut writer) = job;
+    let told = drive(rt, alloc, &mut machine, &mut wire, &mut writer)?;
+    Ok((machine.into_router(), writer, told))
 }
 
 // Waits for each of the threads, in order.
-fn join_all<W: Wire + Drop, R: Wait + Send + Drop + 'static, S: Threads + Wait>(
+fn join_all<M: Machine + Drop, W: Wire + Drop, R: Wait + Send + Drop + 'static, S: Threads + Wait>(
     rt: &S,
-    threads: Vec<Result<Running<W, R>, DriveFault>>,
+    threads: Vec<Result<Running<M, W, R>, DriveFault>>,
     results: &mut Vec<Driven<R>>,
 )
     requires none { results.old.items ≡ [] }
     requires room { vec_len threads ≤ vec_capacity results.old }
-    ensures { AllZip IsThreadJoined threads.items results.new.items }
+    ensures { AllZip (IsThreadJoined M.rules) threads.items results.new.items }
 {
     for running in threads {
         let Ok(()) = results.push(join(rt, running)) else {
@@ -149,11 +157,11 @@ fn join_all<W: Wire + Drop, R: Wait + Send + Drop + 'static, S: Threads + Wait>(
 }
 
 // Waits for a thread's end, if it was started.
-fn join<W: Wire + Drop, R: Wait + Send + Drop + 'static, S: Threads + Wait>(
+fn join<M: Machine + Drop, W: Wire + Drop, R: Wait + Send + Drop + 'static, S: Threads + Wait>(
     rt: &S,
-    running: Result<Running<W, R>, DriveFault>,
+    running: Result<Running<M, W, R>, DriveFault>,
 ) -> Driven<R>
-    ensures { IsThreadJoined running result }
+    ensures { IsThreadJoined M.rules running result }
 {
     match running {
         Ok(Running { handle }) => handle.join(rt),

@@ -7,56 +7,60 @@ ghost use Rattle.ospf_drive.specs.Whole.{Whole};
 
 use crate::fault::DriveFault;
 use crate::laws::drives_are_whole;
+use crate::machine::Machine;
 use crate::turn::{Course, turn};
 use crate::wire::{LONGEST, Wire};
 use ospf_fib::{Told, Writer};
-use ospf_router::Router;
 use std::alloc::Global;
 use std::sync::Wait;
 
-/// Drives a router until the end of what the wire hands over: each arrival is a step, what it
-/// sends goes out in order, and then a changed table is published. An arrival of a link that is
-/// not there, or longer than the buffer, is passed over. At the end it answers what the last
-/// publish told, if there was any.
+/// Drives a machine, which is a router, until the end of what the wire hands over: each arrival is
+/// a step, what it sends goes out in order, and then a changed table is published. An arrival of a
+/// link that is not there, or longer than the buffer, is passed over. At the end it answers what
+/// the last publish told, if there was any.
 ///
-/// `Recv` and `Send` where the wire fails, `Stopped` where the router met want of memory, and
-/// `Publish` where a changed table met it. At `Stopped` the router has stopped, and what is
-/// published is as before the arrival; else the router is as the last step left it. At `Send` some
-/// of what that step sent has not gone out, and at `Send` and `Publish` its table is not published.
-pub fn drive<W: Wire, R: Wait + Drop, S: Wait>(
+/// `Recv` and `Send` where the wire fails, `Stopped` where the machine stops, which a router does
+/// for want of memory, and `Publish` where a changed table met it. At `Stopped` the router has
+/// stopped, and what is published is as before the arrival; else the router is as the last step
+/// left it. At `Send` some of what that step sent has not gone out, and at `Send` and `Publish` its
+/// table is not published.
+pub fn drive<M: Machine, W: Wire, R: Wait + Drop, S: Wait>(
     rt: &S,
     alloc: Global,
-    router: &mut Router,
+    machine: &mut M,
     wire: &mut W,
     writer: &mut Writer<R>,
 ) -> Result<Option<Told>, DriveFault>
     requires { W.failed wire.old + 1 < 2 ^ 64 }
-    ensures turns { Drives (at router.old (W.traffic wire.old) (W.failed wire.old) writer.old)
-        (at router.new (W.traffic wire.new) (W.failed wire.new) writer.new) result }
-    ensures whole { Whole (at router.old (W.traffic wire.old) (W.failed wire.old) writer.old)
-        (at router.new (W.traffic wire.new) (W.failed wire.new) writer.new) result }
+    ensures turns { Drives M.rules
+        (at (M.value machine.old) (W.traffic wire.old) (W.failed wire.old) writer.old)
+        (at (M.value machine.new) (W.traffic wire.new) (W.failed wire.new) writer.new) result }
+    ensures whole { Whole M.rules
+        (at (M.value machine.old) (W.traffic wire.old) (W.failed wire.old) writer.old)
+        (at (M.value machine.new) (W.traffic wire.new) (W.failed wire.new) writer.new) result }
 {
     // For the proof.
-    drives_are_whole();
-    take_turns(rt, alloc, router, wire, writer)
+    drives_are_whole::<M>();
+    take_turns(rt, alloc, machine, wire, writer)
 }
 
 // Turn after turn, until one is the last.
-fn take_turns<W: Wire, R: Wait + Drop, S: Wait>(
+fn take_turns<M: Machine, W: Wire, R: Wait + Drop, S: Wait>(
     rt: &S,
     alloc: Global,
-    router: &mut Router,
+    machine: &mut M,
     wire: &mut W,
     writer: &mut Writer<R>,
 ) -> Result<Option<Told>, DriveFault>
     requires { W.failed wire.old + 1 < 2 ^ 64 }
-    ensures { Drives (at router.old (W.traffic wire.old) (W.failed wire.old) writer.old)
-        (at router.new (W.traffic wire.new) (W.failed wire.new) writer.new) result }
+    ensures { Drives M.rules
+        (at (M.value machine.old) (W.traffic wire.old) (W.failed wire.old) writer.old)
+        (at (M.value machine.new) (W.traffic wire.new) (W.failed wire.new) writer.new) result }
 {
     let mut buffer = [0; LONGEST];
     let mut told = None;
     for _ in rt.forever() {
-        match turn(alloc, router, wire, writer, &mut buffer)? {
+        match turn(alloc, machine, wire, writer, &mut buffer)? {
             Course::On(None) => {}
             Course::On(Some(last)) => told = Some(last),
             Course::Over => return Ok(told),

@@ -8,6 +8,7 @@ ghost use Rattle.ospf_drive.specs.Drives.{Fails};
 ghost use Rattle.ospf_drive.specs.Turns.{Turns};
 
 use crate::fault::DriveFault;
+use crate::machine::Machine;
 use crate::wire::{Arrival, LONGEST, Wire, WireFault};
 use ospf_fib::{Told, Writer};
 use ospf_router::{Event, Router, Sent, Step};
@@ -23,20 +24,22 @@ pub(crate) enum Course {
     Over,
 }
 
-// Waits for an arrival, has the router make a step of it, shows it to the wire, sends what it puts
+// Waits for an arrival, has the machine make a step of it, shows it to the wire, sends what it puts
 // out, and publishes the table where it changed.
-pub(crate) fn turn<W: Wire, R: Wait + Drop>(
+pub(crate) fn turn<M: Machine, W: Wire, R: Wait + Drop>(
     alloc: Global,
-    router: &mut Router,
+    machine: &mut M,
     wire: &mut W,
     writer: &mut Writer<R>,
     buffer: &mut [u8; LONGEST],
 ) -> Result<Course, DriveFault>
     requires { W.failed wire.old + 1 < 2 ^ 64 }
-    ensures ok { IfOk result (Turns (at router.old (W.traffic wire.old) (W.failed wire.old)
-        writer.old) (at router.new (W.traffic wire.new) (W.failed wire.new) writer.new)) }
-    ensures err { IfErr result (Fails (at router.old (W.traffic wire.old) (W.failed wire.old)
-        writer.old) (at router.new (W.traffic wire.new) (W.failed wire.new) writer.new)) }
+    ensures ok { IfOk result (Turns M.rules
+        (at (M.value machine.old) (W.traffic wire.old) (W.failed wire.old) writer.old)
+        (at (M.value machine.new) (W.traffic wire.new) (W.failed wire.new) writer.new)) }
+    ensures err { IfErr result (Fails M.rules
+        (at (M.value machine.old) (W.traffic wire.old) (W.failed wire.old) writer.old)
+        (at (M.value machine.new) (W.traffic wire.new) (W.failed wire.new) writer.new)) }
 {
     let Ok(arrival) = wire.recv(buffer) else {
         return Err(DriveFault::Recv);
@@ -44,19 +47,19 @@ pub(crate) fn turn<W: Wire, R: Wait + Drop>(
     if let Arrival::End = arrival {
         return Ok(Course::Over);
     }
-    let Some(event) = event_at(router, arrival, buffer) else {
+    let Some(event) = event_at(machine.router(), arrival, buffer) else {
         return Ok(Course::On(None));
     };
-    let Ok(step) = router.step(event, alloc) else {
+    let Ok(step) = machine.step(event, alloc) else {
         return Err(DriveFault::Stopped);
     };
-    let Ok(()) = show_and_send(wire, router, &step) else {
+    let Ok(()) = show_and_send(wire, machine.router(), &step) else {
         return Err(DriveFault::Send);
     };
     if !step.table_changed {
         return Ok(Course::On(None));
     }
-    match writer.publish(router.table()) {
+    match writer.publish(machine.router().table()) {
         Ok(told) => Ok(Course::On(Some(told))),
         Err(_) => Err(DriveFault::Publish),
     }

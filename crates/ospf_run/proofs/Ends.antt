@@ -4,6 +4,7 @@ use Rattle.std.proofs.lemmas.List.{append-nil}
 use mathlib.Core.List.{IsPrefix}
 use Rattle.ospf_drive.specs.Driven.{DrivesToEnd, IsDriven, Outcome as Driven}
 use Rattle.ospf_drive.specs.Drives.{last_told}
+use Rattle.ospf_drive.specs.Machines.{Rules}
 use Rattle.ospf_drive.specs.Moments.{Moment, tables_published}
 use Rattle.ospf_index.specs.Known.{Known, Table, opening}
 use Rattle.ospf_router.specs.Routers.{RouterValue}
@@ -20,16 +21,16 @@ told_by (x ∷ xs) known None before is first told_is = absurd (cc told_is)
 told_by (x ∷ xs) known (Some t) before is first told_is = cc told_is
 
 -- what it told is all that its writer has published
-pub told_at_end : (a : Moment) (router : RouterValue) (known : Known) (told : Option Known) → a.known.tables ≡ opening → DrivesToEnd a router known told → IsPublishTold known told
-told_at_end a router known told first d =
+pub told_at_end : {rules : Rules} (a : Moment) (router : RouterValue) (known : Known) (told : Option Known) → a.known.tables ≡ opening → DrivesToEnd rules a router known told → IsPublishTold known told
+told_at_end {rules} a router known told first d =
     let same : known ≡ d.drives.last.known = d.drives.ends.0.known in
     let tells : told ≡ last_told (tables_published d.drives.goes_on.steps) known =
     d.drives.ends.1 ∙ d.drives.goes_on.tells ∙ ap (λ (k : Known). last_told (tables_published d.drives.goes_on.steps) k) (sym same) in
     told_by (tables_published d.drives.goes_on.steps) known told a.known.tables (ap (λ (k : Known). k.tables) same ∙ d.drives.goes_on.tables) first tells
 
 -- and the forwarding table is the one that it began with
-pub fib_at_end : (a : Moment) (router : RouterValue) (known : Known) (told : Option Known) → DrivesToEnd a router known told → known.fib ≡ a.known.fib
-fib_at_end a router known told d = ap (λ (k : Known). k.fib) d.drives.ends.0.known ∙ d.drives.goes_on.fib
+pub fib_at_end : {rules : Rules} (a : Moment) (router : RouterValue) (known : Known) (told : Option Known) → DrivesToEnd rules a router known told → known.fib ≡ a.known.fib
+fib_at_end {rules} a router known told d = ap (λ (k : Known). k.fib) d.drives.ends.0.known ∙ d.drives.goes_on.fib
 
 -- what is told is of the table at which the seat is
 pub told_fib : (told : Option Known) (writer seat : Known) → seat.fib ≡ writer.fib → IsPublishTold writer told → IfSome told (λ t. t.fib ≡ seat.fib)
@@ -48,14 +49,14 @@ all_known (Some t) writer began learned looked first is own told more covers =
     (prefix_trans writer.tables learned.tables looked.tables (subst (λ (k : Known). IsPrefix k.tables learned.tables) is told) more)
 
 -- a driver that came to its end
-pub to_end : (a : Moment) (driven : Driven) (router_seat : RouterSeat) (d : RouterValue × Known × Option Known) → driven ≡ Ok d → Ran a driven router_seat → DrivesToEnd a d.0 d.1 d.2
-to_end a driven router_seat d is ran = subst (λ (x : Driven). IsDriven a x) is ran.ended
+pub to_end : {rules : Rules} (a : Moment) (driven : Driven) (router_seat : RouterSeat) (d : RouterValue × Known × Option Known) → driven ≡ Ok d → Ran rules a driven router_seat → DrivesToEnd rules a d.0 d.1 d.2
+to_end {rules} a driven router_seat d is ran = subst (λ (x : Driven). IsDriven rules a x) is ran.ended
 
 -- its seat is still at its table
-pub seat_fib : (a : Moment) (driven : Driven) (router_seat : RouterSeat) (d : RouterValue × Known × Option Known) (seat : Known) → driven ≡ Ok d → Ran a driven router_seat → Follows a.known seat
+pub seat_fib : {rules : Rules} (a : Moment) (driven : Driven) (router_seat : RouterSeat) (d : RouterValue × Known × Option Known) (seat : Known) → driven ≡ Ok d → Ran rules a driven router_seat → Follows a.known seat
     → seat.fib ≡ d.1.fib
-seat_fib a driven router_seat d seat is ran follows = follows.fib ∙ sym (fib_at_end a d.0 d.1 d.2 (to_end a driven router_seat d is ran))
+seat_fib {rules} a driven router_seat d seat is ran follows = follows.fib ∙ sym (fib_at_end a d.0 d.1 d.2 (to_end a driven router_seat d is ran))
 
 -- and knows the opening table
-pub seat_began : (a : Moment) (driven : Driven) (router_seat : RouterSeat) (seat : Known) → Ran a driven router_seat → Follows a.known seat → IsPrefix opening seat.tables
-seat_began a driven router_seat seat ran follows = subst (λ (tables : List Table). IsPrefix tables seat.tables) ran.opened follows.tables
+pub seat_began : {rules : Rules} (a : Moment) (driven : Driven) (router_seat : RouterSeat) (seat : Known) → Ran rules a driven router_seat → Follows a.known seat → IsPrefix opening seat.tables
+seat_began {rules} a driven router_seat seat ran follows = subst (λ (tables : List Table). IsPrefix tables seat.tables) ran.opened follows.tables

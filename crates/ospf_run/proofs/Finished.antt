@@ -3,6 +3,7 @@ use Rattle.std.proofs.Common.{◌≡◌, ◌≢◌, ◌<◌, ℕ, List, [], ◌�
 use Rattle.ospf_base.specs.declared.ids.Addr.{Addr}
 use Rattle.ospf_config.specs.declared.config.Config.{Config}
 use Rattle.ospf_drive.specs.Driven.{Outcome as Driven}
+use Rattle.ospf_drive.specs.Machines.{Rules}
 use Rattle.ospf_drive.specs.Moments.{Moment}
 use Rattle.ospf_files.specs.declared.files.NamedFile.{NamedFile}
 use Rattle.ospf_run.specs.Runs.{Came, IsOutcome, Ran, RouterRan, Terms}
@@ -10,18 +11,18 @@ use Rattle.ospf_run.specs.declared.outcome.Outcome.{Outcome}
 use Rattle.ospf_run.specs.declared.look.RouterSeat.{RouterSeat}
 
 -- a router has run
-pub has_run : {terms : Terms} {config : Config} {driven : Driven} {router_seat : RouterSeat} (h : RouterRan terms config driven router_seat) → Ran h.a driven router_seat
-has_run h = record {
+pub has_run : {rules : Rules} {terms : Terms} {config : Config} {driven : Driven} {router_seat : RouterSeat} (h : RouterRan rules terms config driven router_seat) → Ran rules h.a driven router_seat
+has_run {rules} h = record {
   opened = h.begins.opened;
   ended = h.ended;
   looks = h.looks;
 }
 
 -- what came of it
-pub outcome_of : {terms : Terms} {config : Config} {driven : Driven} {router_seat : RouterSeat} (lookup : Option Addr) (file : NamedFile) (h : RouterRan terms config driven router_seat) (outcome : Outcome)
+pub outcome_of : {rules : Rules} {terms : Terms} {config : Config} {driven : Driven} {router_seat : RouterSeat} (lookup : Option Addr) (file : NamedFile) (h : RouterRan rules terms config driven router_seat) (outcome : Outcome)
     → outcome.file.now ≡ file → outcome.router ≡ config.router_id
-    → ((a : Moment) → Ran a driven router_seat → Came lookup a outcome.came) → IsOutcome lookup terms file config outcome
-outcome_of lookup file h outcome file_is router_is came = record {
+    → ((a : Moment) → Ran rules a driven router_seat → Came rules lookup a outcome.came) → IsOutcome rules lookup terms file config outcome
+outcome_of {rules} lookup file h outcome file_is router_is came = record {
   file_is = file_is;
   router_is = router_is;
   a = h.a;

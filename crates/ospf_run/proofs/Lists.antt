@@ -7,6 +7,7 @@ use Rattle.std.specs.Prelude.{Option}
 use Rattle.std.specs.List.{AllZip}
 use Rattle.ospf_config.specs.declared.config.Config.{Config}
 use Rattle.ospf_drive.specs.Driven.{IsDriven, Outcome as Driven}
+use Rattle.ospf_drive.specs.Machines.{Rules}
 use Rattle.ospf_drive.specs.Moments.{Moment}
 use Rattle.ospf_drive.specs.Traffic.Carried.{Ticks}
 use Rattle.ospf_drive.proofs.Jobs.{of_first, of_later}
@@ -78,59 +79,59 @@ all_over {J} {W} f P jobs wires over all = go jobs (subst (λ (ws : List W). All
     go (j ∷ js) h = All-cons (λ job. P (f job)) j js (of_first P (f j ∷ map f js) (map f js) (f j) refl h) (go js (of_later P (f j ∷ map f js) (map f js) (f j) refl h))
 
 -- what began and what came of it, router by router
-pub routers_ran_of : {J : Type 0} (begins : J → Moment) (terms : Terms) (configs : List Config) (jobs : List J) (drivens : List Driven) (seats : List Known) (router_seats : List RouterSeat)
-    → AllZip (λ config job. BeginsRun terms.floor config (begins job).router (begins job).known) configs jobs → All (λ job. (begins job).traffic ≡ Ticks 0 terms.span) jobs → AllZip (λ job driven. IsDriven (begins job) driven) jobs drivens
-    → AllZip (λ job seat. seat ≡ (begins job).known) jobs seats → AllZip IsFrom seats router_seats → RoutersRan terms configs drivens router_seats
-routers_ran_of begins terms [] [] [] [] [] p n q r s = tt
-routers_ran_of begins terms [] [] [] [] (l ∷ ls) p n q r s = absurd s
-routers_ran_of begins terms [] [] [] (k ∷ ks) ls p n q r s = absurd r
-routers_ran_of begins terms [] [] (d ∷ ds) ks ls p n q r s = absurd q
-routers_ran_of begins terms [] (j ∷ js) ds ks ls p n q r s = absurd p
-routers_ran_of begins terms (c ∷ cs) [] ds ks ls p n q r s = absurd p
-routers_ran_of begins terms (c ∷ cs) (j ∷ js) [] ks ls p n q r s = absurd q
-routers_ran_of begins terms (c ∷ cs) (j ∷ js) (d ∷ ds) [] ls p n q r s = absurd r
-routers_ran_of begins terms (c ∷ cs) (j ∷ js) (d ∷ ds) (k ∷ ks) [] p n q r s = absurd s
-routers_ran_of begins terms (c ∷ cs) (j ∷ js) (d ∷ ds) (k ∷ ks) (l ∷ ls) p n q r s =
-    (record { a = begins j; begins = p.0; counted = of_first (λ job. (begins job).traffic ≡ Ticks 0 terms.span) (j ∷ js) js j refl n; ended = q.0; looks = subst (λ (known : Known). IsFrom known l) r.0 s.0 }, routers_ran_of begins terms cs js ds ks ls p.1 (of_later (λ job. (begins job).traffic ≡ Ticks 0 terms.span) (j ∷ js) js j refl n) q.1 r.1 s.1)
+pub routers_ran_of : (rules : Rules) {J : Type 0} (begins : J → Moment) (terms : Terms) (configs : List Config) (jobs : List J) (drivens : List Driven) (seats : List Known) (router_seats : List RouterSeat)
+    → AllZip (λ config job. BeginsRun terms.floor config (begins job).router (begins job).known) configs jobs → All (λ job. (begins job).traffic ≡ Ticks 0 terms.span) jobs → AllZip (λ job driven. IsDriven rules (begins job) driven) jobs drivens
+    → AllZip (λ job seat. seat ≡ (begins job).known) jobs seats → AllZip IsFrom seats router_seats → RoutersRan rules terms configs drivens router_seats
+routers_ran_of rules begins terms [] [] [] [] [] p n q r s = tt
+routers_ran_of rules begins terms [] [] [] [] (l ∷ ls) p n q r s = absurd s
+routers_ran_of rules begins terms [] [] [] (k ∷ ks) ls p n q r s = absurd r
+routers_ran_of rules begins terms [] [] (d ∷ ds) ks ls p n q r s = absurd q
+routers_ran_of rules begins terms [] (j ∷ js) ds ks ls p n q r s = absurd p
+routers_ran_of rules begins terms (c ∷ cs) [] ds ks ls p n q r s = absurd p
+routers_ran_of rules begins terms (c ∷ cs) (j ∷ js) [] ks ls p n q r s = absurd q
+routers_ran_of rules begins terms (c ∷ cs) (j ∷ js) (d ∷ ds) [] ls p n q r s = absurd r
+routers_ran_of rules begins terms (c ∷ cs) (j ∷ js) (d ∷ ds) (k ∷ ks) [] p n q r s = absurd s
+routers_ran_of rules begins terms (c ∷ cs) (j ∷ js) (d ∷ ds) (k ∷ ks) (l ∷ ls) p n q r s =
+    (record { a = begins j; begins = p.0; counted = of_first (λ job. (begins job).traffic ≡ Ticks 0 terms.span) (j ∷ js) js j refl n; ended = q.0; looks = subst (λ (known : Known). IsFrom known l) r.0 s.0 }, routers_ran_of rules begins terms cs js ds ks ls p.1 (of_later (λ job. (begins job).traffic ≡ Ticks 0 terms.span) (j ∷ js) js j refl n) q.1 r.1 s.1)
 
 -- one of each list is taken off what is left
-pub taken_off : (terms : Terms) (configs : List Config) (i : ℕ) (config : Config) (drivens later_drivens : List Driven) (driven : Driven) (router_seats later_seats : List RouterSeat) (router_seat : RouterSeat)
+pub taken_off : {rules : Rules} (terms : Terms) (configs : List Config) (i : ℕ) (config : Config) (drivens later_drivens : List Driven) (driven : Driven) (router_seats later_seats : List RouterSeat) (router_seat : RouterSeat)
     → i < length configs → config ≡ get_or configs i config → drivens ≡ driven ∷ later_drivens → router_seats ≡ router_seat ∷ later_seats
-    → RoutersRan terms (drop i configs) drivens router_seats → RouterRan terms config driven router_seat × RoutersRan terms (drop (i + 1) configs) later_drivens later_seats
-taken_off terms configs i config ds ds' d ls ls' l within is ds_are ls_are all_ran =
+    → RoutersRan rules terms (drop i configs) drivens router_seats → RouterRan rules terms config driven router_seat × RoutersRan rules terms (drop (i + 1) configs) later_drivens later_seats
+taken_off {rules} terms configs i config ds ds' d ls ls' l within is ds_are ls_are all_ran =
     let split : drop i configs ≡ config ∷ drop (i + 1) configs =
     drop-cons configs i config within ∙ ap (λ x. x ∷ drop (suc i) configs) (sym is) ∙ ap (λ n. config ∷ drop n configs) (sym (add-one i)) in
-    subst (λ (cs : List Config). RoutersRan terms cs (d ∷ ds') (l ∷ ls')) split
-    (subst (λ (xs : List Driven). RoutersRan terms (drop i configs) xs (l ∷ ls')) ds_are (subst (λ (ys : List RouterSeat). RoutersRan terms (drop i configs) ds ys) ls_are all_ran))
+    subst (λ (cs : List Config). RoutersRan rules terms cs (d ∷ ds') (l ∷ ls')) split
+    (subst (λ (xs : List Driven). RoutersRan rules terms (drop i configs) xs (l ∷ ls')) ds_are (subst (λ (ys : List RouterSeat). RoutersRan rules terms (drop i configs) ds ys) ls_are all_ran))
 
 -- there are as many of each
-pub as_long : (terms : Terms) (configs : List Config) (drivens : List Driven) (router_seats : List RouterSeat) → RoutersRan terms configs drivens router_seats
+pub as_long : (rules : Rules) (terms : Terms) (configs : List Config) (drivens : List Driven) (router_seats : List RouterSeat) → RoutersRan rules terms configs drivens router_seats
     → (length drivens ≡ length configs) × (length router_seats ≡ length configs)
-as_long terms [] [] [] all_ran = (refl, refl)
-as_long terms [] [] (l ∷ ls) all_ran = absurd all_ran
-as_long terms [] (d ∷ ds) ls all_ran = absurd all_ran
-as_long terms (c ∷ cs) [] ls all_ran = absurd all_ran
-as_long terms (c ∷ cs) (d ∷ ds) [] all_ran = absurd all_ran
-as_long terms (c ∷ cs) (d ∷ ds) (l ∷ ls) all_ran =
-    let long = as_long terms cs ds ls all_ran.1 in (ap (λ (n : ℕ). suc n) long.0, ap (λ (n : ℕ). suc n) long.1)
+as_long rules terms [] [] [] all_ran = (refl, refl)
+as_long rules terms [] [] (l ∷ ls) all_ran = absurd all_ran
+as_long rules terms [] (d ∷ ds) ls all_ran = absurd all_ran
+as_long rules terms (c ∷ cs) [] ls all_ran = absurd all_ran
+as_long rules terms (c ∷ cs) (d ∷ ds) [] all_ran = absurd all_ran
+as_long rules terms (c ∷ cs) (d ∷ ds) (l ∷ ls) all_ran =
+    let long = as_long rules terms cs ds ls all_ran.1 in (ap (λ (n : ℕ). suc n) long.0, ap (λ (n : ℕ). suc n) long.1)
 
-outcomes_then : (lookup : Option Addr) (terms : Terms) (files : List NamedFile) (configs : List Config) (outcomes : List Outcome) (file : NamedFile) (config : Config) (outcome : Outcome)
-    → AreOutcomes lookup terms files configs outcomes → IsOutcome lookup terms file config outcome
-    → AreOutcomes lookup terms (files ++ file ∷ []) (configs ++ config ∷ []) (outcomes ++ outcome ∷ [])
-outcomes_then lookup terms [] [] [] file config outcome are is = (is, tt)
-outcomes_then lookup terms [] [] (o ∷ os) file config outcome are is = absurd are
-outcomes_then lookup terms [] (c ∷ cs) os file config outcome are is = absurd are
-outcomes_then lookup terms (f ∷ fs) [] os file config outcome are is = absurd are
-outcomes_then lookup terms (f ∷ fs) (c ∷ cs) [] file config outcome are is = absurd are
-outcomes_then lookup terms (f ∷ fs) (c ∷ cs) (o ∷ os) file config outcome are is = (are.0, outcomes_then lookup terms fs cs os file config outcome are.1 is)
+outcomes_then : {rules : Rules} (lookup : Option Addr) (terms : Terms) (files : List NamedFile) (configs : List Config) (outcomes : List Outcome) (file : NamedFile) (config : Config) (outcome : Outcome)
+    → AreOutcomes rules lookup terms files configs outcomes → IsOutcome rules lookup terms file config outcome
+    → AreOutcomes rules lookup terms (files ++ file ∷ []) (configs ++ config ∷ []) (outcomes ++ outcome ∷ [])
+outcomes_then {rules} lookup terms [] [] [] file config outcome are is = (is, tt)
+outcomes_then {rules} lookup terms [] [] (o ∷ os) file config outcome are is = absurd are
+outcomes_then {rules} lookup terms [] (c ∷ cs) os file config outcome are is = absurd are
+outcomes_then {rules} lookup terms (f ∷ fs) [] os file config outcome are is = absurd are
+outcomes_then {rules} lookup terms (f ∷ fs) (c ∷ cs) [] file config outcome are is = absurd are
+outcomes_then {rules} lookup terms (f ∷ fs) (c ∷ cs) (o ∷ os) file config outcome are is = (are.0, outcomes_then lookup terms fs cs os file config outcome are.1 is)
 
 -- one outcome more
-pub outcomes_more : (lookup : Option Addr) (terms : Terms) (files : List NamedFile) (configs : List Config) (outcomes more : List Outcome) (i : ℕ) (file : NamedFile) (config : Config)
+pub outcomes_more : {rules : Rules} (lookup : Option Addr) (terms : Terms) (files : List NamedFile) (configs : List Config) (outcomes more : List Outcome) (i : ℕ) (file : NamedFile) (config : Config)
     (outcome : Outcome) → i < length files → file ≡ get_or files i file → i < length configs → config ≡ get_or configs i config
-    → AreOutcomes lookup terms (take i files) (take i configs) outcomes → IsOutcome lookup terms file config outcome → more ≡ outcomes ++ outcome ∷ []
-    → AreOutcomes lookup terms (take (i + 1) files) (take (i + 1) configs) more
-outcomes_more lookup terms files configs outcomes more i file config outcome in_files file_is in_configs config_is are is more_is =
-    subst (λ (os : List Outcome). AreOutcomes lookup terms (take (i + 1) files) (take (i + 1) configs) os) (sym more_is)
-    (subst (λ (cs : List Config). AreOutcomes lookup terms (take (i + 1) files) cs (outcomes ++ outcome ∷ [])) (sym (front_more configs i config in_configs config_is))
-    (subst (λ (fs : List NamedFile). AreOutcomes lookup terms fs (take i configs ++ config ∷ []) (outcomes ++ outcome ∷ [])) (sym (front_more files i file in_files file_is))
+    → AreOutcomes rules lookup terms (take i files) (take i configs) outcomes → IsOutcome rules lookup terms file config outcome → more ≡ outcomes ++ outcome ∷ []
+    → AreOutcomes rules lookup terms (take (i + 1) files) (take (i + 1) configs) more
+outcomes_more {rules} lookup terms files configs outcomes more i file config outcome in_files file_is in_configs config_is are is more_is =
+    subst (λ (os : List Outcome). AreOutcomes rules lookup terms (take (i + 1) files) (take (i + 1) configs) os) (sym more_is)
+    (subst (λ (cs : List Config). AreOutcomes rules lookup terms (take (i + 1) files) cs (outcomes ++ outcome ∷ [])) (sym (front_more configs i config in_configs config_is))
+    (subst (λ (fs : List NamedFile). AreOutcomes rules lookup terms fs (take i configs ++ config ∷ []) (outcomes ++ outcome ∷ [])) (sym (front_more files i file in_files file_is))
     (outcomes_then lookup terms (take i files) (take i configs) outcomes file config outcome are is)))

@@ -1,5 +1,6 @@
 -- The statuses that runs end with.
 use Rattle.std.proofs.Common.{◌≡◌, ◌∙◌, sym, subst, Bool, true, false, List, cond}
+use Rattle.ospf_drive.specs.Machines.{Rules}
 use Rattle.ospf_files.proofs.Cut.{failed_not_done, failed_not_refused, failed_not_words}
 use Rattle.ospf_files.specs.Streams.{Written}
 use Rattle.ospf_files.specs.declared.files.NamedFile.{NamedFile}
@@ -42,47 +43,47 @@ obstacle_not_words (obstacle.SameRouter twins) is = absurd (cc is)
 obstacle_not_words (obstacle.NoPort file number) is = absurd (cc is)
 obstacle_not_words (obstacle.NoSocket file none) is = absurd (cc is)
 
-run_not_refused : (asked : Asked) (files : List NamedFile) (s : Status) (old new : Written)
-    → IsPlanRun asked files s old new → s ≡ status.Refused → ⊥
-run_not_refused asked files s old new run is =
+run_not_refused : {rules : Rules} (asked : Asked) (files : List NamedFile) (s : Status) (old new : Written)
+    → IsPlanRun rules asked files s old new → s ≡ status.Refused → ⊥
+run_not_refused {rules} asked files s old new run is =
     not_refused (list_any is_failed run.outcomes) (list_any is_early run.outcomes) (sym run.reported.status_is ∙ is)
 
-run_not_words : (asked : Asked) (files : List NamedFile) (s : Status) (old new : Written)
-    → IsPlanRun asked files s old new → s ≡ status.Words → ⊥
-run_not_words asked files s old new run is =
+run_not_words : {rules : Rules} (asked : Asked) (files : List NamedFile) (s : Status) (old new : Written)
+    → IsPlanRun rules asked files s old new → s ≡ status.Words → ⊥
+run_not_words {rules} asked files s old new run is =
     not_words (list_any is_failed run.outcomes) (list_any is_early run.outcomes) (sym run.reported.status_is ∙ is)
 
 -- where all is done, all has run
-done_runs : (asked : Asked) (files : List NamedFile) (s : Status) (old new : Written)
-    → ComesOfRun asked files s old new → s ≡ status.Done → IsPlanRun asked files status.Done old new
-done_runs asked files s old new (hindered h) done = absurd (obstacle_not_done h.obstacle (sym h.status_is ∙ done))
-done_runs asked files s old new (ran run) done = subst (λ (t : Status). IsPlanRun asked files t old new) done run
+done_runs : {rules : Rules} (asked : Asked) (files : List NamedFile) (s : Status) (old new : Written)
+    → ComesOfRun rules asked files s old new → s ≡ status.Done → IsPlanRun rules asked files status.Done old new
+done_runs {rules} asked files s old new (hindered h) done = absurd (obstacle_not_done h.obstacle (sym h.status_is ∙ done))
+done_runs {rules} asked files s old new (ran run) done = subst (λ (t : Status). IsPlanRun rules asked files t old new) done run
 
 -- what is refused is told, and nothing is written
-refused_told : (asked : Asked) (files : List NamedFile) (s : Status) (old new : Written)
-    → ComesOfRun asked files s old new → s ≡ status.Refused → IsHindered asked files status.Refused old new
-refused_told asked files s old new (hindered h) so = subst (λ (t : Status). IsHindered asked files t old new) so h
-refused_told asked files s old new (ran run) so = absurd (run_not_refused asked files s old new run so)
+refused_told : {rules : Rules} (asked : Asked) (files : List NamedFile) (s : Status) (old new : Written)
+    → ComesOfRun rules asked files s old new → s ≡ status.Refused → IsHindered asked files status.Refused old new
+refused_told {rules} asked files s old new (hindered h) so = subst (λ (t : Status). IsHindered asked files t old new) so h
+refused_told {rules} asked files s old new (ran run) so = absurd (run_not_refused asked files s old new run so)
 
 -- no run ends for its words
-comes_not_words : (asked : Asked) (files : List NamedFile) (s : Status) (old new : Written)
-    → ComesOfRun asked files s old new → s ≡ status.Words → ⊥
-comes_not_words asked files s old new (hindered h) so = obstacle_not_words h.obstacle (sym h.status_is ∙ so)
-comes_not_words asked files s old new (ran run) so = run_not_words asked files s old new run so
+comes_not_words : {rules : Rules} (asked : Asked) (files : List NamedFile) (s : Status) (old new : Written)
+    → ComesOfRun rules asked files s old new → s ≡ status.Words → ⊥
+comes_not_words {rules} asked files s old new (hindered h) so = obstacle_not_words h.obstacle (sym h.status_is ∙ so)
+comes_not_words {rules} asked files s old new (ran run) so = run_not_words asked files s old new run so
 
 -- ---- the same of a run that may be cut
 
-pub end_done : (asked : Asked) (files : List NamedFile) (s : Status) (old new : Written)
-    → EndsRun asked files s old new → s ≡ status.Done → IsPlanRun asked files status.Done old new
-end_done asked files s old new (comes c) done = done_runs asked files s old new c done
-end_done asked files s old new (cut_short failed cut) done = absurd (failed_not_done cut.cause (sym cut.status_is ∙ done))
+pub end_done : {rules : Rules} (asked : Asked) (files : List NamedFile) (s : Status) (old new : Written)
+    → EndsRun rules asked files s old new → s ≡ status.Done → IsPlanRun rules asked files status.Done old new
+end_done {rules} asked files s old new (comes c) done = done_runs asked files s old new c done
+end_done {rules} asked files s old new (cut_short failed cut) done = absurd (failed_not_done cut.cause (sym cut.status_is ∙ done))
 
-pub end_refused : (asked : Asked) (files : List NamedFile) (s : Status) (old new : Written)
-    → EndsRun asked files s old new → s ≡ status.Refused → IsHindered asked files status.Refused old new
-end_refused asked files s old new (comes c) so = refused_told asked files s old new c so
-end_refused asked files s old new (cut_short failed cut) so = absurd (failed_not_refused cut.cause (sym cut.status_is ∙ so))
+pub end_refused : {rules : Rules} (asked : Asked) (files : List NamedFile) (s : Status) (old new : Written)
+    → EndsRun rules asked files s old new → s ≡ status.Refused → IsHindered asked files status.Refused old new
+end_refused {rules} asked files s old new (comes c) so = refused_told asked files s old new c so
+end_refused {rules} asked files s old new (cut_short failed cut) so = absurd (failed_not_refused cut.cause (sym cut.status_is ∙ so))
 
-pub end_not_words : (asked : Asked) (files : List NamedFile) (s : Status) (old new : Written)
-    → EndsRun asked files s old new → s ≡ status.Words → ⊥
-end_not_words asked files s old new (comes c) so = comes_not_words asked files s old new c so
-end_not_words asked files s old new (cut_short failed cut) so = failed_not_words cut.cause (sym cut.status_is ∙ so)
+pub end_not_words : {rules : Rules} (asked : Asked) (files : List NamedFile) (s : Status) (old new : Written)
+    → EndsRun rules asked files s old new → s ≡ status.Words → ⊥
+end_not_words {rules} asked files s old new (comes c) so = comes_not_words asked files s old new c so
+end_not_words {rules} asked files s old new (cut_short failed cut) so = failed_not_words cut.cause (sym cut.status_is ∙ so)

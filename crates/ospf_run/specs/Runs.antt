@@ -4,6 +4,7 @@ use Rattle.std.specs.Io.KnownBytes.{Appends}
 use Rattle.ospf_base.specs.declared.ids.Addr.{Addr}
 use Rattle.ospf_config.specs.declared.config.Config.{Config}
 use Rattle.ospf_drive.specs.Driven.{DrivesToEnd, IsDriven, Outcome as Driven}
+use Rattle.ospf_drive.specs.Machines.{Rules}
 use Rattle.ospf_drive.specs.Moments.{Moment}
 use Rattle.ospf_drive.specs.Traffic.{EndsAfter, ticks_in}
 use Rattle.ospf_drive.specs.Traffic.Carried.{Ticks}
@@ -49,37 +50,41 @@ IsLookedUp (Some address) tables (Some looked) =
     (looked.address ≡ address) × IsAnswerOfLast tables address 0 looked.answer
 IsLookedUp _ tables _ = ⊥
 
--- a driver that began there came to an end, with this router, where the span of its wire lets it
--- end after as many ticks as were taken, and the lookup is in the table that it published last
-pub record ComesToEnd (lookup : Option Addr) (a : Moment) (shown : RouterShown) : Type 0 where
+-- a driver that began there came to an end, by the rules of its machine and with this router, where
+-- the span of its wire lets it end after as many ticks as were taken, and the lookup is in the
+-- table that it published last
+pub record ComesToEnd (rules : Rules) (lookup : Option Addr) (a : Moment) (shown : RouterShown)
+    : Type 0 where
   pub known : Known
   pub told : Option Known
-  pub drives : DrivesToEnd a shown.router known told
+  pub drives : DrivesToEnd rules a shown.router known told
   pub ticked : (handed : ℕ) (span : Span) → a.traffic ≡ Ticks handed span
       → EndsAfter span (handed + ticks_in drives.drives.goes_on.taken)
   pub looked : IsLookedUp lookup known.tables shown.looked
 
 -- what came of a router: its driver began there and came to an end, or it failed
-abbrev pub Came : Option Addr → Moment → Result RouterShown DriveFault → Type 0
-Came lookup a (Ok shown) = ComesToEnd lookup a shown
-Came lookup a (Err f) = IsDriven a (Err f)
+abbrev pub Came : Rules → Option Addr → Moment → Result RouterShown DriveFault → Type 0
+Came rules lookup a (Ok shown) = ComesToEnd rules lookup a shown
+Came rules lookup a (Err f) = IsDriven rules a (Err f)
 
 -- the router of a configuration begins over a wire with the span, and this came of it
-pub record IsOutcome (lookup : Option Addr) (terms : Terms) (file : NamedFile) (config : Config)
-    (outcome : Outcome) : Type 0 where
+pub record IsOutcome (rules : Rules) (lookup : Option Addr) (terms : Terms) (file : NamedFile)
+    (config : Config) (outcome : Outcome) : Type 0 where
   pub file_is : outcome.file.now ≡ file
   pub router_is : outcome.router ≡ config.router_id
   pub a : Moment
   pub begins : BeginsRun terms.floor config a.router a.known
   pub counted : a.traffic ≡ Ticks 0 terms.span
-  pub came : Came lookup a outcome.came
+  pub came : Came rules lookup a outcome.came
 
 -- what came of the routers of files, in their order
-abbrev pub AreOutcomes : Option Addr → Terms → List NamedFile → List Config → List Outcome → Type 0
-AreOutcomes lookup terms [] [] [] = ⊤
-AreOutcomes lookup terms (file ∷ files) (config ∷ configs) (outcome ∷ outcomes) =
-    IsOutcome lookup terms file config outcome × AreOutcomes lookup terms files configs outcomes
-AreOutcomes lookup terms _ _ _ = ⊥
+abbrev pub AreOutcomes : Rules → Option Addr → Terms → List NamedFile → List Config → List Outcome
+    → Type 0
+AreOutcomes rules lookup terms [] [] [] = ⊤
+AreOutcomes rules lookup terms (file ∷ files) (config ∷ configs) (outcome ∷ outcomes) =
+    IsOutcome rules lookup terms file config outcome
+    × AreOutcomes rules lookup terms files configs outcomes
+AreOutcomes rules lookup terms _ _ _ = ⊥
 
 -- ---- what is asked for
 
@@ -123,9 +128,9 @@ pub record AreExtras (asked : Asked) (extras : Extras) : Type 0 where
 -- ---- on the way
 
 -- what came of the routers of a plan, in their order, where so much is asked for
-abbrev pub ComeOf : Settings → Plan → List NamedFile → List Outcome → Type 0
-ComeOf settings plan files outcomes =
-    AreOutcomes settings.lookup (record { span = span_of settings; floor = plan.floor }) files
+abbrev pub ComeOf : Rules → Settings → Plan → List NamedFile → List Outcome → Type 0
+ComeOf rules settings plan files outcomes =
+    AreOutcomes rules settings.lookup (record { span = span_of settings; floor = plan.floor }) files
     plan.configs.items outcomes
 
 -- what the last publish of a driver told: all that its writer has published; nothing
@@ -135,36 +140,40 @@ IsPublishTold known None = known.tables ≡ opening
 IsPublishTold known (Some told) = told ≡ known
 
 -- a driver that began there has ended, and what looks up beside it has
-pub record Ran (a : Moment) (driven : Driven) (router_seat : RouterSeat) : Type 0 where
+pub record Ran (rules : Rules) (a : Moment) (driven : Driven) (router_seat : RouterSeat)
+    : Type 0 where
   pub opened : a.known.tables ≡ opening
-  pub ended : IsDriven a driven
+  pub ended : IsDriven rules a driven
   pub looks : IsFrom a.known router_seat
 
 -- the router of a configuration began, and this came of its driver and of what looks up beside it
-pub record RouterRan (terms : Terms) (config : Config) (driven : Driven) (router_seat : RouterSeat)
-    : Type 0 where
+pub record RouterRan (rules : Rules) (terms : Terms) (config : Config) (driven : Driven)
+    (router_seat : RouterSeat) : Type 0 where
   pub a : Moment
   pub begins : BeginsRun terms.floor config a.router a.known
   pub counted : a.traffic ≡ Ticks 0 terms.span
-  pub ended : IsDriven a driven
+  pub ended : IsDriven rules a driven
   pub looks : IsFrom a.known router_seat
 
 -- so did all of them, one for each configuration
-abbrev pub RoutersRan : Terms → List Config → List Driven → List RouterSeat → Type 0
-RoutersRan terms [] [] [] = ⊤
-RoutersRan terms (config ∷ configs) (driven ∷ drivens) (router_seat ∷ router_seats) =
-    RouterRan terms config driven router_seat × RoutersRan terms configs drivens router_seats
-RoutersRan terms _ _ _ = ⊥
+abbrev pub RoutersRan : Rules → Terms → List Config → List Driven → List RouterSeat → Type 0
+RoutersRan rules terms [] [] [] = ⊤
+RoutersRan rules terms (config ∷ configs) (driven ∷ drivens) (router_seat ∷ router_seats) =
+    RouterRan rules terms config driven router_seat
+    × RoutersRan rules terms configs drivens router_seats
+RoutersRan rules terms _ _ _ = ⊥
 
 -- ---- runs
 
--- the plan of the files was run, with the span, and this came of its routers
-pub record HaveRun (asked : Asked) (files : List NamedFile) (outcomes : List Outcome) : Type 0 where
+-- the plan of the files was run, with the span, by machines of these rules, and this came of its
+-- routers
+pub record HaveRun (rules : Rules) (asked : Asked) (files : List NamedFile)
+    (outcomes : List Outcome) : Type 0 where
   pub configs : List Config
   pub least : ℤ
   pub plan : IsPlan asked.floor files configs least
-  pub are :
-      AreOutcomes asked.lookup (record { span = asked.span; floor = least }) files configs outcomes
+  pub are : AreOutcomes rules asked.lookup (record { span = asked.span; floor = least }) files
+      configs outcomes
 
 -- what keeps the routers of the files from running is told, with its status,
 -- and nothing is written beside it
@@ -178,22 +187,22 @@ pub record IsHindered (asked : Asked) (files : List NamedFile) (status : Status)
 
 -- the plan of the files was run: what came of each router is printed and told,
 -- with what is asked for beside it
-pub record IsPlanRun (asked : Asked) (files : List NamedFile) (status : Status) (old new : Written)
-    : Type 0 where
+pub record IsPlanRun (rules : Rules) (asked : Asked) (files : List NamedFile) (status : Status)
+    (old new : Written) : Type 0 where
   pub outcomes : List Outcome
   pub extras : Extras
-  pub run : HaveRun asked files outcomes
+  pub run : HaveRun rules asked files outcomes
   pub wanted : AreExtras asked extras
   pub reported : AreOutcomesReported extras outcomes status old new
 
 -- how a run comes to its end: something keeps the routers from running, or they have run
-pub data ComesOfRun (asked : Asked) (files : List NamedFile) (status : Status) (old new : Written)
-    : Type 0 where
-  hindered : IsHindered asked files status old new → ComesOfRun asked files status old new
-  ran : IsPlanRun asked files status old new → ComesOfRun asked files status old new
+pub data ComesOfRun (rules : Rules) (asked : Asked) (files : List NamedFile) (status : Status)
+    (old new : Written) : Type 0 where
+  hindered : IsHindered asked files status old new → ComesOfRun rules asked files status old new
+  ran : IsPlanRun rules asked files status old new → ComesOfRun rules asked files status old new
 
 -- the plan of the files was run as is asked for, and this came of its routers, with
 -- what is to be printed beside it
-abbrev pub RunsTo : Settings → List NamedFile → List Outcome → Extras → Type 0
-RunsTo settings files outcomes extras =
-    HaveRun (asked_of settings) files outcomes × AreExtras (asked_of settings) extras
+abbrev pub RunsTo : Rules → Settings → List NamedFile → List Outcome → Extras → Type 0
+RunsTo rules settings files outcomes extras =
+    HaveRun rules (asked_of settings) files outcomes × AreExtras (asked_of settings) extras

@@ -8,9 +8,9 @@ ghost use Rattle.ospf_router.specs.Starts.{IsStarted};
 ghost use Rattle.ospf_run.specs.Runs.{BeginsRun};
 
 use ospf_config::Config;
-use ospf_drive::{DriverJob, Wire};
+use ospf_drive::{DriverJob, Machine, Wire};
 use ospf_fib::{Fib, OpenRefused, Seat, Writer};
-use ospf_router::{Router, StartFault};
+use ospf_router::StartFault;
 use ospf_udp::put;
 use std::alloc::{AllocError, Global};
 use std::sync::Wait;
@@ -18,23 +18,23 @@ use std::sync::Wait;
 // The first DD sequence number of each router (RFC 2328, section 10.3).
 const DD_START: u32 = 1;
 
-/// Starts a router for each configuration, over the wire at its place. The floor of their
+/// Starts a machine for each configuration, over the wire at its place. The floor of their
 /// numbers is below the greatest number.
 ///
 /// `AllocError` where memory runs out, or there is no place for a seat.
-pub(crate) fn begin_all<W: Wire + Drop, R: Wait + Copy + Drop>(
+pub(crate) fn begin_all<M: Machine + Drop, W: Wire + Drop, R: Wait + Copy + Drop>(
     rt: R,
     alloc: Global,
     configs: &[Config],
     floor: i32,
     wires: Vec<W>,
-) -> Result<(Vec<DriverJob<W, R>>, Vec<Seat>), AllocError>
+) -> Result<(Vec<DriverJob<M, W, R>>, Vec<Seat>), AllocError>
     requires floor { floor ≢ max_sequence_number }
     requires wires { length wires.items ≡ length configs.now }
     requires fresh { All (λ wire. W.failed wire + 1 < 2 ^ 64) wires.items }
     // Each configuration has its job and its seat, in their order, over its own wire.
-    ensures begins { IfOk result (λ begun. AllZip (λ config job. BeginsRun floor config job.0 job.2)
-        configs.now begun.0.items) }
+    ensures begins { IfOk result (λ begun. AllZip
+        (λ config job. BeginsRun floor config (M.value job.0) job.2) configs.now begun.0.items) }
     ensures over { IfOk result (λ begun. map (λ job. job.1) begun.0.items ≡ wires.items) }
     ensures fresh { IfOk result (λ begun. All (λ job. W.failed job.1 + 1 < 2 ^ 64) begun.0.items) }
     ensures seats { IfOk result (λ begun. AllZip (λ job seat. seat ≡ job.2) begun.0.items
@@ -54,33 +54,34 @@ pub(crate) fn begin_all<W: Wire + Drop, R: Wait + Copy + Drop>(
     Ok((jobs, seats))
 }
 
-// A router that starts with a configuration, the writer of its table, and a seat there.
-fn begin<W: Wire + Drop, R: Wait + Drop>(
+// A machine that starts with a configuration, the writer of its table, and a seat there.
+fn begin<M: Machine + Drop, W: Wire + Drop, R: Wait + Drop>(
     rt: R,
     alloc: Global,
     config: &Config,
     floor: i32,
     wire: W,
-) -> Result<(DriverJob<W, R>, Seat), AllocError>
+) -> Result<(DriverJob<M, W, R>, Seat), AllocError>
     requires { floor ≢ max_sequence_number }
-    ensures begins { IfOk result (λ begun. BeginsRun floor config.now begun.0.0 begun.0.2) }
+    ensures begins { IfOk result (λ begun. BeginsRun floor config.now (M.value begun.0.0)
+        begun.0.2) }
     ensures wire { IfOk result (λ begun. begun.0.1 ≡ wire) }
     ensures seat { IfOk result (λ begun. begun.1 ≡ begun.0.2) }
 {
-    let router = start_router(alloc, config, floor)?;
+    let machine = start_machine(alloc, config, floor)?;
     match open_table(rt, alloc) {
-        Ok((writer, seat)) => Ok(((router, wire, writer), seat)),
+        Ok((writer, seat)) => Ok(((machine, wire, writer), seat)),
         Err(OpenRefused) => Err(AllocError),
     }
 }
 
-// A router that starts with a configuration.
-fn start_router(alloc: Global, config: &Config, floor: i32) -> Result<Router, AllocError>
+// A machine that starts with a configuration.
+fn start_machine<M: Machine>(alloc: Global, config: &Config, floor: i32) -> Result<M, AllocError>
     requires { floor ≢ max_sequence_number }
-    ensures { IfOk result (IsStarted config.now 1 floor) }
+    ensures { IfOk result (λ m. IsStarted config.now 1 floor (M.value m)) }
 {
-    match Router::start(config, DD_START, floor, alloc) {
-        Ok(router) => Ok(router),
+    match M::start(config, DD_START, floor, alloc) {
+        Ok(machine) => Ok(machine),
         Err(StartFault::Memory) => Err(AllocError),
         Err(StartFault::Floor) => unreachable!(),
     }

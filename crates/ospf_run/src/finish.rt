@@ -12,7 +12,7 @@ use crate::look::RouterSeat;
 use crate::outcome::{Looked, Outcome, RouterShown};
 use ospf_base::Addr;
 use ospf_config::Config;
-use ospf_drive::{DriveFault, Driven, all_ticks_are_taken};
+use ospf_drive::{DriveFault, Driven, Machine, all_ticks_are_taken};
 use ospf_fib::{Answer, Closed, Seat, Told, Writer};
 use ospf_files::{Failure, NamedFile};
 use ospf_udp::put;
@@ -20,8 +20,8 @@ use std::alloc::Global;
 use std::sync::Wait;
 use std::thread::Threads;
 
-/// What came of the routers of files, in their order.
-pub(crate) fn finish_all<'a, R: Wait + Drop, S: Threads>(
+/// What came of the routers of files, in their order, which machines were.
+pub(crate) fn finish_all<'a, M: Machine, R: Wait + Drop, S: Threads>(
     rt: &S,
     alloc: Global,
     files: &'a [NamedFile],
@@ -31,9 +31,11 @@ pub(crate) fn finish_all<'a, R: Wait + Drop, S: Threads>(
     lookup: Option<Addr>,
 ) -> Result<Vec<Outcome<'a>>, Failure>
     requires files { length files.now ≡ length configs.now }
-    requires ended { (terms : Terms) × RoutersRan terms configs.now driven.items seats.items }
-    ensures outcomes { (terms : Terms) → RoutersRan terms configs.now driven.items seats.items
-        → IfOk result (λ all. AreOutcomes lookup terms files.now configs.now all.items) }
+    requires ended { (terms : Terms)
+        × RoutersRan M.rules terms configs.now driven.items seats.items }
+    ensures outcomes { (terms : Terms) →
+        RoutersRan M.rules terms configs.now driven.items seats.items →
+        IfOk result (λ all. AreOutcomes M.rules lookup terms files.now configs.now all.items) }
     ensures early { IfErr result (FailsPlan lookup files.now) }
 {
     let mut outcomes = Vec::with_capacity(alloc, configs.len())?;
@@ -46,7 +48,7 @@ pub(crate) fn finish_all<'a, R: Wait + Drop, S: Threads>(
         let Some(router_seat) = seats.next() else {
             unreachable!()
         };
-        let Ok(came) = finish(rt, ended, router_seat, lookup) else {
+        let Ok(came) = finish::<M, R, S>(rt, ended, router_seat, lookup) else {
             return Err(Failure::Closed);
         };
         let outcome = outcome_of(&files[place], config, came);
@@ -56,18 +58,19 @@ pub(crate) fn finish_all<'a, R: Wait + Drop, S: Threads>(
 }
 
 // What came of a router: its driver has ended, and its seat is at rest.
-fn finish<R: Wait + Drop, S: Threads>(
+fn finish<M: Machine, R: Wait + Drop, S: Threads>(
     rt: &S,
     driven: Driven<R>,
     router_seat: RouterSeat,
     lookup: Option<Addr>,
 ) -> Result<Result<RouterShown, DriveFault>, Closed>
-    requires { (a : Moment) × Ran a driven router_seat }
-    ensures came { (a : Moment) → Ran a driven router_seat → IfOk result (Came lookup a) }
+    requires { (a : Moment) × Ran M.rules a driven router_seat }
+    ensures came { (a : Moment) → Ran M.rules a driven router_seat →
+        IfOk result (Came M.rules lookup a) }
     ensures asked { OnErr result (IsSome lookup) }
 {
     // For the proof.
-    all_ticks_are_taken();
+    all_ticks_are_taken::<M>();
     let (router, writer, told) = match driven {
         Ok(driven) => driven,
         Err(fault) => return Ok(Err(fault)),

@@ -29,5 +29,6 @@ pub use crate::run::run_text;
 pub use crate::settings::Settings;
 pub use crate::tap::Tap;
 pub use ospf_config::Config;
+pub use ospf_drive::Machine;
 pub use ospf_router::{Router, Sent, Step};
 pub use ospf_udp::Ending;

@@ -3,8 +3,6 @@
 ghost use Rattle.std.specs.Prelude.{◌≡◌, ◌≢◌, ◌+◌, ◌<◌, ◌≤◌, ◌^◌, [], List, All, IfErr, IfOk, length, vec_capacity, vec_len};
 ghost use Rattle.std.specs.List.{AllZip};
 ghost use Rattle.ospf_config.specs.declared.config.Config.{Config};
-ghost use Rattle.ospf_drive.specs.Driven.{IsDriven};
-ghost use Rattle.ospf_drive.specs.Moments.{at};
 ghost use Rattle.ospf_flood.specs.Rules.{max_sequence_number};
 ghost use Rattle.ospf_run.specs.Lookups.{IsFrom};
 ghost use Rattle.ospf_run.specs.Cut.{FailsPlan};
@@ -17,7 +15,7 @@ use crate::look::{Done, RouterSeat, start_lookup};
 use crate::outcome::Outcome;
 use crate::settings::Settings;
 use ospf_base::Addr;
-use ospf_drive::{Driven, DriverJob, Wire, drive_all};
+use ospf_drive::{Driven, DriverJob, Machine, Wire, drive_all};
 use ospf_fib::Seat;
 use ospf_files::{Failure, NamedFile};
 use ospf_udp::Plan;
@@ -30,6 +28,7 @@ use std::time::Clock;
 /// Runs a plan over wires, one for each configuration. What comes of its routers, in their order.
 pub(crate) fn run_over<
     'a,
+    M: Machine + Send + Drop + 'static,
     W: Wire + Send + Drop + 'static,
     R: Threads + Wait + Clock + Copy + Send + Drop + 'static,
 >(
@@ -46,12 +45,13 @@ pub(crate) fn run_over<
     requires fresh { All (λ wire. W.failed wire + 1 < 2 ^ 64) wires.items }
     requires counted { All (λ wire. W.traffic wire ≡ Ticks 0 (span_of settings.now)) wires.items }
     // What comes of each router, or what failed before anything was written.
-    ensures outcomes { IfOk result (λ all. ComeOf settings.now plan.now files.now all.items) }
+    ensures outcomes { IfOk result
+        (λ all. ComeOf M.rules settings.now plan.now files.now all.items) }
     ensures early { IfErr result (FailsPlan settings.now.lookup files.now) }
 {
-    let (jobs, seats) = begin_all(*rt, alloc, &plan.configs, plan.floor, wires)?;
+    let (jobs, seats) = begin_all::<M, W, R>(*rt, alloc, &plan.configs, plan.floor, wires)?;
     let (driven, router_seats) = drive_and_look(rt, alloc, jobs, seats, settings.lookup)?;
-    finish_all(
+    finish_all::<M, R, R>(
         rt,
         alloc,
         files,
@@ -64,26 +64,31 @@ pub(crate) fn run_over<
 
 // Drives the routers, and looks the address up beside them.
 fn drive_and_look<
+    M: Machine + Send + Drop + 'static,
     W: Wire + Send + Drop + 'static,
     R: Threads + Wait + Clock + Copy + Send + Drop + 'static,
 >(
     rt: &R,
     alloc: Global,
-    jobs: Vec<DriverJob<W, R>>,
+    jobs: Vec<DriverJob<M, W, R>>,
     seats: Vec<Seat>,
     lookup: Option<Addr>,
 ) -> Result<(Vec<Driven<R>>, Vec<RouterSeat>), AllocError>
     requires { All (λ job. W.failed job.1 + 1 < 2 ^ 64) jobs.items }
     ensures { (terms : Terms) (configs : List Config) →
-        AllZip (λ config job. BeginsRun terms.floor config job.0 job.2) configs jobs.items →
+        AllZip (λ config job. BeginsRun terms.floor config (M.value job.0) job.2)
+        configs jobs.items →
         All (λ job. W.traffic job.1 ≡ Ticks 0 terms.span) jobs.items →
         AllZip (λ job seat. seat ≡ job.2) jobs.items seats.items →
-        IfOk result (λ ended. RoutersRan terms configs ended.0.items ended.1.items) }
+        IfOk result (λ ended. RoutersRan M.rules terms configs ended.0.items ended.1.items) }
 {
     let done = Arc::new(alloc, AtomicBool::new(false)).map_err(AllocError::from)?;
     let mut router_seats = Vec::with_capacity(alloc, seats.len())?;
     start_lookups(*rt, seats, lookup, &done, &mut router_seats);
-    let driven = drive_to_end(rt, alloc, jobs, &done)?;
+    let ended = drive_all(rt, alloc, jobs);
+    // What looks up beside the drivers is told.
+    done.store(true, Ordering::SeqCst);
+    let driven = ended?;
     Ok((driven, router_seats))
 }
 
@@ -105,24 +110,4 @@ fn start_lookups<S: Threads + Wait + Clock + Copy + Send + 'static>(
             unreachable!()
         };
     }
-}
-
-// Drives the routers, and says when they are done.
-fn drive_to_end<
-    W: Wire + Send + Drop + 'static,
-    R: Threads + Wait + Clock + Copy + Send + Drop + 'static,
->(
-    rt: &R,
-    alloc: Global,
-    jobs: Vec<DriverJob<W, R>>,
-    done: &Done,
-) -> Result<Vec<Driven<R>>, AllocError>
-    requires { All (λ job. W.failed job.1 + 1 < 2 ^ 64) jobs.items }
-    ensures { IfOk result (λ all. AllZip
-        (λ job driven. IsDriven (at job.0 (W.traffic job.1) (W.failed job.1) job.2) driven)
-        jobs.items all.items) }
-{
-    let driven = drive_all(rt, alloc, jobs);
-    done.store(true, Ordering::SeqCst);
-    driven
 }

@@ -13,6 +13,7 @@ use crate::print::report;
 use crate::settings::Settings;
 use crate::tap::{Tap, tap_all};
 use crate::wires::open_wires;
+use ospf_drive::Machine;
 use ospf_files::{FailedStreams, Failure, NamedFile, Status};
 use ospf_udp::{Plan, Stop, prepare, status_of, tell_obstacle};
 use std::alloc::{AllocError, Global};
@@ -22,8 +23,8 @@ use std::sync::Wait;
 use std::thread::Threads;
 use std::time::Clock;
 
-/// Runs a router for each configuration that files hold, in a thread of its
-/// own, over UDP on this machine.
+/// Runs a machine (a `Router`, or what is one by rules of its own) for each configuration that
+/// files hold, in a thread of its own, over UDP on this computer.
 ///
 /// Each starts with DD sequence number 1 and the floor. All sockets are made before any link goes
 /// up. At the end, which comes after the last tick, if there is a last one, or where it is told,
@@ -46,6 +47,7 @@ use std::time::Clock;
 /// the run before it began; or on `out` a beginning of what is written of the routers and, where
 /// that is whole, on `err` a beginning of what is told of them.
 pub fn run_text<
+    M: Machine + Send + Drop + 'static,
     R: Net + Threads + Wait + Clock + Copy + Send + Drop + 'static,
     T: Tap + Send + Drop + 'static,
     O: Write,
@@ -61,7 +63,8 @@ pub fn run_text<
 ) -> Status
     ensures done { let old = written_on (O.contents out.old) (E.contents err.old) in
         let new = written_on (O.contents out.new) (E.contents err.new) in
-        result ≡ Status.Done → IsPlanRun (asked_of settings.now) files.now Status.Done old new }
+        result ≡ Status.Done →
+        IsPlanRun M.rules (asked_of settings.now) files.now Status.Done old new }
     ensures refused { let old = written_on (O.contents out.old) (E.contents err.old) in
         let new = written_on (O.contents out.new) (E.contents err.new) in
         result ≡ Status.Refused →
@@ -69,12 +72,12 @@ pub fn run_text<
     // However it ends, the run has come to its end, or a failure has cut it short.
     ensures ended { let old = written_on (O.contents out.old) (E.contents err.old) in
         let new = written_on (O.contents out.new) (E.contents err.new) in
-        EndsRun (asked_of settings.now) files.now result old new }
+        EndsRun M.rules (asked_of settings.now) files.now result old new }
     ensures not_words { result ≢ Status.Words }
 {
-    let ran = run(rt, alloc, settings, files, tap);
+    let ran = run::<M, R, T>(rt, alloc, settings, files, tap);
     let mut streams = FailedStreams::none();
-    let said = say(alloc, settings, files, ran, out, err, &mut streams);
+    let said = say::<M, O, E>(alloc, settings, files, ran, out, err, &mut streams);
     end(said, err, &mut streams)
 }
 
@@ -82,6 +85,7 @@ pub fn run_text<
 // and what is to be printed beside it.
 fn run<
     'a,
+    M: Machine + Send + Drop + 'static,
     R: Net + Threads + Wait + Clock + Copy + Send + Drop + 'static,
     T: Tap + Send + Drop + 'static,
 >(
@@ -91,19 +95,20 @@ fn run<
     files: &'a [NamedFile],
     tap: &T,
 ) -> Result<(Vec<Outcome<'a>>, Extras), Stop<'a>>
-    ensures ran { IfOk result (λ ran. RunsTo settings.now files.now ran.0.items ran.1) }
+    ensures ran { IfOk result (λ ran. RunsTo M.rules settings.now files.now ran.0.items ran.1) }
     ensures stop { IfErr result (IsStop (asked_of settings.now) files.now) }
 {
     let plan = prepare(alloc, &settings.floor, files)?;
-    let outcomes = run_plan(rt, alloc, settings, files, &plan, tap)?;
+    let outcomes = run_plan::<M, R, T>(rt, alloc, settings, files, &plan, tap)?;
     let drops = drops_of(alloc, settings, tap)?;
     Ok((outcomes, settings.extras(drops)))
 }
 
-// Runs a plan over sockets of this machine, and tells a tap of it. What comes
+// Runs a plan over sockets of this computer, and tells a tap of it. What comes
 // of its routers, in their order.
 fn run_plan<
     'a,
+    M: Machine + Send + Drop + 'static,
     R: Net + Threads + Wait + Clock + Copy + Send + Drop + 'static,
     T: Tap + Send + Drop + 'static,
 >(
@@ -115,12 +120,13 @@ fn run_plan<
     tap: &T,
 ) -> Result<Vec<Outcome<'a>>, Stop<'a>>
     requires { IsPlanAt (floor_of settings.now) files.now plan.now }
-    ensures outcomes { IfOk result (λ all. ComeOf settings.now plan.now files.now all.items) }
+    ensures outcomes { IfOk result
+        (λ all. ComeOf M.rules settings.now plan.now files.now all.items) }
     ensures stop { IfErr result (IsStop (asked_of settings.now) files.now) }
 {
     let sockets = open_wires(rt, *rt, alloc, settings, files, &plan.configs)?;
     let wires = tap_all(alloc, files, &plan.configs, sockets, tap)?;
-    let outcomes = run_over(rt, alloc, settings, files, plan, wires)?;
+    let outcomes = run_over::<M, _, _>(rt, alloc, settings, files, plan, wires)?;
     Ok(outcomes)
 }
 
@@ -141,7 +147,7 @@ fn drops_of<T: Tap + Drop>(
 
 // Writes what came of the routers that settings and files ask for, or tells why they did not run to
 // their end. The answer is the status to end with.
-fn say<O: Write, E: Write>(
+fn say<M: Machine, O: Write, E: Write>(
     alloc: Global,
     settings: &Settings,
     files: &[NamedFile],
@@ -150,21 +156,21 @@ fn say<O: Write, E: Write>(
     err: &mut E,
     streams: &mut FailedStreams,
 ) -> Result<Status, Failure>
-    requires ran { IfOk ran (λ all. RunsTo settings.now files.now all.0.items all.1) }
+    requires ran { IfOk ran (λ all. RunsTo M.rules settings.now files.now all.0.items all.1) }
     requires stop { IfErr ran (IsStop (asked_of settings.now) files.now) }
     ensures { let old = written_on (O.contents out.old) (E.contents err.old) in
         let new = written_on (O.contents out.new) (E.contents err.new) in
-        EndsBy settings.now files.now streams.new old new result }
+        EndsBy M.rules settings.now files.now streams.new old new result }
 {
     match ran {
         Ok((outcomes, extras)) => report(alloc, &outcomes, &extras, out, err, streams),
-        Err(stop) => tell_stop(alloc, settings, files, stop, err, streams),
+        Err(stop) => tell_stop::<M, E>(alloc, settings, files, stop, err, streams),
     }
 }
 
 // Tells why the routers that settings and files ask for did not run to their end. The
 // answer is the status to end with.
-fn tell_stop<E: Write>(
+fn tell_stop<M: Machine, E: Write>(
     alloc: Global,
     settings: &Settings,
     files: &[NamedFile],
@@ -175,7 +181,7 @@ fn tell_stop<E: Write>(
     requires { IsStop (asked_of settings.now) files.now stop }
     ensures { (out : Option (List ℕ)) → let old = written_on out (E.contents err.old) in
         let new = written_on out (E.contents err.new) in
-        EndsBy settings.now files.now streams.new old new result }
+        EndsBy M.rules settings.now files.now streams.new old new result }
 {
     match stop {
         Stop::Obstacle(obstacle) => {

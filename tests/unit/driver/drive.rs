@@ -14,6 +14,7 @@ mod all;
 mod arrivals;
 mod beside;
 mod fails;
+mod machines;
 
 // The link goes up, a second passes, and the Hello comes; with an end or without.
 fn script(alloc: Global, ends: bool) -> Result<Vec<Scripted>, AllocError> {

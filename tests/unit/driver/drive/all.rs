@@ -3,7 +3,7 @@
 use super::arrivals::{Out, Side, driven, two_sides};
 use ospf_drive::{Arrival, DriverJob, LONGEST, MemoryWire, Wire, WireFault, drive_all};
 use ospf_fib::Fib;
-use ospf_router::Sent;
+use ospf_router::{Router, Sent};
 use std::alloc::{AllocError, Global};
 use std::sync::atomic::{AtomicU64, Ordering};
 use std::sync::{Arc, Mutex, Wait};
@@ -100,7 +100,7 @@ fn job_of<R: Wait + Copy + Drop>(
     side: &Side,
     own: usize,
     shared: &Arc<Shared>,
-) -> Result<DriverJob<Beside<R>, R>, Fail> {
+) -> Result<DriverJob<Router, Beside<R>, R>, Fail> {
     let (writer, _seats) = Fib::open(alloc, rt, 1)?;
     let wire = Beside {
         rt,

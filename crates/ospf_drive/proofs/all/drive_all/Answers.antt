@@ -10,4 +10,4 @@ join_all-requires-clause-room g c κs within =
 
 pub returns : goal.returns
 returns g c =
-    all_joined (λ job. at job.0 (g.W.Wire.traffic job.1) (g.W.Wire.failed job.1) job.2) c.args.jobs.items c.start_all.new.threads.items c.join_all.new.results.items c.start_all.ensures c.join_all.ensures
+    all_joined g.M.Machine.rules (λ job. at (g.M.Machine.value job.0) (g.W.Wire.traffic job.1) (g.W.Wire.failed job.1) job.2) c.args.jobs.items c.start_all.new.threads.items c.join_all.new.results.items c.start_all.ensures c.join_all.ensures

@@ -8,5 +8,5 @@ abbrev pub invariant-loop-running : goal.invariant-loop-running
 invariant-loop-running g l = record {
   walked : l.fn.threads.items ≡ l.yielded ++ l.running-iterator.rest.items;
   room : vec_len l.results + l.running-iterator.rest.len ≤ vec_capacity l.results;
-  joined : AllZip IsThreadJoined l.yielded l.results.items;
+  joined : AllZip (IsThreadJoined g.M.Machine.rules) l.yielded l.results.items;
 }

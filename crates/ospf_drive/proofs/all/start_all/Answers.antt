@@ -23,9 +23,9 @@ loop-job-preserved g c = record {
   walked = walked_on c.args.jobs.items c.loop-job.yielded c.loop-job.job-iterator.rest.items c.next.new.self.rest.items c.in-Some.job c.loop-job.invariant.walked c.in-Some.ensures.steps.0;
   fresh = of_later (λ job. g.W.Wire.failed job.1 + 1 < 2 ^ 64) c.loop-job.job-iterator.rest.items c.next.new.self.rest.items c.in-Some.job c.in-Some.ensures.steps.0 c.loop-job.invariant.fresh;
   room = omega (arith, c.in-Ok.ensures.capacity, c.in-Ok.ensures.len, c.in-Some.ensures.steps.1, c.loop-job.invariant.room);
-  started = subst (λ ts. AllZip (λ job thread. IsDriverStarted (at job.0 (g.W.Wire.traffic job.1) (g.W.Wire.failed job.1) job.2) thread) (c.loop-job.yielded ++ c.in-Some.job ∷ []) ts) (sym c.in-Ok.ensures.items) (pairs_then (λ job thread. IsDriverStarted (at job.0 (g.W.Wire.traffic job.1) (g.W.Wire.failed job.1) job.2) thread) c.loop-job.yielded c.loop-job.threads.items c.in-Some.job c.start.result c.loop-job.invariant.started c.start.ensures);
+  started = subst (λ ts. AllZip (λ job thread. IsDriverStarted (at (g.M.Machine.value job.0) (g.W.Wire.traffic job.1) (g.W.Wire.failed job.1) job.2) thread) (c.loop-job.yielded ++ c.in-Some.job ∷ []) ts) (sym c.in-Ok.ensures.items) (pairs_then (λ job thread. IsDriverStarted (at (g.M.Machine.value job.0) (g.W.Wire.traffic job.1) (g.W.Wire.failed job.1) job.2) thread) c.loop-job.yielded c.loop-job.threads.items c.in-Some.job c.start.result c.loop-job.invariant.started c.start.ensures);
 }
 
 pub returns : goal.returns
 returns g c =
-    all_gone (λ job thread. IsDriverStarted (at job.0 (g.W.Wire.traffic job.1) (g.W.Wire.failed job.1) job.2) thread) c.args.jobs.items c.loop-job.yielded c.loop-job.job-iterator.rest.items c.loop-job.threads.items c.loop-job.invariant.walked (omega (arith, c.in-None.ensures.steps.0)) c.loop-job.invariant.started
+    all_gone (λ job thread. IsDriverStarted (at (g.M.Machine.value job.0) (g.W.Wire.traffic job.1) (g.W.Wire.failed job.1) job.2) thread) c.args.jobs.items c.loop-job.yielded c.loop-job.job-iterator.rest.items c.loop-job.threads.items c.loop-job.invariant.walked (omega (arith, c.in-None.ensures.steps.0)) c.loop-job.invariant.started

@@ -10,5 +10,5 @@ invariant-loop-job g l = record {
   walked : l.fn.jobs.items ≡ l.yielded ++ l.job-iterator.rest.items;
   fresh : All (λ job. g.W.Wire.failed job.1 + 1 < 2 ^ 64) l.job-iterator.rest.items;
   room : vec_len l.threads + l.job-iterator.rest.len ≤ vec_capacity l.threads;
-  started : AllZip (λ job thread. IsDriverStarted (at job.0 (g.W.Wire.traffic job.1) (g.W.Wire.failed job.1) job.2) thread) l.yielded l.threads.items;
+  started : AllZip (λ job thread. IsDriverStarted (at (g.M.Machine.value job.0) (g.W.Wire.traffic job.1) (g.W.Wire.failed job.1) job.2) thread) l.yielded l.threads.items;
 }

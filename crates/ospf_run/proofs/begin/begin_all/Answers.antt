@@ -24,8 +24,8 @@ loop-config-preserved g c =
 pub returns-clause-begins : goal.returns-clause-begins
 returns-clause-begins g c =
     let same : to_z w32 (of_z w32 c.args.floor) ≡ c.args.floor = search (rules) in
-    let all = subst (λ configs. AllZip (λ config job. BeginsRun (to_z w32 (of_z w32 c.args.floor)) config job.0 job.2) configs c.loop-config.jobs.items) (take_all c.loop-config.config-index c.args.configs.now c.loop-config-test.false) c.loop-config.invariant.begins in
-    subst (λ (z : ℤ). AllZip (λ config job. BeginsRun z config job.0 job.2) c.args.configs.now c.loop-config.jobs.items) same all
+    let all = subst (λ configs. AllZip (λ config job. BeginsRun (to_z w32 (of_z w32 c.args.floor)) config (g.M.Machine.value job.0) job.2) configs c.loop-config.jobs.items) (take_all c.loop-config.config-index c.args.configs.now c.loop-config-test.false) c.loop-config.invariant.begins in
+    subst (λ (z : ℤ). AllZip (λ config job. BeginsRun z config (g.M.Machine.value job.0) job.2) c.args.configs.now c.loop-config.jobs.items) same all
 
 pub returns-clause-over : goal.returns-clause-over
 returns-clause-over g c =

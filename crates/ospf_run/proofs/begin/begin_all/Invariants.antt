@@ -9,7 +9,7 @@ invariant-loop-config g l = record {
   left : l.wires.rest.len + l.config-index ≡ length l.configs;
   fresh : All (λ wire. g.W.Wire.failed wire + 1 < 2 ^ 64) l.wires.rest.items;
   over : map (λ job. job.1) l.jobs.items ++ l.wires.rest.items ≡ l.fn.wires.items;
-  begins : AllZip (λ config job. BeginsRun l.floor config job.0 job.2) (take l.config-index l.configs) l.jobs.items;
+  begins : AllZip (λ config job. BeginsRun l.floor config (g.M.Machine.value job.0) job.2) (take l.config-index l.configs) l.jobs.items;
   jobs_fresh : All (λ job. g.W.Wire.failed job.1 + 1 < 2 ^ 64) l.jobs.items;
   seats : AllZip (λ job seat. seat ≡ job.2) l.jobs.items l.seats.items;
 }

@@ -12,7 +12,7 @@ look_if_asked-requires-clause-began g c =
 
 pub returns-in-Ok-look_if_asked-clause-came : goal.returns-in-Ok-look_if_asked-clause-came
 returns-in-Ok-look_if_asked-clause-came g c = λ a ran.
-    let drives : DrivesToEnd a c.in-Ok.driven.0 c.in-Ok.driven.1 c.in-Ok.driven.2 = to_end a c.args.driven c.args.router_seat c.in-Ok.driven c.in-Ok.is ran in
+    let drives : DrivesToEnd g.M.Machine.rules a c.in-Ok.driven.0 c.in-Ok.driven.1 c.in-Ok.driven.2 = to_end a c.args.driven c.args.router_seat c.in-Ok.driven c.in-Ok.is ran in
     record {
       known = c.in-Ok.driven.1;
       told = c.in-Ok.driven.2;

@@ -21,13 +21,13 @@ returns-in_err-put-clause-early g c = for_memory c.from_residual-in_err-put.resu
 pub unreachable-requires : goal.unreachable-requires
 unreachable-requires g c =
     let some = c.loop-place.invariant.some in
-    let long = as_long some.0 (drop c.loop-place.place c.args.configs.now) c.loop-place.driven.rest.items c.loop-place.seats.rest.items some.1 in
+    let long = as_long g.M.Machine.rules some.0 (drop c.loop-place.place c.args.configs.now) c.loop-place.driven.rest.items c.loop-place.seats.rest.items some.1 in
     omega (arith, long.0, length-drop c.loop-place.place c.args.configs.now, c.loop-place-test.true, c.in_default.ensures.cases.0)
 
 pub unreachable-requires-in_default-next : goal.unreachable-requires-in_default-next
 unreachable-requires-in_default-next g c =
     let some = c.loop-place.invariant.some in
-    let long = as_long some.0 (drop c.loop-place.place c.args.configs.now) c.loop-place.driven.rest.items c.loop-place.seats.rest.items some.1 in
+    let long = as_long g.M.Machine.rules some.0 (drop c.loop-place.place c.args.configs.now) c.loop-place.driven.rest.items c.loop-place.seats.rest.items some.1 in
     omega (arith, long.1, length-drop c.loop-place.place c.args.configs.now, c.loop-place-test.true, c.in_default-next.ensures.cases.0)
 
 pub finish-requires : goal.finish-requires
@@ -41,7 +41,7 @@ pub loop-place-preserved : goal.loop-place-preserved
 loop-place-preserved g c =
     let within : c.loop-place.place < length c.args.files.now = omega (arith, c.requires.files, c.loop-place-test.true) in
     let outcome : Outcome = c.outcome_of-outcome.result in
-    let off = λ (terms : Terms) (left : RoutersRan terms (drop c.loop-place.place c.args.configs.now) c.loop-place.driven.rest.items c.loop-place.seats.rest.items).
+    let off = λ (terms : Terms) (left : RoutersRan g.M.Machine.rules terms (drop c.loop-place.place c.args.configs.now) c.loop-place.driven.rest.items c.loop-place.seats.rest.items).
     taken_off terms c.args.configs.now c.loop-place.place c.index-configs-place.result c.loop-place.driven.rest.items c.next.new.self.rest.items c.in-Some.ended
     c.loop-place.seats.rest.items c.next-in-loop-place.new.self.rest.items c.in-Some-next.router_seat c.loop-place-test.true c.index-configs-place.is c.in-Some.ensures.cases.0 c.in-Some-next.ensures.cases.0 left in
     record {
@@ -53,6 +53,6 @@ loop-place-preserved g c =
             outcomes_more c.args.lookup terms c.args.files.now c.args.configs.now c.loop-place.outcomes.items c.put.new.list.items c.loop-place.place c.index-files-place.result c.index-configs-place.result
                 outcome within c.index-files-place.is c.loop-place-test.true c.index-configs-place.is before.1
                 (outcome_of c.args.lookup c.index-files-place.result h.0 outcome c.outcome_of-outcome.ensures.file c.outcome_of-outcome.ensures.router
-                (λ a has. subst (λ (came : Result RouterShown DriveFault). Came c.args.lookup a came) (sym c.outcome_of-outcome.ensures.came) (c.in-Ok.ensures.came a has))) c.in_ok-put.ensures.ok,
+                (λ a has. subst (λ (came : Result RouterShown DriveFault). Came g.M.Machine.rules c.args.lookup a came) (sym c.outcome_of-outcome.ensures.came) (c.in-Ok.ensures.came a has))) c.in_ok-put.ensures.ok,
           );
     }

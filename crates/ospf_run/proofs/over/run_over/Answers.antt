@@ -17,16 +17,16 @@ returns-in_err-driven-clause-early g c =
 pub finish_all-requires-clause-ended : goal.finish_all-requires-clause-ended
 finish_all-requires-clause-ended g c = (
   record { span = span_of c.args.settings.now; floor = to_z w32 (of_z w32 c.args.plan.now.floor) },
-  subst (λ configs. RoutersRan (record { span = span_of c.args.settings.now; floor = to_z w32 (of_z w32 c.args.plan.now.floor) }) configs c.in_ok-driven.driven.items c.in_ok-driven.router_seats.items) (c.deref.ensures.value ∙ sym c.deref-2.ensures.value)
+  subst (λ configs. RoutersRan g.M.Machine.rules (record { span = span_of c.args.settings.now; floor = to_z w32 (of_z w32 c.args.plan.now.floor) }) configs c.in_ok-driven.driven.items c.in_ok-driven.router_seats.items) (c.deref.ensures.value ∙ sym c.deref-2.ensures.value)
       (c.in_ok-driven.ensures (record { span = span_of c.args.settings.now; floor = to_z w32 (of_z w32 c.args.plan.now.floor) }) c.deref.result.now c.in_ok-jobs.ensures.begins (all_over (λ job. job.1) (λ wire. g.W.Wire.traffic wire ≡ Ticks 0 (span_of c.args.settings.now)) c.in_ok-jobs.jobs.items c.args.wires.items c.in_ok-jobs.ensures.over c.requires.counted) c.in_ok-jobs.ensures.seats),
 )
 
 pub returns-clause-outcomes : goal.returns-clause-outcomes
 returns-clause-outcomes g c =
     let same : to_z w32 (of_z w32 c.args.plan.now.floor) ≡ c.args.plan.now.floor = search (rules) in
-    let all_ran = subst (λ configs. RoutersRan (record { span = span_of c.args.settings.now; floor = to_z w32 (of_z w32 c.args.plan.now.floor) }) configs c.in_ok-driven.driven.items c.in_ok-driven.router_seats.items) (c.deref.ensures.value ∙ sym c.deref-2.ensures.value)
+    let all_ran = subst (λ configs. RoutersRan g.M.Machine.rules (record { span = span_of c.args.settings.now; floor = to_z w32 (of_z w32 c.args.plan.now.floor) }) configs c.in_ok-driven.driven.items c.in_ok-driven.router_seats.items) (c.deref.ensures.value ∙ sym c.deref-2.ensures.value)
     (c.in_ok-driven.ensures (record { span = span_of c.args.settings.now; floor = to_z w32 (of_z w32 c.args.plan.now.floor) }) c.deref.result.now c.in_ok-jobs.ensures.begins (all_over (λ job. job.1) (λ wire. g.W.Wire.traffic wire ≡ Ticks 0 (span_of c.args.settings.now)) c.in_ok-jobs.jobs.items c.args.wires.items c.in_ok-jobs.ensures.over c.requires.counted) c.in_ok-jobs.ensures.seats) in
     IfOk-weaker c.finish_all.result _ _ (λ outcomes are.
-    subst (λ configs. AreOutcomes c.args.settings.now.lookup (record { span = span_of c.args.settings.now; floor = c.args.plan.now.floor }) c.args.files.now configs outcomes.items) c.deref-2.ensures.value
-    (subst (λ (least : ℤ). AreOutcomes c.args.settings.now.lookup (record { span = span_of c.args.settings.now; floor = least }) c.args.files.now c.deref-2.result.now outcomes.items) same are))
+    subst (λ configs. AreOutcomes g.M.Machine.rules c.args.settings.now.lookup (record { span = span_of c.args.settings.now; floor = c.args.plan.now.floor }) c.args.files.now configs outcomes.items) c.deref-2.ensures.value
+    (subst (λ (least : ℤ). AreOutcomes g.M.Machine.rules c.args.settings.now.lookup (record { span = span_of c.args.settings.now; floor = least }) c.args.files.now c.deref-2.result.now outcomes.items) same are))
     (c.finish_all.ensures.outcomes (record { span = span_of c.args.settings.now; floor = to_z w32 (of_z w32 c.args.plan.now.floor) }) all_ran)

@@ -15,7 +15,7 @@ pub returns-in_ok-tell_obstacle-in-Obstacle : goal.returns-in_ok-tell_obstacle-i
 returns-in_ok-tell_obstacle-in-Obstacle g c = λ out.
     let settings = c.args.settings.now in
     let hinders = subst (IsStop (asked_of settings) c.args.files.now) c.in-Obstacle.is c.requires in
-    subst (λ status. ComesOfRun (asked_of settings) c.args.files.now status (written_on out (g.E.Write.contents c.args.err.now)) (written_on out (g.E.Write.contents c.tell_obstacle.new.err)))
+    subst (λ status. ComesOfRun g.M.Machine.rules (asked_of settings) c.args.files.now status (written_on out (g.E.Write.contents c.args.err.now)) (written_on out (g.E.Write.contents c.tell_obstacle.new.err)))
     (sym c.status_of.ensures)
     (obstacle_comes (asked_of settings) c.args.files.now c.in-Obstacle.obstacle _ _ _ hinders c.in_ok-tell_obstacle-in-Obstacle.ensures.told)
 
