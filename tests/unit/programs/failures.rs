@@ -200,6 +200,20 @@ fn expect_of(
 
 const DONE: FailuresStatus = FailuresStatus::Ended(Status::Done);
 
+// What is wanted of the first router's failures with each route, over an input that is read to its end.
+fn expect_each(rt: &(impl Abort + AllocGlobal + Threads + Sync), alloc: Global, input: &str, out: &str) -> Result<(), Fail> {
+    let case = Case {
+        root: FIRST,
+        each: true,
+        strict: false,
+        input,
+        status: DONE,
+        out,
+        err: "",
+    };
+    expect(rt, alloc, &case)
+}
+
 #[test]
 fn prefixes_go_and_cost_more(rt: HostRuntime) -> Result<(), Fail> {
     let alloc = rt.alloc();
@@ -257,19 +271,7 @@ fn hops_change(rt: HostRuntime) -> Result<(), Fail> {
         1.1.1.1-2.2.2.2 cut 0 gone 0 cost 0 hops 1\n\
         2.2.2.2@10.1.0.2 hops 192.168.2.0/24 15 10.0.0.1>2.2.2.2\n\
         2.2.2.2@10.1.0.2 cut 0 gone 0 cost 0 hops 1\n";
-    expect(
-        &rt,
-        alloc,
-        &Case {
-            root: FIRST,
-            each: true,
-            strict: false,
-            input: &input,
-            status: DONE,
-            out,
-            err: "",
-        },
-    )
+    expect_each(&rt, alloc, &input, out)
 }
 
 #[test]
@@ -282,19 +284,7 @@ fn unnumbered_links_beside_one_in_a_subnet(rt: HostRuntime) -> Result<(), Fail> 
         2.2.2.2 cut 0 gone 1 cost 0 hops 0\n\
         1.1.1.1-2.2.2.2@0.0.0.0/8 cost 192.168.2.0/24 9>15 10.0.0.1>2.2.2.2\n\
         1.1.1.1-2.2.2.2@0.0.0.0/8 cut 0 gone 0 cost 1 hops 0\n";
-    expect(
-        &rt,
-        alloc,
-        &Case {
-            root: FIRST,
-            each: true,
-            strict: false,
-            input: &input,
-            status: DONE,
-            out,
-            err: "",
-        },
-    )
+    expect_each(&rt, alloc, &input, out)
 }
 
 // The default route that both tell is no subnet of links without addresses.
@@ -308,19 +298,7 @@ fn unnumbered_links_alone(rt: HostRuntime) -> Result<(), Fail> {
     let input = lines(alloc, &lsas)?;
     let out = "1.1.1.1-2.2.2.2 cut 0 gone 0 cost 0 hops 0\n\
         2.2.2.2 cut 0 gone 0 cost 0 hops 0\n";
-    expect(
-        &rt,
-        alloc,
-        &Case {
-            root: FIRST,
-            each: true,
-            strict: false,
-            input: &input,
-            status: DONE,
-            out,
-            err: "",
-        },
-    )
+    expect_each(&rt, alloc, &input, out)
 }
 
 #[test]

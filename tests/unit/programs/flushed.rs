@@ -139,7 +139,7 @@ fn run<R: Net + Threads + Wait + Clock + Copy + Send + Drop + 'static, O: Write,
     };
     let text = format!(in alloc; "{CONFIG}port = 17109\n")?;
     let files = [file(alloc, "a.toml", &text)?];
-    Ok(run_text(rt, alloc, &settings, &files, &Nobody, out, err))
+    Ok(run_text::<Router, _, _, _, _>(rt, alloc, &settings, &files, &Nobody, out, err))
 }
 
 fn status_of<R: Net + Threads + Wait + Clock + Copy + Send + Drop + 'static, O: Write, E: Write>(
