@@ -5,7 +5,6 @@
 //! tells whether a link sends it, and `acknowledge` how it is acknowledged.
 #![tactic(auto)]
 
-mod acknowledged;
 mod acknowledgement;
 mod due;
 mod laws;
@@ -13,12 +12,9 @@ mod link;
 mod offer;
 mod rule;
 
-pub use crate::acknowledged::{on_acknowledgement, on_duplicate};
 pub use crate::acknowledgement::{Acknowledgement, AcknowledgementCase, Sender, acknowledge};
-pub use crate::due::{due_instances, is_due};
-pub use crate::laws::{
-    acknowledgement_takes_what_it_names, flood_takes_its_key, flooded_waits, named_is_taken,
-};
+pub use crate::due::is_due;
+pub use crate::laws::{flood_takes_its_key, flooded_waits};
 pub use crate::link::{case_of_newer, case_of_same, flooding_address, is_flooded_out, sender_at};
 pub use crate::offer::{Offer, flood_to};
 pub use crate::rule::{LsaRule, is_sent_back, lsa_rule};

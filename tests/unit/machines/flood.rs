@@ -5,8 +5,7 @@ use super::wired::in_exchange as neighbour;
 use ospf_base::{ALL_D_ROUTERS, ALL_SPF_ROUTERS, Addr, Instance, InterfaceKind, MAX_AGE, RouterId};
 use ospf_flood::{
     Acknowledgement, AcknowledgementCase, LsaRule, Sender, acknowledge, case_of_newer, case_of_same,
-    due_instances, flood_to, flooding_address, is_due, is_flooded_out, is_sent_back, lsa_rule,
-    on_acknowledgement, on_duplicate, sender_at,
+    flood_to, flooding_address, is_due, is_flooded_out, is_sent_back, lsa_rule, sender_at,
 };
 use ospf_iface::{Iface, IfaceSettings, IfaceState};
 use ospf_lsa::{Lsa, LsaHeader};
@@ -282,80 +281,21 @@ fn one_instance_of_a_key_waits(rt: HostRuntime) -> Result<(), Fail> {
 }
 
 #[test]
-fn only_the_exact_instance_is_acknowledged(rt: HostRuntime) -> Result<(), Fail> {
-    let alloc = rt.alloc();
-    let database = database_of(alloc, SECOND, 0, true)?;
-    let header = header_of(alloc, 7, SECOND)?;
-    let instance = instance_of(7, header);
-    let (mut one, mut other) = (neighbour(alloc, 1), neighbour(alloc, 2));
-    assert!(rt; flood_to(&mut one, key_of(7), &header, false, 9)?);
-    assert!(rt; flood_to(&mut other, key_of(7), &header, false, 9)?);
-    let mut lower_number = header;
-    lower_number.number = FIRST;
-    let mut other_sum = header;
-    other_sum.sum = header.sum ^ 1;
-    for wrong in [lower_number, other_sum] {
-        on_acknowledgement(&mut one, &wrong, database.get(&key_of(7)));
-        assert!(rt; one.is_listed(&instance));
-    }
-    on_acknowledgement(&mut one, &header, None);
-    assert!(rt; one.is_listed(&instance));
-    on_acknowledgement(&mut one, &header, database.get(&key_of(7)));
-    assert!(rt; !one.is_listed(&instance));
-    assert!(rt; other.is_listed(&instance));
-    Ok(())
-}
-
-#[test]
-fn a_duplicate_acknowledges_once(rt: HostRuntime) -> Result<(), Fail> {
-    let alloc = rt.alloc();
-    let header = header_of(alloc, 7, SECOND)?;
-    let instance = instance_of(7, header);
-    let mut neighbour = neighbour(alloc, 1);
-    assert!(rt; flood_to(&mut neighbour, key_of(7), &header, false, 9)?);
-    assert!(rt; on_duplicate(&mut neighbour, &instance));
-    assert!(rt; !on_duplicate(&mut neighbour, &instance));
-    assert!(rt; neighbour.retransmission().is_empty());
-    Ok(())
-}
-
-#[test]
 fn due_after_the_interval(rt: HostRuntime) -> Result<(), Fail> {
     let alloc = rt.alloc();
-    let (first, second) = (header_of(alloc, 7, FIRST)?, header_of(alloc, 8, FIRST)?);
-    let mut neighbour = neighbour(alloc, 1);
-    assert!(rt; flood_to(&mut neighbour, key_of(7), &first, false, 10)?);
-    assert!(rt; flood_to(&mut neighbour, key_of(8), &second, false, 12)?);
-    assert!(rt; due_instances(&neighbour, 5, 14, alloc)?.is_empty());
-    assert_eq!(rt;
-        due_instances(&neighbour, 5, 15, alloc)?.as_slice(),
-        [instance_of(7, first)].as_slice()
-    );
-    neighbour.resend(&instance_of(7, first), 15);
-    assert_eq!(rt;
-        due_instances(&neighbour, 5, 17, alloc)?.as_slice(),
-        [instance_of(8, second)].as_slice()
-    );
+    let instance = instance_of(7, header_of(alloc, 7, FIRST)?);
     let listed = Listed {
-        instance: instance_of(7, first),
+        instance,
+        sent_at: 10,
+    };
+    assert!(rt; !is_due(&listed, 5, 14));
+    assert!(rt; is_due(&listed, 5, 15));
+    let listed = Listed {
+        instance,
         sent_at: u64::MAX - 1,
     };
     assert!(rt; !is_due(&listed, 5, 2));
     assert!(rt; is_due(&listed, 5, 3));
-    Ok(())
-}
-
-// With memory at hand no tick is refused, whatever waits.
-#[test]
-fn each_tick_tells_what_is_due(rt: HostRuntime) -> Result<(), Fail> {
-    let alloc = rt.alloc();
-    let header = header_of(alloc, 7, FIRST)?;
-    let mut neighbour = neighbour(alloc, 1);
-    for tick in 0..200 {
-        assert!(rt; flood_to(&mut neighbour, key_of(7), &header, false, tick)?);
-        assert!(rt; due_instances(&neighbour, 1, tick, alloc)?.is_empty());
-        assert_eq!(rt; due_instances(&neighbour, 1, tick + 1, alloc)?.len(), 1);
-    }
     Ok(())
 }
 
