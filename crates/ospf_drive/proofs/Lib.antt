@@ -1,7 +1,7 @@
-pub mod Sends
 pub mod Stopping
 pub mod Turning
 pub mod Going
 pub mod Jobs
 pub mod Flat
 pub mod Joined
+pub mod Lawful

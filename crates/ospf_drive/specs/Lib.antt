@@ -2,6 +2,7 @@ pub mod Faults
 pub mod Machines
 pub mod Traffic
 pub mod Moments
+pub mod Chains
 pub mod Drives
 pub mod Turns
 pub mod Scripts

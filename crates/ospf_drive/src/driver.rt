@@ -1,12 +1,13 @@
 //! The driver of one router.
 
 ghost use Rattle.std.specs.Prelude.{◌+◌, ◌<◌, ◌^◌};
+ghost use Rattle.ospf_drive.specs.Chains.{ChainsFrom};
 ghost use Rattle.ospf_drive.specs.Moments.{at};
 ghost use Rattle.ospf_drive.specs.Drives.{Drives};
 ghost use Rattle.ospf_drive.specs.Whole.{Whole};
 
 use crate::fault::DriveFault;
-use crate::laws::drives_are_whole;
+use crate::laws::{chains_are_lawful, drives_are_whole};
 use crate::machine::Machine;
 use crate::turn::{Course, turn};
 use crate::wire::{LONGEST, Wire};
@@ -38,9 +39,13 @@ pub fn drive<M: Machine, W: Wire, R: Wait + Drop, S: Wait>(
     ensures whole { Whole M.rules
         (at (M.value machine.old) (W.traffic wire.old) (W.failed wire.old) writer.old)
         (at (M.value machine.new) (W.traffic wire.new) (W.failed wire.new) writer.new) result }
+    // And where its steps are those of a router, each of them keeps the laws of a step.
+    ensures lawful { ChainsFrom (M.value machine.old) }
 {
     // For the proof.
     drives_are_whole::<M>();
+    chains_are_lawful();
+    machine.router().keeps();
     take_turns(rt, alloc, machine, wire, writer)
 }
 

@@ -1,8 +1,13 @@
 //! Laws of drivers.
 
+ghost use Rattle.std.specs.Prelude.{◌≡◌};
+ghost use Rattle.ospf_drive.specs.Chains.{ChainsAreLawful};
+ghost use Rattle.ospf_drive.specs.Machines.{router_rules};
 ghost use Rattle.ospf_drive.specs.Whole.{AllTicksAreTaken, DrivesAreWhole};
 
 use crate::machine::Machine;
+use ospf_router::Router;
+use ospf_step::{steps_are_lawful, steps_stay_kept};
 
 /// What a driver does turn by turn is one list of steps: what they send goes out in order, and what
 /// they publish is published in order.
@@ -15,3 +20,18 @@ pub fn drives_are_whole<M: Machine>()
 pub fn all_ticks_are_taken<M: Machine>()
     ensures { AllTicksAreTaken M.rules }
 {}
+
+/// A `Router` goes by the exact rules of a router, and by no others: its steps are those of RFC
+/// 2328, and it stops at no event that is dropped.
+pub fn routers_go_by_their_steps()
+    ensures { ⟦<Router as Machine>⟧.rules ≡ router_rules }
+{}
+
+/// Whatever happens to a router, each of its steps keeps the laws of a step (`StepLaws` and
+/// `Accounts` of `ospf_step`), however many came before.
+pub fn chains_are_lawful()
+    ensures { ChainsAreLawful }
+{
+    steps_are_lawful();
+    steps_stay_kept();
+}

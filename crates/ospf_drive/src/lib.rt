@@ -16,7 +16,9 @@ mod wire;
 pub use crate::all::{Driven, DriverJob, drive_all};
 pub use crate::driver::drive;
 pub use crate::fault::DriveFault;
-pub use crate::laws::{all_ticks_are_taken, drives_are_whole};
+pub use crate::laws::{
+    all_ticks_are_taken, chains_are_lawful, drives_are_whole, routers_go_by_their_steps,
+};
 pub use crate::machine::Machine;
 pub use crate::memory::{MemoryWire, Scripted};
 pub use crate::span::Span;

@@ -1,6 +1,6 @@
 //! What a driver steps.
 
-ghost use Rattle.std.specs.Prelude.{◌≡◌, ◌↔◌, IfErr, IfOk, OnErr, OnOk};
+ghost use Rattle.std.specs.Prelude.{◌≡◌, ◌≢◌, ◌↔◌, ⊥, IfErr, IfOk, None, OnErr, OnOk};
 ghost use Rattle.ospf_flood.specs.Rules.{max_sequence_number};
 ghost use Rattle.ospf_router.specs.Routers.{RouterValue, stopped};
 ghost use Rattle.ospf_router.specs.Starts.{IsStarted};
@@ -26,6 +26,7 @@ pub trait Machine {
     /// `StartFault::Memory` where memory runs out.
     fn start(config: &Config, dd_start: u32, floor: i32, alloc: Global) -> Result<Self, StartFault>
         ensures started { IfOk result (λ m. IsStarted config.now dd_start floor (value m)) }
+        ensures above { OnOk result (floor ≢ max_sequence_number) }
         ensures refused { IfErr result (λ f. (f ≡ StartFault.Floor)
             ↔ (floor ≡ max_sequence_number)) };
 
@@ -39,7 +40,9 @@ pub trait Machine {
         ensures links { OnOk result ((value self.new).links ≡ (value self.old).links) }
         // It stops where it may, and is a router that has stopped then.
         ensures may_stop { OnErr result (rules.stops (happening event.entry) (value self.old)) }
-        ensures stopped { OnErr result (value self.new ≡ stopped (value self.old)) };
+        ensures stopped { OnErr result (value self.new ≡ stopped (value self.old)) }
+        // And from then on.
+        ensures stands_still { (value self.old).area ≡ None → OnOk result ⊥ };
 
     /// The router that it is.
     fn router(&self) -> &Router

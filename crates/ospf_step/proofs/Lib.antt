@@ -37,3 +37,4 @@ mod DropFacts
 mod AreaSame
 mod StepSame
 mod StepLawful
+mod StepKept

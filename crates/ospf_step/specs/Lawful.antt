@@ -21,3 +21,10 @@ abbrev pub StepsAreLawful : Type 0
 StepsAreLawful =
     (e : Event) (s : AreaValue) (dropped : Option Dropped) (out : OutputsValue) (after : AreaValue)
     → IsFitRouter s → IsSoundState s → StepsArea e s dropped out after → IsLawful e s out after
+
+-- and leaves a state that is fit and sound again: so of a whole list of steps each is lawful
+abbrev pub StepsStayKept : Type 0
+StepsStayKept =
+    (e : Event) (s : AreaValue) (dropped : Option Dropped) (out : OutputsValue) (after : AreaValue)
+    → IsFitRouter s → IsSoundState s → StepsArea e s dropped out after
+    → IsFitRouter after × IsSoundState after

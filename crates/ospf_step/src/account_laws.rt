@@ -5,13 +5,17 @@ ghost use Rattle.ospf_area.specs.Outputs.{OutputsValue, then_outputs};
 ghost use Rattle.ospf_area.specs.State.{AreaValue};
 ghost use Rattle.ospf_step.specs.Packets.{Received};
 ghost use Rattle.ospf_step.specs.Accounts.{Accounts, NoneEntersExchange};
-ghost use Rattle.ospf_step.specs.Lawful.{StepsAreLawful};
+ghost use Rattle.ospf_step.specs.Lawful.{StepsAreLawful, StepsStayKept};
 ghost use Rattle.ospf_step.specs.Neighbours.{NeighboursGo};
 ghost use Rattle.ospf_step.specs.Step.{Event, StepLaws, heard_in};
 ghost use Rattle.ospf_step.specs.Words.{IsSoundState};
 
-use ospf_adjacency::{elections_come_about, neighbours_stay_of_link, repeats_are_quiet};
-use ospf_originate::area_stays_sound;
+use crate::senders::not_dropped_is_taken;
+use ospf_adjacency::{
+    answers_are_quiet, description_keeps_router, elections_come_about, neighbours_stay_of_link,
+    repeats_are_quiet,
+};
+use ospf_originate::{area_stays_sound, own_stay_sound};
 
 /// What one part answers for and then the next, the two answer for together.
 pub fn accounts_add_up()
@@ -47,6 +51,20 @@ pub fn steps_are_lawful()
     elections_come_about();
     repeats_are_quiet();
     area_stays_sound();
+}
+
+/// A step by the rules leaves a state that is fit and sound as fit and as sound.
+pub fn steps_stay_kept()
+    ensures { StepsStayKept }
+{
+    not_dropped_is_taken();
+    neighbours_stay_of_link();
+    elections_come_about();
+    description_keeps_router();
+    answers_are_quiet();
+    repeats_are_quiet();
+    area_stays_sound();
+    own_stay_sound();
 }
 
 /// There are sound states, and steps from them by which time goes on.

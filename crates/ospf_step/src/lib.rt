@@ -32,6 +32,7 @@ mod ticks;
 
 pub use crate::account_laws::{
     accounts_add_up, quiet_parts_account, some_state_ticks, steps_account, steps_are_lawful,
+    steps_stay_kept,
 };
 pub use crate::counts::{DropCounts, count_dropped, none_dropped_on};
 pub use crate::dropped::Dropped;
