@@ -2,8 +2,8 @@
 use Rattle.std.proofs.Common.{◌≡◌, ◌∙◌, ap, sym, subst, refl, true, false, ◌+◌, ◌-◌, ◌<◌, ◌≤◌, ℕ, zero, suc, List, [], ◌∷◌, Option, None, Some, Result, Ok, Err, length, add-one, arith}
 use Rattle.ospf_commands.specs.Rounds.{IsOneRound}
 use Rattle.ospf_commands.specs.Settling.{ArePassed, IsStillFor, NeverStillFor, Passes, Settles, does_not_settle, has_ended, has_not_settled, has_settled, longest_wait, no_room_ends_it, round_ends_it, settled_line, settles, settling_offers, sight, unsettled_line}
-use Rattle.ospf_headline.specs.declared.event.WorldFault.{WorldFault}
-use Rattle.ospf_headline.specs.declared.event.WorldFault.TheVariants as fault
+use Rattle.ospf_event.specs.declared.event.WorldFault.{WorldFault}
+use Rattle.ospf_event.specs.declared.event.WorldFault.TheVariants as fault
 use Rattle.ospf_commands.specs.declared.simulation.Simulation.{Simulation}
 
 -- so many rounds have passed, behind none of which it was still for long enough, and it has now been still for so many

@@ -1,6 +1,6 @@
 -- Rounds of a simulation, and events by chance.
 use Rattle.std.specs.Prelude.{◌≡◌, ℕ, suc, Ok, Err, Option, None, Some}
-use Rattle.ospf_headline.specs.declared.event.WorldFault.{WorldFault}
+use Rattle.ospf_event.specs.declared.event.WorldFault.{WorldFault}
 use Rattle.ospf_rounds.specs.Losses.{IsLosingRound}
 use Rattle.ospf_commands.specs.Simulations.{Answer, moved}
 use Rattle.ospf_commands.specs.Worlds.{IsBatch, IsRoundOf, WorldValue, most_offers}

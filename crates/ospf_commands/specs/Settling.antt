@@ -1,8 +1,8 @@
 -- What is seen of a simulation, and rounds until it stays so.
 use Rattle.std.specs.Prelude.{◌≡◌, ◌<◌, ◌≤◌, ◌-◌, ⊤, ℕ, zero, suc, List, [], ◌∷◌, ◌++◌, Result, Ok, Err, Option, None, Some, codes, decimal, flat_map, fold, length, max, true, false}
 use Rattle.ospf_config.specs.declared.interface.Interface.{Interface}
-use Rattle.ospf_headline.specs.declared.event.WorldFault.{WorldFault}
-use Rattle.ospf_headline.specs.declared.event.WorldFault.TheVariants as fault
+use Rattle.ospf_event.specs.declared.event.WorldFault.{WorldFault}
+use Rattle.ospf_event.specs.declared.event.WorldFault.TheVariants as fault
 use Rattle.ospf_originate.specs.Numbers.{min_ls_interval}
 use Rattle.ospf_script.specs.Words.{Text}
 use Rattle.ospf_views.specs.Sight.{slot_sight}

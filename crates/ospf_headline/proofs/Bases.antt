@@ -14,7 +14,7 @@ use Rattle.ospf_step.proofs.StepAccounts.{StepLaws-accounts}
 use Rattle.ospf_area.specs.State.{AreaValue}
 use Rattle.ospf_headline.specs.World.{Comes, World, WorldEvent, Issued, Run, Running, router_at, StepsRouter, RouterBecomes, SameLogs, IsNewWorld, Happens, RunsEvents}
 use Rattle.ospf_headline.specs.Logs.{run_of}
-use Rattle.ospf_headline.specs.declared.event.WorldEvent.TheVariants.{Start}
+use Rattle.ospf_event.specs.declared.event.WorldEvent.TheVariants.{Start}
 use Rattle.ospf_headline.specs.Sound.{IssuedAt, HasBegun, NoneLargest, BasesAreFloors}
 use Rattle.ospf_headline.proofs.Facts.{Facts}
 use Rattle.ospf_headline.proofs.FactsKept.{IsThat, which_router, WasSent, has_issued, entry_cases, new_is_own, run_goes_on}

@@ -26,7 +26,7 @@ use Rattle.ospf_step.proofs.StepAccounts.{StepLaws-accounts}
 use Rattle.ospf_step.specs.Step.Event.{Tick, LinkUp, LinkDown}
 use Rattle.ospf_headline.specs.World.{Comes, World, WorldEvent, Issued, Datagram, Running, router_at, StepsRouter, RouterBecomes, SameLogs, IsRunningStarted, IsNewWorld, Happens, RunsEvents, stepped_by, HasItsTable}
 use Rattle.ospf_headline.specs.Logs.{run_of}
-use Rattle.ospf_headline.specs.declared.event.WorldEvent.TheVariants.{Start, Stop, Tick as TickOf, LinkUp as LinkUpOf, LinkDown as LinkDownOf, Deliver}
+use Rattle.ospf_event.specs.declared.event.WorldEvent.TheVariants.{Start, Stop, Tick as TickOf, LinkUp as LinkUpOf, LinkDown as LinkDownOf, Deliver}
 use Rattle.ospf_headline.specs.Sound.{WasIssued, HeldAnywhere, IssuedAgain, AgreeUnlessIssuedAgain, NoCollision, BasesAreHigh, IssuedAt, number_in, HasToldOf, IsSoundFor, SoundFor, IsSoundAcknowledgement}
 use Rattle.ospf_headline.proofs.Facts.{Facts, IsAfter, IsKnownTo}
 use Rattle.ospf_headline.proofs.FactsKept.{IsThat, which_router, WasSent, Facts-stepped, WasIssued-more, acknowledged_held, described_held, was_held}

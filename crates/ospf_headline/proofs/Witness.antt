@@ -12,7 +12,7 @@ use Rattle.ospf_step.specs.Step.{Event}
 use Rattle.ospf_step.specs.Words.{CanName}
 use Rattle.ospf_step.proofs.StateFacts.{Contains-nil, same_router}
 use Rattle.ospf_step.proofs.Witness.{at_tick, ticks}
-use Rattle.ospf_headline.specs.declared.event.WorldEvent.TheVariants.{Start, Tick}
+use Rattle.ospf_event.specs.declared.event.WorldEvent.TheVariants.{Start, Tick}
 use Rattle.ospf_headline.specs.World.{Comes, World, Member, Running, WorldEvent, router_at, RouterBecomes, HasItsTable, IsRunningStarted, StepsRouter, RunsEvents, IsNewWorld}
 use Rattle.ospf_headline.specs.Logs.{run_of}
 

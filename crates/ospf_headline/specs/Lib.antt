@@ -1,4 +1,3 @@
-pub mod Text
 pub mod Listings
 pub mod World
 pub mod Runs

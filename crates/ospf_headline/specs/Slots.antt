@@ -9,10 +9,10 @@ use Rattle.ospf_headline.specs.World as world
 use Rattle.ospf_headline.specs.World.{HasItsTable, Member, Running, RunsGoOn, WantsRoom}
 use Rattle.ospf_headline.specs.declared.logs.Datagram.{Datagram}
 use Rattle.ospf_headline.specs.declared.logs.Issued.{Issued}
-use Rattle.ospf_headline.specs.declared.event.WorldEvent.{WorldEvent}
-use Rattle.ospf_headline.specs.declared.event.WorldFault.{WorldFault}
-use Rattle.ospf_headline.specs.declared.event.WorldEvent.TheVariants.{Start, Stop, Tick, LinkUp, LinkDown, Deliver}
-use Rattle.ospf_headline.specs.declared.event.WorldFault.TheVariants as fault
+use Rattle.ospf_event.specs.declared.event.WorldEvent.{WorldEvent}
+use Rattle.ospf_event.specs.declared.event.WorldFault.{WorldFault}
+use Rattle.ospf_event.specs.declared.event.WorldEvent.TheVariants.{Start, Stop, Tick, LinkUp, LinkDown, Deliver}
+use Rattle.ospf_event.specs.declared.event.WorldFault.TheVariants as fault
 use Rattle.ospf_step.specs.Counts.{with_dropped, none_dropped_on}
 use Rattle.ospf_step.specs.Drops.{dropped_by}
 use Rattle.ospf_step.specs.Step.{Event}
@@ -63,15 +63,6 @@ pub record IsLent (running : Option Running) (r : RouterValue) : Type 0 where
   pub table : r.table ≡ x.table
 
 -- ---- events
-
--- the router that an event is at
-abbrev pub router_in : WorldEvent → RouterId
-router_in (Start r dd floor) = r
-router_in (Stop r) = r
-router_in (Tick r) = r
-router_in (LinkUp r l) = r
-router_in (LinkDown r l) = r
-router_in (Deliver d r l) = r
 
 -- why the event is refused by its router, if it is, where these datagrams were sent
 abbrev pub refused_by : List Datagram → WorldEvent → Member → Option WorldFault

@@ -15,7 +15,7 @@ use Rattle.ospf_step.specs.Words.{HoldsInstance, HasCopy, Brings}
 use Rattle.ospf_flood.specs.Rules.{max_sequence_number}
 use Rattle.ospf_step.specs.Accounts.{IsReplaced}
 use Rattle.ospf_step.specs.Step.{Event, heard_in}
-use Rattle.ospf_headline.specs.declared.event.WorldEvent.TheVariants.{Start}
+use Rattle.ospf_event.specs.declared.event.WorldEvent.TheVariants.{Start}
 use Rattle.ospf_headline.specs.World.{World, WorldEvent, Issued, Datagram, Run, Running, router_at, stepped_by, Comes, RunsEvents, LogsGrow}
 
 -- the number that it was issued with

@@ -19,14 +19,14 @@ use Rattle.ospf_update.specs.Removal.{lowest_number}
 use Rattle.ospf_lsdb.specs.Moments.{among}
 use Rattle.ospf_step.specs.Step.{Event, StepLaws}
 use Rattle.ospf_step.specs.Step.Event.{Tick, LinkUp, LinkDown}
-pub use Rattle.ospf_headline.specs.declared.event.WorldEvent.{WorldEvent}
-pub use Rattle.ospf_headline.specs.declared.event.WorldFault.{WorldFault}
+pub use Rattle.ospf_event.specs.declared.event.WorldEvent.{WorldEvent}
+pub use Rattle.ospf_event.specs.declared.event.WorldFault.{WorldFault}
 pub use Rattle.ospf_headline.specs.declared.logs.Run.{Run}
 pub use Rattle.ospf_headline.specs.declared.logs.Issued.{Issued}
 pub use Rattle.ospf_headline.specs.declared.logs.Datagram.{Datagram}
 pub use Rattle.ospf_headline.specs.declared.logs.Holding.{Holding}
-use Rattle.ospf_headline.specs.declared.event.WorldEvent.TheVariants.{Start, Stop, Tick as TickOf, LinkUp as LinkUpOf, LinkDown as LinkDownOf, Deliver}
-use Rattle.ospf_headline.specs.declared.event.WorldFault.TheVariants as fault
+use Rattle.ospf_event.specs.declared.event.WorldEvent.TheVariants.{Start, Stop, Tick as TickOf, LinkUp as LinkUpOf, LinkDown as LinkDownOf, Deliver}
+use Rattle.ospf_event.specs.declared.event.WorldFault.TheVariants as fault
 
 -- a running router with its routing table, the run of its keys since its start, and the later runs
 -- of single keys

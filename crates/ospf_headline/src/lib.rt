@@ -6,14 +6,12 @@
 #![tactic(auto)]
 
 mod drops;
-mod event;
 mod laws;
 mod logs;
 mod running;
 mod slot;
 mod walk;
 
-pub use crate::event::{WorldEvent, WorldFault};
 pub use crate::laws::{
     acknowledgement_is_sound, bases_are_floors, chosen_walks_arrive, headline, held_lsas_agree,
     held_lsas_were_issued, high_floors_exclude_collisions, runs_lead_on, some_world_ticks,

@@ -1,8 +1,8 @@
 -- Captures that go on as more is sent: what is in one already, and what is added.
 use Rattle.std.specs.Prelude.{◌≡◌, ◌==◌, ◌≤◌, ◌<◌, ◌++◌, ℕ, List, Result, count_by, drop, flat_map, length, slice_index_or, take}
 use Rattle.std.specs.List.{AllByRecursion}
-use Rattle.ospf_headline.specs.declared.event.WorldEvent.{WorldEvent}
-use Rattle.ospf_headline.specs.declared.event.WorldFault.{WorldFault}
+use Rattle.ospf_event.specs.declared.event.WorldEvent.{WorldEvent}
+use Rattle.ospf_event.specs.declared.event.WorldFault.{WorldFault}
 use Rattle.ospf_headline.specs.declared.logs.Datagram.{Datagram}
 use Rattle.ospf_records.specs.Captures.{capture_of, captured_of, numbered_datagrams, seconds}
 use Rattle.ospf_records.specs.Counts.{capped, count_in}

@@ -3,9 +3,10 @@ use Rattle.std.proofs.Common.{◌≡◌, ◌==◌, ◌<◌, ◌≤◌, ◌+◌, 
 use Rattle.std.specs.Global.{Vec}
 use Rattle.std.specs.List.{flat_map}
 use Rattle.ospf_headline.specs.Runs.{IsRun}
-use Rattle.ospf_headline.specs.Slots.{SlotValue, router_in}
-use Rattle.ospf_headline.specs.declared.event.WorldEvent.{WorldEvent}
-use Rattle.ospf_headline.specs.declared.event.WorldFault.{WorldFault}
+use Rattle.ospf_headline.specs.Slots.{SlotValue}
+use Rattle.ospf_event.specs.Events.{router_in}
+use Rattle.ospf_event.specs.declared.event.WorldEvent.{WorldEvent}
+use Rattle.ospf_event.specs.declared.event.WorldFault.{WorldFault}
 use Rattle.ospf_headline.specs.declared.logs.Datagram.{Datagram}
 use Rattle.ospf_rounds.specs.Batches.{AreTaken, IsBatch, IsBatchOf, IsNextWave, TakesWave, all_passed, is_at, is_place, most_waves, offers_from, put_at, queued, queues_from, queues_of, wave}
 use Rattle.ospf_world.specs.Does.{Does}

@@ -2,8 +2,8 @@
 use Rattle.std.proofs.Common.{◌≡◌, ◌≢◌, ◌==◌, ◌∙◌, ap, sym, ℕ, Bool, false, length, List, [], Result, Ok, Err, refl, subst}
 use Rattle.std.specs.List.{flat_map}
 use Rattle.ospf_headline.specs.Runs.{IsRun}
-use Rattle.ospf_headline.specs.declared.event.WorldEvent.{WorldEvent}
-use Rattle.ospf_headline.specs.declared.event.WorldFault.{WorldFault}
+use Rattle.ospf_event.specs.declared.event.WorldEvent.{WorldEvent}
+use Rattle.ospf_event.specs.declared.event.WorldFault.{WorldFault}
 use Rattle.ospf_rounds.specs.Many.{ComesAbout, all_gone_over, many_of, memory_ends}
 use Rattle.ospf_world.specs.Does.{Does}
 use Rattle.ospf_world.specs.Worlds.{WorldValue}

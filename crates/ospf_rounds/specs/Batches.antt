@@ -4,10 +4,11 @@ use Rattle.std.specs.Prelude.{◌≡◌, ◌≢◌, ◌==◌, ◌+◌, ◌<◌, 
 use Rattle.std.specs.Global.{Vec}
 use Rattle.std.specs.List.{flat_map}
 use Rattle.ospf_headline.specs.Runs.{IsRun}
-use Rattle.ospf_headline.specs.Slots.{SlotValue, router_in}
-use Rattle.ospf_headline.specs.declared.event.WorldEvent.{WorldEvent}
-use Rattle.ospf_headline.specs.declared.event.WorldFault.{WorldFault}
-use Rattle.ospf_headline.specs.declared.event.WorldFault.TheVariants as fault
+use Rattle.ospf_headline.specs.Slots.{SlotValue}
+use Rattle.ospf_event.specs.Events.{router_in}
+use Rattle.ospf_event.specs.declared.event.WorldEvent.{WorldEvent}
+use Rattle.ospf_event.specs.declared.event.WorldFault.{WorldFault}
+use Rattle.ospf_event.specs.declared.event.WorldFault.TheVariants as fault
 use Rattle.ospf_headline.specs.declared.logs.Datagram.{Datagram}
 use Rattle.ospf_world.specs.Does.{Does}
 use Rattle.ospf_world.specs.Rounds.{OffersMore, offers_of, ticks}

@@ -21,6 +21,6 @@ pub use crate::losing::round_losing;
 pub use crate::losses::{Losses, is_network_of, lose_somewhere};
 pub use crate::many::run_many;
 pub use crate::watch::Watch;
-pub use ospf_headline::{WorldEvent, WorldFault};
+pub use ospf_event::{WorldEvent, WorldFault};
 pub use ospf_script::Many;
 pub use ospf_world::{EventWatch, World};

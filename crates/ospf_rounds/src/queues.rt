@@ -1,7 +1,7 @@
 //! Events in queues, one for each router.
 
 ghost use Rattle.std.specs.Prelude.{◌≡◌, ◌<◌, ℕ, IfOk, None, OnOk, Some, length};
-ghost use Rattle.ospf_headline.specs.Slots.{router_in};
+ghost use Rattle.ospf_event.specs.Events.{router_in};
 ghost use Rattle.ospf_rounds.specs.Batches.{by_router, put_at, queued, queues_of};
 ghost use Rattle.ospf_world.specs.Worlds.{place_of};
 

@@ -2,7 +2,7 @@
 
 use crate::expected::Expected;
 use ospf_base::{Addr, RouterId};
-use ospf_headline::WorldEvent;
+use ospf_event::WorldEvent;
 
 /// What a line of a script asks for: an event, several events, or a line to be printed.
 #[derive(Debug, PartialEq, Eq, Drop)]

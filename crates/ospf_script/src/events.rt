@@ -10,7 +10,7 @@ use crate::spelled::Spelled;
 use crate::values::{floor_of, number_of, router_of};
 use crate::words::{is_alone, three_words, two_words};
 use ospf_base::{NO_FLOOR, RouterId};
-use ospf_headline::WorldEvent;
+use ospf_event::WorldEvent;
 
 // The event of a name, and of the words behind it.
 pub(crate) fn event_in(name: Name, text: &[u8]) -> Option<WorldEvent>

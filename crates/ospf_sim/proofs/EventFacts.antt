@@ -10,10 +10,10 @@ use Rattle.std.specs.declared.alloc.AllocError.{AllocError}
 use Rattle.ospf_base.proofs.KeyMaps.{is_eq-nat_cmp}
 use Rattle.ospf_base.specs.declared.ids.RouterId.{RouterId}
 use Rattle.ospf_router.specs.Routers.{RouterValue}
-use Rattle.ospf_headline.specs.Slots.{router_in}
+use Rattle.ospf_event.specs.Events.{router_in}
 use Rattle.ospf_headline.specs.World.{Member, Running, World, member, router_at}
-use Rattle.ospf_headline.specs.declared.event.WorldEvent.{WorldEvent}
-use Rattle.ospf_headline.specs.declared.event.WorldFault.{WorldFault}
+use Rattle.ospf_event.specs.declared.event.WorldEvent.{WorldEvent}
+use Rattle.ospf_event.specs.declared.event.WorldFault.{WorldFault}
 use Rattle.ospf_world.specs.Worlds.{Lends, WorldValue}
 use Rattle.ospf_files.specs.Streams.{IsBegun}
 use Rattle.ospf_journal.specs.Changes.{AreChanges}

@@ -8,11 +8,11 @@ use Rattle.std.specs.Io.KnownBytes.{Appends}
 use Rattle.ospf_base.specs.declared.ids.RouterId.{RouterId}
 use Rattle.ospf_files.specs.Streams.{IsBegun}
 use Rattle.ospf_headline.specs.Running.{delivery}
-use Rattle.ospf_headline.specs.Slots.{router_in}
+use Rattle.ospf_event.specs.Events.{router_in}
 use Rattle.ospf_headline.specs.World.{Running, router_at}
-use Rattle.ospf_headline.specs.declared.event.WorldEvent.{WorldEvent}
-use Rattle.ospf_headline.specs.declared.event.WorldEvent.TheVariants.{Start, Stop, Tick, LinkUp, LinkDown, Deliver}
-use Rattle.ospf_headline.specs.declared.event.WorldFault.{WorldFault}
+use Rattle.ospf_event.specs.declared.event.WorldEvent.{WorldEvent}
+use Rattle.ospf_event.specs.declared.event.WorldEvent.TheVariants.{Start, Stop, Tick, LinkUp, LinkDown, Deliver}
+use Rattle.ospf_event.specs.declared.event.WorldFault.{WorldFault}
 use Rattle.ospf_headline.specs.declared.logs.Datagram.{Datagram}
 use Rattle.ospf_journal.specs.Causes.{cause_of}
 use Rattle.ospf_journal.specs.Changes.{AreChanges}

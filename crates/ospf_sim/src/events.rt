@@ -3,9 +3,9 @@
 ghost use Rattle.std.specs.Prelude.{◌≡◌, ◌≢◌, None, Some, IfOk, OnOk, option_map};
 ghost use Rattle.ospf_base.specs.declared.ids.RouterId.{RouterId};
 ghost use Rattle.ospf_headline.specs.Running.{delivery};
-ghost use Rattle.ospf_headline.specs.Slots.{router_in};
+ghost use Rattle.ospf_event.specs.Events.{router_in};
 ghost use Rattle.ospf_headline.specs.World.{router_at};
-ghost use Rattle.ospf_headline.specs.declared.event.WorldEvent.TheVariants.{Deliver};
+ghost use Rattle.ospf_event.specs.declared.event.WorldEvent.TheVariants.{Deliver};
 ghost use Rattle.ospf_journal.specs.Causes.{cause_of};
 ghost use Rattle.ospf_journal.specs.Changes.{AreChanges};
 ghost use Rattle.ospf_step.specs.Step.Event.{Datagram};

@@ -4,8 +4,8 @@ use Rattle.std.specs.List.{enumerate_from, list_any}
 use Rattle.ospf_area.specs.State.{AreaValue}
 use Rattle.ospf_base.specs.Text.{number_text}
 use Rattle.ospf_base.specs.declared.ids.RouterId.{RouterId}
-use Rattle.ospf_headline.specs.declared.event.WorldEvent.{WorldEvent}
-use Rattle.ospf_headline.specs.declared.event.WorldEvent.TheVariants as event
+use Rattle.ospf_event.specs.declared.event.WorldEvent.{WorldEvent}
+use Rattle.ospf_event.specs.declared.event.WorldEvent.TheVariants as event
 use Rattle.ospf_headline.specs.declared.logs.Datagram.{Datagram}
 use Rattle.ospf_journal.specs.Causes.{cause_of}
 use Rattle.ospf_script.specs.Words.{Text}

@@ -8,15 +8,16 @@ use Rattle.ospf_step.specs.Step.{Event}
 use Rattle.ospf_step.specs.declared.counts.DropCounts.{DropCounts}
 use Rattle.ospf_headline.specs.Headline.{IsReached}
 use Rattle.ospf_headline.specs.World.{RouterBecomes, Comes, LogsGrow, Running, SameLogs, World, member, of_member, refusal, router_at, stepped_by, IsRunningStarted}
-use Rattle.ospf_headline.specs.declared.event.WorldEvent.{WorldEvent}
-use Rattle.ospf_headline.specs.declared.event.WorldEvent.TheVariants.{Start, Stop, Tick, LinkUp, LinkDown, Deliver}
-use Rattle.ospf_headline.specs.declared.event.WorldFault.{WorldFault}
-use Rattle.ospf_headline.specs.declared.event.WorldFault.TheVariants as fault
+use Rattle.ospf_event.specs.declared.event.WorldEvent.{WorldEvent}
+use Rattle.ospf_event.specs.declared.event.WorldEvent.TheVariants.{Start, Stop, Tick, LinkUp, LinkDown, Deliver}
+use Rattle.ospf_event.specs.declared.event.WorldFault.{WorldFault}
+use Rattle.ospf_event.specs.declared.event.WorldFault.TheVariants as fault
 use Rattle.ospf_headline.specs.declared.logs.Datagram.{Datagram}
 use Rattle.ospf_headline.proofs.RunFacts.{Runs-append}
 use Rattle.ospf_headline.specs.Logs.{LogsTake, LogsValue}
 use Rattle.ospf_headline.specs.Running.{delivery}
-use Rattle.ospf_headline.specs.Slots.{SlotGoesOn, SlotSteps, SlotTakes, SlotValue, fed_by, member_of, refused_by, router_in, with_running}
+use Rattle.ospf_headline.specs.Slots.{SlotGoesOn, SlotSteps, SlotTakes, SlotValue, fed_by, member_of, refused_by, with_running}
+use Rattle.ospf_event.specs.Events.{router_in}
 use Rattle.ospf_router.specs.Steps.{is_dropped}
 use Rattle.ospf_world.specs.Does.{Does}
 use Rattle.ospf_world.specs.Ticks.{ticked_by}

@@ -16,7 +16,7 @@ use Rattle.ospf_graph.specs.declared.hop.NextHop.TheVariants as hops
 use Rattle.ospf_graph.specs.declared.route.Route.{Route}
 use Rattle.ospf_headline.specs.Walks.{HasNoRoute, adverts}
 use Rattle.ospf_headline.specs.World.{Member, Running, World, router_at}
-use Rattle.ospf_headline.specs.declared.event.WorldFault.{WorldFault}
+use Rattle.ospf_event.specs.declared.event.WorldFault.{WorldFault}
 use Rattle.ospf_router.specs.Routers.{RouterValue, listing_of}
 use Rattle.ospf_world.specs.declared.walk.Leg.{Leg}
 use Rattle.ospf_world.specs.Walks.{IsLeg, LegsOver}

@@ -12,7 +12,7 @@ use Rattle.ospf_headline.specs.World.{HasItsTable, Running, router_at}
 use Rattle.ospf_headline.specs.Logs.{run_of}
 use Rattle.ospf_headline.specs.declared.logs.Datagram.{Datagram}
 use Rattle.ospf_headline.specs.declared.logs.Run.{Run}
-use Rattle.ospf_headline.specs.declared.event.WorldEvent.TheVariants.{Start, Tick, LinkUp}
+use Rattle.ospf_event.specs.declared.event.WorldEvent.TheVariants.{Start, Tick, LinkUp}
 use Rattle.ospf_iface.specs.Hello.{own_hello}
 use Rattle.ospf_step.specs.Counts.{none_dropped_on}
 use Rattle.ospf_step.specs.Step.{Event}

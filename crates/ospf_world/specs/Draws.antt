@@ -6,8 +6,8 @@ use Rattle.ospf_base.specs.declared.ids.RouterId.{RouterId}
 use Rattle.ospf_update.specs.Removal.{lowest_number}
 use Rattle.ospf_world.specs.declared.chance.Words.{Words}
 use Rattle.ospf_headline.specs.World.{Member, World}
-use Rattle.ospf_headline.specs.declared.event.WorldEvent.{WorldEvent}
-use Rattle.ospf_headline.specs.declared.event.WorldEvent.TheVariants.{Start, Stop, Tick, LinkUp, LinkDown, Deliver}
+use Rattle.ospf_event.specs.declared.event.WorldEvent.{WorldEvent}
+use Rattle.ospf_event.specs.declared.event.WorldEvent.TheVariants.{Start, Stop, Tick, LinkUp, LinkDown, Deliver}
 
 -- the next four words of a generator
 unfoldable pub words_from : Lcg → Words × Lcg

@@ -1,7 +1,7 @@
 -- What a watch is told: of each event, before it and after it, with the world as it then is.
 use Rattle.std.specs.Prelude.{ℕ, Result}
-use Rattle.ospf_headline.specs.declared.event.WorldEvent.{WorldEvent}
-use Rattle.ospf_headline.specs.declared.event.WorldFault.{WorldFault}
+use Rattle.ospf_event.specs.declared.event.WorldEvent.{WorldEvent}
+use Rattle.ospf_event.specs.declared.event.WorldFault.{WorldFault}
 use Rattle.ospf_world.specs.Does.{Does}
 use Rattle.ospf_world.specs.Worlds.{WorldValue}
 

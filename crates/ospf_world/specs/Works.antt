@@ -5,7 +5,7 @@ use Rattle.ospf_base.specs.declared.ids.RouterId.{RouterId}
 use Rattle.ospf_config.specs.declared.config.Config.{Config}
 use Rattle.ospf_headline.specs.Runs.{RunsOn}
 use Rattle.ospf_headline.specs.World.{Running, router_at}
-use Rattle.ospf_headline.specs.declared.event.WorldEvent.TheVariants.{Start, Tick, LinkUp}
+use Rattle.ospf_event.specs.declared.event.WorldEvent.TheVariants.{Start, Tick, LinkUp}
 use Rattle.ospf_headline.specs.declared.logs.Datagram.{Datagram}
 use Rattle.ospf_headline.specs.declared.logs.Issued.{Issued}
 use Rattle.ospf_iface.specs.Machine.{is_down}

@@ -8,7 +8,8 @@ ghost use Rattle.ospf_world.specs.Rounds.{is_offered_to, offer_at, offer_on};
 use crate::networks::LinkPlace;
 use ospf_base::{ALL_D_ROUTERS, ALL_SPF_ROUTERS, Addr, mask_of};
 use ospf_config::{Config, InterfaceAddress};
-use ospf_headline::{Datagram, Slot, WorldEvent};
+use ospf_event::WorldEvent;
+use ospf_headline::{Datagram, Slot};
 use std::alloc::{AllocError, Global};
 
 /// The address of the interface of a link, if the configuration has that link.

@@ -11,7 +11,8 @@ ghost use Rattle.ospf_world.specs.Worlds.{world_of};
 
 use crate::watch::{EventWatch, Unwatched};
 use crate::world::World;
-use ospf_headline::{Slot, WorldEvent, WorldFault, headline, runs_lead_on, soundness};
+use ospf_event::{WorldEvent, WorldFault};
+use ospf_headline::{Slot, headline, runs_lead_on, soundness};
 use std::alloc::{AllocError, Global};
 
 /// How many datagrams a round offers at most, where nothing else is asked for.

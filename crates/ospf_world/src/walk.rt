@@ -15,8 +15,9 @@ ghost use Rattle.ospf_world.specs.Worlds.{world_of};
 use crate::world::World;
 use ospf_base::{Addr, RouterId};
 use ospf_edges::link_cost;
+use ospf_event::WorldFault;
 use ospf_graph::{NextHop, Route};
-use ospf_headline::{WalkEnd, WorldFault, headline};
+use ospf_headline::{WalkEnd, headline};
 use ospf_router::Router;
 use std::alloc::{AllocError, Global};
 

@@ -4,7 +4,7 @@ ghost use Rattle.std.specs.Prelude.{⊤};
 ghost use Rattle.ospf_world.specs.Watching.{CameRule, ComesRule};
 
 use crate::world::World;
-use ospf_headline::{WorldEvent, WorldFault};
+use ospf_event::{WorldEvent, WorldFault};
 
 /// Is told of each event of a run, a round or a draw. What it makes of it is its own affair: the
 /// world learns nothing of it.

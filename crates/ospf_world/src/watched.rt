@@ -14,7 +14,8 @@ ghost use Rattle.ospf_world.specs.Worlds.{SameSettings, world_of};
 
 use crate::watch::EventWatch;
 use crate::world::{World, is_memory};
-use ospf_headline::{WorldEvent, WorldFault, headline, runs_lead_on, soundness};
+use ospf_event::{WorldEvent, WorldFault};
+use ospf_headline::{headline, runs_lead_on, soundness};
 use std::alloc::Global;
 
 impl World {

@@ -1,5 +1,5 @@
 use Rattle.std.proofs.Common.{◌≡◌, ◌∙◌, ◌++◌, List, ap, arith, sym}
-use Rattle.ospf_headline.specs.declared.event.WorldEvent.{WorldEvent}
+use Rattle.ospf_event.specs.declared.event.WorldEvent.{WorldEvent}
 use Rattle.ospf_world.specs.Rounds.{offers_of}
 use Rattle.ospf_rounds.proofs.BatchFacts.{offers_more}
 use Rattle.ospf_rounds.proofs.batches.waiting_offers.Goals as goal

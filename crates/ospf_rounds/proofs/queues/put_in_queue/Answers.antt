@@ -1,6 +1,6 @@
 use Rattle.std.proofs.Common.{◌≡◌, ◌∙◌, ℕ, Some, ap, set, subst, sym}
 use Rattle.std.proofs.lemmas.Option.{same_Some}
-use Rattle.ospf_headline.specs.Slots.{router_in}
+use Rattle.ospf_event.specs.Events.{router_in}
 use Rattle.ospf_rounds.specs.Batches.{put_at, queued}
 use Rattle.ospf_world.specs.Worlds.{place_of}
 use Rattle.ospf_rounds.proofs.BatchFacts.{queued_set}

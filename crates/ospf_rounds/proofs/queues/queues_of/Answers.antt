@@ -1,7 +1,7 @@
 use Rattle.std.proofs.Common.{◌≡◌, ◌∙◌, ◌<◌, ◌++◌, ◌∷◌, [], List, ap, arith, length, sym, take}
 use Rattle.std.specs.Global.{Vec}
 use Rattle.ospf_headline.specs.Slots.{SlotValue}
-use Rattle.ospf_headline.specs.declared.event.WorldEvent.{WorldEvent}
+use Rattle.ospf_event.specs.declared.event.WorldEvent.{WorldEvent}
 use Rattle.ospf_rounds.specs.Batches.{queued}
 use Rattle.ospf_rounds.proofs.BatchFacts.{no_events, one_empty_more, queue_count, queued_length, queued_push, queues_begin, queues_step}
 use Rattle.ospf_world.proofs.PlaceFacts.{at_within, placed}

@@ -42,7 +42,7 @@ pub enum WorldEvent {
 }
 
 impl WorldEvent {
-    ghost use Rattle.ospf_headline.specs.Slots.{router_in};
+    ghost use Rattle.ospf_event.specs.Events.{router_in};
     ghost use Rattle.std.specs.Prelude.{◌≡◌};
 
     /// The router that it happens at.
@@ -82,7 +82,7 @@ pub enum WorldFault {
 }
 
 impl WorldFault {
-    ghost use Rattle.ospf_headline.specs.Text.{world_fault_text};
+    ghost use Rattle.ospf_event.specs.Text.{world_fault_text};
     ghost use Rattle.std.specs.Prelude.{◌≡◌};
 
     /// The fault's number and name, as it is printed.
@@ -105,7 +105,7 @@ impl WorldFault {
 /// The number and the name, as `W5 NotRunning`.
 impl Display for WorldFault {
     ghost use Rattle.std.specs.Prelude.{Some};
-    ghost use Rattle.ospf_headline.specs.Text.{world_fault_text};
+    ghost use Rattle.ospf_event.specs.Text.{world_fault_text};
 
     ghost output = { λ fault. Some (world_fault_text fault) };
 

@@ -1,7 +1,7 @@
 -- What is printed of a fault of a world.
 use Rattle.std.specs.Prelude.{ℕ, List, codes}
-use Rattle.ospf_headline.specs.declared.event.WorldFault.{WorldFault}
-use Rattle.ospf_headline.specs.declared.event.WorldFault.TheVariants as fault
+use Rattle.ospf_event.specs.declared.event.WorldFault.{WorldFault}
+use Rattle.ospf_event.specs.declared.event.WorldFault.TheVariants as fault
 
 -- the number and the name of a fault
 abbrev pub world_fault_text : WorldFault → List ℕ

@@ -1,0 +1,6 @@
+//! What may happen in a network of routers, and why it may be refused.
+#![tactic(auto)]
+
+mod event;
+
+pub use crate::event::{WorldEvent, WorldFault};
