@@ -1,7 +1,6 @@
 -- Each step of a list of exact steps keeps the laws of a step.
-use Rattle.std.proofs.Common.{◌≡◌, List, [], ◌∷◌, Option, None, Some, sym, subst, ◌∙◌}
+use Rattle.std.proofs.Common.{List, [], ◌∷◌, sym, subst, ◌∙◌}
 use Rattle.std.proofs.lemmas.Option.{same_Some}
-use Rattle.ospf_area.specs.State.{AreaValue}
 use Rattle.ospf_router.specs.Routers.{IsKept, RouterValue}
 use Rattle.ospf_router.specs.Steps.{Steps}
 use Rattle.ospf_step.specs.Lawful.{StepsAreLawful, StepsStayKept}
@@ -23,7 +22,7 @@ module _ (lawful : StepsAreLawful) (stays : StepsStayKept) where
           is = steps.is;
           lawful = lawful d.event steps.area d.gives.dropped d.gives.out steps.next before.fit before.sound steps.steps;
         },
-        (λ s is. subst IsKept (same_Some (sym steps.is ∙ is)) after),
+        (λ s is. subst IsKept (same_Some steps.next s (sym steps.is ∙ is)) after),
       )
 
   pub chain_is : (old : RouterValue) (ds : List Done) → IsKeptRouter old → IsChain router_rules old ds → AreLawful old ds

@@ -1,5 +1,5 @@
 -- What a driver steps, and by which rules it goes on.
-use Rattle.std.specs.Prelude.{◌≡◌, Some, None}
+use Rattle.std.specs.Prelude.{◌≡◌, ◌↔◌, Some, None}
 use Rattle.ospf_area.specs.State.{AreaValue}
 use Rattle.ospf_router.specs.Routers.{RouterValue}
 use Rattle.ospf_router.specs.Steps.{Steps}
@@ -20,3 +20,10 @@ router_rules = record {
   steps = Steps;
   stops = λ e r. (s : AreaValue) → r.area ≡ Some s → dropped_by e s ≡ None;
 }
+
+-- these rules are those of a router: the same steps, and the same events at which it may stop
+pub record AreRouterRules (rules : Rules) : Type 0 where
+  pub steps : (e : Event) (before : RouterValue) (t : Step) (after : RouterValue)
+      → rules.steps e before t after ↔ Steps e before t after
+  pub stops : (e : Event) (before : RouterValue)
+      → rules.stops e before ↔ router_rules.stops e before

@@ -1,8 +1,7 @@
 //! Laws of drivers.
 
-ghost use Rattle.std.specs.Prelude.{◌≡◌};
 ghost use Rattle.ospf_drive.specs.Chains.{ChainsAreLawful};
-ghost use Rattle.ospf_drive.specs.Machines.{router_rules};
+ghost use Rattle.ospf_drive.specs.Machines.{AreRouterRules};
 ghost use Rattle.ospf_drive.specs.Whole.{AllTicksAreTaken, DrivesAreWhole};
 
 use crate::machine::Machine;
@@ -24,7 +23,7 @@ pub fn all_ticks_are_taken<M: Machine>()
 /// A `Router` goes by the exact rules of a router, and by no others: its steps are those of RFC
 /// 2328, and it stops at no event that is dropped.
 pub fn routers_go_by_their_steps()
-    ensures { ⟦<Router as Machine>⟧.rules ≡ router_rules }
+    ensures { AreRouterRules ⟦<Router as Machine>⟧.rules }
 {}
 
 /// Whatever happens to a router, each of its steps keeps the laws of a step (`StepLaws` and

@@ -1,6 +1,6 @@
 //! What a driver steps.
 
-ghost use Rattle.std.specs.Prelude.{◌≡◌, ◌≢◌, ◌↔◌, ⊥, IfErr, IfOk, None, OnErr, OnOk};
+ghost use Rattle.std.specs.Prelude.{◌≡◌, ◌≢◌, ◌↔◌, IfErr, IfOk, None, OnErr, OnOk};
 ghost use Rattle.ospf_flood.specs.Rules.{max_sequence_number};
 ghost use Rattle.ospf_router.specs.Routers.{RouterValue, stopped};
 ghost use Rattle.ospf_router.specs.Starts.{IsStarted};

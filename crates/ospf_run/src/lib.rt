@@ -1,6 +1,6 @@
 //! Routers that run in threads of their own, over UDP on this machine.
 //!
-//! `run_text` is the whole: it reads configurations, opens sockets, drives the routers, looks an
+//! `run_routers` is the whole, by the rules of OSPF routers, and `run_text` for any `Machine`: it reads configurations, opens sockets, drives the routers, looks an
 //! address up beside them, and prints their tables, and tells a `Tap` what goes on meanwhile. What
 //! came of each router stands in `specs/Runs`, and what stands written where a failure cuts a run
 //! short in `specs/Cut`. What is refused before a socket is made is found by `prepare` of
@@ -16,6 +16,7 @@ mod look;
 mod outcome;
 mod over;
 mod print;
+mod routers;
 mod run;
 mod settings;
 mod status;
@@ -25,6 +26,7 @@ mod wires;
 pub use crate::at_tick::print_at_tick;
 pub use crate::outcome::{Drops, Extras, Looked, Outcome, RouterShown};
 pub use crate::print::report;
+pub use crate::routers::run_routers;
 pub use crate::run::run_text;
 pub use crate::settings::Settings;
 pub use crate::tap::Tap;

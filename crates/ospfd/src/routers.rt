@@ -4,7 +4,7 @@ use crate::names::tell_overwritten;
 use crate::outputs::{OutputFiles, Written, open_written};
 use ospf_files::{FailedStreams, Failure, NamedFile, Status, read_files};
 use ospf_notes::{Noted, Notes, StatusLine, Tables};
-use ospf_run::{Ending, Router, Settings, run_text};
+use ospf_run::{Ending, Settings};
 use ospf_udp::{Stop, prepare};
 use ospf_words::RunJob;
 use std::alloc::Global;
@@ -100,7 +100,7 @@ fn run_noted<
 ) -> io::Result<Status> {
     let alloc = rt.alloc();
     let notes = Notes::new(*rt, alloc, noted)?;
-    let status = run_text::<Router, _, _, _, _>(rt, alloc, settings, files, &notes, out, err);
+    let status = ospf_run::run_routers(rt, alloc, settings, files, &notes, out, err);
     if !notes.is_written() || !notes.is_logged() {
         return Ok(Status::Stream);
     }
