@@ -1,62 +1,86 @@
 #!/usr/bin/env python3
-"""Runs a command, such as .ci/run, and tells what the checks of each crate took meanwhile, in seconds of processor time.
+"""Shows what the checks of the crates took in the last gate, and what became dearer since the last release.
 
-It looks at the processes of the machine every second, so a check of less than some seconds is told too low or not at all. What the
-command prints goes where it goes; the table comes behind it.
+usage: bench/checks.py              a table of the crates that the last gate proved (out/costs), the dearest first
+       bench/checks.py --dearer     only those that became dearer, one line each
+       bench/checks.py --keep       writes the figures of the last gate, which has to have proved all crates, into bench/costs.txt
+
+A machine that is loaded or slower takes longer for everything, so a crate is dearer where it grew by more than a tenth, and by more than
+ten seconds, over what the crates of the run grew by in the median. A crate should cost at most 2.5 seconds a function.
 """
-import argparse
-import collections
 import os
-import subprocess
+import re
+import statistics
 import sys
-import time
 
-SECONDS_OF_A_LOOK = 1
-TICKS_A_SECOND = os.sysconf("SC_CLK_TCK")
-# In /proc/PID/stat, behind the name in brackets: the processor time in user and system mode, and when the process began.
-USER, SYSTEM, BEGAN = 11, 12, 19
-CHECKS = ("build", "check")
-
-
-def check_of(pid):
-    """The crate that a process checks, when it began, and its processor time so far; None of another process."""
-    try:
-        with open(f"/proc/{pid}/cmdline", "rb") as file:
-            words = file.read().decode(errors="replace").split("\0")
-        with open(f"/proc/{pid}/stat", encoding="utf-8", errors="replace") as file:
-            fields = file.read().rpartition(")")[2].split()
-    except OSError:
-        return None
-    if len(words) < 2 or os.path.basename(words[0]) != "rattle" or words[1] not in CHECKS or "--crate-name" not in words:
-        return None
-    name = words[words.index("--crate-name") + 1]
-    return name, fields[BEGAN], (int(fields[USER]) + int(fields[SYSTEM])) / TICKS_A_SECOND
+TOP = os.path.dirname(os.path.dirname(os.path.abspath(__file__)))
+LAST, MEASURED = os.path.join(TOP, "out", "costs"), os.path.join(TOP, "bench", "costs.txt")
+TENTH, SECONDS = 1.1, 10
+FUNCTION = re.compile(r"^[ \t]*(?:pub(?:\([a-z]+\))? )?(?:const |final |unsafe )*fn \w+", re.M)
+HEAD = "# What the checks of each crate take: the crate, what is checked, seconds of processor time, MB of memory.\n"
 
 
-def look(seen):
-    for pid in os.listdir("/proc"):
-        check = check_of(pid) if pid.isdigit() else None
-        if check is not None:
-            name, began, used = check
-            seen[name, pid, began] = used
+def read(path):
+    """What checks took, by crate and kind; the last of several counts."""
+    if not os.path.isfile(path):
+        return {}
+    with open(path, encoding="utf-8") as file:
+        lines = [line.split() for line in file if line.strip() and not line.startswith("#")]
+    return {(name, kind): (int(seconds), int(megabytes)) for name, kind, seconds, megabytes in lines}
+
+
+def functions(crate):
+    """How many functions a crate has."""
+    count = 0
+    for folder, _, names in os.walk(os.path.join(TOP, "crates", crate, "src")):
+        for name in names:
+            if name.endswith(".rt"):
+                with open(os.path.join(folder, name), encoding="utf-8") as file:
+                    count += len(FUNCTION.findall(file.read()))
+    return count
+
+
+def dearer(now, before):
+    """The checks that became dearer: crate, kind, seconds before, as this machine would take them, and now."""
+    both = [it for it in now if before.get(it, (0, 0))[0]]
+    if not both:
+        return []
+    pace = statistics.median(now[it][0] / before[it][0] for it in both)
+    wanted = {it: before[it][0] * pace for it in both}
+    return sorted((*it, wanted[it], now[it][0]) for it in both if now[it][0] > max(wanted[it] * TENTH, wanted[it] + SECONDS))
+
+
+def put_dearer(now, before):
+    for crate, kind, was, seconds in dearer(now, before):
+        print(f"dearer: {crate} ({kind}): {was:.0f} -> {seconds} s of processor time")
+
+
+def put_table(now, before):
+    print("| Crate | Check | Processor time, s | A function, s | Memory, MB | Before, s |\n|---|---|---|---|---|---|")
+    for (crate, kind), (seconds, megabytes) in sorted(now.items(), key=lambda it: -it[1][0]):
+        each = f"{seconds / functions(crate):.1f}" if functions(crate) else ""
+        print(f"| `{crate}` | {kind} | {seconds} | {each} | {megabytes} | {before.get((crate, kind), ('', ''))[0]} |")
+    print(f"all: {sum(seconds for seconds, _ in now.values()) / 60:.0f} minutes of processor time")
+
+
+def keep(now):
+    with open(MEASURED, "w", encoding="utf-8") as file:
+        file.write(HEAD)
+        file.writelines(f"{name} {kind} {seconds} {megabytes}\n" for (name, kind), (seconds, megabytes) in sorted(now.items()))
 
 
 def main():
-    words = argparse.ArgumentParser(description=__doc__, formatter_class=argparse.RawDescriptionHelpFormatter)
-    words.add_argument("command", metavar="COMMAND", help="what is run")
-    words.add_argument("words", metavar="WORD", nargs=argparse.REMAINDER, help="its words")
-    given = words.parse_args()
-    seen, took = {}, collections.Counter()
-    child = subprocess.Popen([given.command, *given.words])
-    while child.poll() is None:
-        look(seen)
-        time.sleep(SECONDS_OF_A_LOOK)
-    for (name, _, _), used in seen.items():
-        took[name] += used
-    print("| Crate | Processor time of its checks, in seconds |\n|---|---|")
-    for name, used in took.most_common():
-        print(f"| `{name}` | {used:.0f} |")
-    sys.exit(child.returncode)
+    now, before, words = read(LAST), read(MEASURED), sys.argv[1:]
+    if words not in ([], ["--dearer"], ["--keep"]):
+        sys.exit(__doc__)
+    if not now and words != ["--dearer"]:
+        sys.exit("bench/checks.py: no gate has noted its costs here (out/costs)")
+    if words == ["--keep"]:
+        keep(now)
+    elif words == ["--dearer"]:
+        put_dearer(now, before)
+    else:
+        put_table(now, before)
 
 
 main()

@@ -5,7 +5,11 @@ usage: tests/gate/kit.py WORD..        as rt WORD..
 
 A crate's stamp is a sum of its sources and of the stamps of the crates that it stands on. `rt` makes each of those anew wherever it
 is asked for: for the program, over its fifty crates, those of 64,000 crates. Here a call remembers the stamps that
-it has made, for as long as it lasts; the next one makes its own. So every stamp is the same, and nothing else is changed.
+it has made, for as long as it lasts; the next one makes its own. So every stamp is the same.
+
+`rt ci` runs as many checks side by side as its own estimate of their memory allows, which is three to four times what they take. Here
+the estimate is what each crate was measured to take (bench/costs.txt) and a quarter more. Where COSTS names a file each check is noted
+there (tests/gate/noted). What is proved, and in which order, stays as it is.
 
 Other scripts that lean on the inside of the toolchain, which no document promises, ask for it here. Where something of it is not there
 they end with a line that tells so; with any toolchain that has it all they go on.
@@ -18,6 +22,12 @@ import subprocess
 import sys
 import threading
 
+HERE = os.path.dirname(os.path.abspath(__file__))
+# What the checks of each crate take, measured before a release.
+MEASURED = os.path.join(os.path.dirname(os.path.dirname(HERE)), "bench", "costs.txt")
+# A check may take a quarter more than the measured one.
+ROOM = 1.25
+MB = 1 << 20
 # The toolchains that these scripts were tried with, as `rt version` tells them.
 TRIED = "rattle-kit-13b and rattle-kit-13f, logic dac8208d650f15bf"
 
@@ -76,6 +86,30 @@ def quicken(crate_type):
     crate_type.stamp = stamp
 
 
+def measured():
+    """What the checks of each crate were measured to take: by crate and kind, seconds of processor time and MB."""
+    if not os.path.isfile(MEASURED):
+        return {}
+    with open(MEASURED, encoding="utf-8") as file:
+        lines = [line.split() for line in file if line.strip() and not line.startswith("#")]
+    return {(name, kind): (int(seconds), int(megabytes)) for name, kind, seconds, megabytes in lines}
+
+
+def know_needs(module):
+    """Has the memory of a check be what it was measured to be, where it was."""
+    plain, most = module.need, {}
+    for (name, _), (_, megabytes) in measured().items():
+        most[name] = max(most.get(name, 0), int(megabytes * MB * ROOM))
+    module.need = lambda crate: most.get(crate.name) or plain(crate)
+
+
+def note_costs(module):
+    """Has each check of a crate note what it takes, where a file is named for that."""
+    if os.environ.get("COSTS"):
+        os.environ["RATTLE"] = module.rtlib.RATTLE
+        module.rtlib.RATTLE = os.path.join(HERE, "noted")
+
+
 def command():
     """The command rt as a module, and its library beside it."""
     loader = importlib.machinery.SourceFileLoader("rt", file_of_rt())
@@ -89,6 +123,10 @@ def command():
     # A toolchain without stamps has none to make twice.
     if hasattr(crate_type, "stamp"):
         quicken(crate_type)
+    look_for(module, "rt", "need")
+    look_for(module.rtlib, "rtlib", "RATTLE")
+    know_needs(module)
+    note_costs(module)
     return module
 
 
