@@ -1,5 +1,5 @@
-//! Two routers, which hand each other their datagrams until the first knows the network behind the
-//! second. `docs/LIBRARY.md` goes through it.
+//! Two routers pass each other their datagrams until the first one has a route to the network of the
+//! second. `docs/LIBRARY.md` goes through this program.
 #![tactic(auto)]
 
 use ospf_base::{Addr, NO_FLOOR};
@@ -29,21 +29,26 @@ const DD_START: u32 = 1;
 const SECONDS: u32 = 60;
 
 fn main(rt: HostRuntime) -> Result<(), anyhow::Error> {
+    if let Some(found) = looked_up(rt)? {
+        println!(rt; "{found}")?;
+    }
+    Ok(())
+}
+
+/// The route that the first router has to the host, out of a table that threads could share.
+pub fn looked_up(rt: HostRuntime) -> Result<Option<Found>, anyhow::Error> {
     let alloc = rt.alloc();
     let first = met(alloc)?;
     let (mut writer, mut seats) = Fib::open(alloc, rt, 1)?;
     writer.publish(first.table())?;
     let Some(mut seat) = seats.pop() else {
-        return Ok(());
+        return Ok(None);
     };
-    if let Some(answer) = seat.lookup(HOST, 0)? {
-        let found = Found {
-            address: HOST,
-            answer,
-        };
-        println!(rt; "{found}")?;
-    }
-    Ok(())
+    let answer = seat.lookup(HOST, 0)?;
+    Ok(answer.map(|answer| Found {
+        address: HOST,
+        answer,
+    }))
 }
 
 // The first router, once it has met the second.
