@@ -1,0 +1,34 @@
+"""The parts of the tests: a part is the words of a command, run at the top of the repository, and passes where its status is 0.
+
+tests/run runs those that need no proved program, tests/gate/all the others, on the program that it has proved.
+"""
+import os
+
+TOP = os.path.dirname(os.path.dirname(os.path.dirname(os.path.abspath(__file__))))
+UNITS = ["tests/unit/units"]
+# These start no program of ours.
+WITHOUT_PROGRAM = [["tests/gate/layout"], ["tests/edits", "--check"], ["tools/promise", "--check", "docs/promises"], ["tests/gate/stand-ins"], ["tests/peers/bridge"]]
+# The longest first, so that the others run beside them.
+OF_PROGRAM = ["simulations/claims", "simulations/simulate", "captures/compare-inspect", "captures/read-captures", "captures/compare-failures"]
+OF_PROGRAM += ["simulations/report", "captures/compare-captures", "captures/read-shown", "gate/shown", "gate/streams"]
+# These look at the clock while routers run, so nothing else runs beside them.
+ALONE = [["tests/peers/run"]]
+# Tests that are proved, in which each allocation is refused in turn.
+REFUSED_IN_TESTS = ["publishes::refused_publish_changes_nothing", "drives::want_of_memory_ends_as_stated"]
+
+
+def of_program():
+    """Those that run the program, proved or not, and may run side by side."""
+    examples = sorted(f"examples/{name}" for name in os.listdir(os.path.join(TOP, "examples")) if name.endswith(".toml"))
+    return [*([f"tests/{name}"] for name in OF_PROGRAM), ["./ospfd", "check", *examples]]
+
+
+def unproved():
+    """All that tests/run runs."""
+    return [UNITS, *WITHOUT_PROGRAM, *of_program(), *ALONE]
+
+
+def of_proved():
+    """Those that need the proved program."""
+    tests = [["tests/gate/refuse-allocations-in-tests", "ospf_drive_tests", name] for name in REFUSED_IN_TESTS]
+    return [["tests/gate/package"], ["tests/gate/refuse-allocations"], *tests]
