@@ -5,6 +5,7 @@ usage: try_tests.py FOLDER CRATE SECONDS [PART]    the crates of a folder, one o
 """
 import os
 import resource
+import signal
 import subprocess
 import sys
 import tempfile
@@ -26,6 +27,13 @@ def build(crate, program, place):
     checked.build(kept, "-O0", program, place)
 
 
+def interrupted(number, frame):
+    signal.signal(number, signal.SIG_IGN)
+    sys.exit(1)
+
+
+# What ends it ends what it has started, too.
+signal.signal(signal.SIGTERM, interrupted)
 folder, name, seconds, *part = sys.argv[1:]
 rtlib = library()
 look_for(rtlib, "rtlib", "RUNNER", "Crate", "crates_below", "kit_sources")
