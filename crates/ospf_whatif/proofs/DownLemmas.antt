@@ -18,32 +18,32 @@ use Rattle.ospf_whatif.specs.Failure.{kept_links, takes}
 use Rattle.ospf_whatif.specs.declared.failure.AreaFailure.{AreaFailure}
 use Rattle.ospf_whatif.specs.declared.failure.AreaFailure.TheVariants as fails
 use Rattle.ospf_whatif.proofs.WithoutLemmas.{kept_links-append}
-use Rattle.ospf_whatif.specs.Wanted.{AreSpared, IsLeft, IsNetworkFailure, IsWireUp, wanted_links}
+use Rattle.ospf_whatif.specs.Wanted.{AreSpared, IsInNone, IsLeft, IsNetworkFailure, IsWireUp, wanted_links}
 use Rattle.ospf_wanted.proofs.SaidLemmas.{up_is}
 
 -- ---- links that are all kept, or all taken
 
-kept_all : (f : AreaFailure) (r : RouterId) (xs : List Link) → AllByRecursion (λ l. takes f r l ≡ false) xs → kept_links f r xs ≡ xs
-kept_all f r [] all = refl
-kept_all f r (l ∷ rest) all = rw all.0 (ap (λ more. l ∷ more) (kept_all f r rest all.1))
+kept_all : (inner : List Link) (f : AreaFailure) (r : RouterId) (xs : List Link) → AllByRecursion (λ l. takes inner f r l ≡ false) xs → kept_links inner f r xs ≡ xs
+kept_all inner f r [] all = refl
+kept_all inner f r (l ∷ rest) all = rw all.0 (ap (λ more. l ∷ more) (kept_all inner f r rest all.1))
 
-kept_none : (f : AreaFailure) (r : RouterId) (xs : List Link) → AllByRecursion (λ l. takes f r l ≡ true) xs → kept_links f r xs ≡ []
-kept_none f r [] all = refl
-kept_none f r (l ∷ rest) all = rw all.0 (kept_none f r rest all.1)
+kept_none : (inner : List Link) (f : AreaFailure) (r : RouterId) (xs : List Link) → AllByRecursion (λ l. takes inner f r l ≡ true) xs → kept_links inner f r xs ≡ []
+kept_none inner f r [] all = refl
+kept_none inner f r (l ∷ rest) all = rw all.0 (kept_none inner f r rest all.1)
 
 -- ---- one interface changes
 
-module _ (f : AreaFailure) (router : RouterId) (stub_router : Bool) (front back : List LinkValue) (before after : LinkValue)
-    (spared_front : AreSpared f router stub_router front) (spared_back : AreSpared f router stub_router back) where
+module _ (inner : List Link) (f : AreaFailure) (router : RouterId) (stub_router : Bool) (front back : List LinkValue) (before after : LinkValue)
+    (spared_front : AreSpared inner f router stub_router front) (spared_back : AreSpared inner f router stub_router back) where
   split : (l : LinkValue) → wanted_links stub_router (front ++ l ∷ back) ≡ wanted_links stub_router front ++ (links_of_link stub_router l ++ wanted_links stub_router back)
   split l = flat_map-append (links_of_link stub_router) front (l ∷ back)
 
-  left : kept_links f router (links_of_link stub_router before) ≡ links_of_link stub_router after → IsLeft f router stub_router front before after back
+  left : kept_links inner f router (links_of_link stub_router before) ≡ links_of_link stub_router after → IsLeft inner f router stub_router front before after back
   left one =
-      ap (λ ls. kept_links f router ls) (split before)
-      ∙ kept_links-append f router (wanted_links stub_router front) (links_of_link stub_router before ++ wanted_links stub_router back)
-      ∙ ap (λ ls. kept_links f router (wanted_links stub_router front) ++ ls) (kept_links-append f router (links_of_link stub_router before) (wanted_links stub_router back))
-      ∙ (λ i. kept_all f router (wanted_links stub_router front) spared_front i ++ (one i ++ kept_all f router (wanted_links stub_router back) spared_back i))
+      ap (λ ls. kept_links inner f router ls) (split before)
+      ∙ kept_links-append inner f router (wanted_links stub_router front) (links_of_link stub_router before ++ wanted_links stub_router back)
+      ∙ ap (λ ls. kept_links inner f router (wanted_links stub_router front) ++ ls) (kept_links-append inner f router (links_of_link stub_router before) (wanted_links stub_router back))
+      ∙ (λ i. kept_all inner f router (wanted_links stub_router front) spared_front i ++ (one i ++ kept_all inner f router (wanted_links stub_router back) spared_back i))
       ∙ sym (split after)
 
 down_is : (stub_router : Bool) (l : LinkValue) → is_down l.iface.state ≡ true → links_of_link stub_router l ≡ []
@@ -56,7 +56,7 @@ wire_is stub_router l up is = up_is stub_router l up ∙ ap (λ k. links_of_kind
 
 -- ---- a point-to-point link
 
-module _ (router other : RouterId) (subnet : Prefix) (stub_router : Bool) (l : LinkValue) (w : IsWireUp l other subnet) where
+module _ (inner : List Link) (router other : RouterId) (subnet : Prefix) (stub_router : Bool) (l : LinkValue) (w : IsWireUp l other subnet) (none : IsInNone inner l) where
   f : AreaFailure
   f = fails.Link router other subnet
 
@@ -69,12 +69,12 @@ module _ (router other : RouterId) (subnet : Prefix) (stub_router : Bool) (l : L
   own : eqb router.0 router.0 ≡ true
   own = eq-eqb _ _ refl
 
-  to_taken : (n : NeighbourValue) → n.router ≡ other → takes (fails.Link router other subnet) router (router_link stub_router l n) ≡ true
+  to_taken : (n : NeighbourValue) → n.router ≡ other → takes inner (fails.Link router other subnet) router (router_link stub_router l n) ≡ true
   to_taken n is =
       let same : eqb n.router.0 other.0 ≡ true = eq-eqb _ _ (ap (λ (r : RouterId). r.0) is) in
-      rw (own, same, there) refl
+      rw (own, same, there, none) refl
 
-  subnet_taken : takes (fails.Link router other subnet) router (subnet_link l) ≡ true
+  subnet_taken : takes inner (fails.Link router other subnet) router (subnet_link l) ≡ true
   subnet_taken =
       let mask : eqb l.iface.settings.mask (mask_of subnet.length) ≡ true = eq-eqb _ _ w.in_subnet.mask_is in
       let twice : bit_and (bit_and l.iface.settings.address.0 l.iface.settings.mask) (mask_of subnet.length) ≡ subnet.address.0 =
@@ -83,7 +83,7 @@ module _ (router other : RouterId) (subnet : Prefix) (stub_router : Bool) (l : L
       rw (own, mask, at) refl
 
   neighbours_taken : (ns : List NeighbourValue) → AllByRecursion (λ n. n.router ≡ other) ns
-      → kept_links (fails.Link router other subnet) router (map (router_link stub_router l) (filter is_full ns) ++ subnet_link l ∷ []) ≡ []
+      → kept_links inner (fails.Link router other subnet) router (map (router_link stub_router l) (filter is_full ns) ++ subnet_link l ∷ []) ≡ []
   neighbours_taken [] all = rw subnet_taken refl
   neighbours_taken (n ∷ ns) all =
       elim (bool_cases (is_full n)) [
@@ -91,53 +91,53 @@ module _ (router other : RouterId) (subnet : Prefix) (stub_router : Bool) (l : L
         | inr less ↦ rw less (neighbours_taken ns all.1)
       ]
 
-  all_taken : kept_links (fails.Link router other subnet) router (links_of_link stub_router l) ≡ []
-  all_taken = ap (λ ls. kept_links (fails.Link router other subnet) router ls) (wire_is stub_router l w.up w.kind_is) ∙ neighbours_taken l.neighbours w.alone
+  all_taken : kept_links inner (fails.Link router other subnet) router (links_of_link stub_router l) ≡ []
+  all_taken = ap (λ ls. kept_links inner (fails.Link router other subnet) router ls) (wire_is stub_router l w.up w.kind_is) ∙ neighbours_taken l.neighbours w.alone
 
-pub links_go_down : (router other : RouterId) (subnet : Prefix) (stub_router : Bool) (front back : List LinkValue) (before after : LinkValue)
-    → IsWireUp before other subnet → is_down after.iface.state ≡ true → AreSpared (fails.Link router other subnet) router stub_router front
-    → AreSpared (fails.Link router other subnet) router stub_router back → IsLeft (fails.Link router other subnet) router stub_router front before after back
-links_go_down router other subnet stub_router front back before after w down spared_front spared_back =
-    left (fails.Link router other subnet) router stub_router front back before after spared_front spared_back
-    (all_taken router other subnet stub_router before w ∙ sym (down_is stub_router after down))
+pub links_go_down : (inner : List Link) (router other : RouterId) (subnet : Prefix) (stub_router : Bool) (front back : List LinkValue) (before after : LinkValue)
+    → IsWireUp before other subnet → IsInNone inner before → is_down after.iface.state ≡ true → AreSpared inner (fails.Link router other subnet) router stub_router front
+    → AreSpared inner (fails.Link router other subnet) router stub_router back → IsLeft inner (fails.Link router other subnet) router stub_router front before after back
+links_go_down inner router other subnet stub_router front back before after w none down spared_front spared_back =
+    left inner (fails.Link router other subnet) router stub_router front back before after spared_front spared_back
+    (all_taken inner router other subnet stub_router before w none ∙ sym (down_is stub_router after down))
 
 -- ---- a transit network
 
-network_taken : (f : AreaFailure) (router : RouterId) (network : ℕ) (l : LinkValue) (stub_router : Bool) → IsNetworkFailure f router network → l.iface.dr.0 ≡ network
-    → takes f router (network_link stub_router l) ≡ true
-network_taken (fails.Attachment q n) router network l stub_router of is =
+network_taken : (inner : List Link) (f : AreaFailure) (router : RouterId) (network : ℕ) (l : LinkValue) (stub_router : Bool) → IsNetworkFailure f router network → l.iface.dr.0 ≡ network
+    → takes inner f router (network_link stub_router l) ≡ true
+network_taken inner (fails.Attachment q n) router network l stub_router of is =
     let one : eqb router.0 q.0 ≡ true = eq-eqb _ _ (ap (λ (r : RouterId). r.0) (sym of.0)) in
     let two : eqb l.iface.dr.0 n ≡ true = eq-eqb _ _ (is ∙ sym of.1) in
     rw (one, two) refl
-network_taken (fails.Network n) router network l stub_router of is = eq-eqb _ _ (is ∙ sym of)
-network_taken (fails.Link _ _ _) router network l stub_router of is = absurd of
-network_taken (fails.Links _ _) router network l stub_router of is = absurd of
-network_taken (fails.Router _) router network l stub_router of is = absurd of
+network_taken inner (fails.Network n) router network l stub_router of is = eq-eqb _ _ (is ∙ sym of)
+network_taken inner (fails.Link _ _ _) router network l stub_router of is = absurd of
+network_taken inner (fails.Links _ _) router network l stub_router of is = absurd of
+network_taken inner (fails.Router _) router network l stub_router of is = absurd of
 
-pub interfaces_go_down : (router : RouterId) (stub_router : Bool) (front back : List LinkValue) (before after : LinkValue)
+pub interfaces_go_down : (inner : List Link) (router : RouterId) (stub_router : Bool) (front back : List LinkValue) (before after : LinkValue)
     → is_down before.iface.state ≡ false → before.iface.settings.kind ≡ kind.Broadcast → is_transit before ≡ true → is_down after.iface.state ≡ true
-    → (f : AreaFailure) → IsNetworkFailure f router before.iface.dr.0 → AreSpared f router stub_router front → AreSpared f router stub_router back
-    → IsLeft f router stub_router front before after back
-interfaces_go_down router stub_router front back before after up is transit down f of spared_front spared_back =
+    → (f : AreaFailure) → IsNetworkFailure f router before.iface.dr.0 → AreSpared inner f router stub_router front → AreSpared inner f router stub_router back
+    → IsLeft inner f router stub_router front before after back
+interfaces_go_down inner router stub_router front back before after up is transit down f of spared_front spared_back =
     let one : links_of_link stub_router before ≡ network_link stub_router before ∷ [] =
     up_is stub_router before up ∙ ap (λ k. links_of_kind k stub_router before) is ∙ rw transit refl in
-    left f router stub_router front back before after spared_front spared_back
-    (ap (λ ls. kept_links f router ls) one ∙ rw (network_taken f router before.iface.dr.0 before stub_router of refl) refl ∙ sym (down_is stub_router after down))
+    left inner f router stub_router front back before after spared_front spared_back
+    (ap (λ ls. kept_links inner f router ls) one ∙ rw (network_taken inner f router before.iface.dr.0 before stub_router of refl) refl ∙ sym (down_is stub_router after down))
 
 -- ---- a neighbour that is heard no more
 
-module _ (router gone : RouterId) (stub_router : Bool) (l : LinkValue) (apart : router.0 ≢ gone.0) where
+module _ (inner : List Link) (router gone : RouterId) (stub_router : Bool) (l : LinkValue) (apart : router.0 ≢ gone.0) where
   not_own : eqb router.0 gone.0 ≡ false
   not_own = elim (eqb_tells router.0 gone.0) [ inl w ↦ absurd (apart w.1) | inr w ↦ w.0 ]
 
-  subnet_stays : takes (fails.Router gone) router (subnet_link l) ≡ false
+  subnet_stays : takes inner (fails.Router gone) router (subnet_link l) ≡ false
   subnet_stays = rw not_own refl
 
-  link_goes : (n : NeighbourValue) → n.router ≡ gone → takes (fails.Router gone) router (router_link stub_router l n) ≡ true
+  link_goes : (n : NeighbourValue) → n.router ≡ gone → takes inner (fails.Router gone) router (router_link stub_router l n) ≡ true
   link_goes n is = let same : eqb n.router.0 gone.0 ≡ true = eq-eqb _ _ (ap (λ (r : RouterId). r.0) is) in rw (not_own, same) refl
 
   only_subnet : (ns : List NeighbourValue) → AllByRecursion (λ n. n.router ≡ gone) ns
-      → kept_links (fails.Router gone) router (map (router_link stub_router l) (filter is_full ns) ++ subnet_link l ∷ []) ≡ subnet_link l ∷ []
+      → kept_links inner (fails.Router gone) router (map (router_link stub_router l) (filter is_full ns) ++ subnet_link l ∷ []) ≡ subnet_link l ∷ []
   only_subnet [] all = rw subnet_stays refl
   only_subnet (n ∷ ns) all =
       elim (bool_cases (is_full n)) [
@@ -145,11 +145,11 @@ module _ (router gone : RouterId) (stub_router : Bool) (l : LinkValue) (apart : 
         | inr less ↦ rw less (only_subnet ns all.1)
       ]
 
-pub routers_stop : (router gone : RouterId) (subnet : Prefix) (stub_router : Bool) (front back : List LinkValue) (before after : LinkValue)
+pub routers_stop : (inner : List Link) (router gone : RouterId) (subnet : Prefix) (stub_router : Bool) (front back : List LinkValue) (before after : LinkValue)
     → router.0 ≢ gone.0 → IsWireUp before gone subnet → after.iface ≡ before.iface → after.settings ≡ before.settings → after.neighbours ≡ []
-    → AreSpared (fails.Router gone) router stub_router front → AreSpared (fails.Router gone) router stub_router back
-    → IsLeft (fails.Router gone) router stub_router front before after back
-routers_stop router gone subnet stub_router front back before after apart w iface settings none spared_front spared_back =
+    → AreSpared inner (fails.Router gone) router stub_router front → AreSpared inner (fails.Router gone) router stub_router back
+    → IsLeft inner (fails.Router gone) router stub_router front before after back
+routers_stop inner router gone subnet stub_router front back before after apart w iface settings none spared_front spared_back =
     let up : is_down after.iface.state ≡ false = ap (λ x. is_down x.state) iface ∙ w.up in
     let is : after.iface.settings.kind ≡ kind.PointToPoint = ap (λ x. x.settings.kind) iface ∙ w.kind_is in
     let same : subnet_link after ≡ subnet_link before =
@@ -161,5 +161,5 @@ routers_stop router gone subnet stub_router front back before after apart w ifac
     } in
     let later : links_of_link stub_router after ≡ subnet_link before ∷ [] =
     wire_is stub_router after up is ∙ ap (λ ns. map (router_link stub_router after) (filter is_full ns) ++ subnet_link after ∷ []) none ∙ ap (λ l. l ∷ []) same in
-    left (fails.Router gone) router stub_router front back before after spared_front spared_back
-    (ap (λ ls. kept_links (fails.Router gone) router ls) (wire_is stub_router before w.up w.kind_is) ∙ only_subnet router gone stub_router before apart before.neighbours w.alone ∙ sym later)
+    left inner (fails.Router gone) router stub_router front back before after spared_front spared_back
+    (ap (λ ls. kept_links inner (fails.Router gone) router ls) (wire_is stub_router before w.up w.kind_is) ∙ only_subnet inner router gone stub_router before apart before.neighbours w.alone ∙ sym later)

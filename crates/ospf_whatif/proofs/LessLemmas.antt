@@ -21,49 +21,49 @@ use Rattle.ospf_graph.specs.declared.paths.Settled.{Settled}
 use Rattle.ospf_graph.specs.declared.paths.VertexStart.{VertexStart}
 use Rattle.ospf_graph.proofs.ListLemmas.{bool_cases, member_cases, member_head, member_later, member_of_map, member_to_map}
 use Rattle.ospf_graph.proofs.TreeLemmas.{IsPath-map, at_end}
-use Rattle.ospf_whatif.specs.Failure.{left_of_lsa, kept_links, takes, without}
+use Rattle.ospf_whatif.specs.Failure.{inner_of, left_of_lsa, kept_links, takes, without}
 use Rattle.ospf_whatif.specs.Laws.{IsOffLeastPaths}
 use Rattle.ospf_whatif.specs.declared.failure.AreaFailure.{AreaFailure}
 use Rattle.ospf_whatif.specs.declared.failure.AreaFailure.TheVariants as fails
 
 -- ---- links of a router to one network: a failure takes all of them or none
 
-pub transit_taken : (f : AreaFailure) (r : RouterId) (n id link_data metric : ℕ) (k : LinkKind)
+pub transit_taken : (inner : List Link) (f : AreaFailure) (r : RouterId) (n id link_data metric : ℕ) (k : LinkKind)
     → is_transit_to n (record { id = id; link_data = link_data; kind = k; metric = metric }) ≡ true
-    → takes f r (record { id = id; link_data = link_data; kind = k; metric = metric }) ≡ takes f r (record { id = n; link_data = 0; kind = kind.Transit; metric = 0 })
-transit_taken f r n id link_data metric kind.PointToPoint is = absurd (cc)
-transit_taken f r n id link_data metric kind.Stub is = absurd (cc)
-transit_taken f r n id link_data metric kind.Virtual is = absurd (cc)
-transit_taken (fails.Link a b subnet) r n id link_data metric kind.Transit is = refl
-transit_taken (fails.Links a b) r n id link_data metric kind.Transit is = refl
-transit_taken (fails.Attachment q m) r n id link_data metric kind.Transit is = let same : id ≡ n = eqb-true id n is in rw same refl
-transit_taken (fails.Network m) r n id link_data metric kind.Transit is = let same : id ≡ n = eqb-true id n is in rw same refl
-transit_taken (fails.Router q) r n id link_data metric kind.Transit is = refl
+    → takes inner f r (record { id = id; link_data = link_data; kind = k; metric = metric }) ≡ takes inner f r (record { id = n; link_data = 0; kind = kind.Transit; metric = 0 })
+transit_taken inner f r n id link_data metric kind.PointToPoint is = absurd (cc)
+transit_taken inner f r n id link_data metric kind.Stub is = absurd (cc)
+transit_taken inner f r n id link_data metric kind.Virtual is = absurd (cc)
+transit_taken inner (fails.Link a b subnet) r n id link_data metric kind.Transit is = refl
+transit_taken inner (fails.Links a b) r n id link_data metric kind.Transit is = refl
+transit_taken inner (fails.Attachment q m) r n id link_data metric kind.Transit is = let same : id ≡ n = eqb-true id n is in rw same refl
+transit_taken inner (fails.Network m) r n id link_data metric kind.Transit is = let same : id ≡ n = eqb-true id n is in rw same refl
+transit_taken inner (fails.Router q) r n id link_data metric kind.Transit is = refl
 
-module _ (f : AreaFailure) (r : RouterId) (n : ℕ) where
+module _ (inner : List Link) (f : AreaFailure) (r : RouterId) (n : ℕ) where
   abbrev pub On : Bool
-  On = takes f r (record { id = n; link_data = 0; kind = kind.Transit; metric = 0 })
+  On = takes inner f r (record { id = n; link_data = 0; kind = kind.Transit; metric = 0 })
 
-  taken_is : (l : Link) → is_transit_to n l ≡ true → takes f r l ≡ On
-  taken_is l is = transit_taken f r n l.id l.link_data l.metric l.kind is
+  taken_is : (l : Link) → is_transit_to n l ≡ true → takes inner f r l ≡ On
+  taken_is l is = transit_taken inner f r n l.id l.link_data l.metric l.kind is
 
-  pub none_left : On ≡ true → (links : List Link) → transit_address n (kept_links f r links) ≡ None
+  pub none_left : On ≡ true → (links : List Link) → transit_address n (kept_links inner f r links) ≡ None
   none_left all [] = refl
   none_left all (l ∷ rest) =
-      elim (bool_cases (takes f r l)) [
+      elim (bool_cases (takes inner f r l)) [
         | inl goes ↦ rw goes (none_left all rest)
         | inr stays ↦ elim (bool_cases (is_transit_to n l)) [
-          | inl is ↦ absurd (let other : takes f r l ≡ true = taken_is l is ∙ all in cc)
+          | inl is ↦ absurd (let other : takes inner f r l ≡ true = taken_is l is ∙ all in cc)
           | inr other ↦ rw (stays, other) (none_left all rest)
         ]
       ]
 
-  pub address_stays : On ≡ false → (links : List Link) → transit_address n (kept_links f r links) ≡ transit_address n links
+  pub address_stays : On ≡ false → (links : List Link) → transit_address n (kept_links inner f r links) ≡ transit_address n links
   address_stays none [] = refl
   address_stays none (l ∷ rest) =
-      elim (bool_cases (takes f r l)) [
+      elim (bool_cases (takes inner f r l)) [
         | inl goes ↦ elim (bool_cases (is_transit_to n l)) [
-          | inl is ↦ absurd (let other : takes f r l ≡ false = taken_is l is ∙ none in cc)
+          | inl is ↦ absurd (let other : takes inner f r l ≡ false = taken_is l is ∙ none in cc)
           | inr other ↦ rw (goes, other) (address_stays none rest)
         ]
         | inr stays ↦ elim (bool_cases (is_transit_to n l)) [
@@ -72,10 +72,10 @@ module _ (f : AreaFailure) (r : RouterId) (n : ℕ) where
         ]
       ]
 
-  pub address_kept : (links : List Link) (address : ℕ) → transit_address n (kept_links f r links) ≡ Some address → transit_address n links ≡ Some address
+  pub address_kept : (links : List Link) (address : ℕ) → transit_address n (kept_links inner f r links) ≡ Some address → transit_address n links ≡ Some address
   address_kept [] address is = is
   address_kept (l ∷ rest) address is =
-      elim (bool_cases (takes f r l)) [
+      elim (bool_cases (takes inner f r l)) [
         | inl goes ↦ elim (bool_cases (is_transit_to n l)) [
           | inl there ↦ absurd (let all : On ≡ true = sym (taken_is l there) ∙ goes in let none = none_left all rest in let now = rw goes at is in cc)
           | inr other ↦ rw other (address_kept rest address (rw goes at is))
@@ -111,42 +111,42 @@ of_kept p (y ∷ xs) x c t = go (p y) refl (member_cases y xs x c) (λ rest. of_
 
 -- ---- an area and what a failure leaves of it
 
-module _ (f : AreaFailure) (A : List Advertisement) where
+module _ (inner : List Link) (f : AreaFailure) (A : List Advertisement) where
   abbrev B : List Advertisement
-  B = map (left_of_lsa f) A
+  B = map (left_of_lsa inner f) A
 
   pub router_back : (r : RouterId) (links : List Link) → Contains B (router_lsa r links)
-      → (all : List Link) × Contains A (router_lsa r all) × (kept_links f r all ≡ links)
-  router_back r links h = let m = member_of_map (left_of_lsa f) A _ h in router_is m.0 m.1 m.2
+      → (all : List Link) × Contains A (router_lsa r all) × (kept_links inner f r all ≡ links)
+  router_back r links h = let m = member_of_map (left_of_lsa inner f) A _ h in router_is m.0 m.1 m.2
     where
-      router_is : (x : Advertisement) → Contains A x → left_of_lsa f x ≡ router_lsa r links → (all : List Link) × Contains A (router_lsa r all) × (kept_links f r all ≡ links)
+      router_is : (x : Advertisement) → Contains A x → left_of_lsa inner f x ≡ router_lsa r links → (all : List Link) × Contains A (router_lsa r all) × (kept_links inner f r all ≡ links)
       router_is (router_lsa q all) m e =
           let same : q ≡ r = cc in
-          let left : kept_links f q all ≡ links = cc in
-          (all, subst (λ x. Contains A (router_lsa x all)) same m, subst (λ x. kept_links f x all ≡ links) same left)
+          let left : kept_links inner f q all ≡ links = cc in
+          (all, subst (λ x. Contains A (router_lsa x all)) same m, subst (λ x. kept_links inner f x all ≡ links) same left)
       router_is (network_lsa n q mask attached) m e = cc
 
   pub network_back : (n : ℕ) (r : RouterId) (mask : ℕ) (attached : List RouterId) → Contains B (network_lsa n r mask attached) → Contains A (network_lsa n r mask attached)
-  network_back n r mask attached h = let m = member_of_map (left_of_lsa f) A _ h in network_is m.0 m.1 m.2
+  network_back n r mask attached h = let m = member_of_map (left_of_lsa inner f) A _ h in network_is m.0 m.1 m.2
     where
-      network_is : (x : Advertisement) → Contains A x → left_of_lsa f x ≡ network_lsa n r mask attached → Contains A (network_lsa n r mask attached)
+      network_is : (x : Advertisement) → Contains A x → left_of_lsa inner f x ≡ network_lsa n r mask attached → Contains A (network_lsa n r mask attached)
       network_is (router_lsa q all) m e = cc
       network_is (network_lsa k q other names) m e = rw (← e) m
 
   pub network_to : (n : ℕ) (r : RouterId) (mask : ℕ) (attached : List RouterId) → Contains A (network_lsa n r mask attached) → Contains B (network_lsa n r mask attached)
-  network_to n r mask attached h = member_to_map (left_of_lsa f) A (network_lsa n r mask attached) h
+  network_to n r mask attached h = member_to_map (left_of_lsa inner f) A (network_lsa n r mask attached) h
 
   listed_from : (r : RouterId) → IsListed B r → IsListed A r
   listed_from r h = let x = router_back r h.0 h.1 in (x.0, x.1)
 
   listed_to : (r : RouterId) → IsListed A r → IsListed B r
-  listed_to r h = (kept_links f r h.0, member_to_map (left_of_lsa f) A (router_lsa r h.0) h.1)
+  listed_to r h = (kept_links inner f r h.0, member_to_map (left_of_lsa inner f) A (router_lsa r h.0) h.1)
 
   link_from : (r : RouterId) (k : LinkKind) (id link_data metric : ℕ) → HasLink B r k id link_data metric → HasLink A r k id link_data metric
   link_from r k id link_data metric h =
       let x = router_back r h.links h.listed in
       let link : Link = record { id = id; link_data = link_data; kind = k; metric = metric } in
-      record { links = x.0; listed = x.1; link_in = (kept_of (λ l. not (takes f r l)) x.0 link (subst (λ l. Contains l link) (sym x.2) h.link_in)).0 }
+      record { links = x.0; listed = x.1; link_in = (kept_of (λ l. not (takes inner f r l)) x.0 link (subst (λ l. Contains l link) (sym x.2) h.link_in)).0 }
 
   network_from : (n mask : ℕ) (attached : List RouterId) → IsNetwork B n mask attached → IsNetwork A n mask attached
   network_from n mask attached h =
@@ -162,7 +162,7 @@ module _ (f : AreaFailure) (A : List Advertisement) where
   address_from : (n : ℕ) (r : RouterId) (address : ℕ) → IsAddressOn B n r address → IsAddressOn A n r address
   address_from n r address h =
       let x = router_back r h.links h.listed in
-      record { links = x.0; listed = x.1; first = address_kept f r n x.0 address (ap (λ l. transit_address n l) x.2 ∙ h.first) }
+      record { links = x.0; listed = x.1; first = address_kept inner f r n x.0 address (ap (λ l. transit_address n l) x.2 ∙ h.first) }
 
   pub edge_from : (from to : Vertex) (cost address : ℕ) → IsEdgeBetween B from to cost address → IsEdgeBetween A from to cost address
   edge_from (vertex.Router a) (vertex.Router b) cost address e =
@@ -207,31 +207,31 @@ module _ (f : AreaFailure) (A : List Advertisement) where
 pub failures_take_away : (f : AreaFailure) (A : List Advertisement) (root : RouterId) (before after : List Route) → IsTable A root before → IsTable (without f A) root after
     → (route : Route) → Contains after route → (old : Route) × Contains before old × (old.prefix ≡ route.prefix) × (old.cost ≤ route.cost)
 unfolding without
-failures_take_away f A root before after is_before is_after route m = kept_less f A root before after is_before is_after route m
+failures_take_away f A root before after is_before is_after route m = kept_less (inner_of f A) f A root before after is_before is_after route m
 
 pub failures_leave_listed : (f : AreaFailure) (A : List Advertisement) (r : RouterId) → IsListed A r ↔ IsListed (without f A) r
 unfolding without
-failures_leave_listed f A r = (listed_to f A r, listed_from f A r)
+failures_leave_listed f A r = (listed_to (inner_of f A) f A r, listed_from (inner_of f A) f A r)
 
 pub failures_make_no_end : (f : AreaFailure) (A : List Advertisement) (prefix : Prefix) (v : Vertex) (cost : ℕ) → IsEnd (without f A) prefix v cost → IsEnd A prefix v cost
 unfolding without
-failures_make_no_end f A prefix v cost is = end_from f A prefix v cost is
+failures_make_no_end f A prefix v cost is = end_from (inner_of f A) f A prefix v cost is
 
 pub failures_make_no_edge : (f : AreaFailure) (A : List Advertisement) (e : Edge) → IsEdge (without f A) e → IsEdge A e
 unfolding without
-failures_make_no_edge f A e is = edge_from f A e.from e.to e.cost e.link_data is
+failures_make_no_edge f A e is = edge_from (inner_of f A) f A e.from e.to e.cost e.link_data is
 
 pub failures_make_no_way : (f : AreaFailure) (A : List Advertisement) (root : RouterId) (prefix : Prefix) → Way (without f A) root prefix → Way A root prefix
 unfolding without
-failures_make_no_way f A root prefix w = (way_from f A root prefix w).0
+failures_make_no_way f A root prefix w = (way_from (inner_of f A) f A root prefix w).0
 
 -- no route costs less after a failure
 pub failures_bring_nothing_nearer : (f : AreaFailure) (A : List Advertisement) (root : RouterId) (old new : Route) → IsRoute A root old → IsRoute (without f A) root new
     → old.prefix ≡ new.prefix → old.cost ≤ new.cost
 unfolding without
 failures_bring_nothing_nearer f A root old new was is same =
-    let w = way_from f A root new.prefix is.way in
-    let v = under f A root old.prefix new.prefix same w.0 in
+    let w = way_from (inner_of f A) f A root new.prefix is.way in
+    let v = under (inner_of f A) f A root old.prefix new.prefix same w.0 in
     let low = was.least v.0 in
     omega (arith, low, v.1, w.1, was.cost_is, is.cost_is)
 

@@ -1,3 +1,5 @@
+pub mod SubnetLemmas
+pub mod ApartLemmas
 pub mod WithoutLemmas
 pub mod LessLemmas
 pub mod SingleLemmas

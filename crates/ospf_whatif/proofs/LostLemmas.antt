@@ -8,7 +8,7 @@ use Rattle.std.specs.declared.alloc.AllocError.{AllocError}
 use Rattle.std.specs.declared.alloc.Global.{Global}
 use Rattle.std.specs.declared.result.Result.{Result}
 use Rattle.ospf_base.specs.Masks.{mask_of}
-use Rattle.ospf_base.specs.Prefixes.{Holds, IsPrefixOf}
+use Rattle.ospf_base.specs.Prefixes.{IsPrefixOf}
 use Rattle.ospf_base.specs.declared.ids.RouterId.{RouterId}
 use Rattle.ospf_base.specs.declared.prefix.Prefix.{Prefix}
 use Rattle.ospf_base.proofs.PrefixLaws.{mask_injective, prefix_same}
@@ -26,12 +26,14 @@ use Rattle.ospf_graph.specs.declared.graph.Edge.{Edge}
 use Rattle.ospf_graph.specs.declared.graph.Vertex.{Vertex}
 use Rattle.ospf_graph.specs.declared.graph.Vertex.TheVariants as vertex
 use Rattle.ospf_graph.proofs.ListLemmas.{bool_cases, member_to_map}
-use Rattle.ospf_whatif.specs.Failure.{is_stub_of, is_wire_end, kept_links, left_of_lsa, takes, without}
+use Rattle.ospf_whatif.specs.Failure.{inner_of, is_of, is_stub_of, is_wire_end, kept_links, left_of_lsa, takes, without}
 use Rattle.ospf_whatif.specs.Lost.{AreEdgesLost, AreEndsLost, AreStubsOf, IsTwoWay, Stays, centre_of}
 use Rattle.ospf_whatif.specs.Outage.{AreLost, StandsIn}
+use Rattle.ospf_whatif.specs.Subnets.{HaveSame}
 use Rattle.ospf_whatif.specs.declared.failure.AreaFailure.{AreaFailure}
 use Rattle.ospf_whatif.specs.declared.failure.AreaFailure.TheVariants as fails
 use Rattle.ospf_whatif.proofs.LessLemmas.{On, address_stays, edge_from, kept_of, network_back, network_to, none_left, of_kept, router_back, transit_taken}
+use Rattle.ospf_whatif.proofs.SubnetLemmas.{left_same}
 use Rattle.ospf_whatif.proofs.WithoutLemmas.{IfOk-map}
 
 -- ---- vertices
@@ -90,49 +92,48 @@ cut_near (fails.Attachment r n) e p = elim p [ inl w ↦ inl w.0 | inr w ↦ inr
 cut_near (fails.Network n) e p = p
 cut_near (fails.Router r) e p = p
 
-wire_end : (x b : RouterId) (subnet : Prefix) (link_data metric : ℕ) → is_wire_end (to_router x link_data metric) b subnet ≡ true
-    → (vertex.Router x ≡ vertex.Router b) × Holds subnet link_data
-wire_end x b subnet link_data metric t =
-    elim (or_cases (eqb x.0 b.0 && eqb (bit_and link_data (mask_of subnet.length)) subnet.address.0) false t) [
-      | inl both ↦ (let w = and_parts (eqb x.0 b.0) (eqb (bit_and link_data (mask_of subnet.length)) subnet.address.0) both in (router_is x b w.0, eqb-true _ _ w.1))
-      | inr never ↦ absurd (cc)
-    ]
-
-end_of_wire : (x b : RouterId) (subnet : Prefix) (link_data metric : ℕ) → vertex.Router x ≡ vertex.Router b → Holds subnet link_data
-    → is_wire_end (to_router x link_data metric) b subnet ≡ true
-end_of_wire x b subnet link_data metric same held = rw (is_router x b same, eq-eqb _ _ held) refl
-
-module _ (a b : RouterId) (subnet : Prefix) (r x : RouterId) (link_data metric : ℕ) where
-  wire_taken : takes (fails.Link a b subnet) r (to_router x link_data metric) ≡ true
-      → Pair (vertex.Router a) (vertex.Router b) (vertex.Router r) (vertex.Router x) × Holds subnet link_data
-  wire_taken t =
-      let l = to_router x link_data metric in
-      elim (or_cases (eqb r.0 a.0 && is_wire_end l b subnet) (eqb r.0 b.0 && is_wire_end l a subnet) t) [
-        | inl p ↦ (let w = and_parts (eqb r.0 a.0) (is_wire_end l b subnet) p in let y = wire_end x b subnet link_data metric w.1 in (inl (router_is r a w.0, y.0), y.1))
-        | inr p ↦ (let w = and_parts (eqb r.0 b.0) (is_wire_end l a subnet) p in let y = wire_end x a subnet link_data metric w.1 in (inr (router_is r b w.0, y.0), y.1))
+module _ (inner : List Link) (x b : RouterId) (subnet : Prefix) (link_data metric : ℕ) where
+  wire_end : is_wire_end inner (to_router x link_data metric) b subnet ≡ true → (vertex.Router x ≡ vertex.Router b) × (is_of inner subnet link_data ≡ true)
+  wire_end t =
+      elim (or_cases (eqb x.0 b.0 && is_of inner subnet link_data) false t) [
+        | inl both ↦ (let w = and_parts (eqb x.0 b.0) (is_of inner subnet link_data) both in (router_is x b w.0, w.1))
+        | inr never ↦ absurd (cc)
       ]
 
-  taken_wire : Pair (vertex.Router a) (vertex.Router b) (vertex.Router r) (vertex.Router x) → Holds subnet link_data
-      → takes (fails.Link a b subnet) r (to_router x link_data metric) ≡ true
+  end_of_wire : vertex.Router x ≡ vertex.Router b → is_of inner subnet link_data ≡ true → is_wire_end inner (to_router x link_data metric) b subnet ≡ true
+  end_of_wire same held = or_left (eqb x.0 b.0 && is_of inner subnet link_data) false (and_from (eqb x.0 b.0) (is_of inner subnet link_data) (is_router x b same) held)
+
+module _ (inner : List Link) (a b : RouterId) (subnet : Prefix) (r x : RouterId) (link_data metric : ℕ) where
+  wire_taken : takes inner (fails.Link a b subnet) r (to_router x link_data metric) ≡ true
+      → Pair (vertex.Router a) (vertex.Router b) (vertex.Router r) (vertex.Router x) × (is_of inner subnet link_data ≡ true)
+  wire_taken t =
+      let l = to_router x link_data metric in
+      elim (or_cases (eqb r.0 a.0 && is_wire_end inner l b subnet) (eqb r.0 b.0 && is_wire_end inner l a subnet) t) [
+        | inl p ↦ (let w = and_parts (eqb r.0 a.0) (is_wire_end inner l b subnet) p in let y = wire_end inner x b subnet link_data metric w.1 in (inl (router_is r a w.0, y.0), y.1))
+        | inr p ↦ (let w = and_parts (eqb r.0 b.0) (is_wire_end inner l a subnet) p in let y = wire_end inner x a subnet link_data metric w.1 in (inr (router_is r b w.0, y.0), y.1))
+      ]
+
+  taken_wire : Pair (vertex.Router a) (vertex.Router b) (vertex.Router r) (vertex.Router x) → is_of inner subnet link_data ≡ true
+      → takes inner (fails.Link a b subnet) r (to_router x link_data metric) ≡ true
   taken_wire (inl p) held =
       let l = to_router x link_data metric in
-      or_left _ _ (and_from (eqb r.0 a.0) (is_wire_end l b subnet) (is_router r a p.0) (end_of_wire x b subnet link_data metric p.1 held))
+      or_left _ _ (and_from (eqb r.0 a.0) (is_wire_end inner l b subnet) (is_router r a p.0) (end_of_wire inner x b subnet link_data metric p.1 held))
   taken_wire (inr p) held =
       let l = to_router x link_data metric in
-      or_right _ _ (and_from (eqb r.0 b.0) (is_wire_end l a subnet) (is_router r b p.0) (end_of_wire x a subnet link_data metric p.1 held))
+      or_right _ _ (and_from (eqb r.0 b.0) (is_wire_end inner l a subnet) (is_router r b p.0) (end_of_wire inner x a subnet link_data metric p.1 held))
 
 -- a link to a router that a failure takes
-router_cut : (f : AreaFailure) (r x : RouterId) (link_data metric : ℕ) → takes f r (to_router x link_data metric) ≡ true
+router_cut : (inner : List Link) (f : AreaFailure) (r x : RouterId) (link_data metric : ℕ) → takes inner f r (to_router x link_data metric) ≡ true
     → MayCut f (vertex.Router r) (vertex.Router x)
-router_cut (fails.Link a b subnet) r x link_data metric t = (wire_taken a b subnet r x link_data metric t).0
-router_cut (fails.Links a b) r x link_data metric t =
+router_cut inner (fails.Link a b subnet) r x link_data metric t = (wire_taken inner a b subnet r x link_data metric t).0
+router_cut inner (fails.Links a b) r x link_data metric t =
     elim (or_cases (eqb r.0 a.0 && eqb x.0 b.0) (eqb r.0 b.0 && eqb x.0 a.0) t) [
       | inl p ↦ (let w = and_parts (eqb r.0 a.0) (eqb x.0 b.0) p in inl (router_is r a w.0, router_is x b w.1))
       | inr p ↦ (let w = and_parts (eqb r.0 b.0) (eqb x.0 a.0) p in inr (router_is r b w.0, router_is x a w.1))
     ]
-router_cut (fails.Attachment q n) r x link_data metric t = absurd (let w = and_parts (eqb r.0 q.0) false t in let no : false ≡ true = w.1 in cc)
-router_cut (fails.Network n) r x link_data metric t = absurd (cc)
-router_cut (fails.Router gone) r x link_data metric t =
+router_cut inner (fails.Attachment q n) r x link_data metric t = absurd (let w = and_parts (eqb r.0 q.0) false t in let no : false ≡ true = w.1 in cc)
+router_cut inner (fails.Network n) r x link_data metric t = absurd (cc)
+router_cut inner (fails.Router gone) r x link_data metric t =
     elim (or_cases (eqb r.0 gone.0) (eqb x.0 gone.0) t) [ inl p ↦ inl (router_is r gone p) | inr p ↦ inr (router_is x gone p) ]
 
 neither : (a b r : RouterId) → ((eqb r.0 a.0 && false) || (eqb r.0 b.0 && false)) ≡ true → ⊥
@@ -141,12 +142,12 @@ neither a b r t =
     both_ways _ (or_from _ _ (no a) (no b)) t
 
 -- those of a router to a transit network
-network_cut : (f : AreaFailure) (r : RouterId) (n : ℕ) → On f r n ≡ true → MayCut f (vertex.Router r) (vertex.Network n)
-network_cut (fails.Link a b subnet) r n t = absurd (neither a b r t)
-network_cut (fails.Links a b) r n t = absurd (neither a b r t)
-network_cut (fails.Attachment q m) r n t = let w = and_parts (eqb r.0 q.0) (eqb n m) t in inl (router_is r q w.0, network_is n m w.1)
-network_cut (fails.Network m) r n t = inr (network_is n m t)
-network_cut (fails.Router gone) r n t = elim (or_cases (eqb r.0 gone.0) false t) [ inl p ↦ inl (router_is r gone p) | inr never ↦ absurd (cc) ]
+network_cut : (inner : List Link) (f : AreaFailure) (r : RouterId) (n : ℕ) → On inner f r n ≡ true → MayCut f (vertex.Router r) (vertex.Network n)
+network_cut inner (fails.Link a b subnet) r n t = absurd (neither a b r t)
+network_cut inner (fails.Links a b) r n t = absurd (neither a b r t)
+network_cut inner (fails.Attachment q m) r n t = let w = and_parts (eqb r.0 q.0) (eqb n m) t in inl (router_is r q w.0, network_is n m w.1)
+network_cut inner (fails.Network m) r n t = inr (network_is n m t)
+network_cut inner (fails.Router gone) r n t = elim (or_cases (eqb r.0 gone.0) false t) [ inl p ↦ inl (router_is r gone p) | inr never ↦ absurd (cc) ]
 
 -- a failure of no single link takes all that it may
 abbrev IsWhole : AreaFailure → Type 0
@@ -156,101 +157,101 @@ IsWhole (fails.Attachment r n) = Unit
 IsWhole (fails.Network n) = Unit
 IsWhole (fails.Router r) = Unit
 
-cut_router : (f : AreaFailure) (r x : RouterId) (link_data metric : ℕ) → IsWhole f → MayCut f (vertex.Router r) (vertex.Router x)
-    → takes f r (to_router x link_data metric) ≡ true
-cut_router (fails.Link a b subnet) r x link_data metric whole p = absurd whole
-cut_router (fails.Links a b) r x link_data metric whole (inl p) = or_left _ _ (and_from (eqb r.0 a.0) (eqb x.0 b.0) (is_router r a p.0) (is_router x b p.1))
-cut_router (fails.Links a b) r x link_data metric whole (inr p) = or_right _ _ (and_from (eqb r.0 b.0) (eqb x.0 a.0) (is_router r b p.0) (is_router x a p.1))
-cut_router (fails.Attachment q n) r x link_data metric whole (inl p) = absurd (apart x n p.1)
-cut_router (fails.Attachment q n) r x link_data metric whole (inr p) = absurd (apart r n p.0)
-cut_router (fails.Network n) r x link_data metric whole (inl p) = absurd (apart r n p)
-cut_router (fails.Network n) r x link_data metric whole (inr p) = absurd (apart x n p)
-cut_router (fails.Router gone) r x link_data metric whole (inl p) = or_left _ _ (is_router r gone p)
-cut_router (fails.Router gone) r x link_data metric whole (inr p) = or_right _ _ (is_router x gone p)
+cut_router : (inner : List Link) (f : AreaFailure) (r x : RouterId) (link_data metric : ℕ) → IsWhole f → MayCut f (vertex.Router r) (vertex.Router x)
+    → takes inner f r (to_router x link_data metric) ≡ true
+cut_router inner (fails.Link a b subnet) r x link_data metric whole p = absurd whole
+cut_router inner (fails.Links a b) r x link_data metric whole (inl p) = or_left _ _ (and_from (eqb r.0 a.0) (eqb x.0 b.0) (is_router r a p.0) (is_router x b p.1))
+cut_router inner (fails.Links a b) r x link_data metric whole (inr p) = or_right _ _ (and_from (eqb r.0 b.0) (eqb x.0 a.0) (is_router r b p.0) (is_router x a p.1))
+cut_router inner (fails.Attachment q n) r x link_data metric whole (inl p) = absurd (apart x n p.1)
+cut_router inner (fails.Attachment q n) r x link_data metric whole (inr p) = absurd (apart r n p.0)
+cut_router inner (fails.Network n) r x link_data metric whole (inl p) = absurd (apart r n p)
+cut_router inner (fails.Network n) r x link_data metric whole (inr p) = absurd (apart x n p)
+cut_router inner (fails.Router gone) r x link_data metric whole (inl p) = or_left _ _ (is_router r gone p)
+cut_router inner (fails.Router gone) r x link_data metric whole (inr p) = or_right _ _ (is_router x gone p)
 
-cut_network : (f : AreaFailure) (r : RouterId) (n : ℕ) → MayCut f (vertex.Router r) (vertex.Network n) → On f r n ≡ true
-cut_network (fails.Link a b subnet) r n (inl p) = absurd (apart b n (sym p.1))
-cut_network (fails.Link a b subnet) r n (inr p) = absurd (apart a n (sym p.1))
-cut_network (fails.Links a b) r n (inl p) = absurd (apart b n (sym p.1))
-cut_network (fails.Links a b) r n (inr p) = absurd (apart a n (sym p.1))
-cut_network (fails.Attachment q m) r n (inl p) = and_from (eqb r.0 q.0) (eqb n m) (is_router r q p.0) (is_network n m p.1)
-cut_network (fails.Attachment q m) r n (inr p) = absurd (apart r m p.0)
-cut_network (fails.Network m) r n (inl p) = absurd (apart r m p)
-cut_network (fails.Network m) r n (inr p) = is_network n m p
-cut_network (fails.Router gone) r n (inl p) = or_left _ _ (is_router r gone p)
-cut_network (fails.Router gone) r n (inr p) = absurd (apart gone n (sym p))
+cut_network : (inner : List Link) (f : AreaFailure) (r : RouterId) (n : ℕ) → MayCut f (vertex.Router r) (vertex.Network n) → On inner f r n ≡ true
+cut_network inner (fails.Link a b subnet) r n (inl p) = absurd (apart b n (sym p.1))
+cut_network inner (fails.Link a b subnet) r n (inr p) = absurd (apart a n (sym p.1))
+cut_network inner (fails.Links a b) r n (inl p) = absurd (apart b n (sym p.1))
+cut_network inner (fails.Links a b) r n (inr p) = absurd (apart a n (sym p.1))
+cut_network inner (fails.Attachment q m) r n (inl p) = and_from (eqb r.0 q.0) (eqb n m) (is_router r q p.0) (is_network n m p.1)
+cut_network inner (fails.Attachment q m) r n (inr p) = absurd (apart r m p.0)
+cut_network inner (fails.Network m) r n (inl p) = absurd (apart r m p)
+cut_network inner (fails.Network m) r n (inr p) = is_network n m p
+cut_network inner (fails.Router gone) r n (inl p) = or_left _ _ (is_router r gone p)
+cut_network inner (fails.Router gone) r n (inr p) = absurd (apart gone n (sym p))
 
 -- ---- what an area has after it
 
-module _ (f : AreaFailure) (A : List Advertisement) where
+module _ (inner : List Link) (f : AreaFailure) (A : List Advertisement) where
   abbrev B : List Advertisement
-  B = map (left_of_lsa f) A
+  B = map (left_of_lsa inner f) A
 
   link_stays : (r : RouterId) (k : LinkKind) (id link_data metric : ℕ) → HasLink A r k id link_data metric
-      → takes f r (record { id = id; link_data = link_data; kind = k; metric = metric }) ≡ false → HasLink B r k id link_data metric
+      → takes inner f r (record { id = id; link_data = link_data; kind = k; metric = metric }) ≡ false → HasLink B r k id link_data metric
   link_stays r k id link_data metric h free =
       let link : Link = record { id = id; link_data = link_data; kind = k; metric = metric } in
       record {
-        links = kept_links f r h.links;
-        listed = member_to_map (left_of_lsa f) A (router_lsa r h.links) h.listed;
-        link_in = of_kept (λ (l : Link). not (takes f r l)) h.links link h.link_in (not_from_false _ free);
+        links = kept_links inner f r h.links;
+        listed = member_to_map (left_of_lsa inner f) A (router_lsa r h.links) h.listed;
+        link_in = of_kept (λ (l : Link). not (takes inner f r l)) h.links link h.link_in (not_from_false _ free);
       }
 
   link_free : (r : RouterId) (k : LinkKind) (id link_data metric : ℕ) → HasLink B r k id link_data metric
-      → takes f r (record { id = id; link_data = link_data; kind = k; metric = metric }) ≡ false
+      → takes inner f r (record { id = id; link_data = link_data; kind = k; metric = metric }) ≡ false
   link_free r k id link_data metric h =
-      let x = router_back f A r h.links h.listed in
+      let x = router_back inner f A r h.links h.listed in
       let link : Link = record { id = id; link_data = link_data; kind = k; metric = metric } in
-      not-true _ (kept_of (λ (l : Link). not (takes f r l)) x.0 link (subst (λ (ls : List Link). Contains ls link) (sym x.2) h.link_in)).1
+      not-true _ (kept_of (λ (l : Link). not (takes inner f r l)) x.0 link (subst (λ (ls : List Link). Contains ls link) (sym x.2) h.link_in)).1
 
   network_stays : (n mask : ℕ) (attached : List RouterId) → IsNetwork A n mask attached → IsNetwork B n mask attached
   network_stays n mask attached h =
       record {
         router = h.router;
-        listed = network_to f A n _ _ _ h.listed;
-        largest = λ q m others in_b. h.largest q m others (network_back f A n q m others in_b);
+        listed = network_to inner f A n _ _ _ h.listed;
+        largest = λ q m others in_b. h.largest q m others (network_back inner f A n q m others in_b);
       }
 
   attached_stays : (n : ℕ) (r : RouterId) → IsAttached A n r → IsAttached B n r
   attached_stays n r h = record { mask = h.mask; attached = h.attached; names = h.names; network = network_stays n h.mask h.attached h.network }
 
-  address_on : (n : ℕ) (r : RouterId) (address : ℕ) → IsAddressOn A n r address → On f r n ≡ false → IsAddressOn B n r address
+  address_on : (n : ℕ) (r : RouterId) (address : ℕ) → IsAddressOn A n r address → On inner f r n ≡ false → IsAddressOn B n r address
   address_on n r address h free =
       record {
-        links = kept_links f r h.links;
-        listed = member_to_map (left_of_lsa f) A (router_lsa r h.links) h.listed;
-        first = address_stays f r n free h.links ∙ h.first;
+        links = kept_links inner f r h.links;
+        listed = member_to_map (left_of_lsa inner f) A (router_lsa r h.links) h.listed;
+        first = address_stays inner f r n free h.links ∙ h.first;
       }
 
-  address_free : (n : ℕ) (r : RouterId) (address : ℕ) → IsAddressOn B n r address → On f r n ≡ false
+  address_free : (n : ℕ) (r : RouterId) (address : ℕ) → IsAddressOn B n r address → On inner f r n ≡ false
   address_free n r address h =
-      let x = router_back f A r h.links h.listed in
-      elim (bool_cases (On f r n)) [
-        | inl all ↦ absurd (let none = none_left f r n all x.0 in let same = ap (λ ls. transit_address n ls) x.2 in let here = h.first in cc)
+      let x = router_back inner f A r h.links h.listed in
+      elim (bool_cases (On inner f r n)) [
+        | inl all ↦ absurd (let none = none_left inner f r n all x.0 in let same = ap (λ ls. transit_address n ls) x.2 in let here = h.first in cc)
         | inr free ↦ free
       ]
 
-  transit_is : (r : RouterId) (n link_data metric : ℕ) → takes f r (to_network n link_data metric) ≡ On f r n
-  transit_is r n link_data metric = transit_taken f r n n link_data metric kind.Transit (eq-eqb n n refl)
+  transit_is : (r : RouterId) (n link_data metric : ℕ) → takes inner f r (to_network n link_data metric) ≡ On inner f r n
+  transit_is r n link_data metric = transit_taken inner f r n n link_data metric kind.Transit (eq-eqb n n refl)
 
   -- an edge that the failure takes, or one that stays
   cut_or : (from to : Vertex) (cost link_data : ℕ) → IsEdgeBetween A from to cost link_data → MayCut f from to ⊎ IsEdgeBetween B from to cost link_data
   cut_or (vertex.Router a) (vertex.Router b) cost link_data e =
-      elim (bool_cases (takes f a (to_router b link_data cost))) [
-        | inl goes ↦ inl (router_cut f a b link_data cost goes)
-        | inr stays ↦ elim (bool_cases (takes f b (to_router a e.1 e.2))) [
-          | inl back ↦ inl (cut_back f (vertex.Router a) (vertex.Router b) (router_cut f b a e.1 e.2 back))
+      elim (bool_cases (takes inner f a (to_router b link_data cost))) [
+        | inl goes ↦ inl (router_cut inner f a b link_data cost goes)
+        | inr stays ↦ elim (bool_cases (takes inner f b (to_router a e.1 e.2))) [
+          | inl back ↦ inl (cut_back f (vertex.Router a) (vertex.Router b) (router_cut inner f b a e.1 e.2 back))
           | inr free ↦ inr (link_stays a kind.PointToPoint b.0 link_data cost e.0 stays, e.1, e.2, link_stays b kind.PointToPoint a.0 e.1 e.2 e.3 free)
         ]
       ]
   cut_or (vertex.Router a) (vertex.Network n) cost link_data e =
-      elim (bool_cases (On f a n)) [
-        | inl goes ↦ inl (network_cut f a n goes)
+      elim (bool_cases (On inner f a n)) [
+        | inl goes ↦ inl (network_cut inner f a n goes)
         | inr free ↦ inr (link_stays a kind.Transit n link_data cost e.0 (transit_is a n link_data cost ∙ free), attached_stays n a e.1)
       ]
   cut_or (vertex.Network n) (vertex.Router b) cost link_data e =
-      elim (bool_cases (On f b n)) [
-        | inl goes ↦ inl (cut_back f (vertex.Network n) (vertex.Router b) (network_cut f b n goes))
+      elim (bool_cases (On inner f b n)) [
+        | inl goes ↦ inl (cut_back f (vertex.Network n) (vertex.Router b) (network_cut inner f b n goes))
         | inr free ↦ inr (e.0, address_on n b link_data e.1 free, attached_stays n b e.2)
       ]
   cut_or (vertex.Network n) (vertex.Network m) cost link_data e = absurd e
@@ -259,17 +260,17 @@ module _ (f : AreaFailure) (A : List Advertisement) where
   cut_goes : IsWhole f → (from to : Vertex) (cost link_data : ℕ) → MayCut f from to → IsEdgeBetween B from to cost link_data → ⊥
   cut_goes whole (vertex.Router a) (vertex.Router b) cost link_data cut e =
       let free = link_free a kind.PointToPoint b.0 link_data cost e.0 in
-      let goes = cut_router f a b link_data cost whole cut in
+      let goes = cut_router inner f a b link_data cost whole cut in
       both_ways _ free goes
   cut_goes whole (vertex.Router a) (vertex.Network n) cost link_data cut e =
-      both_ways _ (sym (transit_is a n link_data cost) ∙ link_free a kind.Transit n link_data cost e.0) (cut_network f a n cut)
+      both_ways _ (sym (transit_is a n link_data cost) ∙ link_free a kind.Transit n link_data cost e.0) (cut_network inner f a n cut)
   cut_goes whole (vertex.Network n) (vertex.Router b) cost link_data cut e =
-      both_ways _ (address_free n b link_data e.1) (cut_network f b n (cut_back f (vertex.Router b) (vertex.Network n) cut))
+      both_ways _ (address_free n b link_data e.1) (cut_network inner f b n (cut_back f (vertex.Router b) (vertex.Network n) cut))
   cut_goes whole (vertex.Network n) (vertex.Network m) cost link_data cut e = e
 
 -- ---- a point-to-point link
 
-module _ (a b : RouterId) (subnet : Prefix) (A : List Advertisement) (near : List Edge) (at : AreEdgesAt A (vertex.Router a) near) where
+module _ (inner : List Link) (a b : RouterId) (subnet : Prefix) (A : List Advertisement) (near : List Edge) (at : AreEdgesAt A (vertex.Router a) near) where
   abbrev F : AreaFailure
   F = fails.Link a b subnet
 
@@ -277,40 +278,40 @@ module _ (a b : RouterId) (subnet : Prefix) (A : List Advertisement) (near : Lis
   edge x y cost link_data = record { from = vertex.Router x; to = vertex.Router y; cost = cost; link_data = link_data }
 
   wire_kept : (x y : RouterId) (cost link_data : ℕ) → IsEdge A (edge x y cost link_data)
-      → (Pair (vertex.Router a) (vertex.Router b) (vertex.Router x) (vertex.Router y) → IsTwoWay near subnet (edge x y cost link_data))
-      → IsEdge (B F A) (edge x y cost link_data)
+      → (Pair (vertex.Router a) (vertex.Router b) (vertex.Router x) (vertex.Router y) → IsTwoWay inner near subnet (edge x y cost link_data))
+      → IsEdge (B inner F A) (edge x y cost link_data)
   wire_kept x y cost link_data e apart =
-      let there : takes F x (to_router y link_data cost) ≡ false =
-      false_from_ne_true _ (λ t. let w = wire_taken a b subnet x y link_data cost t in (apart w.0).0 w.1) in
-      let out = link_stays F A x kind.PointToPoint y.0 link_data cost e.0 there in
-      elim (bool_cases (takes F y (to_router x e.1 e.2))) [
-        | inr free ↦ (out, e.1, e.2, link_stays F A y kind.PointToPoint x.0 e.1 e.2 e.3 free)
+      let there : takes inner F x (to_router y link_data cost) ≡ false =
+      false_from_ne_true _ (λ t. let w = wire_taken inner a b subnet x y link_data cost t in both_ways _ (apart w.0).0 w.1) in
+      let out = link_stays inner F A x kind.PointToPoint y.0 link_data cost e.0 there in
+      elim (bool_cases (takes inner F y (to_router x e.1 e.2))) [
+        | inr free ↦ (out, e.1, e.2, link_stays inner F A y kind.PointToPoint x.0 e.1 e.2 e.3 free)
         | inl t ↦
-            let w = wire_taken a b subnet y x e.1 e.2 t in
+            let w = wire_taken inner a b subnet y x e.1 e.2 t in
             let h = (apart (pair_back (vertex.Router a) (vertex.Router b) (vertex.Router x) (vertex.Router y) w.0)).1 in
             let back : Edge = h.1 in
             let is : IsEdge A back = ((at back).0 (h.0, h.2, h.3)).0 in
             let over : IsEdgeBetween A (vertex.Router y) (vertex.Router x) back.cost back.link_data =
             subst (λ v. IsEdgeBetween A (vertex.Router y) v back.cost back.link_data) h.4.1 (subst (λ v. IsEdgeBetween A v back.to back.cost back.link_data) h.4.0 is) in
-            let free : takes F y (to_router x back.link_data back.cost) ≡ false =
-            false_from_ne_true _ (λ t. h.4.2 (wire_taken a b subnet y x back.link_data back.cost t).1) in
-            (out, back.link_data, back.cost, link_stays F A y kind.PointToPoint x.0 back.link_data back.cost over.0 free)
+            let free : takes inner F y (to_router x back.link_data back.cost) ≡ false =
+            false_from_ne_true _ (λ t. both_ways _ h.4.2 (wire_taken inner a b subnet y x back.link_data back.cost t).1) in
+            (out, back.link_data, back.cost, link_stays inner F A y kind.PointToPoint x.0 back.link_data back.cost over.0 free)
       ]
 
-  kept_wire : (x y : RouterId) (cost link_data : ℕ) → IsEdge (B F A) (edge x y cost link_data)
-      → Pair (vertex.Router a) (vertex.Router b) (vertex.Router x) (vertex.Router y) → IsTwoWay near subnet (edge x y cost link_data)
+  kept_wire : (x y : RouterId) (cost link_data : ℕ) → IsEdge (B inner F A) (edge x y cost link_data)
+      → Pair (vertex.Router a) (vertex.Router b) (vertex.Router x) (vertex.Router y) → IsTwoWay inner near subnet (edge x y cost link_data)
   kept_wire x y cost link_data e pair =
       let back : Edge = edge y x e.2 e.1 in
       let turned : Pair (vertex.Router a) (vertex.Router b) (vertex.Router y) (vertex.Router x) = pair_back (vertex.Router a) (vertex.Router b) (vertex.Router y) (vertex.Router x) pair in
-      let is : IsEdge A back = edge_from F A (vertex.Router y) (vertex.Router x) e.2 e.1 (e.3, link_data, cost, e.0) in
+      let is : IsEdge A back = edge_from inner F A (vertex.Router y) (vertex.Router x) e.2 e.1 (e.3, link_data, cost, e.0) in
       let m : Contains near back = (at back).1 (is, cut_near F back turned) in (
-        (λ held. both_ways _ (link_free F A x kind.PointToPoint y.0 link_data cost e.0) (taken_wire a b subnet x y link_data cost pair held)),
+        false_from_ne_true _ (λ held. both_ways _ (link_free inner F A x kind.PointToPoint y.0 link_data cost e.0) (taken_wire inner a b subnet x y link_data cost pair held)),
         (
           m.0,
           back,
           m.1,
           m.2,
-          (refl, refl, (λ held. both_ways _ (link_free F A y kind.PointToPoint x.0 e.1 e.2 e.3) (taken_wire a b subnet y x e.1 e.2 turned held))),
+          (refl, refl, false_from_ne_true _ (λ held. both_ways _ (link_free inner F A y kind.PointToPoint x.0 e.1 e.2 e.3) (taken_wire inner a b subnet y x e.1 e.2 turned held))),
         ),
       )
 
@@ -320,15 +321,15 @@ module _ (a b : RouterId) (subnet : Prefix) (A : List Advertisement) (near : Lis
   no_wire r n (inr p) = apart a n (sym p.1)
 
   stays_at : (from to : Vertex) (cost link_data : ℕ) → IsEdgeBetween A from to cost link_data
-      → Stays F near (record { from = from; to = to; cost = cost; link_data = link_data }) → IsEdgeBetween (B F A) from to cost link_data
+      → Stays F inner near (record { from = from; to = to; cost = cost; link_data = link_data }) → IsEdgeBetween (B inner F A) from to cost link_data
   stays_at (vertex.Router x) (vertex.Router y) cost link_data e stays = wire_kept x y cost link_data e stays
-  stays_at (vertex.Router x) (vertex.Network n) cost link_data e stays = elim (cut_or F A (vertex.Router x) (vertex.Network n) cost link_data e) [ inl cut ↦ absurd (no_wire x n cut) | inr left ↦ left ]
+  stays_at (vertex.Router x) (vertex.Network n) cost link_data e stays = elim (cut_or inner F A (vertex.Router x) (vertex.Network n) cost link_data e) [ inl cut ↦ absurd (no_wire x n cut) | inr left ↦ left ]
   stays_at (vertex.Network n) (vertex.Router y) cost link_data e stays =
-      elim (cut_or F A (vertex.Network n) (vertex.Router y) cost link_data e) [ inl cut ↦ absurd (no_wire y n (cut_back F (vertex.Router y) (vertex.Network n) cut)) | inr left ↦ left ]
+      elim (cut_or inner F A (vertex.Network n) (vertex.Router y) cost link_data e) [ inl cut ↦ absurd (no_wire y n (cut_back F (vertex.Router y) (vertex.Network n) cut)) | inr left ↦ left ]
   stays_at (vertex.Network n) (vertex.Network m) cost link_data e stays = absurd e
 
-  at_stays : (from to : Vertex) (cost link_data : ℕ) → IsEdgeBetween (B F A) from to cost link_data
-      → Stays F near (record { from = from; to = to; cost = cost; link_data = link_data })
+  at_stays : (from to : Vertex) (cost link_data : ℕ) → IsEdgeBetween (B inner F A) from to cost link_data
+      → Stays F inner near (record { from = from; to = to; cost = cost; link_data = link_data })
   at_stays (vertex.Router x) (vertex.Router y) cost link_data e pair = kept_wire x y cost link_data e pair
   at_stays (vertex.Router x) (vertex.Network n) cost link_data e pair = absurd (no_wire x n pair)
   at_stays (vertex.Network n) (vertex.Router y) cost link_data e pair = absurd (no_wire y n (cut_back F (vertex.Router y) (vertex.Network n) pair))
@@ -336,37 +337,43 @@ module _ (a b : RouterId) (subnet : Prefix) (A : List Advertisement) (near : Lis
 
 -- ---- edges at the centre
 
-module _ (A : List Advertisement) (near : List Edge) (e : Edge) where
-  stays_kept : (f : AreaFailure) → AreEdgesAt A (centre_of f) near → IsEdge A e → Stays f near e → IsEdge (B f A) e
-  stays_kept (fails.Link a b subnet) at there stays = stays_at a b subnet A near at e.from e.to e.cost e.link_data there stays
-  stays_kept (fails.Links a b) at there stays = elim (cut_or (fails.Links a b) A e.from e.to e.cost e.link_data there) [ inl cut ↦ absurd (stays cut) | inr left ↦ left ]
-  stays_kept (fails.Attachment r n) at there stays = elim (cut_or (fails.Attachment r n) A e.from e.to e.cost e.link_data there) [ inl cut ↦ absurd (stays cut) | inr left ↦ left ]
+module _ (inner : List Link) (A : List Advertisement) (near : List Edge) (e : Edge) where
+  stays_kept : (f : AreaFailure) → AreEdgesAt A (centre_of f) near → IsEdge A e → Stays f inner near e → IsEdge (B inner f A) e
+  stays_kept (fails.Link a b subnet) at there stays = stays_at inner a b subnet A near at e.from e.to e.cost e.link_data there stays
+  stays_kept (fails.Links a b) at there stays = elim (cut_or inner (fails.Links a b) A e.from e.to e.cost e.link_data there) [ inl cut ↦ absurd (stays cut) | inr left ↦ left ]
+  stays_kept (fails.Attachment r n) at there stays = elim (cut_or inner (fails.Attachment r n) A e.from e.to e.cost e.link_data there) [ inl cut ↦ absurd (stays cut) | inr left ↦ left ]
   stays_kept (fails.Network n) at there stays = absurd stays
   stays_kept (fails.Router gone) at there stays = absurd stays
 
-  kept_stays : (f : AreaFailure) → AreEdgesAt A (centre_of f) near → Touches (centre_of f) e → IsEdge (B f A) e → Stays f near e
-  kept_stays (fails.Link a b subnet) at touches left = at_stays a b subnet A near at e.from e.to e.cost e.link_data left
-  kept_stays (fails.Links a b) at touches left = λ cut. cut_goes (fails.Links a b) A tt e.from e.to e.cost e.link_data cut left
-  kept_stays (fails.Attachment r n) at touches left = λ cut. cut_goes (fails.Attachment r n) A tt e.from e.to e.cost e.link_data cut left
-  kept_stays (fails.Network n) at touches left = cut_goes (fails.Network n) A tt e.from e.to e.cost e.link_data touches left
-  kept_stays (fails.Router gone) at touches left = cut_goes (fails.Router gone) A tt e.from e.to e.cost e.link_data touches left
+  kept_stays : (f : AreaFailure) → AreEdgesAt A (centre_of f) near → Touches (centre_of f) e → IsEdge (B inner f A) e → Stays f inner near e
+  kept_stays (fails.Link a b subnet) at touches left = at_stays inner a b subnet A near at e.from e.to e.cost e.link_data left
+  kept_stays (fails.Links a b) at touches left = λ cut. cut_goes inner (fails.Links a b) A tt e.from e.to e.cost e.link_data cut left
+  kept_stays (fails.Attachment r n) at touches left = λ cut. cut_goes inner (fails.Attachment r n) A tt e.from e.to e.cost e.link_data cut left
+  kept_stays (fails.Network n) at touches left = cut_goes inner (fails.Network n) A tt e.from e.to e.cost e.link_data touches left
+  kept_stays (fails.Router gone) at touches left = cut_goes inner (fails.Router gone) A tt e.from e.to e.cost e.link_data touches left
 
 -- those that do not stay are all that are lost
-edges_are_lost : (f : AreaFailure) (A : List Advertisement) (near lost : List Edge) → AreEdgesAt A (centre_of f) near → AreLost (Contains near) (Stays f near) lost
-    → AreEdgesLost A f lost
-unfolding without
-edges_are_lost f A near lost at are = record {
-  within = λ e m. let w = are.within e m in let is = (at e).0 w.0 in (is.0, (λ left. w.1 (kept_stays A near e f at is.1 left)));
-  all = λ e there. elim (cut_or f A e.from e.to e.cost e.link_data there) [
+edges_are_lost : (inner : List Link) (f : AreaFailure) (A : List Advertisement) (near lost : List Edge) → AreEdgesAt A (centre_of f) near
+    → AreLost (Contains near) (Stays f inner near) lost → AreLost (IsEdge A) (IsEdge (B inner f A)) lost
+edges_are_lost inner f A near lost at are = record {
+  within = λ e m. let w = are.within e m in let is = (at e).0 w.0 in (is.0, (λ left. w.1 (kept_stays inner A near e f at is.1 left)));
+  all = λ e there. elim (cut_or inner f A e.from e.to e.cost e.link_data there) [
     | inr left ↦ inr left
-    | inl cut ↦ elim (are.all e ((at e).1 (there, cut_near f e cut))) [ inl gone ↦ inl gone | inr stays ↦ inr (stays_kept A near e f at there stays) ]
+    | inl cut ↦ elim (are.all e ((at e).1 (there, cut_near f e cut))) [ inl gone ↦ inl gone | inr stays ↦ inr (stays_kept inner A near e f at there stays) ]
   ];
 }
 
-pub going_are_lost : (f : AreaFailure) (A : List Advertisement) (near seen : List Edge) (found : Result (Vec Edge Global) AllocError) → seen ≡ near → AreEdgesAt A (centre_of f) near
-    → IfOk found (λ lost. AreLost (Contains seen) (Stays f seen) lost.items) → IfOk found (λ lost. AreEdgesLost A f lost.items)
-going_are_lost f A near seen found same at going =
-    IfOk-map found _ _ going (λ v are. edges_are_lost f A near v.items at (subst (λ (l : List Edge). AreLost (Contains l) (Stays f l) v.items) same are))
+pub going_are_lost : (found_inner : List Link) (f : AreaFailure) (A : List Advertisement) (near seen : List Edge) (inner : List Link) (found : Result (Vec Edge Global) AllocError)
+    → HaveSame found_inner (inner_of f A) → inner ≡ found_inner → seen ≡ near → AreEdgesAt A (centre_of f) near
+    → IfOk found (λ lost. AreLost (Contains seen) (Stays f inner seen) lost.items) → IfOk found (λ lost. AreEdgesLost A f lost.items)
+unfolding without
+going_are_lost found_inner f A near seen inner found all is same at going =
+    IfOk-map found _ _ going
+    (λ v are.
+    subst (λ (left : List Advertisement). AreLost (IsEdge A) (IsEdge left) v.items) (left_same found_inner (inner_of f A) f all A)
+    (edges_are_lost found_inner f A near v.items at
+    (subst (λ (l : List Edge). AreLost (Contains l) (Stays f found_inner l) v.items) same
+    (subst (λ (s : List Link). AreLost (Contains seen) (Stays f s seen) v.items) is are))))
 
 -- ---- ends
 
@@ -395,8 +402,8 @@ LosesEnd (fails.Attachment r n) p v = ⊥
 LosesEnd (fails.Network n) p v = ⊥
 LosesEnd (fails.Router gone) p v = v ≡ vertex.Router gone
 
-module _ (r : RouterId) (p : Prefix) (id mask metric : ℕ) (of : IsPrefixOf id mask p) where
-  stub_lost : (f : AreaFailure) → takes f r (stub id mask metric) ≡ true → LosesEnd f p (vertex.Router r)
+module _ (inner : List Link) (r : RouterId) (p : Prefix) (id mask metric : ℕ) (of : IsPrefixOf id mask p) where
+  stub_lost : (f : AreaFailure) → takes inner f r (stub id mask metric) ≡ true → LosesEnd f p (vertex.Router r)
   stub_lost (fails.Link a b subnet) t =
       let is = is_stub_of (stub id mask metric) subnet in
       elim (or_cases (eqb r.0 a.0 && is) (eqb r.0 b.0 && is) t) [
@@ -408,7 +415,7 @@ module _ (r : RouterId) (p : Prefix) (id mask metric : ℕ) (of : IsPrefixOf id 
   stub_lost (fails.Network n) t = absurd (cc)
   stub_lost (fails.Router gone) t = elim (or_cases (eqb r.0 gone.0) false t) [ inl u ↦ router_is r gone u | inr never ↦ absurd (cc) ]
 
-  lost_stub : (f : AreaFailure) → LosesEnd f p (vertex.Router r) → takes f r (stub id mask metric) ≡ true
+  lost_stub : (f : AreaFailure) → LosesEnd f p (vertex.Router r) → takes inner f r (stub id mask metric) ≡ true
   lost_stub (fails.Link a b subnet) lost =
       let is : is_stub_of (stub id mask metric) subnet ≡ true = is_stub p subnet id mask metric of lost.0 in
       elim lost.1 [
@@ -427,25 +434,25 @@ no_network_end (fails.Attachment q m) p n lost = lost
 no_network_end (fails.Network m) p n lost = lost
 no_network_end (fails.Router gone) p n lost = apart gone n (sym lost)
 
-module _ (f : AreaFailure) (A : List Advertisement) (p : Prefix) where
-  end_or : (v : Vertex) (cost : ℕ) → IsEnd A p v cost → LosesEnd f p v ⊎ IsEnd (B f A) p v cost
-  end_or (vertex.Network n) cost e = inr (e.0, e.1, e.2, network_stays f A n e.1 e.2 e.3, e.4)
+module _ (inner : List Link) (f : AreaFailure) (A : List Advertisement) (p : Prefix) where
+  end_or : (v : Vertex) (cost : ℕ) → IsEnd A p v cost → LosesEnd f p v ⊎ IsEnd (B inner f A) p v cost
+  end_or (vertex.Network n) cost e = inr (e.0, e.1, e.2, network_stays inner f A n e.1 e.2 e.3, e.4)
   end_or (vertex.Router r) cost e =
-      elim (bool_cases (takes f r (stub e.0 e.1 cost))) [
-        | inl goes ↦ inl (stub_lost r p e.0 e.1 cost e.3 f goes)
-        | inr free ↦ inr (e.0, e.1, link_stays f A r kind.Stub e.0 e.1 cost e.2 free, e.3)
+      elim (bool_cases (takes inner f r (stub e.0 e.1 cost))) [
+        | inl goes ↦ inl (stub_lost inner r p e.0 e.1 cost e.3 f goes)
+        | inr free ↦ inr (e.0, e.1, link_stays inner f A r kind.Stub e.0 e.1 cost e.2 free, e.3)
       ]
 
-  end_goes : (v : Vertex) (cost : ℕ) → LosesEnd f p v → IsEnd (B f A) p v cost → ⊥
+  end_goes : (v : Vertex) (cost : ℕ) → LosesEnd f p v → IsEnd (B inner f A) p v cost → ⊥
   end_goes (vertex.Network n) cost lost e = no_network_end f p n lost
-  end_goes (vertex.Router r) cost lost e = both_ways _ (link_free f A r kind.Stub e.0 e.1 cost e.2) (lost_stub r p e.0 e.1 cost e.3 f lost)
+  end_goes (vertex.Router r) cost lost e = both_ways _ (link_free inner f A r kind.Stub e.0 e.1 cost e.2) (lost_stub inner r p e.0 e.1 cost e.3 f lost)
 
 ends_are_lost : (f : AreaFailure) (A : List Advertisement) (lost : List End) → ((e : End) → Contains lost e ↔ (StandsIn A e × LosesEnd f e.prefix e.vertex))
     → AreEndsLost A f lost
 unfolding without
 ends_are_lost f A lost are = record {
-  within = λ e m. let w = (are e).0 m in (w.0, (λ left. end_goes f A e.prefix e.vertex e.cost w.1 left));
-  all = λ e there. elim (end_or f A e.prefix e.vertex e.cost there) [ inl goes ↦ inl ((are e).1 (there, goes)) | inr left ↦ inr left ];
+  within = λ e m. let w = (are e).0 m in (w.0, (λ left. end_goes (inner_of f A) f A e.prefix e.vertex e.cost w.1 left));
+  all = λ e there. elim (end_or (inner_of f A) f A e.prefix e.vertex e.cost there) [ inl goes ↦ inl ((are e).1 (there, goes)) | inr left ↦ inr left ];
 }
 
 module _ (f g : AreaFailure) (A : List Advertisement) (is : f ≡ g) where

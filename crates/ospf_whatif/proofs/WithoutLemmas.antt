@@ -1,5 +1,5 @@
 -- An area without what a failure takes.
-use Rattle.std.proofs.Common.{◌≡◌, ◌↔◌, ◌+◌, ◌*◌, ◌<◌, ◌≤◌, ℕ, ℤ, suc, Bool, true, false, cond, ◌⊎◌, inl, inr, arith, filter, List, [], ◌∷◌, ◌++◌, map, take, drop, length, get_or, slice_index, refl, sym, ap, ◌∙◌, subst, not, Result, Ok, Err, IfOk, IfErr, OnOk}
+use Rattle.std.proofs.Common.{◌≡◌, ◌↔◌, ◌+◌, ◌*◌, ◌<◌, ◌≤◌, ℕ, ℤ, zero, suc, Bool, true, false, cond, ◌⊎◌, inl, inr, arith, filter, List, [], ◌∷◌, ◌++◌, map, take, drop, length, get_or, slice_index, refl, sym, ap, ◌∙◌, subst, not, Result, Ok, Err, IfOk, IfErr, OnOk}
 use Rattle.std.specs.List.{AllZip, Contains, list_all}
 use Rattle.std.proofs.lemmas.List.Elements.{filter-append}
 use Rattle.std.proofs.lemmas.List.{drop_more, length-append, take_more, take-append-drop, map-append}
@@ -20,18 +20,18 @@ use Rattle.ospf_graph.specs.Advertisements.{Advertisement, network_lsa, router_l
 use Rattle.ospf_edges.specs.Listed.{advertisement_of}
 use Rattle.ospf_graph.proofs.ListLemmas.{bool_cases, member_of_map, member_to_map}
 use Rattle.ospf_edges.proofs.ListedLemmas.{router_of, network_of}
-use Rattle.ospf_whatif.specs.Failure.{HasLarge, HasLeftLarge, IsLarge, IsLeftLarge, IsLeftLsa, left_of_lsa, kept_after, kept_links, takes, without, without_all}
+use Rattle.ospf_whatif.specs.Failure.{HasLarge, HasLeftLarge, HasLeftLargeBy, IsLarge, IsLeftBy, IsLeftLarge, IsLeftLsa, inner_of, left_of_lsa, kept_after, kept_links, takes, without, without_all}
 use Rattle.ospf_whatif.specs.declared.failure.AreaFailure.{AreaFailure}
 
-pub kept_links-append : (f : AreaFailure) (r : RouterId) (xs ys : List Link) → kept_links f r (xs ++ ys) ≡ kept_links f r xs ++ kept_links f r ys
-kept_links-append f r xs ys = filter-append (λ l. not (takes f r l)) xs ys
+pub kept_links-append : (inner : List Link) (f : AreaFailure) (r : RouterId) (xs ys : List Link) → kept_links inner f r (xs ++ ys) ≡ kept_links inner f r xs ++ kept_links inner f r ys
+kept_links-append inner f r xs ys = filter-append (λ l. not (takes inner f r l)) xs ys
 
 -- a link that is not taken is kept
-pub kept_one : (f : AreaFailure) (r : RouterId) (l : Link) → takes f r l ≡ false → kept_links f r (l ∷ []) ≡ l ∷ []
-kept_one f r l stays = rw stays refl
+pub kept_one : (inner : List Link) (f : AreaFailure) (r : RouterId) (l : Link) → takes inner f r l ≡ false → kept_links inner f r (l ∷ []) ≡ l ∷ []
+kept_one inner f r l stays = rw stays refl
 
-pub taken_one : (f : AreaFailure) (r : RouterId) (l : Link) → takes f r l ≡ true → kept_links f r (l ∷ []) ≡ []
-taken_one f r l goes = rw goes refl
+pub taken_one : (inner : List Link) (f : AreaFailure) (r : RouterId) (l : Link) → takes inner f r l ≡ true → kept_links inner f r (l ∷ []) ≡ []
+taken_one inner f r l goes = rw goes refl
 
 -- ---- a router-LSA that is made
 
@@ -73,20 +73,20 @@ module _ (r : RouterId) (number : ℤ) (links : List Link) (left : List ℕ) (ma
       let routers : (let named : RouterId = record { 0 = number_at 8 4 left } in named) ≡ record { 0 = number_at 8 4 lsa } = names ∙ same in
       λ i. record { kind = kinds i; id = ids i; router = routers i }
 
-  pub made_kept : (f : AreaFailure) (lsa : List ℕ) → IsRouterLsa lsa → r ≡ record { 0 = number_at 8 4 lsa } → links ≡ kept_links f r (links_of lsa)
-      → advertisement_of left ≡ left_of_lsa f (advertisement_of lsa)
-  made_kept f lsa is same are =
-      made_says ∙ ap (λ ls. router_lsa r ls) are ∙ ap (λ (x : RouterId). router_lsa x (kept_links f x (links_of lsa))) same ∙ sym (ap (left_of_lsa f) (router_of lsa is))
+  pub made_kept : (inner : List Link) (f : AreaFailure) (lsa : List ℕ) → IsRouterLsa lsa → r ≡ record { 0 = number_at 8 4 lsa } → links ≡ kept_links inner f r (links_of lsa)
+      → advertisement_of left ≡ left_of_lsa inner f (advertisement_of lsa)
+  made_kept inner f lsa is same are =
+      made_says ∙ ap (λ ls. router_lsa r ls) are ∙ ap (λ (x : RouterId). router_lsa x (kept_links inner f x (links_of lsa))) same ∙ sym (ap (left_of_lsa inner f) (router_of lsa is))
 
 -- ---- an LSA that stays
 
-pub router_kept : (f : AreaFailure) (lsa : List ℕ) → IsRouterLsa lsa → kept_links f (record { 0 = number_at 8 4 lsa }) (links_of lsa) ≡ links_of lsa
-    → advertisement_of lsa ≡ left_of_lsa f (advertisement_of lsa)
-router_kept f lsa is all =
-    router_of lsa is ∙ ap (λ ls. router_lsa (record { 0 = number_at 8 4 lsa }) ls) (sym all) ∙ sym (ap (left_of_lsa f) (router_of lsa is))
+pub router_kept : (inner : List Link) (f : AreaFailure) (lsa : List ℕ) → IsRouterLsa lsa → kept_links inner f (record { 0 = number_at 8 4 lsa }) (links_of lsa) ≡ links_of lsa
+    → advertisement_of lsa ≡ left_of_lsa inner f (advertisement_of lsa)
+router_kept inner f lsa is all =
+    router_of lsa is ∙ ap (λ ls. router_lsa (record { 0 = number_at 8 4 lsa }) ls) (sym all) ∙ sym (ap (left_of_lsa inner f) (router_of lsa is))
 
-pub network_kept : (f : AreaFailure) (lsa : List ℕ) → IsNetworkLsa lsa → advertisement_of lsa ≡ left_of_lsa f (advertisement_of lsa)
-network_kept f lsa is = network_of lsa is ∙ sym (ap (left_of_lsa f) (network_of lsa is))
+pub network_kept : (inner : List Link) (f : AreaFailure) (lsa : List ℕ) → IsNetworkLsa lsa → advertisement_of lsa ≡ left_of_lsa inner f (advertisement_of lsa)
+network_kept inner f lsa is = network_of lsa is ∙ sym (ap (left_of_lsa inner f) (network_of lsa is))
 
 pub IfOk-map : {X E : Type 0} (r : Result X E) (P Q : X → Type 0) → IfOk r P → ((x : X) → P x → Q x) → IfOk r Q
 IfOk-map (Ok x) P Q p to = to x p
@@ -123,11 +123,11 @@ module _ (lsas : List (List ℕ)) (i : ℕ) (x : List ℕ) (within : i < length 
   keys_next left new same key =
       map-append key_of left (new ∷ []) ∙ (λ j. same j ++ key j ∷ []) ∙ sym (ap (map key_of) next ∙ map-append key_of (take i lsas) (x ∷ []))
 
-  pub told_next : (f : AreaFailure) (left : List (List ℕ)) (new : List ℕ) → map advertisement_of left ≡ map (left_of_lsa f) (map advertisement_of (take i lsas))
-      → advertisement_of new ≡ left_of_lsa f (advertisement_of x) → map advertisement_of (left ++ new ∷ []) ≡ map (left_of_lsa f) (map advertisement_of (take (i + 1) lsas))
-  told_next f left new same told =
+  pub told_next : (inner : List Link) (f : AreaFailure) (left : List (List ℕ)) (new : List ℕ) → map advertisement_of left ≡ map (left_of_lsa inner f) (map advertisement_of (take i lsas))
+      → advertisement_of new ≡ left_of_lsa inner f (advertisement_of x) → map advertisement_of (left ++ new ∷ []) ≡ map (left_of_lsa inner f) (map advertisement_of (take (i + 1) lsas))
+  told_next inner f left new same told =
       map-append advertisement_of left (new ∷ []) ∙ (λ j. same j ++ told j ∷ [])
-      ∙ sym (ap (λ l. map (left_of_lsa f) (map advertisement_of l)) next ∙ ap (map (left_of_lsa f)) (map-append advertisement_of (take i lsas) (x ∷ [])) ∙ map-append (left_of_lsa f) (map advertisement_of (take i lsas)) (advertisement_of x ∷ []))
+      ∙ sym (ap (λ l. map (left_of_lsa inner f) (map advertisement_of l)) next ∙ ap (map (left_of_lsa inner f)) (map-append advertisement_of (take i lsas) (x ∷ [])) ∙ map-append (left_of_lsa inner f) (map advertisement_of (take i lsas)) (advertisement_of x ∷ []))
 
 -- ---- what cannot be made anew
 
@@ -151,57 +151,58 @@ kept_whole p (x ∷ xs) many = go (kept_whole p xs) (p x) many
     go rest false h = let few = kept_length p xs in absurd (omega arith)
 
 -- the links are fewer where one is taken
-pub kept_fewer : (f : AreaFailure) (r : RouterId) (xs : List Link) (l : Link) (ys : List Link) → takes f r l ≡ true → kept_links f r (xs ++ l ∷ ys) ≡ xs ++ l ∷ ys → ⊥
-kept_fewer f r xs l ys goes same =
-    let test : Link → Bool = (λ (x : Link). not (takes f r x)) in
-    let rest : kept_links f r (l ∷ ys) ≡ kept_links f r ys = rw goes refl in
-    let lengths : length (kept_links f r xs ++ kept_links f r ys) ≡ length (xs ++ l ∷ ys) =
-    ap (λ t. length (kept_links f r xs ++ t)) (sym rest) ∙ ap length (sym (kept_links-append f r xs (l ∷ ys)) ∙ same) in
-    let one = length-append (kept_links f r xs) (kept_links f r ys) in
+pub kept_fewer : (inner : List Link) (f : AreaFailure) (r : RouterId) (xs : List Link) (l : Link) (ys : List Link) → takes inner f r l ≡ true → kept_links inner f r (xs ++ l ∷ ys) ≡ xs ++ l ∷ ys → ⊥
+kept_fewer inner f r xs l ys goes same =
+    let test : Link → Bool = (λ (x : Link). not (takes inner f r x)) in
+    let rest : kept_links inner f r (l ∷ ys) ≡ kept_links inner f r ys = rw goes refl in
+    let lengths : length (kept_links inner f r xs ++ kept_links inner f r ys) ≡ length (xs ++ l ∷ ys) =
+    ap (λ t. length (kept_links inner f r xs ++ t)) (sym rest) ∙ ap length (sym (kept_links-append inner f r xs (l ∷ ys)) ∙ same) in
+    let one = length-append (kept_links inner f r xs) (kept_links inner f r ys) in
     let two = length-append xs (l ∷ ys) in
-    let front : length (kept_links f r xs) ≤ length xs = kept_length test xs in
-    let back : length (kept_links f r ys) ≤ length ys = kept_length test ys in
+    let front : length (kept_links inner f r xs) ≤ length xs = kept_length test xs in
+    let back : length (kept_links inner f r ys) ≤ length ys = kept_length test ys in
     omega arith
 
 -- all links are kept where none is taken
-kept_all : (f : AreaFailure) (r : RouterId) (links : List Link) → (list_all (λ l. not (takes f r l)) links ≡ true) ↔ (kept_links f r links ≡ links)
-kept_all f r [] = (λ yes. refl, λ same. refl)
-kept_all f r (l ∷ rest) =
-    elim (bool_cases (takes f r l)) [
-      | inl goes ↦ (λ yes. absurd (let no : false ≡ true = rw goes at yes in cc), λ same. absurd (kept_fewer f r [] l rest goes same))
+kept_all : (inner : List Link) (f : AreaFailure) (r : RouterId) (links : List Link) → (list_all (λ l. not (takes inner f r l)) links ≡ true) ↔ (kept_links inner f r links ≡ links)
+kept_all inner f r [] = (λ yes. refl, λ same. refl)
+kept_all inner f r (l ∷ rest) =
+    elim (bool_cases (takes inner f r l)) [
+      | inl goes ↦ (λ yes. absurd (let no : false ≡ true = rw goes at yes in cc), λ same. absurd (kept_fewer inner f r [] l rest goes same))
       | inr stays ↦ (
-        λ yes. rw stays (ap (λ ls. l ∷ ls) ((kept_all f r rest).0 (rw stays at yes))),
-        λ same. rw stays ((kept_all f r rest).1 (let kept : l ∷ kept_links f r rest ≡ l ∷ rest = rw stays at same in ap (drop 1) kept)),
+        λ yes. rw stays (ap (λ ls. l ∷ ls) ((kept_all inner f r rest).0 (rw stays at yes))),
+        λ same. rw stays ((kept_all inner f r rest).1 (let kept : l ∷ kept_links inner f r rest ≡ l ∷ rest = rw stays at same in ap (drop 1) kept)),
       )
     ]
 
-pub all_kept : (f : AreaFailure) (r : RouterId) (links : List Link) (b : Bool) → b ≡ list_all (λ l. not (takes f r l)) links → (b ≡ true) ↔ (kept_links f r links ≡ links)
-all_kept f r links b is = (λ yes. (kept_all f r links).0 (sym is ∙ yes), λ same. is ∙ (kept_all f r links).1 same)
+pub all_kept : (inner : List Link) (f : AreaFailure) (r : RouterId) (links : List Link) (b : Bool) → b ≡ list_all (λ l. not (takes inner f r l)) links → (b ≡ true) ↔ (kept_links inner f r links ≡ links)
+all_kept inner f r links b is = (λ yes. (kept_all inner f r links).0 (sym is ∙ yes), λ same. is ∙ (kept_all inner f r links).1 same)
 
-kept_after_few : (fs : List AreaFailure) (r : RouterId) (links : List Link) → length (kept_after fs r links) ≤ length links
-kept_after_few [] r links = omega arith
-kept_after_few (f ∷ fs) r links =
-    let later : length (kept_after fs r (kept_links f r links)) ≤ length (kept_links f r links) = kept_after_few fs r (kept_links f r links) in
-    let first : length (kept_links f r links) ≤ length links = kept_length (λ (l : Link). not (takes f r l)) links in
-    omega arith
+kept_after_few : (A : List Advertisement) (fs : List AreaFailure) (r : RouterId) (links : List Link) → length (kept_after A fs r links) ≤ length links
+kept_after_few A [] r links = omega arith
+kept_after_few A (f ∷ fs) r links =
+    let inner = inner_of f A in
+    let later : length (kept_after (without f A) fs r (kept_links inner f r links)) ≤ length (kept_links inner f r links) = kept_after_few (without f A) fs r (kept_links inner f r links) in
+    let first : length (kept_links inner f r links) ≤ length links = kept_length (λ (l : Link). not (takes inner f r l)) links in
+    omega (arith, later, first)
 
 -- a router-LSA that is made anew of too many links
-pub large_left : (f : AreaFailure) (r : RouterId) (number : ℤ) (links : List Link) (lsa : List ℕ) → IsRouterLsa lsa → r ≡ (key_of lsa).router → links ≡ kept_links f r (links_of lsa)
-    → (kept_links f r (links_of lsa) ≡ links_of lsa → ⊥) → IsUnmade (RouterNeeds number links) fault.Length → IsLeftLarge f (advertisement_of lsa)
-large_left f r number links lsa is same are differs (inl memory) = let e : fault.Length ≡ fault.Memory = memory.0 in cc
-large_left f r number links lsa is same are differs (inr first) =
-    let of : kept_links f r (links_of lsa) ≡ kept_links f (key_of lsa).router (links_of lsa) = ap (λ (q : RouterId). kept_links f q (links_of lsa)) same in
-    subst (IsLeftLarge f) (sym (router_of lsa is)) ((λ e. differs (of ∙ e)), subst (λ (l : List Link). 1361 < length l) (are ∙ of) (go first.broken))
+pub large_left : (inner : List Link) (f : AreaFailure) (r : RouterId) (number : ℤ) (links : List Link) (lsa : List ℕ) → IsRouterLsa lsa → r ≡ (key_of lsa).router → links ≡ kept_links inner f r (links_of lsa)
+    → (kept_links inner f r (links_of lsa) ≡ links_of lsa → ⊥) → IsUnmade (RouterNeeds number links) fault.Length → IsLeftLarge inner f (advertisement_of lsa)
+large_left inner f r number links lsa is same are differs (inl memory) = let e : fault.Length ≡ fault.Memory = memory.0 in cc
+large_left inner f r number links lsa is same are differs (inr first) =
+    let of : kept_links inner f r (links_of lsa) ≡ kept_links inner f (key_of lsa).router (links_of lsa) = ap (λ (q : RouterId). kept_links inner f q (links_of lsa)) same in
+    subst (IsLeftLarge inner f) (sym (router_of lsa is)) ((λ e. differs (of ∙ e)), subst (λ (l : List Link). 1361 < length l) (are ∙ of) (go first.broken))
   where
     go : (24 + 12 * length links ≤ 16356 → ⊥) → 1361 < length links
     go long = omega (arith, long)
 
 -- none is left so large where one of all links that are kept is made
-pub small_left : (f : AreaFailure) (r : RouterId) (number : ℤ) (links : List Link) (lsa : List ℕ) → IsRouterLsa lsa → r ≡ (key_of lsa).router → links ≡ kept_links f r (links_of lsa)
-    → HasAll (RouterNeeds number links) → IsLeftLarge f (advertisement_of lsa) → ⊥
-small_left f r number links lsa is same are needs large =
-    let of : kept_links f r (links_of lsa) ≡ kept_links f (key_of lsa).router (links_of lsa) = ap (λ (q : RouterId). kept_links f q (links_of lsa)) same in
-    let here : IsLeftLarge f (router_lsa (key_of lsa).router (links_of lsa)) = subst (IsLeftLarge f) (router_of lsa is) large in
+pub small_left : (inner : List Link) (f : AreaFailure) (r : RouterId) (number : ℤ) (links : List Link) (lsa : List ℕ) → IsRouterLsa lsa → r ≡ (key_of lsa).router → links ≡ kept_links inner f r (links_of lsa)
+    → HasAll (RouterNeeds number links) → IsLeftLarge inner f (advertisement_of lsa) → ⊥
+small_left inner f r number links lsa is same are needs large =
+    let of : kept_links inner f r (links_of lsa) ≡ kept_links inner f (key_of lsa).router (links_of lsa) = ap (λ (q : RouterId). kept_links inner f q (links_of lsa)) same in
+    let here : IsLeftLarge inner f (router_lsa (key_of lsa).router (links_of lsa)) = subst (IsLeftLarge inner f) (router_of lsa is) large in
     let many : 1361 < length links = subst (λ (l : List Link). 1361 < length l) (sym (are ∙ of)) here.1 in
     apart many (needs fault.Length)
   where
@@ -209,16 +210,16 @@ small_left f r number links lsa is same are needs large =
     apart many short = omega (arith, many, short)
 
 -- nor where all links are kept
-pub small_kept : (f : AreaFailure) (r : RouterId) (lsa : List ℕ) → IsRouterLsa lsa → r ≡ (key_of lsa).router → kept_links f r (links_of lsa) ≡ links_of lsa
-    → IsLeftLarge f (advertisement_of lsa) → ⊥
-small_kept f r lsa is same kept large =
-    let of : kept_links f r (links_of lsa) ≡ kept_links f (key_of lsa).router (links_of lsa) = ap (λ (q : RouterId). kept_links f q (links_of lsa)) same in
-    let here : IsLeftLarge f (router_lsa (key_of lsa).router (links_of lsa)) = subst (IsLeftLarge f) (router_of lsa is) large in
+pub small_kept : (inner : List Link) (f : AreaFailure) (r : RouterId) (lsa : List ℕ) → IsRouterLsa lsa → r ≡ (key_of lsa).router → kept_links inner f r (links_of lsa) ≡ links_of lsa
+    → IsLeftLarge inner f (advertisement_of lsa) → ⊥
+small_kept inner f r lsa is same kept large =
+    let of : kept_links inner f r (links_of lsa) ≡ kept_links inner f (key_of lsa).router (links_of lsa) = ap (λ (q : RouterId). kept_links inner f q (links_of lsa)) same in
+    let here : IsLeftLarge inner f (router_lsa (key_of lsa).router (links_of lsa)) = subst (IsLeftLarge inner f) (router_of lsa is) large in
     here.0 (sym of ∙ kept)
 
 -- nor of a network-LSA
-pub small_network : (f : AreaFailure) (lsa : List ℕ) → IsNetworkLsa lsa → IsLeftLarge f (advertisement_of lsa) → ⊥
-small_network f lsa is large = subst (IsLeftLarge f) (network_of lsa is) large
+pub small_network : (inner : List Link) (f : AreaFailure) (lsa : List ℕ) → IsNetworkLsa lsa → IsLeftLarge inner f (advertisement_of lsa) → ⊥
+small_network inner f lsa is large = subst (IsLeftLarge inner f) (network_of lsa is) large
 
 -- what follows from what a success says
 pub OnOk-map : {T E : Type 0} (r : Result T E) (P Q : Type 0) → OnOk r P → (P → Q) → OnOk r Q
@@ -226,42 +227,42 @@ OnOk-map (Ok x) P Q p f = f p
 OnOk-map (Err e) P Q p f = p
 
 -- none of a listing
-pub small_in : (f : AreaFailure) (items listing : List (List ℕ)) → items ≡ listing → ((lsa : List ℕ) → Contains items lsa → IsLeftLarge f (advertisement_of lsa) → ⊥)
-    → HasLeftLarge f (map advertisement_of listing) → ⊥
-small_in f items listing same none large =
+pub small_in : (inner : List Link) (f : AreaFailure) (items listing : List (List ℕ)) → items ≡ listing → ((lsa : List ℕ) → Contains items lsa → IsLeftLarge inner f (advertisement_of lsa) → ⊥)
+    → HasLeftLargeBy inner f (map advertisement_of listing) → ⊥
+small_in inner f items listing same none large =
     let m = member_of_map advertisement_of listing large.0 large.1 in
-    none m.0 (subst (λ (l : List (List ℕ)). Contains l m.0) (sym same) m.1) (subst (IsLeftLarge f) (sym m.2) large.2)
+    none m.0 (subst (λ (l : List (List ℕ)). Contains l m.0) (sym same) m.1) (subst (IsLeftLarge inner f) (sym m.2) large.2)
 
 -- one of a listing
-pub large_in : (f : AreaFailure) (items listing : List (List ℕ)) (lsa : List ℕ) → items ≡ listing → Contains items lsa → IsLeftLarge f (advertisement_of lsa) → HasLeftLarge f (map advertisement_of listing)
-large_in f items listing lsa same here large =
+pub large_in : (inner : List Link) (f : AreaFailure) (items listing : List (List ℕ)) (lsa : List ℕ) → items ≡ listing → Contains items lsa → IsLeftLarge inner f (advertisement_of lsa) → HasLeftLargeBy inner f (map advertisement_of listing)
+large_in inner f items listing lsa same here large =
     (advertisement_of lsa, member_to_map advertisement_of listing lsa (subst (λ (l : List (List ℕ)). Contains l lsa) same here), large)
 
 -- what is too large then is too large before
-left_is_large : (f : AreaFailure) (advert : Advertisement) → IsLeftLarge f advert → IsLarge advert
-left_is_large f (router_lsa router links) large =
-    let kept : length (kept_links f router links) ≤ length links = kept_length (λ (l : Link). not (takes f router l)) links in
+left_is_large : (inner : List Link) (f : AreaFailure) (advert : Advertisement) → IsLeftLarge inner f advert → IsLarge advert
+left_is_large inner f (router_lsa router links) large =
+    let kept : length (kept_links inner f router links) ≤ length links = kept_length (λ (l : Link). not (takes inner f router l)) links in
     let more = large.1 in
     omega (arith, kept, more)
-left_is_large f (network_lsa n router mask attached) large = absurd large
+left_is_large inner f (network_lsa n router mask attached) large = absurd large
 
 pub has_large : (f : AreaFailure) (adverts : List Advertisement) → HasLeftLarge f adverts → HasLarge adverts
-has_large f adverts large = (large.0, large.1, left_is_large f large.0 large.2)
+has_large f adverts large = (large.0, large.1, left_is_large (inner_of f adverts) f large.0 large.2)
 
 -- ---- a router has no more links than before
 
-kept_few : (f : AreaFailure) (advert : Advertisement) → IsLarge (left_of_lsa f advert) → IsLarge advert
-kept_few f (router_lsa router links) large =
-    let kept_is = length-filter (λ (l : Link). not (takes f router l)) links in
-    let few = count_by-le-length (λ (l : Link). not (takes f router l)) links in
+kept_few : (inner : List Link) (f : AreaFailure) (advert : Advertisement) → IsLarge (left_of_lsa inner f advert) → IsLarge advert
+kept_few inner f (router_lsa router links) large =
+    let kept_is = length-filter (λ (l : Link). not (takes inner f router l)) links in
+    let few = count_by-le-length (λ (l : Link). not (takes inner f router l)) links in
     omega arith
-kept_few f (network_lsa n router mask attached) large = absurd large
+kept_few inner f (network_lsa n router mask attached) large = absurd large
 
 pub small_without : (f : AreaFailure) (adverts : List Advertisement) → (HasLarge adverts → ⊥) → HasLarge (without f adverts) → ⊥
 unfolding without
 small_without f adverts small large =
-    let m = member_of_map (left_of_lsa f) adverts large.0 large.1 in
-    small (m.0, m.1, kept_few f m.0 (subst IsLarge (sym m.2) large.2))
+    let m = member_of_map (left_of_lsa (inner_of f adverts) f) adverts large.0 large.1 in
+    small (m.0, m.1, kept_few (inner_of f adverts) f m.0 (subst IsLarge (sym m.2) large.2))
 
 -- ---- one failure more
 
@@ -286,63 +287,84 @@ zip_over R S T over (x ∷ xs) (y ∷ ys) [] first second = absurd second
 zip_over R S T over (x ∷ xs) (y ∷ ys) (z ∷ zs) first second = (over x y z first.0 second.0, zip_over R S T over xs ys zs first.1 second.1)
 
 -- no failure
-pub left_by_none : (lsa : List ℕ) → IsLeftLsa [] lsa lsa
-left_by_none lsa = inl (inr refl, refl)
+pub left_by_none : (A : List Advertisement) (lsa : List ℕ) → IsLeftLsa A [] lsa lsa
+left_by_none A lsa = inl (inr refl, refl)
 
 not_both : (lsa : List ℕ) → IsRouterLsa lsa → IsNetworkLsa lsa → ⊥
 not_both lsa router network = (let both : (let one : ℕ = 1 in one) ≡ 2 = sym router ∙ network in cc)
 
-module _ (fs gs : List AreaFailure) (f : AreaFailure) (more : (r : RouterId) (links : List Link) → kept_after gs r links ≡ kept_links f r (kept_after fs r links)) where
-  left_same : (a c : List ℕ) → IsNetworkLsa a ⊎ (kept_after fs (key_of a).router (links_of a) ≡ links_of a) → IsLeftLsa (f ∷ []) a c → IsLeftLsa gs a c
-  left_same a c (inl network) (inl stays) = inl (inl network, stays.1)
-  left_same a c (inl network) (inr made) = absurd (not_both a made.0 network)
-  left_same a c (inr kept) second =
+-- what is kept of some links, then of those by a failure, and of all by both
+module _ (first then both : RouterId → List Link → List Link) (more : (r : RouterId) (links : List Link) → both r links ≡ then r (first r links))
+    (less_first : (r : RouterId) (links : List Link) → length (first r links) ≤ length links)
+    (whole_then : (r : RouterId) (links : List Link) → length links ≤ length (then r links) → then r links ≡ links) where
+  left_twice : (a c : List ℕ) → IsNetworkLsa a ⊎ (first (key_of a).router (links_of a) ≡ links_of a) → IsLeftBy then a c → IsLeftBy both a c
+  left_twice a c (inl network) (inl stays) = inl (inl network, stays.1)
+  left_twice a c (inl network) (inr made) = absurd (not_both a made.0 network)
+  left_twice a c (inr kept) second =
       let r = (key_of a).router in
-      let now : kept_after gs r (links_of a) ≡ kept_links f r (links_of a) = more r (links_of a) ∙ ap (kept_links f r) kept in
+      let now : both r (links_of a) ≡ then r (links_of a) = more r (links_of a) ∙ ap (then r) kept in
       elim second [
         | inl stays ↦ inl (elim stays.0 [ inl network ↦ inl network | inr all ↦ inr (now ∙ all) ], stays.1)
         | inr made ↦ inr (made.0, (λ e. made.1 (sym now ∙ e)), subst (λ (ls : List Link). IsMade (router_value r (header_of a).number ls) c) (sym now) made.2)
       ]
 
-  left_made : (a b c : List ℕ) → IsRouterLsa a → (kept_after fs (key_of a).router (links_of a) ≡ links_of a → ⊥)
-      → IsMade (router_value (key_of a).router (header_of a).number (kept_after fs (key_of a).router (links_of a))) b → IsLeftLsa (f ∷ []) b c → IsLeftLsa gs a c
+  left_made : (a b c : List ℕ) → IsRouterLsa a → (first (key_of a).router (links_of a) ≡ links_of a → ⊥)
+      → IsMade (router_value (key_of a).router (header_of a).number (first (key_of a).router (links_of a))) b → IsLeftBy then b c → IsLeftBy both a c
   left_made a b c is less made second =
       let r = (key_of a).router in
       let number = (header_of a).number in
-      let kept = kept_after fs r (links_of a) in
-      let now : kept_after gs r (links_of a) ≡ kept_links f r kept = more r (links_of a) in
+      let kept = first r (links_of a) in
+      let now : both r (links_of a) ≡ then r kept = more r (links_of a) in
       let links : links_of b ≡ kept = links_are r number kept b made in
       let named : (key_of b).router ≡ r = names r number kept b made in
       let numbers : (header_of b).number ≡ number = number_is r number kept b made in
-      let again : kept_links f (key_of b).router (links_of b) ≡ kept_links f r kept = (λ i. kept_links f (named i) (links i)) in
+      let again : then (key_of b).router (links_of b) ≡ then r kept = (λ i. then (named i) (links i)) in
       elim second [
         | inl stays ↦
             elim stays.0 [
               | inl network ↦ absurd (not_both b (is_router r number kept b made) network)
               | inr all ↦
-                  let whole : kept_after gs r (links_of a) ≡ kept = now ∙ sym again ∙ all ∙ links in
+                  let whole : both r (links_of a) ≡ kept = now ∙ sym again ∙ all ∙ links in
                   inr (is, (λ e. less (sym whole ∙ e)), subst (λ (ls : List Link). IsMade (router_value r number ls) c) (sym whole) (subst (λ (x : List ℕ). IsMade (router_value r number kept) x) (sym stays.1) made))
             ]
         | inr anew ↦ inr (
           is,
           (λ e.
-              let few = kept_after_few fs r (links_of a) in
-              let lengths : length (kept_links f r kept) ≡ length (links_of a) = ap length (sym now ∙ e) in
-              let many : length kept ≤ length (kept_links f r kept) = omega arith in
-              anew.1 (again ∙ kept_whole (λ (l : Link). not (takes f r l)) kept many ∙ sym links)),
+              let few = less_first r (links_of a) in
+              let lengths : length (then r kept) ≡ length (links_of a) = ap length (sym now ∙ e) in
+              let many : length kept ≤ length (then r kept) = omega arith in
+              anew.1 (again ∙ whole_then r kept many ∙ sym links)),
           subst (λ (v : LsaValue). IsMade v c) (λ i. router_value (named i) (numbers i) ((again ∙ sym now) i)) anew.2,
         )
       ]
 
-  left_then : (a b c : List ℕ) → IsLeftLsa fs a b → IsLeftLsa (f ∷ []) b c → IsLeftLsa gs a c
-  left_then a b c (inl stays) second = left_same a c stays.0 (subst (λ (x : List ℕ). IsLeftLsa (f ∷ []) x c) stays.1 second)
+  left_then : (a b c : List ℕ) → IsLeftBy first a b → IsLeftBy then b c → IsLeftBy both a c
+  left_then a b c (inl stays) second = left_twice a c stays.0 (subst (λ (x : List ℕ). IsLeftBy then x c) stays.1 second)
   left_then a b c (inr made) second = left_made a b c made.0 made.1 made.2 second
 
+-- what is kept by the last of some failures
+kept_next : (fs : List AreaFailure) (i : ℕ) (x : AreaFailure) (A : List Advertisement) (r : RouterId) (links : List Link) → i < length fs → x ≡ get_or fs i x
+    → kept_after A (take (suc i) fs) r links ≡ kept_links (inner_of x (without_all (take i fs) A)) x r (kept_after A (take i fs) r links)
+kept_next [] i x A r links within is = absurd (omega (arith, within))
+kept_next (f ∷ fs) zero x A r links within is = let same : x ≡ f = is in λ j. kept_links (inner_of (sym same j) A) (sym same j) r links
+kept_next (f ∷ fs) (suc i) x A r links within is = kept_next fs i x (without f A) r (kept_links (inner_of f A) f r links) (omega (arith, within)) is
+
+kept_more : (fs : List AreaFailure) (i : ℕ) (x : AreaFailure) (A : List Advertisement) (r : RouterId) (links : List Link) → i < length fs → x ≡ get_or fs i x
+    → kept_after A (take (i + 1) fs) r links ≡ kept_links (inner_of x (without_all (take i fs) A)) x r (kept_after A (take i fs) r links)
+kept_more fs i x A r links within is =
+    let one : suc i ≡ i + 1 = omega arith in
+    subst (λ (n : ℕ). kept_after A (take n fs) r links ≡ kept_links (inner_of x (without_all (take i fs) A)) x r (kept_after A (take i fs) r links)) one
+    (kept_next fs i x A r links within is)
+
 -- one failure more
-pub bytes_more : (failures : List AreaFailure) (i : ℕ) (x : AreaFailure) (before left new : List (List ℕ)) → i < length failures → x ≡ get_or failures i x
-    → AllZip (IsLeftLsa (take i failures)) before left → AllZip (IsLeftLsa (x ∷ [])) left new → AllZip (IsLeftLsa (take (i + 1) failures)) before new
-bytes_more failures i x before left new within is first second =
-    zip_over (IsLeftLsa (take i failures)) (IsLeftLsa (x ∷ [])) (IsLeftLsa (take (i + 1) failures))
-    (left_then (take i failures) (take (i + 1) failures) x
-    (λ r links. fold_more (λ (kept : List Link) (f : AreaFailure). kept_links f r kept) links failures i x within ∙ ap (λ (f : AreaFailure). kept_links f r (kept_after (take i failures) r links)) (sym is)))
+pub bytes_more : (failures : List AreaFailure) (i : ℕ) (x : AreaFailure) (A C : List Advertisement) (before left new : List (List ℕ)) → i < length failures → x ≡ get_or failures i x
+    → C ≡ without_all (take i failures) A → AllZip (IsLeftLsa A (take i failures)) before left → AllZip (IsLeftLsa C (x ∷ [])) left new
+    → AllZip (IsLeftLsa A (take (i + 1) failures)) before new
+bytes_more failures i x A C before left new within is at first second =
+    let then = kept_links (inner_of x C) x in
+    zip_over (IsLeftLsa A (take i failures)) (IsLeftLsa C (x ∷ [])) (IsLeftLsa A (take (i + 1) failures))
+    (left_then (kept_after A (take i failures)) then (kept_after A (take (i + 1) failures))
+    (λ r links. kept_more failures i x A r links within is ∙ ap (λ (D : List Advertisement). kept_links (inner_of x D) x r (kept_after A (take i failures) r links)) (sym at))
+    (λ r links. kept_after_few A (take i failures) r links)
+    (λ r links many. kept_whole (λ (l : Link). not (takes (inner_of x C) x r l)) links many))
     before left new first second

@@ -1,6 +1,7 @@
 -- Laws of failures: what they do to every area.
-use Rattle.std.specs.Prelude.{◌≡◌, ◌+◌, ◌≤◌, ◌⊎◌, ℕ, List, Contains}
+use Rattle.std.specs.Prelude.{◌≡◌, ◌+◌, ◌≤◌, ◌⊎◌, ℕ, List, Contains, true}
 use Rattle.ospf_base.specs.declared.ids.RouterId.{RouterId}
+use Rattle.ospf_base.specs.declared.prefix.Prefix.{Prefix}
 use Rattle.ospf_edges.specs.Listed.{advertisements_of}
 use Rattle.ospf_graph.specs.Advertisements.{Advertisement}
 use Rattle.ospf_graph.specs.Graph.{IsEdge}
@@ -13,10 +14,12 @@ use Rattle.ospf_graph.specs.Search.{AtIn, StartsIn}
 use Rattle.ospf_graph.specs.declared.graph.Vertex.{Vertex}
 use Rattle.ospf_graph.specs.declared.route.Route.{Route}
 use Rattle.ospf_lsa.specs.Listing.{IsListing}
-use Rattle.ospf_whatif.specs.Failure.{without}
+use Rattle.ospf_lsa.specs.declared.link.Link.{Link as LsaLink}
+use Rattle.ospf_whatif.specs.Failure.{takes_in, without}
 use Rattle.ospf_whatif.specs.Name.{area_failure_text}
 use Rattle.ospf_whatif.specs.Single.{IsFailure}
 use Rattle.ospf_whatif.specs.declared.failure.AreaFailure.{AreaFailure}
+use Rattle.ospf_whatif.specs.declared.failure.AreaFailure.TheVariants.{Link}
 
 -- after a failure no prefix is reached that was not reached before, and none at a lower cost
 abbrev pub FailuresTakeAway : Type 0
@@ -54,3 +57,12 @@ FailureNamesTellApart =
     (lsas : List (List ℕ)) (f g : AreaFailure) → IsListing lsas
     → IsFailure (advertisements_of lsas) f → IsFailure (advertisements_of lsas) g
     → area_failure_text f ≡ area_failure_text g → f ≡ g
+
+-- a link of a router fails with one subnet alone: no two failures of links between the same two
+-- routers take it, also where one subnet lies in the other
+abbrev pub LinksFailApart : Type 0
+LinksFailApart =
+    (adverts : List Advertisement) (a b router : RouterId) (s t : Prefix) (l : LsaLink)
+    → IsFailure adverts (Link a b s) → IsFailure adverts (Link a b t)
+    → takes_in adverts (Link a b s) router l ≡ true
+    → takes_in adverts (Link a b t) router l ≡ true → s ≡ t

@@ -1,3 +1,4 @@
+pub mod Subnets
 pub mod Failure
 pub mod Effect
 pub mod Single

@@ -1,15 +1,15 @@
 -- What a failure takes of the edges and the ends about it (RFC 2328, sections 12.4.1 and 16.1).
-use Rattle.std.specs.Prelude.{◌≡◌, ◌⊎◌, ◌↔◌, List, Any, Contains}
-use Rattle.ospf_base.specs.Prefixes.{Holds}
+use Rattle.std.specs.Prelude.{◌≡◌, ◌⊎◌, ◌↔◌, false, List, Any, Contains}
 use Rattle.ospf_base.specs.declared.ids.RouterId.{RouterId}
 use Rattle.ospf_base.specs.declared.prefix.Prefix.{Prefix}
 use Rattle.ospf_edges.specs.declared.end.End.{End}
+use Rattle.ospf_lsa.specs.declared.link.Link.{Link as LsaLink}
 use Rattle.ospf_graph.specs.Advertisements.{Advertisement}
 use Rattle.ospf_graph.specs.Graph.{IsEdge}
 use Rattle.ospf_graph.specs.declared.graph.Edge.{Edge}
 use Rattle.ospf_graph.specs.declared.graph.Vertex.{Vertex}
 use Rattle.ospf_graph.specs.declared.graph.Vertex.TheVariants as vertex
-use Rattle.ospf_whatif.specs.Failure.{without}
+use Rattle.ospf_whatif.specs.Failure.{is_of, without}
 use Rattle.ospf_whatif.specs.Outage.{AreLost, StandsIn}
 use Rattle.ospf_whatif.specs.declared.failure.AreaFailure.{AreaFailure}
 use Rattle.ospf_whatif.specs.declared.failure.AreaFailure.TheVariants.{Attachment, Link, Links, Network, Router}
@@ -28,27 +28,29 @@ centre_of (Router gone) = vertex.Router gone
 abbrev pub Connects : Edge → Vertex → Vertex → Type 0
 Connects e v w = ((e.from ≡ v) × (e.to ≡ w)) ⊎ ((e.from ≡ w) × (e.to ≡ v))
 
--- its Link Data lies outside the subnet
-abbrev pub IsOutside : Prefix → Edge → Type 0
-IsOutside subnet e = Holds subnet e.link_data → ⊥
+-- its Link Data lies outside the subnet, or in a longer one
+abbrev pub IsOutside : List LsaLink → Prefix → Edge → Type 0
+IsOutside inner subnet e = is_of inner subnet e.link_data ≡ false
 
 -- the second edge leads back, outside the subnet
-abbrev pub IsWayBack : Prefix → Edge → Edge → Type 0
-IsWayBack subnet e back = (back.from ≡ e.to) × (back.to ≡ e.from) × IsOutside subnet back
+abbrev pub IsWayBack : List LsaLink → Prefix → Edge → Edge → Type 0
+IsWayBack inner subnet e back =
+    (back.from ≡ e.to) × (back.to ≡ e.from) × IsOutside inner subnet back
 
 -- it lies outside the subnet, and so does one of these edges that leads back
-abbrev pub IsTwoWay : List Edge → Prefix → Edge → Type 0
-IsTwoWay near subnet e = IsOutside subnet e × Any (λ back. IsWayBack subnet e back) near
+abbrev pub IsTwoWay : List LsaLink → List Edge → Prefix → Edge → Type 0
+IsTwoWay inner near subnet e =
+    IsOutside inner subnet e × Any (λ back. IsWayBack inner subnet e back) near
 
 -- what of an edge at the centre has to hold for it to stay
-abbrev pub Stays : AreaFailure → List Edge → Edge → Type 0
-Stays (Link a b subnet) near e =
-    Connects e (vertex.Router a) (vertex.Router b) → IsTwoWay near subnet e
-Stays (Links a b) near e = Connects e (vertex.Router a) (vertex.Router b) → ⊥
-Stays (Attachment router network) near e =
+abbrev pub Stays : AreaFailure → List LsaLink → List Edge → Edge → Type 0
+Stays (Link a b subnet) inner near e =
+    Connects e (vertex.Router a) (vertex.Router b) → IsTwoWay inner near subnet e
+Stays (Links a b) inner near e = Connects e (vertex.Router a) (vertex.Router b) → ⊥
+Stays (Attachment router network) inner near e =
     Connects e (vertex.Router router) (vertex.Network network) → ⊥
-Stays (Network network) near e = ⊥
-Stays (Router gone) near e = ⊥
+Stays (Network network) inner near e = ⊥
+Stays (Router gone) inner near e = ⊥
 
 -- exactly the edges that the failure takes
 abbrev pub AreEdgesLost : List Advertisement → AreaFailure → List Edge → Type 0

@@ -1,6 +1,6 @@
 -- What routers want after a failure (RFC 2328, section 12.4.1).
 use Rattle.std.specs.Prelude.{◌≡◌, ◌≢◌, ◌++◌, ◌∷◌, [], ℕ, Bool, true, false, List, map}
-use Rattle.std.specs.List.{AllByRecursion, flat_map}
+use Rattle.std.specs.List.{AllByRecursion, flat_map, list_any}
 use Rattle.ospf_base.specs.Prefixes.{IsPrefixOf}
 use Rattle.ospf_base.specs.declared.ids.RouterId.{RouterId}
 use Rattle.ospf_base.specs.declared.interface.InterfaceKind.TheVariants as kind
@@ -11,6 +11,7 @@ use Rattle.ospf_iface.specs.Machine.{is_down}
 use Rattle.ospf_wanted.specs.Wanted.{is_transit, links_of_link}
 use Rattle.ospf_whatif.specs.Failure.{kept_links, takes}
 use Rattle.ospf_whatif.specs.Renamed.{renamed_link}
+use Rattle.ospf_whatif.specs.Subnets.{is_held}
 use Rattle.ospf_whatif.specs.declared.failure.AreaFailure.{AreaFailure}
 use Rattle.ospf_whatif.specs.declared.failure.AreaFailure.TheVariants as fails
 
@@ -19,16 +20,16 @@ abbrev pub wanted_links : Bool → List LinkValue → List Link
 wanted_links stub_router links = flat_map (links_of_link stub_router) links
 
 -- the failure takes none of the links that these interfaces make
-abbrev pub AreSpared : AreaFailure → RouterId → Bool → List LinkValue → Type 0
-AreSpared f router stub_router links =
-    AllByRecursion (λ l. takes f router l ≡ false) (wanted_links stub_router links)
+abbrev pub AreSpared : List Link → AreaFailure → RouterId → Bool → List LinkValue → Type 0
+AreSpared inner f router stub_router links =
+    AllByRecursion (λ l. takes inner f router l ≡ false) (wanted_links stub_router links)
 
 -- the router wants what the failure leaves of what it wanted, where
 -- one of its interfaces has changed
-abbrev pub IsLeft : AreaFailure → RouterId → Bool
+abbrev pub IsLeft : List Link → AreaFailure → RouterId → Bool
     → (front : List LinkValue) (before after : LinkValue) (back : List LinkValue) → Type 0
-IsLeft f router stub_router front before after back =
-    kept_links f router (wanted_links stub_router (front ++ before ∷ back))
+IsLeft inner f router stub_router front before after back =
+    kept_links inner f router (wanted_links stub_router (front ++ before ∷ back))
     ≡ wanted_links stub_router (front ++ after ∷ back)
 
 -- an interface of a point-to-point link that is up, in this subnet,
@@ -39,15 +40,19 @@ pub record IsWireUp (l : LinkValue) (other : RouterId) (subnet : Prefix) : Type 
   pub in_subnet : IsPrefixOf l.iface.settings.address.0 l.iface.settings.mask subnet
   pub alone : AllByRecursion (λ n. n.router ≡ other) l.neighbours
 
--- the interface goes down
+-- the address of the interface lies in none of these subnets
+abbrev pub IsInNone : List Link → LinkValue → Type 0
+IsInNone inner l = list_any (λ stub. is_held stub l.iface.settings.address.0) inner ≡ false
+
+-- the interface goes down; the subnet of the link is the longest one that holds its address
 abbrev pub LinksGoDown : Type 0
 LinksGoDown =
-    (router other : RouterId) (subnet : Prefix) (stub_router : Bool) (front back : List LinkValue)
-    (before after : LinkValue) →
-    IsWireUp before other subnet → is_down after.iface.state ≡ true →
-    AreSpared (fails.Link router other subnet) router stub_router front
-    → AreSpared (fails.Link router other subnet) router stub_router back →
-    IsLeft (fails.Link router other subnet) router stub_router front before after back
+    (inner : List Link) (router other : RouterId) (subnet : Prefix) (stub_router : Bool)
+    (front back : List LinkValue) (before after : LinkValue) →
+    IsWireUp before other subnet → IsInNone inner before → is_down after.iface.state ≡ true →
+    AreSpared inner (fails.Link router other subnet) router stub_router front
+    → AreSpared inner (fails.Link router other subnet) router stub_router back →
+    IsLeft inner (fails.Link router other subnet) router stub_router front before after back
 
 -- the failure of a router's attachment to a network, or of the network
 abbrev pub IsNetworkFailure : AreaFailure → RouterId → ℕ → Type 0
@@ -60,24 +65,24 @@ IsNetworkFailure (fails.Router _) _ _ = ⊥
 -- an interface to a transit network goes down
 abbrev pub InterfacesGoDown : Type 0
 InterfacesGoDown =
-    (router : RouterId) (stub_router : Bool) (front back : List LinkValue)
+    (inner : List Link) (router : RouterId) (stub_router : Bool) (front back : List LinkValue)
     (before after : LinkValue) →
     is_down before.iface.state ≡ false → before.iface.settings.kind ≡ kind.Broadcast
     → is_transit before ≡ true → is_down after.iface.state ≡ true →
     (f : AreaFailure) → IsNetworkFailure f router before.iface.dr.0 →
-    AreSpared f router stub_router front → AreSpared f router stub_router back
-    → IsLeft f router stub_router front before after back
+    AreSpared inner f router stub_router front → AreSpared inner f router stub_router back
+    → IsLeft inner f router stub_router front before after back
 
 -- the neighbour on a point-to-point link is heard no more, and the interface stays up
 abbrev pub RoutersStop : Type 0
 RoutersStop =
-    (router gone : RouterId) (subnet : Prefix) (stub_router : Bool) (front back : List LinkValue)
-    (before after : LinkValue) →
+    (inner : List Link) (router gone : RouterId) (subnet : Prefix) (stub_router : Bool)
+    (front back : List LinkValue) (before after : LinkValue) →
     router.0 ≢ gone.0 → IsWireUp before gone subnet → after.iface ≡ before.iface
     → after.settings ≡ before.settings → after.neighbours ≡ [] →
-    AreSpared (fails.Router gone) router stub_router front
-    → AreSpared (fails.Router gone) router stub_router back →
-    IsLeft (fails.Router gone) router stub_router front before after back
+    AreSpared inner (fails.Router gone) router stub_router front
+    → AreSpared inner (fails.Router gone) router stub_router back →
+    IsLeft inner (fails.Router gone) router stub_router front before after back
 
 -- an interface that is up, on a transit network
 pub record IsOnTransit (l : LinkValue) : Type 0 where

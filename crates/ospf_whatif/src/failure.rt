@@ -1,8 +1,11 @@
 //! Failures, and which links they take out of router-LSAs.
 
 ghost use Rattle.std.specs.Prelude.{◌≡◌};
-ghost use Rattle.ospf_whatif.specs.Failure.{is_link_to, is_on, is_stub_of, is_transit_of, is_wire_end};
+ghost use Rattle.std.specs.List.{list_any};
+ghost use Rattle.ospf_whatif.specs.Failure.{is_of, is_stub_of, is_transit_of, is_wire_end};
+ghost use Rattle.ospf_whatif.specs.Subnets.{is_held};
 
+use crate::subnets::{is_held, is_link_to};
 use ospf_base::{Prefix, RouterId, mask_of};
 use ospf_lsa::{Link, LinkKind};
 
@@ -12,9 +15,10 @@ use ospf_lsa::{Link, LinkKind};
 /// of its fields, the first first.
 #[derive(Clone, Copy, Debug, PartialEq, Eq, PartialOrd, Ord)]
 pub enum AreaFailure {
-    /// A point-to-point link: that of two routers in one subnet. The
-    /// interfaces at both ends go down. Links without addresses are
-    /// told by 0.0.0.0/8, in which their Link Data lies.
+    /// A point-to-point link: that of two routers in one subnet, the
+    /// longest that holds its addresses. The interfaces at both ends
+    /// go down. Links without addresses are told by 0.0.0.0/8, in
+    /// which their Link Data lies.
     Link {
         a: RouterId,
         b: RouterId,
@@ -41,14 +45,15 @@ impl AreaFailure {
     ghost use Rattle.std.specs.Prelude.{◌≡◌};
     ghost use Rattle.ospf_whatif.specs.Failure.{takes};
 
-    /// Whether a router's router-LSA has lost a link after the failure.
-    pub fn takes(&self, router: RouterId, link: Link) -> bool
-        ensures { result ≡ takes self.now router link }
+    /// Whether a router's router-LSA has lost a link after the failure, which takes no link of
+    /// these longer subnets.
+    pub(crate) fn takes(&self, inner: &[Link], router: RouterId, link: Link) -> bool
+        ensures { result ≡ takes inner.now self.now router link }
     {
         match *self {
             AreaFailure::Link { a, b, subnet } => {
-                (router.0 == a.0 && is_wire_end(link, b, subnet))
-                    || (router.0 == b.0 && is_wire_end(link, a, subnet))
+                (router.0 == a.0 && is_wire_end(inner, link, b, subnet))
+                    || (router.0 == b.0 && is_wire_end(inner, link, a, subnet))
             }
             AreaFailure::Links { a, b } => {
                 (router.0 == a.0 && is_link_to(link, b)) || (router.0 == b.0 && is_link_to(link, a))
@@ -64,27 +69,24 @@ impl AreaFailure {
 }
 
 // Whether it is a link of the end of a point-to-point link in a subnet whose other end is a router.
-fn is_wire_end(link: Link, router: RouterId, subnet: Prefix) -> bool
-    ensures { result ≡ is_wire_end link router subnet }
+fn is_wire_end(inner: &[Link], link: Link, router: RouterId, subnet: Prefix) -> bool
+    ensures { result ≡ is_wire_end inner.now link router subnet }
 {
-    (is_link_to(link, router) && is_on(link, subnet)) || is_stub_of(link, subnet)
+    (is_link_to(link, router) && is_of(inner, subnet, link.link_data)) || is_stub_of(link, subnet)
 }
 
-// Whether it is a type 1 link to a router.
-fn is_link_to(link: Link, router: RouterId) -> bool
-    ensures { result ≡ is_link_to link router }
+/// Whether a link's Link Data lies in a subnet, and in none of these longer ones.
+pub(crate) fn is_of(inner: &[Link], subnet: Prefix, link_data: u32) -> bool
+    ensures { result ≡ is_of inner.now subnet link_data }
 {
-    match link.kind {
-        LinkKind::PointToPoint => link.id == router.0,
-        LinkKind::Transit | LinkKind::Stub | LinkKind::Virtual => false,
-    }
+    link_data & mask_of(subnet.length) == subnet.address.0 && !is_in_any(inner, link_data)
 }
 
-// Whether a link's own address lies in a prefix.
-fn is_on(link: Link, prefix: Prefix) -> bool
-    ensures { result ≡ is_on link prefix }
+// Whether an address lies in the subnet of one of these type 3 links.
+fn is_in_any(stubs: &[Link], address: u32) -> bool
+    ensures { result ≡ list_any (λ stub. is_held stub address) stubs.now }
 {
-    link.link_data & mask_of(prefix.length) == prefix.address.0
+    stubs.iter().any(|stub| is_held(*stub, address))
 }
 
 // Whether it is a type 3 link to a prefix.

@@ -17,14 +17,15 @@ mod name;
 mod outage;
 mod root;
 mod router_laws;
+mod subnets;
 
 pub use crate::area::{WithoutFault, without, without_all};
 pub use crate::effect::{Loss, RouteChange};
 pub use crate::failure::AreaFailure;
 pub use crate::failures::single_failures;
 pub use crate::laws::{
-    failure_names_tell_apart, failures_make_no_edge, failures_take_away, networks_are_but_names,
-    only_links_back_count, trees_stay,
+    failure_names_tell_apart, failures_make_no_edge, failures_take_away, links_fail_apart,
+    networks_are_but_names, only_links_back_count, trees_stay,
 };
 pub use crate::outage::{AreaGraph, Outage};
 pub use crate::root::KeptRoot;

@@ -8,11 +8,12 @@ ghost use Rattle.ospf_whatif.specs.Lost.{AreEdgesLost, AreEndsLost, AreStubsOf, 
 ghost use Rattle.ospf_whatif.specs.Lost.{centre_of as centre_of_spec};
 ghost use Rattle.ospf_whatif.specs.Outage.{AreLost};
 
-use crate::failure::AreaFailure;
-use ospf_base::{Addr, Prefix, RouterId};
+use crate::failure::{AreaFailure, is_of};
+use crate::subnets::inner_of;
+use ospf_base::{Prefix, RouterId};
 use ospf_edges::{End, edges_at, edges_of, ends_at};
 use ospf_graph::{Edge, Vertex, is_same, sorted_edges};
-use ospf_lsa::Listing;
+use ospf_lsa::{Link, Listing};
 use ospf_spf::{ends_in_order, is_same_prefix, prefix_order};
 use std::alloc::{AllocError, Global};
 
@@ -94,18 +95,24 @@ fn edges_lost(
     ensures { IfOk result (λ lost. AreEdgesLost (advertisements_of listing.now) failure.now
         lost.items) }
 {
+    let inner = inner_of(alloc, listing, failure)?;
     let near = edges_at(alloc, listing, centre_of(failure))?;
-    edges_going(alloc, failure, &near)
+    edges_going(alloc, failure, &inner, &near)
 }
 
 // The edges that a failure takes, of those at one vertex.
-fn edges_going(alloc: Global, failure: &AreaFailure, near: &[Edge]) -> Result<Vec<Edge>, AllocError>
-    ensures { IfOk result (λ lost. AreLost (Contains near.now) (Stays failure.now near.now)
-        lost.items) }
+fn edges_going(
+    alloc: Global,
+    failure: &AreaFailure,
+    inner: &[Link],
+    near: &[Edge],
+) -> Result<Vec<Edge>, AllocError>
+    ensures { IfOk result (λ lost. AreLost (Contains near.now)
+        (Stays failure.now inner.now near.now) lost.items) }
 {
     let mut lost = Vec::new(alloc);
     for edge in near {
-        if !stays(failure, edge, near) {
+        if !stays(failure, inner, edge, near) {
             lost.push(*edge)?;
         }
     }
@@ -126,12 +133,13 @@ fn centre_of(failure: &AreaFailure) -> Vertex
 }
 
 // Whether an edge stays, of those that touch that vertex.
-fn stays(failure: &AreaFailure, edge: &Edge, near: &[Edge]) -> bool
-    ensures { IsTrue result ↔ Stays failure.now near.now edge.now }
+fn stays(failure: &AreaFailure, inner: &[Link], edge: &Edge, near: &[Edge]) -> bool
+    ensures { IsTrue result ↔ Stays failure.now inner.now near.now edge.now }
 {
     match *failure {
         AreaFailure::Link { a, b, subnet } => {
-            !connects(edge, Vertex::Router(a), Vertex::Router(b)) || is_two_way(edge, near, subnet)
+            !connects(edge, Vertex::Router(a), Vertex::Router(b))
+                || is_two_way(edge, inner, near, subnet)
         }
         AreaFailure::Links { a, b } => !connects(edge, Vertex::Router(a), Vertex::Router(b)),
         AreaFailure::Attachment { router, network } => {
@@ -151,24 +159,27 @@ fn connects(edge: &Edge, one: Vertex, other: Vertex) -> bool
 }
 
 // Whether an edge lies outside a subnet, and one of these that leads back too.
-fn is_two_way(edge: &Edge, near: &[Edge], subnet: Prefix) -> bool
-    ensures { IsTrue result ↔ IsTwoWay near.now subnet edge.now }
+fn is_two_way(edge: &Edge, inner: &[Link], near: &[Edge], subnet: Prefix) -> bool
+    ensures { IsTrue result ↔ IsTwoWay inner.now near.now subnet edge.now }
 {
-    is_outside(edge, subnet) && near.iter().any(|back| is_way_back(back, edge, subnet))
+    is_outside(edge, inner, subnet)
+        && near
+            .iter()
+            .any(|back| is_way_back(back, edge, inner, subnet))
 }
 
 // Whether an edge leads back over another one, outside a subnet.
-fn is_way_back(back: &Edge, edge: &Edge, subnet: Prefix) -> bool
-    ensures { IsTrue result ↔ IsWayBack subnet edge.now back.now }
+fn is_way_back(back: &Edge, edge: &Edge, inner: &[Link], subnet: Prefix) -> bool
+    ensures { IsTrue result ↔ IsWayBack inner.now subnet edge.now back.now }
 {
-    is_same(back.from, edge.to) && is_same(back.to, edge.from) && is_outside(back, subnet)
+    is_same(back.from, edge.to) && is_same(back.to, edge.from) && is_outside(back, inner, subnet)
 }
 
-// Whether the Link Data of an edge lies outside a subnet.
-fn is_outside(edge: &Edge, subnet: Prefix) -> bool
-    ensures { IsTrue result ↔ IsOutside subnet edge.now }
+// Whether the Link Data of an edge lies outside a subnet, or in one of these longer ones.
+fn is_outside(edge: &Edge, inner: &[Link], subnet: Prefix) -> bool
+    ensures { IsTrue result ↔ IsOutside inner.now subnet edge.now }
 {
-    !subnet.holds(Addr(edge.link_data))
+    !is_of(inner, subnet, edge.link_data)
 }
 
 // The ends that a failure takes.

@@ -128,6 +128,27 @@ fn unnumbered_beside(alloc: Global) -> Result<Vec<Lsa>, Fail> {
     Ok(lsas)
 }
 
+// Two routers with links in 10.0.0.0/24 at cost 10 and in 10.0.0.128/30 at cost 20, and a stub of the second.
+fn nested(alloc: Global) -> Result<Vec<Lsa>, Fail> {
+    let first = [
+        to(SECOND, 0x0a00_0001, 10),
+        stub(0x0a00_0000, 0xffff_ff00, 10),
+        to(SECOND, 0x0a00_0081, 20),
+        stub(0x0a00_0080, SUBNET, 20),
+    ];
+    let second = [
+        to(FIRST, 0x0a00_0002, 10),
+        stub(0x0a00_0000, 0xffff_ff00, 10),
+        to(FIRST, 0x0a00_0082, 20),
+        stub(0x0a00_0080, SUBNET, 20),
+        stub(0xc0a8_0200, 0xffff_ff00, 1),
+    ];
+    let mut lsas = Vec::new(alloc);
+    lsas.push(router(alloc, FIRST, &first)?)?;
+    lsas.push(router(alloc, SECOND, &second)?)?;
+    Ok(lsas)
+}
+
 // LSAs as lines.
 fn lines(alloc: Global, lsas: &[Lsa]) -> Result<String, Fail> {
     let mut text = String::new(alloc);
@@ -280,6 +301,72 @@ fn unnumbered_links_beside_one_in_a_subnet(rt: HostRuntime) -> Result<(), Fail> 
     let input = lines(alloc, &unnumbered_beside(alloc)?)?;
     let out = "1.1.1.1-2.2.2.2@10.0.0.0/30 gone 10.0.0.0/30\n\
         1.1.1.1-2.2.2.2@10.0.0.0/30 cut 0 gone 1 cost 0 hops 0\n\
+        2.2.2.2 gone 192.168.2.0/24\n\
+        2.2.2.2 cut 0 gone 1 cost 0 hops 0\n\
+        1.1.1.1-2.2.2.2@0.0.0.0/8 cost 192.168.2.0/24 9>15 10.0.0.1>2.2.2.2\n\
+        1.1.1.1-2.2.2.2@0.0.0.0/8 cut 0 gone 0 cost 1 hops 0\n";
+    expect_each(&rt, alloc, &input, out)
+}
+
+// The link in the /24 fails without the one in the /30 inside it, and the other way round.
+#[test]
+fn subnets_inside_others_fail_apart(rt: HostRuntime) -> Result<(), Fail> {
+    let alloc = rt.alloc();
+    let input = lines(alloc, &nested(alloc)?)?;
+    let out = "1.1.1.1-2.2.2.2@10.0.0.0/24 gone 10.0.0.0/24\n\
+        1.1.1.1-2.2.2.2@10.0.0.0/24 cost 192.168.2.0/24 11>21 10.0.0.129>2.2.2.2\n\
+        1.1.1.1-2.2.2.2@10.0.0.0/24 cut 0 gone 1 cost 1 hops 0\n\
+        1.1.1.1-2.2.2.2@10.0.0.128/30 gone 10.0.0.128/30\n\
+        1.1.1.1-2.2.2.2@10.0.0.128/30 cut 0 gone 1 cost 0 hops 0\n\
+        2.2.2.2 gone 192.168.2.0/24\n\
+        2.2.2.2 cut 0 gone 1 cost 0 hops 0\n";
+    expect_each(&rt, alloc, &input, out)
+}
+
+// The same in tables without one or both of them, in any order.
+#[test]
+fn tables_without_subnets_inside_others(rt: HostRuntime) -> Result<(), Fail> {
+    let alloc = rt.alloc();
+    let wide = "10.0.0.128/30 20 attached\n192.168.2.0/24 21 10.0.0.129>2.2.2.2\n";
+    let narrow = "10.0.0.0/24 10 attached\n192.168.2.0/24 11 10.0.0.1>2.2.2.2\n";
+    expect_nested(&rt, alloc, &["10.0.0.0/24"], wide)?;
+    expect_nested(&rt, alloc, &["10.0.0.128/30"], narrow)?;
+    expect_nested(&rt, alloc, &["10.0.0.0/24", "10.0.0.128/30"], "")?;
+    expect_nested(&rt, alloc, &["10.0.0.128/30", "10.0.0.0/24"], "")
+}
+
+// What is wanted of the table of the first router without links whose subnets lie one in the other.
+fn expect_nested(
+    rt: &(impl Abort + AllocGlobal + Threads + Sync),
+    alloc: Global,
+    names: &[&str],
+    out: &str,
+) -> Result<(), Fail> {
+    let input = lines(alloc, &nested(alloc)?)?;
+    let mut owned = Vec::new(alloc);
+    for name in names {
+        owned.push(String::from_str(alloc, name)?)?;
+    }
+    let job = FailuresJob::Without {
+        root: FIRST,
+        names: owned,
+        addresses: Vec::new(alloc),
+    };
+    expect_of(rt, alloc, &job, &Case::over(&input, DONE, out, ""))
+}
+
+// A link whose subnet is the default route fails without the one without addresses beside it.
+#[test]
+fn unnumbered_links_are_in_no_shorter_subnet(rt: HostRuntime) -> Result<(), Fail> {
+    let alloc = rt.alloc();
+    let default = stub(0, 0, 1);
+    let lan = stub(0xc0a8_0200, 0xffff_ff00, 5);
+    let mut lsas = Vec::new(alloc);
+    lsas.push(router(alloc, FIRST, &[to(SECOND, 0x0a00_0001, 10), to(SECOND, 5, 4), default])?)?;
+    lsas.push(router(alloc, SECOND, &[to(FIRST, 0x0a00_0002, 10), to(FIRST, 7, 4), default, lan])?)?;
+    let input = lines(alloc, &lsas)?;
+    let out = "1.1.1.1-2.2.2.2@0.0.0.0/0 gone 0.0.0.0/0\n\
+        1.1.1.1-2.2.2.2@0.0.0.0/0 cut 0 gone 1 cost 0 hops 0\n\
         2.2.2.2 gone 192.168.2.0/24\n\
         2.2.2.2 cut 0 gone 1 cost 0 hops 0\n\
         1.1.1.1-2.2.2.2@0.0.0.0/8 cost 192.168.2.0/24 9>15 10.0.0.1>2.2.2.2\n\

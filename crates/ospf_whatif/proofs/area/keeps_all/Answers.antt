@@ -10,6 +10,7 @@ pub returns : goal.returns
 returns c =
     let f = c.args.failure.now in
     let r = c.args.router in
-    all_kept f r c.args.links c.all.result
-    (all_from_yields_List (λ (l : Link). not (takes f r l)) _ _ _ c.all.ensures.ran (YieldsList-from_first (λ x. x) (λ s. s) c.args.links cc)
+    let inner = c.args.inner.now in
+    all_kept inner f r c.args.links c.all.result
+    (all_from_yields_List (λ (l : Link). not (takes inner f r l)) _ _ _ c.all.ensures.ran (YieldsList-from_first (λ x. x) (λ s. s) c.args.links cc)
     (λ x b q k. search (rules, tests)))

@@ -12,11 +12,11 @@ loop-link-preserved c = record {
       c.loop-link.invariant.walked ∙ ap (λ t. c.loop-link.yielded ++ t) c.in-Some.ensures.steps
       ∙ sym (append_assoc c.loop-link.yielded (c.in-Some.link ∷ []) c.next.new.self);
   kept_so_far =
-      c.in_ok-push_kept.ensures ∙ ap (λ l. l ++ kept_links c.args.failure.now c.args.router (c.in-Some.link ∷ [])) c.loop-link.invariant.kept_so_far
-      ∙ sym (kept_links-append c.args.failure.now c.args.router c.loop-link.yielded (c.in-Some.link ∷ []));
+      c.in_ok-push_kept.ensures ∙ ap (λ l. l ++ kept_links c.args.inner.now c.args.failure.now c.args.router (c.in-Some.link ∷ [])) c.loop-link.invariant.kept_so_far
+      ∙ sym (kept_links-append c.args.inner.now c.args.failure.now c.args.router c.loop-link.yielded (c.in-Some.link ∷ []));
 }
 
 pub returns : goal.returns
 returns c =
     let all : c.args.links ≡ c.loop-link.yielded = c.loop-link.invariant.walked ∙ ap (λ t. c.loop-link.yielded ++ t) c.in-None.ensures.steps.0 ∙ append-nil c.loop-link.yielded in
-    c.loop-link.invariant.kept_so_far ∙ ap (λ l. kept_links c.args.failure.now c.args.router l) (sym all)
+    c.loop-link.invariant.kept_so_far ∙ ap (λ l. kept_links c.args.inner.now c.args.failure.now c.args.router l) (sym all)

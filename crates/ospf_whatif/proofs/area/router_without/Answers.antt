@@ -8,9 +8,9 @@ use Rattle.ospf_whatif.proofs.area.router_without.Goals as goal
 pub returns-in-Ok-clause-advertisement : goal.returns-in-Ok-clause-advertisement
 returns-in-Ok-clause-advertisement c =
     IfOk-map c.router.result _ _ c.router.ensures.ok
-    (λ left made. made_kept c.key.result.router _ c.deref.result.now left made c.args.failure.now c.args.lsa.now c.requires.router
+    (λ left made. made_kept c.key.result.router _ c.deref.result.now left made c.args.inner.now c.args.failure.now c.args.lsa.now c.requires.router
     (ap (λ (k : LsaKey). k.router) c.key.ensures)
-    (c.deref.ensures.value ∙ c.in-Ok.ensures ∙ ap (λ ls. kept_links c.args.failure.now c.key.result.router ls) c.links-2.ensures))
+    (c.deref.ensures.value ∙ c.in-Ok.ensures ∙ ap (λ ls. kept_links c.args.inner.now c.args.failure.now c.key.result.router ls) c.links-2.ensures))
 
 pub returns-in-Ok-clause-key : goal.returns-in-Ok-clause-key
 returns-in-Ok-clause-key c =
@@ -20,16 +20,16 @@ returns-in-Ok-clause-key c =
 
 pub returns-in-Ok-clause-large : goal.returns-in-Ok-clause-large
 returns-in-Ok-clause-large c = λ is.
-    large_left c.args.failure.now c.key.result.router _ c.deref.result.now c.args.lsa.now c.requires.router
+    large_left c.args.inner.now c.args.failure.now c.key.result.router _ c.deref.result.now c.args.lsa.now c.requires.router
     (ap (λ (k : LsaKey). k.router) c.key.ensures)
-    (c.deref.ensures.value ∙ c.in-Ok.ensures ∙ ap (λ ls. kept_links c.args.failure.now c.key.result.router ls) c.links-2.ensures)
+    (c.deref.ensures.value ∙ c.in-Ok.ensures ∙ ap (λ ls. kept_links c.args.inner.now c.args.failure.now c.key.result.router ls) c.links-2.ensures)
     (λ same. false_true c.keeps_all.result c.if-keeps_all.false
-    (c.keeps_all.ensures.1 (subst (λ ls. kept_links c.args.failure.now c.key.result.router ls ≡ ls) (sym c.links.ensures) same)))
+    (c.keeps_all.ensures.1 (subst (λ ls. kept_links c.args.inner.now c.args.failure.now c.key.result.router ls ≡ ls) (sym c.links.ensures) same)))
     (err_at c.router.result _ _ c.router.ensures.fault is)
 
 pub returns-in-Ok-clause-small : goal.returns-in-Ok-clause-small
 returns-in-Ok-clause-small c =
     OnOk-map c.router.result _ _ c.router.ensures.needs
-    (small_left c.args.failure.now c.key.result.router _ c.deref.result.now c.args.lsa.now c.requires.router
+    (small_left c.args.inner.now c.args.failure.now c.key.result.router _ c.deref.result.now c.args.lsa.now c.requires.router
     (ap (λ (k : LsaKey). k.router) c.key.ensures)
-    (c.deref.ensures.value ∙ c.in-Ok.ensures ∙ ap (λ ls. kept_links c.args.failure.now c.key.result.router ls) c.links-2.ensures))
+    (c.deref.ensures.value ∙ c.in-Ok.ensures ∙ ap (λ ls. kept_links c.args.inner.now c.args.failure.now c.key.result.router ls) c.links-2.ensures))

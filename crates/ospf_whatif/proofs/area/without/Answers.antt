@@ -1,85 +1,28 @@
-use Rattle.std.proofs.Common.{rules, ◌≡◌, ◌+◌, ◌≤◌, ℕ, List, ◌∷◌, [], length, map, take, sym, ap, subst, ◌∙◌, inl, inr, arith}
-use Rattle.std.specs.List.{AllZip, Contains}
-use Rattle.std.proofs.lemmas.List.{take_all}
-use Rattle.std.proofs.lemmas.List.Elements.{all_zip_more}
-use Rattle.ospf_lsa.specs.Lsa.{key_of}
-use Rattle.ospf_lsa.proofs.Words.{IsRising}
-use Rattle.ospf_graph.proofs.ListLemmas.{more_members}
-use Rattle.ospf_edges.specs.Listed.{advertisement_of, advertisements_of}
-use Rattle.ospf_whatif.specs.Failure.{IsLeftLarge, IsLeftLsa, left_of_lsa, without}
-use Rattle.ospf_whatif.proofs.WithoutLemmas.{keys_before, keys_next, large_in, small_in, told_next}
+use Rattle.std.proofs.Common.{◌∙◌, List, subst, sym}
+use Rattle.ospf_edges.specs.Listed.{advertisements_of}
+use Rattle.ospf_lsa.specs.declared.link.Link.{Link}
+use Rattle.ospf_whatif.specs.Failure.{inner_of}
+use Rattle.ospf_whatif.specs.Subnets.{HaveSame}
+use Rattle.ospf_whatif.proofs.SubnetLemmas.{bytes_same, large_same, listing_same, small_same}
+use Rattle.ospf_whatif.proofs.WithoutLemmas.{IfOk-map, OnOk-map}
 use Rattle.ospf_whatif.proofs.area.without.Goals as goal
 
-pub append-requires : goal.append-requires
-append-requires c =
-    let items = c.lsas-lsa-items.result.now in
-    let rises : IsRising items = subst (λ l. IsRising l) (sym c.lsas-lsa-items.ensures.lsas) c.lsas-lsa-items.ensures.listing.rising in
-    record {
-      last =
-          keys_before items c.loop-lsa.lsa-index c.lsa-item.result c.loop-lsa-test.true c.lsa-item.is rises c.loop-lsa.left c.in_ok-kept.kept c.loop-lsa.invariant.keys
-          (c.in_ok-kept.ensures.key ∙ ap key_of c.view.ensures.same);
-      young = c.in_ok-kept.ensures.young;
-    }
-
-pub loop-lsa-init : goal.loop-lsa-init
-loop-lsa-init c = record {
-  told = ap (map advertisement_of) c.new-left.ensures;
-  bytes = subst (λ (l : List (List ℕ)). AllZip (IsLeftLsa (c.args.failure.now ∷ [])) [] l) (sym c.new-left.ensures) tt;
-  small = λ lsa m. absurd (let low = m.1 in omega arith);
-  keys = ap (map key_of) c.new-left.ensures;
-}
-
-pub loop-lsa-preserved : goal.loop-lsa-preserved
-loop-lsa-preserved c =
-    let items = c.lsas-lsa-items.result.now in
-    let i = c.loop-lsa.lsa-index in
-    let x = c.lsa-item.result in
-    let told = told_next items i x c.loop-lsa-test.true c.lsa-item.is c.args.failure.now c.loop-lsa.left c.in_ok-kept.kept c.loop-lsa.invariant.told
-    (c.in_ok-kept.ensures.advertisement ∙ ap (λ l. left_of_lsa c.args.failure.now (advertisement_of l)) c.view.ensures.same) in
-    let keys = keys_next items i x c.loop-lsa-test.true c.lsa-item.is c.loop-lsa.left c.in_ok-kept.kept c.loop-lsa.invariant.keys
-    (c.in_ok-kept.ensures.key ∙ ap key_of c.view.ensures.same) in
-    let R = IsLeftLsa (c.args.failure.now ∷ []) in
-    let one : R x c.in_ok-kept.kept = subst (λ (l : List ℕ). R l c.in_ok-kept.kept) c.view.ensures.same c.in_ok-kept.ensures.bytes in
-    record {
-      told = ap (map advertisement_of) c.in_ok-append.ensures.ok ∙ told;
-      bytes =
-          subst (AllZip R (take (i + 1) items)) (sym c.in_ok-append.ensures.ok)
-          (all_zip_more R items c.loop-lsa.left i x c.in_ok-kept.kept c.loop-lsa-test.true c.lsa-item.is c.loop-lsa.invariant.bytes one);
-      small = λ lsa m large. elim ((more_members items i x c.loop-lsa-test.true lsa).0 m) [
-        | inl old ↦ c.loop-lsa.invariant.small lsa old large
-        | inr here ↦ c.in_ok-kept.ensures.small (subst (λ (l : List ℕ). IsLeftLarge c.args.failure.now (advertisement_of l)) (sym here ∙ sym c.lsa-item.is ∙ sym c.view.ensures.same) large)
-      ];
-      keys = ap (map key_of) c.in_ok-append.ensures.ok ∙ keys;
-    }
+abbrev same : (c : goal.After-drop-inner) → HaveSame c.deref.result.now (inner_of c.args.failure.now (advertisements_of c.args.listing.now))
+same c = subst (λ (l : List Link). HaveSame l (inner_of c.args.failure.now (advertisements_of c.args.listing.now))) (sym c.deref.ensures.value) c.in_ok-inner.ensures
 
 pub returns-clause-left : goal.returns-clause-left
-unfolding advertisements_of without
 returns-clause-left c =
-    let items = c.lsas-lsa-items.result.now in
-    let end : length items ≤ c.loop-lsa.lsa-index = omega (arith, c.loop-lsa-test.false) in
-    let all : take c.loop-lsa.lsa-index items ≡ c.args.listing.now = take_all c.loop-lsa.lsa-index items end ∙ c.lsas-lsa-items.ensures.lsas in
-    c.loop-lsa.invariant.told ∙ ap (λ l. map (left_of_lsa c.args.failure.now) (map advertisement_of l)) all
+    IfOk-map c.without_taken.result _ _ c.without_taken.ensures.left
+    (λ left is. is ∙ listing_same c.deref.result.now c.args.failure.now (advertisements_of c.args.listing.now) (same c))
 
 pub returns-clause-bytes : goal.returns-clause-bytes
 returns-clause-bytes c =
-    let items = c.lsas-lsa-items.result.now in
-    let end : length items ≤ c.loop-lsa.lsa-index = omega (arith, c.loop-lsa-test.false) in
-    let all : take c.loop-lsa.lsa-index items ≡ c.args.listing.now = take_all c.loop-lsa.lsa-index items end ∙ c.lsas-lsa-items.ensures.lsas in
-    subst (λ (l : List (List ℕ)). AllZip (IsLeftLsa (c.args.failure.now ∷ [])) l c.loop-lsa.left) all c.loop-lsa.invariant.bytes
+    IfOk-map c.without_taken.result _ _ c.without_taken.ensures.bytes
+    (λ left are. bytes_same c.deref.result.now c.args.failure.now (advertisements_of c.args.listing.now) (same c) c.args.listing.now left are)
+
+pub returns-clause-large : goal.returns-clause-large
+returns-clause-large c = λ is. large_same c.deref.result.now c.args.failure.now (advertisements_of c.args.listing.now) (same c) (c.without_taken.ensures.large is)
 
 pub returns-clause-small : goal.returns-clause-small
-unfolding advertisements_of
 returns-clause-small c =
-    let items = c.lsas-lsa-items.result.now in
-    let end : length items ≤ c.loop-lsa.lsa-index = omega (arith, c.loop-lsa-test.false) in
-    let none : (lsa : List ℕ) → Contains items lsa → IsLeftLarge c.args.failure.now (advertisement_of lsa) → ⊥ =
-    subst (λ (l : List (List ℕ)). (lsa : List ℕ) → Contains l lsa → IsLeftLarge c.args.failure.now (advertisement_of lsa) → ⊥) (take_all c.loop-lsa.lsa-index items end) c.loop-lsa.invariant.small in
-    small_in c.args.failure.now items c.args.listing.now c.lsas-lsa-items.ensures.lsas none
-
-pub returns-in_err-kept-clause-large : goal.returns-in_err-kept-clause-large
-unfolding advertisements_of
-returns-in_err-kept-clause-large c = λ is.
-    let items = c.lsas-lsa-items.result.now in
-    let here : Contains items c.lsa-item.result = (c.loop-lsa.lsa-index, c.loop-lsa-test.true, sym c.lsa-item.is) in
-    large_in c.args.failure.now items c.args.listing.now c.lsa-item.result c.lsas-lsa-items.ensures.lsas here
-    (subst (λ (l : List ℕ). IsLeftLarge c.args.failure.now (advertisement_of l)) c.view.ensures.same (c.in_err-kept.ensures.large (search rules)))
+    OnOk-map c.without_taken.result _ _ c.without_taken.ensures.small (small_same c.deref.result.now c.args.failure.now (advertisements_of c.args.listing.now) (same c))

@@ -8,6 +8,6 @@ use Rattle.ospf_whatif.proofs.area.without_all.Given as goal
 abbrev pub invariant-loop-failure : goal.invariant-loop-failure
 invariant-loop-failure l = record {
   left : advertisements_of l.left ≡ without_all (take l.failure-index l.failures) (advertisements_of l.fn.listing);
-  bytes : AllZip (IsLeftLsa (take l.failure-index l.failures)) l.fn.listing l.left;
+  bytes : AllZip (IsLeftLsa (advertisements_of l.fn.listing) (take l.failure-index l.failures)) l.fn.listing l.left;
   small : l.failures ≢ [] → HasLarge (advertisements_of l.left) → ⊥;
 }

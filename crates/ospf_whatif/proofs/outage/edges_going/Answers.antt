@@ -10,7 +10,7 @@ use Rattle.ospf_whatif.proofs.outage.edges_going.Goals.{then-not-stays+in_ok-pus
 pub loop-edge-preserved : goal.loop-edge-preserved
 loop-edge-preserved c =
     let near = c.args.near.now in
-    let stay = Stays c.args.failure.now near in
+    let stay = Stays c.args.failure.now c.args.inner.now near in
     let i = c.loop-edge.edge-index in
     let inv = c.loop-edge.invariant in
     elim c.if-not-stays.branch [

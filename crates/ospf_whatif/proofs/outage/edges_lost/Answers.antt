@@ -8,5 +8,6 @@ use Rattle.ospf_whatif.proofs.outage.edges_lost.Goals as goal
 pub returns : goal.returns
 returns c =
     let A = advertisements_of c.args.listing.now in
-    going_are_lost c.args.failure.now A c.in_ok-near.near.items c.deref.result.now c.edges_going.result c.deref.ensures.value
+    going_are_lost c.in_ok-inner.inner.items c.args.failure.now A c.in_ok-near.near.items c.deref-2.result.now c.deref.result.now c.edges_going.result
+    c.in_ok-inner.ensures c.deref.ensures.value c.deref-2.ensures.value
     (subst (λ (v : Vertex). AreEdgesAt A v c.in_ok-near.near.items) c.centre_of.ensures c.in_ok-near.ensures.edges) c.edges_going.ensures

@@ -1,0 +1,28 @@
+use Rattle.std.proofs.Common.{refl}
+use Rattle.ospf_edges.specs.Listed.{advertisements_of}
+use Rattle.ospf_whatif.specs.declared.failure.AreaFailure.TheVariants as fails
+use Rattle.ospf_whatif.proofs.SubnetLemmas.{inner_of_link, inner_of_other}
+use Rattle.ospf_whatif.proofs.subnets.inner_of.Goals as goal
+
+pub returns-in-Link : goal.returns-in-Link
+returns-in-Link c =
+    inner_of_link c.args.failure.now (advertisements_of c.args.listing.now) c.in-Link.a c.in-Link.b c.in-Link.subnet c.inner_between.result c.in-Link.is c.inner_between.ensures
+
+pub returns-in-Links : goal.returns-in-Links
+returns-in-Links c =
+    inner_of_other c.args.failure.now (advertisements_of c.args.listing.now) (fails.Links c.in-Links.a c.in-Links.b) c.in-Links.is refl c.new.result.items c.new.ensures.items
+
+pub returns-in-Attachment : goal.returns-in-Attachment
+returns-in-Attachment c =
+    inner_of_other c.args.failure.now (advertisements_of c.args.listing.now) (fails.Attachment c.in-Attachment.router c.in-Attachment.network) c.in-Attachment.is refl
+    c.new-in-Attachment.result.items c.new-in-Attachment.ensures.items
+
+pub returns-in-Network : goal.returns-in-Network
+returns-in-Network c =
+    inner_of_other c.args.failure.now (advertisements_of c.args.listing.now) (fails.Network c.in-Network.field-0) c.in-Network.is refl
+    c.new-in-Network.result.items c.new-in-Network.ensures.items
+
+pub returns-in-Router : goal.returns-in-Router
+returns-in-Router c =
+    inner_of_other c.args.failure.now (advertisements_of c.args.listing.now) (fails.Router c.in-Router.field-0) c.in-Router.is refl
+    c.new-in-Router.result.items c.new-in-Router.ensures.items
