@@ -17,10 +17,10 @@ abbrev made : AreaFault → LinkEnd → LinkEnd → Finding
 made x d e = record { fault = x; other = d; here = e }
 
 -- what is wrong by whether the one is on the network, and sends back
-abbrev chosen : Bool → Bool → Option AreaFault
+abbrev pub chosen : Bool → Bool → Option AreaFault
 chosen a b = if not a then Some fault.Astray else if not b then Some fault.OneSided else None
 
-by_choice : (a b : Bool) (x : AreaFault) → chosen a b ≡ Some x → ((a ≡ false) × (fault.Astray ≡ x)) ⊎ ((a ≡ true) × (b ≡ false) × (fault.OneSided ≡ x))
+pub by_choice : (a b : Bool) (x : AreaFault) → chosen a b ≡ Some x → ((a ≡ false) × (fault.Astray ≡ x)) ⊎ ((a ≡ true) × (b ≡ false) × (fault.OneSided ≡ x))
 by_choice false b x is = inl (refl, same_Some fault.Astray x is)
 by_choice true false x is = inr (refl, refl, same_Some fault.OneSided x is)
 by_choice true true x is = absurd (none_is_some x is)

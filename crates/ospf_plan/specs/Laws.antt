@@ -124,15 +124,15 @@ IsFindingBefore f g =
 abbrev pub TellsInOrder : Type 0
 TellsInOrder = (configs : List Config) → IsRisingBy IsFindingBefore (found_in (ends_of configs))
 
--- of an earlier interface, or of the same
-abbrev pub IsNotBehind : Finding → Finding → Type 0
-IsNotBehind f g = IsAhead f.here g.here ⊎ (f.here ≡ g.here)
+-- of an earlier interface, or another finding of the same
+abbrev pub IsWireFindingBefore : Finding → Finding → Type 0
+IsWireFindingBefore f g = IsAhead f.here g.here ⊎ ((f.here ≡ g.here) × (f ≡ g → ⊥))
 
--- what is told of who sends to whom is told in the order of the interfaces
+-- what is told of who sends to whom is told in the order of the interfaces, and once
 abbrev pub TellsWiresInOrder : Type 0
 TellsWiresInOrder =
     (configs : List Config)
-    → IsRisingBy IsNotBehind (wire_faults_in (ends_of configs) (wires_of configs))
+    → IsRisingBy IsWireFindingBefore (wire_faults_in (ends_of configs) (wires_of configs))
 
 -- what is told of who does not hear whom is told in the order of the interfaces, and so once
 abbrev pub TellsUnheardInOrder : Type 0

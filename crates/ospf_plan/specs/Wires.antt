@@ -1,5 +1,5 @@
 -- Who sends to whom, by UDP ports.
-use Rattle.std.specs.Prelude.{◌≡◌, ◌==◌, ◌&&◌, not, ℕ, Bool, List, map, Option, None, Some, if◌then◌else◌, option_map}
+use Rattle.std.specs.Prelude.{◌≡◌, ◌==◌, ◌&&◌, not, ℕ, Bool, List, [], ◌∷◌, filter, map, Option, None, Some, if◌then◌else◌, option_map}
 use Rattle.std.specs.List.{enumerate_from, filter_map, flat_map, list_any}
 use Rattle.std.specs.BTreeSet as sorted
 use Rattle.std.specs.Ordering.{nat_cmp, ordering_then}
@@ -22,10 +22,6 @@ abbrev pub wires_at : ℕ × Config → List PeerWire
 wires_at f =
     flat_map (λ i. wires_from (link_end_of f i) i.1) (enumerate_from 0 f.1.interfaces.items)
 
--- what those of all configurations send to, in order
-abbrev pub wires_of : List Config → List PeerWire
-wires_of configs = flat_map wires_at (enumerate_from 0 configs)
-
 -- what tells wires apart
 abbrev pub wire_key : LinkEnd → ℕ → ℕ × ℕ × ℕ
 wire_key e p = (e.file, e.link, p)
@@ -33,6 +29,17 @@ wire_key e p = (e.file, e.link, p)
 -- the two are one wire
 abbrev pub same_wire : ℕ × ℕ × ℕ → ℕ × ℕ × ℕ → Bool
 same_wire k q = (k.0 == q.0) && (k.1 == q.1) && (k.2 == q.2)
+
+-- each wire once, where it is first: a port may be named twice in the `peers` of an interface
+abbrev pub distinct : List PeerWire → List PeerWire
+distinct [] = []
+distinct (w ∷ ws) =
+    w
+    ∷ filter (λ v. not (same_wire (wire_key w.end w.peer) (wire_key v.end v.peer))) (distinct ws)
+
+-- what the interfaces of all configurations send to, in order and each once
+abbrev pub wires_of : List Config → List PeerWire
+wires_of configs = distinct (flat_map wires_at (enumerate_from 0 configs))
 
 -- one of the wires is this
 abbrev pub is_wired : List PeerWire → ℕ × ℕ × ℕ → Bool

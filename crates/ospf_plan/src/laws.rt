@@ -12,7 +12,7 @@ pub fn tells_in_order()
     ensures { TellsInOrder }
 {}
 
-/// What `findings` tells of who sends to whom stands in the order of the interfaces.
+/// What `findings` tells of who sends to whom is in the order of the interfaces, each once.
 pub fn tells_wires_in_order()
     ensures { TellsWiresInOrder }
 {}

@@ -1,9 +1,9 @@
 //! Who sends to whom, by UDP ports.
 
-ghost use Rattle.std.specs.Prelude.{◌≡◌, ◌||◌, ◌++◌, ℕ, IfOk, OnOk};
+ghost use Rattle.std.specs.Prelude.{◌≡◌, ◌||◌, ◌++◌, ◌∷◌, [], if◌then◌else◌, ℕ, IfOk, OnOk};
 ghost use Rattle.std.specs.List.{filter_map};
 ghost use Rattle.ospf_plan.specs.Ends.{holder_in};
-ghost use Rattle.ospf_plan.specs.Wires.{AreHeard, fault_between, has_wire, is_beside, wire_key, same_wire, wire_fault, wires_at, wires_from, wires_of};
+ghost use Rattle.ospf_plan.specs.Wires.{AreHeard, distinct, fault_between, has_wire, is_beside, wire_key, same_wire, wire_fault, wires_at, wires_from, wires_of};
 
 use crate::ends::{LinkEnd, end_of, port_of};
 use crate::fault::AreaFault;
@@ -20,7 +20,7 @@ pub struct PeerWire {
     pub peer: u16,
 }
 
-/// What the interfaces of configurations send to, in order.
+/// What the interfaces of configurations send to, in order and each once.
 pub(crate) fn wires_of(alloc: Global, configs: &[Config]) -> Result<Vec<PeerWire>, AllocError>
     ensures { IfOk result (λ wires. wires.items ≡ wires_of configs.now) }
 {
@@ -28,11 +28,36 @@ pub(crate) fn wires_of(alloc: Global, configs: &[Config]) -> Result<Vec<PeerWire
     for (file, config) in configs.iter().enumerate() {
         push_all_wires(&mut wires, file, config)?;
     }
-    Ok(wires)
+    distinct(alloc, &wires)
 }
 
 // What tells wires apart: the interface by its numbers, and the port.
 pub(crate) type WireKey = (usize, usize, u16);
+
+// Each wire once, where it is first.
+fn distinct(alloc: Global, wires: &[PeerWire]) -> Result<Vec<PeerWire>, AllocError>
+    ensures { IfOk result (λ some. some.items ≡ distinct wires.now) }
+{
+    let mut set = BTreeSet::new(alloc);
+    let mut some = Vec::new(alloc);
+    for wire in wires {
+        let key = key_of(&wire.end, wire.peer);
+        push_unless(&mut some, set.contains(&key), *wire)?;
+        add_wire(&mut set, key)?;
+    }
+    Ok(some)
+}
+
+// Adds a wire, unless it is known.
+fn push_unless(wires: &mut Vec<PeerWire>, is_known: bool, wire: PeerWire) -> Result<(), AllocError>
+    ensures { OnOk result (wires.new.items ≡ wires.old.items
+        ++ (if is_known then [] else wire ∷ [])) }
+{
+    if !is_known {
+        wires.push(wire)?;
+    }
+    Ok(())
+}
 
 // Adds what the interfaces of a configuration send to.
 fn push_all_wires(wires: &mut Vec<PeerWire>, file: usize, config: &Config) -> Result<(), AllocError>

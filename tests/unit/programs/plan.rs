@@ -52,7 +52,7 @@ const FIRST: Router = Router {
     interfaces: &[(ONE, "")],
 };
 
-static CASES: [Case; 38] = [
+static CASES: [Case; 39] = [
     Case {
         name: "nothing wrong",
         routers: &[FIRST, Router { id: "2.2.2.2", area: BACKBONE, interfaces: &[(TWO, "")] }],
@@ -253,6 +253,15 @@ static CASES: [Case; 38] = [
         ],
         faults: "",
         notes: "a.toml: A17 Nowhere: interface 0: peers 5009\n  no router of these files hears what is sent there\n",
+    },
+    Case {
+        name: "A16 and A17 once of a port that is twice in peers",
+        routers: &[
+            Router { id: "1.1.1.1", area: BACKBONE, interfaces: &[(ONE, "port = 5001\npeers = [5002, 5009, 5002, 5009, 5009]\n")] },
+            Router { id: "2.2.2.2", area: BACKBONE, interfaces: &[(TWO, "port = 5003\npeers = [5001, 5001]\n"), (STUB, "port = 5002\n")] },
+        ],
+        faults: "a.toml: A16 Astray: interface 0: port 5001, b.toml: interface 1: port 5002\nb.toml: A11 OneSided: interface 0: port 5003, a.toml: interface 0: port 5001\n",
+        notes: "b.toml: A13 Alone: interface 1: address 192.168.3.1/24\n  the network is a stub\na.toml: A17 Nowhere: interface 0: peers 5009\n  no router of these files hears what is sent there\n",
     },
     Case {
         name: "A19 of a point-to-point network",
