@@ -45,7 +45,7 @@ indented_line text = codes "  " ++ (text ++ codes "\n")
 abbrev pub delay_meaning : List ℕ
 delay_meaning =
     codes
-    "over 900, the acknowledgement of an LSA that is sent may be taken for one of another instance, and the LSA is sent again and again; where both ends of a link have that they may never become Full (RFC 2328, sections 13.1 and 13.3)"
+    "over 900, the acknowledgement of an LSA that is sent may be taken for one of another instance, and the LSA is sent again and again; where both ends of a point-to-point link have that, or one interface of a broadcast network with others, they may never become Full (RFC 2328, sections 13.1 and 13.3)"
 
 -- where an interface stands, and its InfTransDelay
 abbrev pub link_text : ℕ → List ℕ

@@ -66,7 +66,7 @@ fn write_delay<W: Write>(f: &mut Formatter<W>, delay: u16) -> fmt::Result
 fn delay_meaning() -> &'static str
     ensures { result.now ≡ delay_meaning }
 {
-    "over 900, the acknowledgement of an LSA that is sent may be taken for one of another instance, and the LSA is sent again and again; where both ends of a link have that they may never become Full (RFC 2328, sections 13.1 and 13.3)"
+    "over 900, the acknowledgement of an LSA that is sent may be taken for one of another instance, and the LSA is sent again and again; where both ends of a point-to-point link have that, or one interface of a broadcast network with others, they may never become Full (RFC 2328, sections 13.1 and 13.3)"
 }
 
 // Writes a value, with its key.

@@ -17,9 +17,31 @@ every_fault =
     ∷ fault.Mtu ∷ fault.Mask ∷ fault.Crowded
     ∷ fault.NoDr ∷ fault.Cost ∷ fault.Alone ∷ fault.Delay ∷ fault.SamePort ∷ []
 
--- what stands around an interface: the first of its router's Router ID, the first with its address,
--- on its network the first three and the first that can be elected and that is slow, the first on
--- the shortest network of fewer bits that holds its address, and the first with its port
+-- the two are one kind
+abbrev pub same_kind : InterfaceKind → InterfaceKind → Bool
+same_kind PointToPoint PointToPoint = true
+same_kind Broadcast Broadcast = true
+same_kind _ _ = false
+
+-- the first interface on its network but itself, of which these are the first two there
+abbrev pub beside : Option LinkEnd → Option LinkEnd → LinkEnd → Option LinkEnd
+beside first second e = if is_found first e then second else first
+
+-- the interface with which a slow one does not settle: on a broadcast network any other, since the
+-- Designated Router floods on what it gets; on a point-to-point network one that is slow too
+-- (RFC 2328, sections 13.1 and 13.3)
+abbrev pub delayed : List LinkEnd → LinkEnd → Option LinkEnd
+delayed ends e =
+    let q = network_key e.address in
+    elim e.kind [
+      | PointToPoint ↦ first_on (filter is_slow_end ends) q
+      | Broadcast ↦ beside (first_on ends q) (first_on (others ends) q) e
+    ]
+
+-- what is around an interface: the first of its router's Router ID, the first with its address, on
+-- its network the first three, the first that can be elected and the one with which it does not
+-- settle if it is slow, the first on the shortest network of fewer bits that holds its address, and
+-- the first with its port
 abbrev pub around_of : List LinkEnd → LinkEnd → Surroundings
 around_of ends e =
     let q = network_key e.address in
@@ -30,16 +52,10 @@ around_of ends e =
       second = first_on (others ends) q;
       third = first_on (others (others ends)) q;
       elector = first_on (filter can_be_elected ends) q;
-      slow = first_on (filter is_slow_end ends) q;
+      delayed = delayed ends e;
       wider = first_around ends e.address e.address.length;
       plug = first_at_port ends (port_of e);
     }
-
--- the two are one kind
-abbrev pub same_kind : InterfaceKind → InterfaceKind → Bool
-same_kind PointToPoint PointToPoint = true
-same_kind Broadcast Broadcast = true
-same_kind _ _ = false
 
 -- the other interface of the finding
 abbrev pub other_of : AreaFault → Surroundings → Option LinkEnd
@@ -48,7 +64,7 @@ other_of fault.SameAddress a = a.holder
 other_of fault.Mask a = a.wider
 other_of fault.Crowded a = a.third
 other_of fault.NoDr a = a.second
-other_of fault.Delay a = a.slow
+other_of fault.Delay a = a.delayed
 other_of fault.SamePort a = a.plug
 other_of _ a = a.first
 

@@ -34,7 +34,8 @@ pub enum AreaFault {
     Cost,
     /// No other interface is on the network. This is a note, and no fault.
     Alone,
-    /// Two interfaces of a network have an InfTransDelay over MaxAgeDiff.
+    /// An InfTransDelay is over MaxAgeDiff: of an interface of a broadcast network with others, or
+    /// of two interfaces of a point-to-point network.
     Delay,
     /// Two interfaces have one UDP port (`port`).
     SamePort,

@@ -42,8 +42,8 @@ pub(crate) struct Surroundings {
     pub(crate) third: Option<LinkEnd>,
     // The first on its network that can be elected.
     pub(crate) elector: Option<LinkEnd>,
-    // The first on its network whose InfTransDelay is over MaxAgeDiff.
-    pub(crate) slow: Option<LinkEnd>,
+    // The one on its network with which it does not settle if it is slow.
+    pub(crate) delayed: Option<LinkEnd>,
     // The first on the shortest network that holds its own.
     pub(crate) wider: Option<LinkEnd>,
     // The first with its port, or without a port where it has none.
@@ -146,7 +146,7 @@ fn other_of(fault: AreaFault, around: &Surroundings) -> Option<LinkEnd>
         AreaFault::Mask => around.wider,
         AreaFault::Crowded => around.third,
         AreaFault::NoDr => around.second,
-        AreaFault::Delay => around.slow,
+        AreaFault::Delay => around.delayed,
         AreaFault::SamePort => around.plug,
         _ => around.first,
     }
@@ -192,7 +192,7 @@ fn is_same(one: &LinkEnd, other: &LinkEnd) -> bool
 }
 
 // Whether two kinds are one.
-fn same_kind(one: InterfaceKind, other: InterfaceKind) -> bool
+pub(crate) fn same_kind(one: InterfaceKind, other: InterfaceKind) -> bool
     ensures { result ≡ same_kind one other }
 {
     match (one, other) {

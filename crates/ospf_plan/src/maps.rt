@@ -2,15 +2,15 @@
 
 ghost use Rattle.std.specs.Prelude.{◌≡◌, List, IfOk};
 ghost use Rattle.ospf_plan.specs.Ends.{AreFirsts, AreMaps, first_around};
-ghost use Rattle.ospf_plan.specs.Findings.{around_of};
+ghost use Rattle.ospf_plan.specs.Findings.{around_of, beside, delayed};
 ghost use Rattle.ospf_plan.specs.declared.ends.LinkEnd.{LinkEnd};
 
 use crate::ends::{LinkEnd, electors, port_of, slow_ends};
 use crate::finding::Surroundings;
 use crate::index::{
-    Network, end_in, firsts, holder_in, holders, network_of, others, ports, routers,
+    Network, end_in, firsts, holder_in, holders, is_found, network_of, others, ports, routers,
 };
-use ospf_base::mask_of;
+use ospf_base::{InterfaceKind, mask_of};
 use ospf_config::InterfaceAddress;
 use std::alloc::{AllocError, Global};
 use std::collections::BTreeMap;
@@ -44,11 +44,35 @@ impl Maps {
             second: end_in(&self.seconds, network),
             third: end_in(&self.thirds, network),
             elector: end_in(&self.electors, network),
-            slow: end_in(&self.slow, network),
+            delayed: self.delayed(end),
             wider: around(&self.firsts, &end.address),
             plug: holder_in(&self.ports, u32::from(port_of(end))),
         }
     }
+
+    // The interface with which this one does not settle if it is slow.
+    fn delayed(&self, end: &LinkEnd) -> Option<LinkEnd>
+        ensures { (ends : List LinkEnd) → AreMaps self.now ends → result ≡ delayed ends end.now }
+    {
+        let network = network_of(&end.address);
+        match end.kind {
+            InterfaceKind::PointToPoint => end_in(&self.slow, network),
+            InterfaceKind::Broadcast => {
+                beside(
+                    end_in(&self.firsts, network),
+                    end_in(&self.seconds, network),
+                    end,
+                )
+            }
+        }
+    }
+}
+
+// The first interface on the network of this one but itself, of which these are the first two.
+fn beside(first: Option<LinkEnd>, second: Option<LinkEnd>, end: &LinkEnd) -> Option<LinkEnd>
+    ensures { result ≡ beside first second end.now }
+{
+    if is_found(first, end) { second } else { first }
 }
 
 // The maps of an area's interfaces.

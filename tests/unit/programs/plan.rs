@@ -52,7 +52,7 @@ const FIRST: Router = Router {
     interfaces: &[(ONE, "")],
 };
 
-static CASES: [Case; 39] = [
+static CASES: [Case; 43] = [
     Case {
         name: "nothing wrong",
         routers: &[FIRST, Router { id: "2.2.2.2", area: BACKBONE, interfaces: &[(TWO, "")] }],
@@ -214,12 +214,47 @@ static CASES: [Case; 39] = [
     Case {
         name: "A14 where the first is not slow",
         routers: &[
+            Router { id: "1.1.1.1", area: BACKBONE, interfaces: &[(WIDE_ONE, "")] },
+            Router { id: "2.2.2.2", area: BACKBONE, interfaces: &[(WIDE_TWO, "transmit_delay = 3600\n")] },
+            Router { id: "3.3.3.3", area: BACKBONE, interfaces: &[(WIDE_THREE, "transmit_delay = 2000\n")] },
+        ],
+        faults: "a.toml: A9 Crowded: interface 0: address 10.0.0.1/29, c.toml: interface 0: address 10.0.0.3/29\nc.toml: A14 Delay: interface 0: transmit_delay 2000, b.toml: interface 0: transmit_delay 3600\n",
+        notes: "",
+    },
+    Case {
+        name: "A14 of one slow end of a broadcast network",
+        routers: &[
+            Router { id: "1.1.1.1", area: BACKBONE, interfaces: &[(ONE, "")] },
+            Router { id: "2.2.2.2", area: BACKBONE, interfaces: &[(TWO, ""), (LAN_ONE, "priority = 0\ntransmit_delay = 901\n")] },
+            Router { id: "3.3.3.3", area: BACKBONE, interfaces: &[(LAN_TWO, "")] },
+        ],
+        faults: "b.toml: A14 Delay: interface 1: transmit_delay 901, c.toml: interface 0: transmit_delay 1\n",
+        notes: "",
+    },
+    Case {
+        name: "A14 of each slow end of a broadcast network",
+        routers: &[
             Router { id: "1.1.1.1", area: BACKBONE, interfaces: &[(LAN_ONE, "")] },
             Router { id: "2.2.2.2", area: BACKBONE, interfaces: &[(LAN_TWO, "transmit_delay = 3600\n")] },
             Router { id: "3.3.3.3", area: BACKBONE, interfaces: &[(LAN_THREE, "transmit_delay = 2000\n")] },
         ],
-        faults: "c.toml: A14 Delay: interface 0: transmit_delay 2000, b.toml: interface 0: transmit_delay 3600\n",
+        faults: "b.toml: A14 Delay: interface 0: transmit_delay 3600, a.toml: interface 0: transmit_delay 1\nc.toml: A14 Delay: interface 0: transmit_delay 2000, a.toml: interface 0: transmit_delay 1\n",
         notes: "",
+    },
+    Case {
+        name: "no A14 of a broadcast network with 900",
+        routers: &[
+            Router { id: "1.1.1.1", area: BACKBONE, interfaces: &[(LAN_ONE, "")] },
+            Router { id: "2.2.2.2", area: BACKBONE, interfaces: &[(LAN_TWO, "transmit_delay = 900\n")] },
+        ],
+        faults: "",
+        notes: "",
+    },
+    Case {
+        name: "no A14 of a slow end with nobody there",
+        routers: &[Router { id: "1.1.1.1", area: BACKBONE, interfaces: &[(STUB, "transmit_delay = 3600\n")] }],
+        faults: "",
+        notes: "a.toml: A13 Alone: interface 0: address 192.168.3.1/24\n  the network is a stub\n",
     },
     Case {
         name: "A15 in one file",
