@@ -38,6 +38,7 @@ key_text fault.Hello = codes "hello"
 key_text fault.Dead = codes "dead"
 key_text fault.Mtu = codes "mtu"
 key_text fault.NoDr = codes "priority"
+key_text fault.LoneDr = codes "priority"
 key_text fault.OneSided = codes "port"
 key_text fault.Cost = codes "cost"
 key_text fault.Delay = codes "transmit_delay"
@@ -66,6 +67,7 @@ value_data fault.Hello e = number (unsigned e.hello)
 value_data fault.Dead e = number (unsigned e.dead)
 value_data fault.Mtu e = number (unsigned e.mtu)
 value_data fault.NoDr e = number (unsigned e.priority)
+value_data fault.LoneDr e = number (unsigned e.priority)
 value_data fault.OneSided e = port_data e.port
 value_data fault.Cost e = number (unsigned e.cost)
 value_data fault.Delay e = number (unsigned e.transmit_delay)
@@ -94,6 +96,7 @@ side_data f e name =
 abbrev pub other_data : AreaFault → LinkEnd → List ℕ → Data
 other_data fault.Alone e name = null
 other_data (fault.Nowhere peer) e name = null
+other_data fault.LoneDr e name = null
 other_data f e name = side_data f e name
 
 -- the number and the name of the fault, what follows from it, whether

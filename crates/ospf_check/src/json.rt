@@ -258,7 +258,7 @@ fn other_value(
     ensures { IfOk result (λ value. view value ≡ other_data fault end.now name.now) }
 {
     match fault {
-        AreaFault::Alone | AreaFault::Nowhere(_) => Ok(Value::Null),
+        AreaFault::Alone | AreaFault::Nowhere(_) | AreaFault::LoneDr => Ok(Value::Null),
         fault => side_value(alloc, fault, end, name),
     }
 }
@@ -298,7 +298,7 @@ fn key_text(fault: AreaFault) -> &'static str
         AreaFault::Hello => "hello",
         AreaFault::Dead => "dead",
         AreaFault::Mtu => "mtu",
-        AreaFault::NoDr => "priority",
+        AreaFault::NoDr | AreaFault::LoneDr => "priority",
         AreaFault::OneSided | AreaFault::SamePort => "port",
         AreaFault::Astray | AreaFault::Unheard => "port",
         AreaFault::Cost => "cost",
@@ -319,7 +319,7 @@ fn value_at(alloc: Global, fault: AreaFault, end: &LinkEnd) -> Result<Value, All
         AreaFault::Hello => Ok(Value::from(end.hello)),
         AreaFault::Dead => Ok(Value::from(end.dead)),
         AreaFault::Mtu => Ok(Value::from(end.mtu)),
-        AreaFault::NoDr => Ok(Value::from(end.priority)),
+        AreaFault::NoDr | AreaFault::LoneDr => Ok(Value::from(end.priority)),
         AreaFault::OneSided | AreaFault::SamePort => Ok(port_value(end.port)),
         AreaFault::Astray | AreaFault::Unheard => Ok(port_value(end.port)),
         AreaFault::Cost => Ok(Value::from(end.cost)),

@@ -40,6 +40,7 @@ all_told a d e fault.Astray wrong = absurd (never wrong)
 all_told a d e (fault.Nowhere peer) wrong = absurd (never wrong)
 all_told a d e fault.Apart wrong = absurd (never wrong)
 all_told a d e fault.Unheard wrong = absurd (never wrong)
+all_told a d e fault.LoneDr wrong = (14, omega arith, refl)
 
 -- ---- the finding of a fault at an interface
 

@@ -15,7 +15,7 @@ use Rattle.ospf_plan.specs.declared.joins.Join.{Join}
 use Rattle.ospf_plan.specs.Ends.{ends_of}
 use Rattle.ospf_plan.specs.Findings.{found_in}
 use Rattle.ospf_plan.specs.Joins.{IsJoined, back, forth, itself}
-use Rattle.ospf_plan.specs.Parts.{AreFindings, AreReached, IsWay, LinkKey, apart, apart_in, cross, first_linked, first_of_all, is_apart, join_at, joins_of, link_cmp, link_of, same_link, stay}
+use Rattle.ospf_plan.specs.Parts.{AreFindings, AreReached, IsWay, LinkKey, adjacent_ends, apart, apart_in, cross, first_linked, first_of_all, is_apart, join_at, joins_of, link_cmp, link_of, same_link, stay}
 use Rattle.ospf_plan.specs.Wires.{wire_faults_in, wires_of}
 use Rattle.ospf_plan.specs.Unheard.{unheard_in}
 use Rattle.ospf_plan.specs.Laws.{FindingHolds, HoldsApart, HoldsOfWire, HoldsUnheard, IsAhead}
@@ -209,7 +209,7 @@ apart_holds ends reached f are told =
       here = subst (Contains ends) s.here_is among;
       link = ap (λ (x : LinkEnd). x.link) (sym s.here_is) ∙ link;
       other = s.other_is;
-      apart = λ w. never (sym off ∙ (are e.file).1 (subst (λ (x : LinkEnd). IsWay ends 0 x.file) (sym s.here_is) w));
+      apart = λ w. never (sym off ∙ (are e.file).1 (subst (λ (x : LinkEnd). IsWay (adjacent_ends ends) 0 x.file) (sym s.here_is) w));
     }
 
 off_by : (b : Bool) → (b ≡ true → ⊥) → b ≡ false

@@ -140,5 +140,6 @@ pub record AreMaps (m : Maps) (ends : List LinkEnd) : Type 0 where
   pub seconds : AreFirsts m.seconds (others ends)
   pub thirds : AreFirsts m.thirds (others (others ends))
   pub electors : AreFirsts m.electors (filter can_be_elected ends)
+  pub successors : AreFirsts m.successors (others (filter can_be_elected ends))
   pub slow : AreFirsts m.slow (filter is_slow_end ends)
   pub ports : ArePorts m.ports ends

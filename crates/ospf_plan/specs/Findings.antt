@@ -15,7 +15,8 @@ abbrev pub every_fault : List AreaFault
 every_fault =
     fault.SameRouter ∷ fault.SameAddress ∷ fault.Area ∷ fault.Kind ∷ fault.Hello ∷ fault.Dead
     ∷ fault.Mtu ∷ fault.Mask ∷ fault.Crowded
-    ∷ fault.NoDr ∷ fault.Cost ∷ fault.Alone ∷ fault.Delay ∷ fault.SamePort ∷ []
+    ∷ fault.NoDr ∷ fault.Cost ∷ fault.Alone ∷ fault.Delay ∷ fault.SamePort
+    ∷ fault.LoneDr ∷ []
 
 -- the two are one kind
 abbrev pub same_kind : InterfaceKind → InterfaceKind → Bool
@@ -39,7 +40,7 @@ delayed ends e =
     ]
 
 -- what is around an interface: the first of its router's Router ID, the first with its address, on
--- its network the first three, the first that can be elected and the one with which it does not
+-- its network the first three, the first two that can be elected and the one with which it does not
 -- settle if it is slow, the first on the shortest network of fewer bits that holds its address, and
 -- the first with its port
 abbrev pub around_of : List LinkEnd → LinkEnd → Surroundings
@@ -52,6 +53,7 @@ around_of ends e =
       second = first_on (others ends) q;
       third = first_on (others (others ends)) q;
       elector = first_on (filter can_be_elected ends) q;
+      successor = first_on (others (filter can_be_elected ends)) q;
       delayed = delayed ends e;
       wider = first_around ends e.address e.address.length;
       plug = first_at_port ends (port_of e);
@@ -64,9 +66,16 @@ other_of fault.SameAddress a = a.holder
 other_of fault.Mask a = a.wider
 other_of fault.Crowded a = a.third
 other_of fault.NoDr a = a.second
+other_of fault.LoneDr a = a.elector
 other_of fault.Delay a = a.delayed
 other_of fault.SamePort a = a.plug
 other_of _ a = a.first
+
+-- it alone can be elected on a broadcast network of three or more (RFC 2328, section 9.4)
+abbrev pub is_lone_dr : Surroundings → LinkEnd → Bool
+is_lone_dr a e =
+    is_found a.elector e && same_kind e.kind Broadcast && is_some a.third
+    && not (is_some a.successor)
 
 -- the fault is between the other interface d and this one
 abbrev pub is_wrong : AreaFault → Surroundings → LinkEnd → LinkEnd → Bool
@@ -81,6 +90,7 @@ is_wrong fault.Mask a d e = true
 is_wrong fault.Crowded a d e = is_found a.first e && same_kind e.kind PointToPoint
 is_wrong fault.NoDr a d e =
     is_found a.first e && same_kind e.kind Broadcast && not (is_some a.elector)
+is_wrong fault.LoneDr a d e = is_lone_dr a e
 is_wrong fault.OneSided a d e = false
 is_wrong fault.Astray a d e = false
 is_wrong (fault.Nowhere peer) a d e = false

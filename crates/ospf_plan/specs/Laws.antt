@@ -13,7 +13,7 @@ use Rattle.ospf_plan.specs.declared.wires.PeerWire.{PeerWire}
 use Rattle.ospf_plan.specs.Ends.{ends_of, first_at_port, network_key, port_of}
 use Rattle.ospf_plan.specs.Wires.{is_beside, is_wired, wire_key, wire_faults_in, wires_of}
 use Rattle.ospf_plan.specs.Unheard.{are_silent, is_outward, is_plugged, unheard_in}
-use Rattle.ospf_plan.specs.Parts.{AreFindings, IsWay, apart_in, first_of_all}
+use Rattle.ospf_plan.specs.Parts.{AreFindings, IsWay, adjacent_ends, apart_in, first_of_all}
 use Rattle.ospf_plan.specs.Findings.{around_of, found_in, is_wrong, other_of}
 
 -- the finding holds: its interface is one of these, its other is whom the fault is about,
@@ -65,14 +65,14 @@ pub record HoldsUnheard (ends : List LinkEnd) (wires : List PeerWire) (f : Findi
   pub unheard : IsUnheard ends wires f.other f.here
   pub first : (d : LinkEnd) → IsUnheard ends wires d f.here → (f.other ≡ d) ⊎ IsAhead f.other d
 
--- the finding holds of a file: no way leads there from the first, and
--- its interface is the first of it
+-- the finding holds of a file: no way over interfaces that can become adjacent leads there from
+-- the first, and its interface is the first of it
 pub record HoldsApart (ends : List LinkEnd) (f : Finding) : Type 0 where
   pub fault : f.fault ≡ fault.Apart
   pub here : Contains ends f.here
   pub link : f.here.link ≡ 0
   pub other : first_of_all ends ≡ Some f.other
-  pub apart : IsWay ends 0 f.here.file → ⊥
+  pub apart : IsWay (adjacent_ends ends) 0 f.here.file → ⊥
 
 -- what is told of configurations is what holds of their interfaces, of who sends to whom, of who
 -- does not hear whom, and of the parts of the area
@@ -113,6 +113,7 @@ area_fault_number fault.Astray = 16
 area_fault_number (fault.Nowhere peer) = 17
 area_fault_number fault.Apart = 18
 area_fault_number fault.Unheard = 19
+area_fault_number fault.LoneDr = 20
 
 -- of an earlier interface, or of the same and of a fault of lesser number
 abbrev pub IsFindingBefore : Finding → Finding → Type 0

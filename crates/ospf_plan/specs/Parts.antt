@@ -1,6 +1,6 @@
 -- The parts that an area falls into: which routers are joined by links
 -- on which their interfaces agree.
-use Rattle.std.specs.Prelude.{◌≡◌, ◌==◌, ◌&&◌, ◌↔◌, not, ℕ, Bool, true, List, ◌++◌, Contains, Option, Some, None, if◌then◌else◌, option_and_then, option_map, slice_get}
+use Rattle.std.specs.Prelude.{◌≡◌, ◌==◌, ◌&&◌, ◌↔◌, not, ℕ, Bool, true, List, ◌++◌, Contains, filter, Option, Some, None, is_some, if◌then◌else◌, option_and_then, option_map, slice_get}
 use Rattle.std.specs.List.{filter_map, find}
 use Rattle.std.specs.BTreeMap as tree
 use Rattle.std.specs.Ordering.{nat_cmp, ordering_then}
@@ -13,7 +13,7 @@ use Rattle.ospf_plan.specs.declared.ends.LinkEnd.{LinkEnd}
 use Rattle.ospf_plan.specs.declared.fault.AreaFault.TheVariants as fault
 use Rattle.ospf_plan.specs.declared.finding.Finding.{Finding}
 use Rattle.ospf_plan.specs.declared.joins.Join.{Join}
-use Rattle.ospf_plan.specs.Ends.{ends_of}
+use Rattle.ospf_plan.specs.Ends.{can_be_elected, ends_of, first_on, network_key, others}
 use Rattle.ospf_plan.specs.Findings.{found_in}
 use Rattle.ospf_plan.specs.Wires.{wire_faults_in, wires_of}
 use Rattle.ospf_plan.specs.Unheard.{unheard_in}
@@ -41,9 +41,35 @@ pub data IsWay (ends : List LinkEnd) (r : ℕ) : ℕ → Type 0 where
   cross : (d e : LinkEnd) → Contains ends d → Contains ends e → link_of d ≡ link_of e
       → IsWay ends r d.file → IsWay ends r e.file
 
--- these files are reached from the first
+-- the two are one link
+abbrev pub same_link : LinkKey → LinkKey → Bool
+same_link k q =
+    ((((((k.0 == q.0) && (k.1 == q.1)) && (k.2 == q.2)) && (k.3 == q.3)) && (k.4 == q.4))
+    && (k.5 == q.5)) && (k.6 == q.6)
+
+-- the first of the interfaces of the link
+abbrev pub first_linked : List LinkEnd → LinkKey → Option LinkEnd
+first_linked ends k = find (λ e. same_link (link_of e) k) ends
+
+-- it can become adjacent with the others of its link: a point-to-point network has no third end,
+-- since each end has one neighbour alone, and of a broadcast link one can be elected (RFC 2328,
+-- sections 8.2, 9.4 and 10.4)
+abbrev pub can_be_adjacent : (ℕ × ℕ → Option LinkEnd) → (LinkKey → Option LinkEnd) → LinkEnd → Bool
+can_be_adjacent third led e = elim e.kind [
+  | PointToPoint ↦ not (is_some (third (network_key e.address)))
+  | Broadcast ↦ is_some (led (link_of e))
+]
+
+-- the interfaces that can
+abbrev pub adjacent_ends : List LinkEnd → List LinkEnd
+adjacent_ends ends =
+    filter
+    (can_be_adjacent (first_on (others (others ends))) (first_linked (filter can_be_elected ends)))
+    ends
+
+-- these files are reached from the first, over interfaces that can become adjacent
 abbrev pub AreReached : List LinkEnd → (ℕ → Bool) → Type 0
-AreReached ends reached = (q : ℕ) → (reached q ≡ true) ↔ IsWay ends 0 q
+AreReached ends reached = (q : ℕ) → (reached q ≡ true) ↔ IsWay (adjacent_ends ends) 0 q
 
 -- ---- what is told
 
@@ -76,16 +102,6 @@ pub record AreFindings (configs : List Config) (fs : List Finding) : Type 0 wher
       ++ unheard_in (ends_of configs) (wires_of configs)) ++ apart_in reached (ends_of configs)
 
 -- ---- how it is found
-
--- the two are one link
-abbrev pub same_link : LinkKey → LinkKey → Bool
-same_link k q =
-    ((((((k.0 == q.0) && (k.1 == q.1)) && (k.2 == q.2)) && (k.3 == q.3)) && (k.4 == q.4))
-    && (k.5 == q.5)) && (k.6 == q.6)
-
--- the first of the interfaces of the link
-abbrev pub first_linked : List LinkEnd → LinkKey → Option LinkEnd
-first_linked ends k = find (λ e. same_link (link_of e) k) ends
 
 -- how links are ordered
 abbrev pub link_cmp : LinkKey → LinkKey → Ordering

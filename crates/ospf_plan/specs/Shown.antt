@@ -30,12 +30,14 @@ area_fault_text fault.Astray = codes "A16 Astray"
 area_fault_text (fault.Nowhere peer) = codes "A17 Nowhere"
 area_fault_text fault.Apart = codes "A18 Apart"
 area_fault_text fault.Unheard = codes "A19 Unheard"
+area_fault_text fault.LoneDr = codes "A20 LoneDr"
 
 -- what is a note, and no fault
 abbrev pub is_note : AreaFault → Bool
 is_note fault.Cost = true
 is_note fault.Alone = true
 is_note (fault.Nowhere peer) = true
+is_note fault.LoneDr = true
 is_note _ = false
 
 -- what follows from a fault
@@ -76,6 +78,9 @@ meaning_text fault.Astray = codes "in `run` broadcast interfaces drop its packet
 meaning_text (fault.Nowhere peer) = codes "no router of these files hears what is sent there"
 meaning_text fault.Apart = codes "over these networks the area falls apart: no route leads there"
 meaning_text fault.Unheard = codes "in `run` they never become neighbours (section 10.5)"
+meaning_text fault.LoneDr =
+    codes
+    "if this router fails, the others elect no Designated Router: they do not become adjacent, and no route leads over the network (sections 9.4 and 10.4)"
 
 -- the port of an interface, if it has one
 abbrev pub port_text : Option Port → List ℕ
@@ -92,6 +97,7 @@ value_text fault.Hello e = codes "hello " ++ decimal e.hello
 value_text fault.Dead e = codes "dead " ++ decimal e.dead
 value_text fault.Mtu e = codes "mtu " ++ decimal e.mtu
 value_text fault.NoDr e = codes "priority " ++ decimal e.priority
+value_text fault.LoneDr e = codes "priority " ++ decimal e.priority
 value_text fault.OneSided e = port_text e.port
 value_text fault.Cost e = codes "cost " ++ decimal e.cost
 value_text fault.Delay e = codes "transmit_delay " ++ decimal e.transmit_delay
@@ -116,6 +122,7 @@ side_text f e = place_text f e ++ value_text f e
 abbrev pub other_text : AreaFault → LinkEnd → List ℕ → List ℕ
 other_text fault.Alone e name = []
 other_text (fault.Nowhere peer) e name = []
+other_text fault.LoneDr e name = []
 other_text f e name = codes ", " ++ name ++ codes ": " ++ side_text f e
 
 -- as `b.toml: A5 Hello: interface 1: hello 5, a.toml: interface 0: hello

@@ -47,6 +47,9 @@ pub enum AreaFault {
     Apart,
     /// Two interfaces of a network have UDP ports, and neither sends to the other's (`peers`).
     Unheard,
+    /// Of three interfaces or more of a broadcast network one alone can be Designated Router. This
+    /// is a note, and no fault.
+    LoneDr,
 }
 
 impl AreaFault {
@@ -77,6 +80,7 @@ impl AreaFault {
             AreaFault::Nowhere(_) => "A17 Nowhere",
             AreaFault::Apart => "A18 Apart",
             AreaFault::Unheard => "A19 Unheard",
+            AreaFault::LoneDr => "A20 LoneDr",
         }
     }
 
@@ -86,7 +90,7 @@ impl AreaFault {
     {
         matches!(
             self,
-            AreaFault::Cost | AreaFault::Alone | AreaFault::Nowhere(_)
+            AreaFault::Cost | AreaFault::Alone | AreaFault::Nowhere(_) | AreaFault::LoneDr
         )
     }
 
@@ -133,6 +137,9 @@ impl AreaFault {
             AreaFault::Nowhere(_) => "no router of these files hears what is sent there",
             AreaFault::Apart => "over these networks the area falls apart: no route leads there",
             AreaFault::Unheard => "in `run` they never become neighbours (section 10.5)",
+            AreaFault::LoneDr => {
+                "if this router fails, the others elect no Designated Router: they do not become adjacent, and no route leads over the network (sections 9.4 and 10.4)"
+            }
         }
     }
 }
@@ -150,7 +157,7 @@ impl Display for AreaFault {
 }
 
 // The faults that are looked for at each interface, in the order in which they are told.
-pub(crate) fn every_fault() -> [AreaFault; 14]
+pub(crate) fn every_fault() -> [AreaFault; 15]
     ensures { result ≡ every_fault }
 {
     [
@@ -168,5 +175,6 @@ pub(crate) fn every_fault() -> [AreaFault; 14]
         AreaFault::Alone,
         AreaFault::Delay,
         AreaFault::SamePort,
+        AreaFault::LoneDr,
     ]
 }

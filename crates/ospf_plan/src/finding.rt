@@ -5,7 +5,7 @@ ghost use Rattle.std.specs.Option.{option_to_list};
 ghost use Rattle.std.specs.List.{filter_map};
 ghost use Rattle.ospf_base.specs.declared.interface.InterfaceKind.TheVariants as kind;
 ghost use Rattle.ospf_plan.specs.Ends.{AreMaps, is_same};
-ghost use Rattle.ospf_plan.specs.Findings.{every_fault, found, found_in, is_wrong, other_of, same_kind};
+ghost use Rattle.ospf_plan.specs.Findings.{every_fault, found, found_in, is_lone_dr, is_wrong, other_of, same_kind};
 ghost use Rattle.ospf_plan.specs.Parts.{AreFindings};
 ghost use Rattle.ospf_plan.specs.declared.ends.LinkEnd.{LinkEnd};
 
@@ -42,6 +42,8 @@ pub(crate) struct Surroundings {
     pub(crate) third: Option<LinkEnd>,
     // The first on its network that can be elected.
     pub(crate) elector: Option<LinkEnd>,
+    // The second on its network that can be elected.
+    pub(crate) successor: Option<LinkEnd>,
     // The one on its network with which it does not settle if it is slow.
     pub(crate) delayed: Option<LinkEnd>,
     // The first on the shortest network that holds its own.
@@ -66,7 +68,7 @@ pub fn findings(alloc: Global, configs: &[Config]) -> Result<Vec<Finding>, Alloc
     let mut findings = found_in(alloc, &ends, &maps)?;
     push_wire_faults(&mut findings, &maps.ports, &wired, &wires)?;
     push_unheard(alloc, &mut findings, &ends, &maps.ports, &wired, &wires)?;
-    push_apart(alloc, &mut findings, &ends)?;
+    push_apart(alloc, &mut findings, &ends, &maps.thirds)?;
     Ok(findings)
 }
 
@@ -146,6 +148,7 @@ fn other_of(fault: AreaFault, around: &Surroundings) -> Option<LinkEnd>
         AreaFault::Mask => around.wider,
         AreaFault::Crowded => around.third,
         AreaFault::NoDr => around.second,
+        AreaFault::LoneDr => around.elector,
         AreaFault::Delay => around.delayed,
         AreaFault::SamePort => around.plug,
         _ => around.first,
@@ -173,6 +176,7 @@ fn is_wrong(fault: AreaFault, around: &Surroundings, other: &LinkEnd, here: &Lin
                 && same_kind(here.kind, InterfaceKind::Broadcast)
                 && around.elector.is_none()
         }
+        AreaFault::LoneDr => is_lone_dr(around, here),
         AreaFault::OneSided | AreaFault::Astray | AreaFault::Nowhere(_) => false,
         AreaFault::Apart | AreaFault::Unheard => false,
         AreaFault::Cost => {
@@ -182,6 +186,16 @@ fn is_wrong(fault: AreaFault, around: &Surroundings, other: &LinkEnd, here: &Lin
         AreaFault::Delay => is_slow(here.transmit_delay) && !is_same(other, here),
         AreaFault::SamePort => here.port.is_some() && !is_same(other, here),
     }
+}
+
+// Whether an interface is the one alone that can be elected on a broadcast network of three or more.
+fn is_lone_dr(around: &Surroundings, here: &LinkEnd) -> bool
+    ensures { result ≡ is_lone_dr around.now here.now }
+{
+    is_found(around.elector, here)
+        && same_kind(here.kind, InterfaceKind::Broadcast)
+        && around.third.is_some()
+        && around.successor.is_none()
 }
 
 // Whether two are one interface.

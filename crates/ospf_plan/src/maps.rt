@@ -23,9 +23,11 @@ pub(crate) struct Maps {
     firsts: BTreeMap<Network, LinkEnd>,
     // Without the firsts, and without the firsts and the seconds.
     seconds: BTreeMap<Network, LinkEnd>,
-    thirds: BTreeMap<Network, LinkEnd>,
+    pub(crate) thirds: BTreeMap<Network, LinkEnd>,
     // Of those that can be elected.
     electors: BTreeMap<Network, LinkEnd>,
+    // Of those without the electors before.
+    successors: BTreeMap<Network, LinkEnd>,
     // Of those that are slow.
     slow: BTreeMap<Network, LinkEnd>,
     pub(crate) ports: BTreeMap<u32, LinkEnd>,
@@ -44,6 +46,7 @@ impl Maps {
             second: end_in(&self.seconds, network),
             third: end_in(&self.thirds, network),
             elector: end_in(&self.electors, network),
+            successor: end_in(&self.successors, network),
             delayed: self.delayed(end),
             wider: around(&self.firsts, &end.address),
             plug: holder_in(&self.ports, u32::from(port_of(end))),
@@ -88,6 +91,7 @@ pub(crate) fn maps_of(alloc: Global, ends: &[LinkEnd]) -> Result<Maps, AllocErro
     let thirds = firsts(alloc, &more)?;
     let some = electors(alloc, ends)?;
     let electors = firsts(alloc, &some)?;
+    let successors = firsts(alloc, &others(alloc, &some, &electors)?)?;
     let slow = firsts(alloc, &slow_ends(alloc, ends)?)?;
     let ports = ports(alloc, ends)?;
     Ok(Maps {
@@ -97,6 +101,7 @@ pub(crate) fn maps_of(alloc: Global, ends: &[LinkEnd]) -> Result<Maps, AllocErro
         seconds,
         thirds,
         electors,
+        successors,
         slow,
         ports,
     })

@@ -3,15 +3,16 @@
 ghost use Rattle.std.specs.Prelude.{◌≡◌, ◌++◌, ℕ, Bool, IfOk, OnOk, Some, None, cond};
 ghost use Rattle.std.specs.Option.{option_or, option_to_list};
 ghost use Rattle.std.specs.List.{filter_map};
+ghost use Rattle.ospf_plan.specs.Ends.{AreFirsts, end_in, others};
 ghost use Rattle.ospf_plan.specs.Joins.{set_has};
-ghost use Rattle.ospf_plan.specs.Parts.{AreFirstLinks, AreReached, LinkKey, apart, apart_in, first_of_all, is_apart, join_at, joins_of, kind_number, link_of, linked_in, same_link};
+ghost use Rattle.ospf_plan.specs.Parts.{AreFirstLinks, AreReached, LinkKey, adjacent_ends, apart, apart_in, can_be_adjacent, first_of_all, is_apart, join_at, joins_of, kind_number, link_of, linked_in, same_link};
 ghost use Rattle.ospf_plan.specs.declared.ends.LinkEnd.{LinkEnd};
 ghost use Rattle.ospf_plan.specs.declared.joins.Join.{Join};
 
-use crate::ends::LinkEnd;
+use crate::ends::{LinkEnd, electors};
 use crate::fault::AreaFault;
 use crate::finding::{Finding, push_one};
-use crate::index::network_of;
+use crate::index::{Network, end_in, network_of};
 use crate::joins::{Join, joined_with};
 use ospf_base::InterfaceKind;
 use std::alloc::{AllocError, Global};
@@ -22,23 +23,61 @@ pub(crate) fn push_apart(
     alloc: Global,
     findings: &mut Vec<Finding>,
     ends: &[LinkEnd],
+    thirds: &BTreeMap<Network, LinkEnd>,
 ) -> Result<(), AllocError>
+    requires { AreFirsts thirds.now (others (others ends.now)) }
     ensures { OnOk result ((reached : ℕ → Bool) × AreReached ends.now reached
         × (findings.new.items ≡ findings.old.items ++ apart_in reached ends.now)) }
 {
-    let reached = reached_of(alloc, ends)?;
+    let reached = reached_of(alloc, ends, thirds)?;
     push_each(findings, &reached, first_of_all(ends), ends)
 }
 
 // What the interfaces of a link have in common: their network, area, kind, intervals and MTU.
 type SharedSettings = (u8, u32, u32, u8, u16, u16, u16);
 
-// The files that are reached from the first.
-fn reached_of(alloc: Global, ends: &[LinkEnd]) -> Result<BTreeSet<usize>, AllocError>
+// The files that are reached from the first, over interfaces that can become adjacent.
+fn reached_of(
+    alloc: Global,
+    ends: &[LinkEnd],
+    thirds: &BTreeMap<Network, LinkEnd>,
+) -> Result<BTreeSet<usize>, AllocError>
+    requires { AreFirsts thirds.now (others (others ends.now)) }
     ensures { IfOk result (λ reached. AreReached ends.now (set_has reached)) }
 {
-    let joins = joins_of(alloc, ends)?;
+    let some = adjacent_ends(alloc, ends, thirds)?;
+    let joins = joins_of(alloc, &some)?;
     joined_with(alloc, 0, &joins)
+}
+
+// The interfaces that can become adjacent, by the third end of each network.
+fn adjacent_ends(
+    alloc: Global,
+    ends: &[LinkEnd],
+    thirds: &BTreeMap<Network, LinkEnd>,
+) -> Result<Vec<LinkEnd>, AllocError>
+    requires { AreFirsts thirds.now (others (others ends.now)) }
+    ensures { IfOk result (λ some. some.items ≡ adjacent_ends ends.now) }
+{
+    let led = links_of(alloc, &electors(alloc, ends)?)?;
+    let mut some = Vec::from_slice(alloc, ends)?;
+    some.retain(|end| can_be_adjacent(thirds, &led, end));
+    Ok(some)
+}
+
+// Whether an interface can become adjacent with the others of its link: a point-to-point network
+// has no third end, and of a broadcast link one can be elected.
+fn can_be_adjacent(
+    thirds: &BTreeMap<Network, LinkEnd>,
+    led: &BTreeMap<SharedSettings, LinkEnd>,
+    end: &LinkEnd,
+) -> bool
+    ensures { result ≡ can_be_adjacent (end_in thirds.now) (linked_in led.now) end.now }
+{
+    match end.kind {
+        InterfaceKind::PointToPoint => end_in(thirds, network_of(&end.address)).is_none(),
+        InterfaceKind::Broadcast => led.contains_key(&link_of(end)),
+    }
 }
 
 // The joins of all interfaces.

@@ -64,7 +64,7 @@ fn write_value<W: Write>(f: &mut Formatter<W>, fault: AreaFault, end: &LinkEnd) 
         AreaFault::Hello => write!(f, "hello {}", end.hello),
         AreaFault::Dead => write!(f, "dead {}", end.dead),
         AreaFault::Mtu => write!(f, "mtu {}", end.mtu),
-        AreaFault::NoDr => write!(f, "priority {}", end.priority),
+        AreaFault::NoDr | AreaFault::LoneDr => write!(f, "priority {}", end.priority),
         AreaFault::OneSided | AreaFault::SamePort => write_port(f, end.port),
         AreaFault::Astray | AreaFault::Unheard => write_port(f, end.port),
         AreaFault::Cost => write!(f, "cost {}", end.cost),
@@ -105,7 +105,7 @@ fn write_other<W: Write>(
         f.new }
 {
     match fault {
-        AreaFault::Alone | AreaFault::Nowhere(_) => Ok(()),
+        AreaFault::Alone | AreaFault::Nowhere(_) | AreaFault::LoneDr => Ok(()),
         fault => {
             write!(f, ", {name}: ")?;
             write_side(f, fault, end)

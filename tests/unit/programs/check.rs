@@ -392,6 +392,31 @@ fn prints_ports_as_json(rt: HostRuntime) -> Result<(), Fail> {
     Ok(())
 }
 
+// Three routers of a broadcast network, of which the first alone can be Designated Router.
+const LED: [&str; 3] = [
+    "router_id = \"1.1.1.1\"\narea = \"0.0.0.0\"\n\n[[interface]]\nkind = \"broadcast\"\naddress = \"10.1.0.1/24\"\ncost = 10\npriority = 9\n",
+    "router_id = \"2.2.2.2\"\narea = \"0.0.0.0\"\n\n[[interface]]\nkind = \"broadcast\"\naddress = \"10.1.0.2/24\"\ncost = 10\npriority = 0\n",
+    "router_id = \"3.3.3.3\"\narea = \"0.0.0.0\"\n\n[[interface]]\nkind = \"broadcast\"\naddress = \"10.1.0.3/24\"\ncost = 10\npriority = 0\n",
+];
+
+#[test]
+fn prints_a_lone_designated_router_as_json(rt: HostRuntime) -> Result<(), Fail> {
+    let files = [
+        ("a.toml", Some(LED[0].as_bytes())),
+        ("b.toml", Some(LED[1].as_bytes())),
+        ("c.toml", Some(LED[2].as_bytes())),
+    ];
+    let outcome = json_of(rt.alloc(), &files)?;
+    assert_eq!(rt; outcome.status, Status::Done);
+    assert_eq!(rt;
+        str::from_utf8(&outcome.out)?,
+        "[{\"code\":\"A20 LoneDr\",\"here\":{\"file\":\"a.toml\",\"interface\":0,\"key\":\"priority\",\"value\":9},\
+        \"meaning\":\"if this router fails, the others elect no Designated Router: they do not become adjacent, and no route leads over the network (sections 9.4 and 10.4)\",\"note\":true,\"other\":null}]\n"
+    );
+    assert!(rt; outcome.err.is_empty());
+    Ok(())
+}
+
 #[test]
 fn prints_no_json_where_a_file_is_refused(rt: HostRuntime) -> Result<(), Fail> {
     let files = [("a.toml", Some(GOOD.as_bytes())), ("b.toml", Some(BAD.as_bytes()))];

@@ -52,7 +52,7 @@ const FIRST: Router = Router {
     interfaces: &[(ONE, "")],
 };
 
-static CASES: [Case; 43] = [
+static CASES: [Case; 49] = [
     Case {
         name: "nothing wrong",
         routers: &[FIRST, Router { id: "2.2.2.2", area: BACKBONE, interfaces: &[(TWO, "")] }],
@@ -130,7 +130,7 @@ static CASES: [Case; 43] = [
             Router { id: "2.2.2.2", area: BACKBONE, interfaces: &[(WIDE_TWO, "")] },
             Router { id: "3.3.3.3", area: BACKBONE, interfaces: &[(WIDE_THREE, "")] },
         ],
-        faults: "a.toml: A9 Crowded: interface 0: address 10.0.0.1/29, c.toml: interface 0: address 10.0.0.3/29\n",
+        faults: "a.toml: A9 Crowded: interface 0: address 10.0.0.1/29, c.toml: interface 0: address 10.0.0.3/29\nb.toml: A18 Apart: router_id 2.2.2.2, a.toml: router_id 1.1.1.1\nc.toml: A18 Apart: router_id 3.3.3.3, a.toml: router_id 1.1.1.1\n",
         notes: "",
     },
     Case {
@@ -139,7 +139,7 @@ static CASES: [Case; 43] = [
             Router { id: "1.1.1.1", area: BACKBONE, interfaces: &[(LAN_ONE, "priority = 0\n")] },
             Router { id: "2.2.2.2", area: BACKBONE, interfaces: &[(LAN_TWO, "priority = 0\n")] },
         ],
-        faults: "a.toml: A10 NoDr: interface 0: priority 0, b.toml: interface 0: priority 0\n",
+        faults: "a.toml: A10 NoDr: interface 0: priority 0, b.toml: interface 0: priority 0\nb.toml: A18 Apart: router_id 2.2.2.2, a.toml: router_id 1.1.1.1\n",
         notes: "",
     },
     Case {
@@ -218,7 +218,7 @@ static CASES: [Case; 43] = [
             Router { id: "2.2.2.2", area: BACKBONE, interfaces: &[(WIDE_TWO, "transmit_delay = 3600\n")] },
             Router { id: "3.3.3.3", area: BACKBONE, interfaces: &[(WIDE_THREE, "transmit_delay = 2000\n")] },
         ],
-        faults: "a.toml: A9 Crowded: interface 0: address 10.0.0.1/29, c.toml: interface 0: address 10.0.0.3/29\nc.toml: A14 Delay: interface 0: transmit_delay 2000, b.toml: interface 0: transmit_delay 3600\n",
+        faults: "a.toml: A9 Crowded: interface 0: address 10.0.0.1/29, c.toml: interface 0: address 10.0.0.3/29\nc.toml: A14 Delay: interface 0: transmit_delay 2000, b.toml: interface 0: transmit_delay 3600\nb.toml: A18 Apart: router_id 2.2.2.2, a.toml: router_id 1.1.1.1\nc.toml: A18 Apart: router_id 3.3.3.3, a.toml: router_id 1.1.1.1\n",
         notes: "",
     },
     Case {
@@ -420,6 +420,65 @@ static CASES: [Case; 43] = [
         faults: "b.toml: A5 Hello: interface 0: hello 10, a.toml: interface 0: hello 5\nc.toml: A5 Hello: interface 0: hello 10, a.toml: interface 0: hello 5\n",
         notes: "",
     },
+    Case {
+        name: "no A18 behind A10 where another way is left",
+        routers: &[
+            Router { id: "1.1.1.1", area: BACKBONE, interfaces: &[(LAN_ONE, "priority = 0\n"), (ONE, "")] },
+            Router { id: "2.2.2.2", area: BACKBONE, interfaces: &[(LAN_TWO, "priority = 0\n"), (TWO, "")] },
+        ],
+        faults: "a.toml: A10 NoDr: interface 0: priority 0, b.toml: interface 0: priority 0\n",
+        notes: "",
+    },
+    Case {
+        name: "A18 where the one that can be elected is in another area",
+        routers: &[
+            Router { id: "1.1.1.1", area: BACKBONE, interfaces: &[(LAN_ONE, "priority = 0\n")] },
+            Router { id: "2.2.2.2", area: BACKBONE, interfaces: &[(LAN_TWO, "priority = 0\n")] },
+            Router { id: "3.3.3.3", area: "0.0.0.1", interfaces: &[(LAN_THREE, "")] },
+        ],
+        faults: "c.toml: A3 Area: interface 0: area 0.0.0.1, a.toml: interface 0: area 0.0.0.0\nb.toml: A18 Apart: router_id 2.2.2.2, a.toml: router_id 1.1.1.1\nc.toml: A18 Apart: router_id 3.3.3.3, a.toml: router_id 1.1.1.1\n",
+        notes: "c.toml: A20 LoneDr: interface 0: priority 1\n  if this router fails, the others elect no Designated Router: they do not become adjacent, and no route leads over the network (sections 9.4 and 10.4)\n",
+    },
+    Case {
+        name: "A20",
+        routers: &[
+            Router { id: "1.1.1.1", area: BACKBONE, interfaces: &[(LAN_ONE, "")] },
+            Router { id: "2.2.2.2", area: BACKBONE, interfaces: &[(LAN_TWO, "priority = 0\n")] },
+            Router { id: "3.3.3.3", area: BACKBONE, interfaces: &[(LAN_THREE, "priority = 0\n")] },
+        ],
+        faults: "",
+        notes: "a.toml: A20 LoneDr: interface 0: priority 1\n  if this router fails, the others elect no Designated Router: they do not become adjacent, and no route leads over the network (sections 9.4 and 10.4)\n",
+    },
+    Case {
+        name: "A20 of the third",
+        routers: &[
+            Router { id: "1.1.1.1", area: BACKBONE, interfaces: &[(LAN_ONE, "priority = 0\n")] },
+            Router { id: "2.2.2.2", area: BACKBONE, interfaces: &[(LAN_TWO, "priority = 0\n")] },
+            Router { id: "3.3.3.3", area: BACKBONE, interfaces: &[(LAN_THREE, "priority = 7\n")] },
+        ],
+        faults: "",
+        notes: "c.toml: A20 LoneDr: interface 0: priority 7\n  if this router fails, the others elect no Designated Router: they do not become adjacent, and no route leads over the network (sections 9.4 and 10.4)\n",
+    },
+    Case {
+        name: "no A20 where two can be elected",
+        routers: &[
+            Router { id: "1.1.1.1", area: BACKBONE, interfaces: &[(LAN_ONE, "")] },
+            Router { id: "2.2.2.2", area: BACKBONE, interfaces: &[(LAN_TWO, "priority = 0\n")] },
+            Router { id: "3.3.3.3", area: BACKBONE, interfaces: &[(LAN_THREE, "")] },
+        ],
+        faults: "",
+        notes: "",
+    },
+    Case {
+        name: "no A20 of a point-to-point network",
+        routers: &[
+            Router { id: "1.1.1.1", area: BACKBONE, interfaces: &[(WIDE_ONE, "")] },
+            Router { id: "2.2.2.2", area: BACKBONE, interfaces: &[(WIDE_TWO, "priority = 0\n")] },
+            Router { id: "3.3.3.3", area: BACKBONE, interfaces: &[(WIDE_THREE, "priority = 0\n")] },
+        ],
+        faults: "a.toml: A9 Crowded: interface 0: address 10.0.0.1/29, c.toml: interface 0: address 10.0.0.3/29\nb.toml: A18 Apart: router_id 2.2.2.2, a.toml: router_id 1.1.1.1\nc.toml: A18 Apart: router_id 3.3.3.3, a.toml: router_id 1.1.1.1\n",
+        notes: "",
+    },
 ];
 
 // What was told, and the status.
@@ -549,7 +608,7 @@ fn tells_in_order(rt: HostRuntime) -> Result<(), Fail> {
     let told = told_of(rt.alloc(), &files, Telling::Verdict);
     assert_eq!(rt;
         told.err.as_slice(),
-        b"a.toml: A10 NoDr: interface 1: priority 0, b.toml: interface 0: priority 0\nb.toml: A5 Hello: interface 1: hello 5, a.toml: interface 0: hello 10\nb.toml: A7 Mtu: interface 1: mtu 1400, a.toml: interface 0: mtu 1500\nc.toml: A1 SameRouter: router_id 1.1.1.1, a.toml: router_id 1.1.1.1\nc.toml: A2 SameAddress: interface 0: address 10.1.0.2/25, b.toml: interface 0: address 10.1.0.2/24\nc.toml: A8 Mask: interface 0: address 10.1.0.2/25, a.toml: interface 1: address 10.1.0.1/24\na.toml: A11 OneSided: interface 0: port 5001, b.toml: interface 1: port 5002\nc.toml: A18 Apart: router_id 1.1.1.1, a.toml: router_id 1.1.1.1\n".as_slice()
+        b"a.toml: A10 NoDr: interface 1: priority 0, b.toml: interface 0: priority 0\nb.toml: A5 Hello: interface 1: hello 5, a.toml: interface 0: hello 10\nb.toml: A7 Mtu: interface 1: mtu 1400, a.toml: interface 0: mtu 1500\nc.toml: A1 SameRouter: router_id 1.1.1.1, a.toml: router_id 1.1.1.1\nc.toml: A2 SameAddress: interface 0: address 10.1.0.2/25, b.toml: interface 0: address 10.1.0.2/24\nc.toml: A8 Mask: interface 0: address 10.1.0.2/25, a.toml: interface 1: address 10.1.0.1/24\na.toml: A11 OneSided: interface 0: port 5001, b.toml: interface 1: port 5002\nb.toml: A18 Apart: router_id 2.2.2.2, a.toml: router_id 1.1.1.1\nc.toml: A18 Apart: router_id 1.1.1.1, a.toml: router_id 1.1.1.1\n".as_slice()
     );
     assert_eq!(rt; told.out.as_slice(), b"a.toml: ok\nb.toml: ok\nc.toml: ok\n".as_slice());
     assert_eq!(rt; told.status, Status::Refused);

@@ -1,4 +1,4 @@
-use Rattle.std.proofs.Common.{rules, ◌≡◌, ◌++◌, ◌∙◌, ℕ, Bool, ap}
+use Rattle.std.proofs.Common.{rules, ◌≡◌, ◌++◌, ◌∙◌, ℕ, Bool, ap, subst}
 use Rattle.std.specs.List.{filter_map}
 use Rattle.ospf_plan.specs.Ends.{AreMaps, ends_of, first_at_port, holder_in}
 use Rattle.ospf_plan.specs.Findings.{found_in}
@@ -22,7 +22,9 @@ returns c =
     c.in_ok-push_unheard.ensures
     ∙ ap (λ ws. c.push_wire_faults.new.findings.items ++ unheard_by ports has ws c.deref-5.result.now) (c.deref-6.ensures.value ∙ c.in_ok-wires.ensures)
     ∙ ap (λ es. c.push_wire_faults.new.findings.items ++ unheard_by ports has wires es) (c.deref-5.ensures.value ∙ c.in_ok-ends.ensures) in
-    let four : (reached : ℕ → Bool) × AreReached ends reached × (c.push_apart.new.findings.items ≡ c.push_unheard.new.findings.items ++ apart_in reached ends) = search rules in
+    let four : (reached : ℕ → Bool) × AreReached ends reached × (c.push_apart.new.findings.items ≡ c.push_unheard.new.findings.items ++ apart_in reached ends) =
+    subst (λ es. (reached : ℕ → Bool) × AreReached es reached × (c.push_apart.new.findings.items ≡ c.push_unheard.new.findings.items ++ apart_in reached es))
+    (c.deref-7.ensures.value ∙ c.in_ok-ends.ensures) c.in_ok-push_apart.ensures in
     let (reached, are, told) = four in
     let at : ports ≡ first_at_port ends = one_function ports (first_at_port ends) maps.ports in
     let heard : has ≡ is_wired wires = one_function has (is_wired wires) hears in
