@@ -2,6 +2,7 @@
 import argparse
 import collections
 import errno
+import math
 import os
 import re
 import socket
@@ -11,6 +12,8 @@ import sys
 HEADER = 20
 MAX_AGE = 3600
 MAX_AGE_DIFF = 900
+# The bit of LS age that keeps an LSA from ageing (RFC 1793, section 2.2): a demand circuit or flood reduction sets it.
+DO_NOT_AGE = 0x8000
 MAX_NUMBER = 0x7FFFFFFF
 # Times are in nanoseconds, ages in seconds.
 SECOND = 10**9
@@ -84,12 +87,22 @@ def key_of(lsa):
     return lsa[3], lsa[4:8], lsa[8:12]
 
 
+def age_of(lsa):
+    """The age of an instance in seconds, without the bit DoNotAge, and at most MaxAge."""
+    return min(struct.unpack_from(">H", lsa)[0] & ~DO_NOT_AGE, MAX_AGE)
+
+
+def does_age(lsa):
+    """Whether an instance grows older in a database: not where it has the bit DoNotAge, unless it is flushed."""
+    return not struct.unpack_from(">H", lsa)[0] & DO_NOT_AGE or age_of(lsa) == MAX_AGE
+
+
 def is_newer(a, b):
     """Whether the first instance is the newer one, of one key (RFC 2328, section 13.1)."""
     first, second = struct.unpack_from(">iH", a, 12), struct.unpack_from(">iH", b, 12)
     if first != second:
         return first > second
-    age, other = (min(struct.unpack_from(">H", lsa)[0], MAX_AGE) for lsa in (a, b))
+    age, other = age_of(a), age_of(b)
     if (age == MAX_AGE) != (other == MAX_AGE):
         return age == MAX_AGE
     return age + MAX_AGE_DIFF < other
@@ -97,29 +110,33 @@ def is_newer(a, b):
 
 def has_wrapped(known, lsa):
     """Whether an instance stands behind the flushed one of the greatest number, where numbers begin again (RFC 2328, section 12.1.6)."""
-    age, number = struct.unpack_from(">H", known)[0], known[12:16]
-    return age >= MAX_AGE and number == struct.pack(">I", MAX_NUMBER) and lsa[12:16] != number
+    number = known[12:16]
+    return age_of(known) == MAX_AGE and number == struct.pack(">I", MAX_NUMBER) and lsa[12:16] != number
 
 
 def end_of(lsa, time):
     """When an instance leaves all databases, by the time of a copy: where that is at MaxAge, then (RFC 2328, section 14), else once it
-    would come to that age; None where the copy has no time."""
-    age = min(struct.unpack_from(">H", lsa)[0], MAX_AGE)
-    return None if time is None else time + (MAX_AGE - age) * SECOND
+    reaches that age, and never where it does not age; None where the copy has no time."""
+    if time is None:
+        return None
+    return time + (MAX_AGE - age_of(lsa)) * SECOND if does_age(lsa) else math.inf
 
 
-def has_followed(end, lsa, time):
-    """Whether an instance was originated when the known one had left all databases. It is installed then, whatever its number (RFC 2328,
-    section 13). Ages rise at each hop, so a late copy of what was there before never seems younger than it is."""
-    own = end_of(lsa, time)
-    return end is not None and own is not None and own - MAX_AGE * SECOND >= end
+def has_followed(known, end, lsa, time):
+    """Whether an instance came when the known one had left all databases. It is installed then, whatever its number (RFC 2328, section
+    13). Behind a flush it counts from when it was originated: ages rise at each hop, so a late copy of what was there before never seems
+    younger than it is."""
+    if end is None or time is None:
+        return False
+    return time - age_of(lsa) * SECOND >= end or (age_of(known) < MAX_AGE and time > end)
 
 
 class Found:
-    """The newest instance of each LSA that was found, area for area, with its end, and what was left out, counted by its reason."""
+    """The newest instance of each LSA that was found, area for area, with its end, what was left out, counted by its reason, and the time
+    of the last packet, if one is known."""
 
     def __init__(self):
-        self.areas, self.ends, self.left = {}, {}, collections.Counter()
+        self.areas, self.ends, self.left, self.last = {}, {}, collections.Counter(), None
 
     def leave(self, reason):
         self.left[reason] += 1
@@ -134,12 +151,29 @@ class Found:
         known, end = newest.get(key), end_of(lsa, time)
         if known is not None:
             self.leave("older or repeated instances")
-            if not is_newer(lsa, known) and not has_wrapped(known, lsa) and not has_followed(ends[key], lsa, time):
+            if not is_newer(lsa, known) and not has_wrapped(known, lsa) and not has_followed(known, ends[key], lsa, time):
                 if not is_newer(known, lsa):
                     ends[key] = None if None in (end, ends[key]) else max(end, ends[key])
                 return None
         newest[key], ends[key] = lsa, end
         return None
+
+    def pass_time(self, time):
+        """Takes the time of a packet, if it is known. Packets of several captures may come out of order."""
+        if time is not None:
+            self.last = time if self.last is None else max(time, self.last)
+
+    def has_expired(self, lsa, end):
+        """Whether an instance reached MaxAge before the last packet, and was not flushed before (RFC 2328, section 14)."""
+        return None not in (end, self.last) and age_of(lsa) < MAX_AGE and end < self.last
+
+    def expire(self):
+        """Leaves out each LSA that has expired. The last copy of it has an age below MaxAge, so `table` would take it for a living one."""
+        for area, newest in self.areas.items():
+            for key, lsa in list(newest.items()):
+                if self.has_expired(lsa, self.ends[area][key]):
+                    self.leave("LSAs that expired: they reached MaxAge before the last packet, and no younger copy came")
+                    del newest[key]
 
     def area(self, wanted):
         """The LSAs of the area that is wanted, or of the only one. Two areas have LSAs of one key, so they are never mixed."""
@@ -154,6 +188,7 @@ class Found:
 
     def write(self, wanted):
         """Writes the LSAs in the order of their keys, and tells what there was."""
+        self.expire()
         for reason, count in sorted(self.left.items()):
             tell(f"left out: {count} {reason}")
         newest = self.area(wanted)
