@@ -31,8 +31,8 @@ beside first second e = if is_found first e then second else first
 -- the interface with which a slow one does not settle: on a broadcast network any other, since the
 -- Designated Router floods on what it gets; on a point-to-point network one that is slow too
 -- (RFC 2328, sections 13.1 and 13.3)
-abbrev pub delayed : List LinkEnd → LinkEnd → Option LinkEnd
-delayed ends e =
+abbrev pub delayed_with : List LinkEnd → LinkEnd → Option LinkEnd
+delayed_with ends e =
     let q = network_key e.address in
     elim e.kind [
       | PointToPoint ↦ first_on (filter is_slow_end ends) q
@@ -54,7 +54,7 @@ around_of ends e =
       third = first_on (others (others ends)) q;
       elector = first_on (filter can_be_elected ends) q;
       successor = first_on (others (filter can_be_elected ends)) q;
-      delayed = delayed ends e;
+      delayed = delayed_with ends e;
       wider = first_around ends e.address e.address.length;
       plug = first_at_port ends (port_of e);
     }

@@ -99,25 +99,21 @@ impl AreaFault {
         ensures { result.now ≡ meaning_text self }
     {
         match self {
-            AreaFault::SameRouter => {
-                "each drops the other's packets as its own, and each flushes the other's LSAs (RFC 2328, sections 8.2 and 13.4)"
-            }
-            AreaFault::SameAddress => {
-                "what is sent to the address may come to either; as neighbours each is the other's next hop at its own address (section 16.1.1)"
-            }
+            AreaFault::SameRouter =>
+                "each drops the other's packets as its own, and each flushes the other's LSAs (RFC 2328, sections 8.2 and 13.4)",
+            AreaFault::SameAddress =>
+                "what is sent to the address may come to either; as neighbours each is the other's next hop at its own address (section 16.1.1)",
             AreaFault::Area => "each drops the other's packets (section 8.2)",
-            AreaFault::Kind => {
-                "one elects a Designated Router and the other does not: they may become Full, and no route leads over the network (sections 9.4 and 16.1)"
-            }
+            AreaFault::Kind =>
+                "one elects a Designated Router and the other does not: they may become Full, and no route leads over the network (sections 9.4 and 16.1)",
             AreaFault::Hello | AreaFault::Dead => {
                 "each drops the other's Hellos: they never become neighbours (section 10.5)"
             }
             AreaFault::Mtu => {
                 "the one of the smaller MTU drops the other's Database Descriptions: they never become Full (section 10.6)"
             }
-            AreaFault::Mask => {
-                "their networks overlap and are two: on a broadcast network neither hears the other; over a point-to-point link they may become Full, and each tells its own (sections 8.2 and 10.5)"
-            }
+            AreaFault::Mask =>
+                "their networks overlap and are two: on a broadcast network neither hears the other; over a point-to-point link they may become Full, and each tells its own (sections 8.2 and 10.5)",
             AreaFault::Crowded => {
                 "each end takes the first router that it hears for its only neighbour (section 8.2)"
             }
@@ -137,9 +133,8 @@ impl AreaFault {
             AreaFault::Nowhere(_) => "no router of these files hears what is sent there",
             AreaFault::Apart => "over these networks the area falls apart: no route leads there",
             AreaFault::Unheard => "in `run` they never become neighbours (section 10.5)",
-            AreaFault::LoneDr => {
-                "if this router fails, the others elect no Designated Router: they do not become adjacent, and no route leads over the network (sections 9.4 and 10.4)"
-            }
+            AreaFault::LoneDr =>
+                "if this router fails, the others elect no Designated Router: they do not become adjacent, and no route leads over the network (sections 9.4 and 10.4)",
         }
     }
 }

@@ -188,7 +188,7 @@ fn is_wrong(fault: AreaFault, around: &Surroundings, other: &LinkEnd, here: &Lin
     }
 }
 
-// Whether an interface is the one alone that can be elected on a broadcast network of three or more.
+// Whether it is the only interface that can be elected on a broadcast network of three or more.
 fn is_lone_dr(around: &Surroundings, here: &LinkEnd) -> bool
     ensures { result ≡ is_lone_dr around.now here.now }
 {

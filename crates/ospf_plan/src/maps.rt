@@ -2,7 +2,7 @@
 
 ghost use Rattle.std.specs.Prelude.{◌≡◌, List, IfOk};
 ghost use Rattle.ospf_plan.specs.Ends.{AreFirsts, AreMaps, first_around};
-ghost use Rattle.ospf_plan.specs.Findings.{around_of, beside, delayed};
+ghost use Rattle.ospf_plan.specs.Findings.{around_of, beside, delayed_with};
 ghost use Rattle.ospf_plan.specs.declared.ends.LinkEnd.{LinkEnd};
 
 use crate::ends::{LinkEnd, electors, port_of, slow_ends};
@@ -55,7 +55,8 @@ impl Maps {
 
     // The interface with which this one does not settle if it is slow.
     fn delayed(&self, end: &LinkEnd) -> Option<LinkEnd>
-        ensures { (ends : List LinkEnd) → AreMaps self.now ends → result ≡ delayed ends end.now }
+        ensures { (ends : List LinkEnd) → AreMaps self.now ends →
+            result ≡ delayed_with ends end.now }
     {
         let network = network_of(&end.address);
         match end.kind {

@@ -16,7 +16,7 @@ use Rattle.ospf_lsa.specs.declared.link.LinkKind.TheVariants as kind
 use Rattle.ospf_edges.specs.Addresses.{links_by}
 use Rattle.ospf_graph.specs.Advertisements.{Advertisement, HasLink}
 use Rattle.ospf_graph.proofs.ListLemmas.{bool_cases, member_head}
-use Rattle.ospf_whatif.specs.Failure.{inner_of, is_of, is_stub_of, is_wire_end, takes, takes_in}
+use Rattle.ospf_whatif.specs.Failure.{inner_of, is_of_subnet, is_stub_of, is_wire_end, takes, takes_in}
 use Rattle.ospf_whatif.specs.Single.{IsFailure, IsInterfaceIndex, IsUnnumbered, IsWire}
 use Rattle.ospf_whatif.specs.Subnets.{indices, is_address, is_end_in, is_held, is_inside, is_link_in, is_link_to, is_same_stub, is_shared_stub}
 use Rattle.ospf_whatif.specs.declared.failure.AreaFailure.TheVariants as fails
@@ -62,7 +62,7 @@ module _ (A : List Advertisement) (a b : RouterId) (s t : Prefix) (x : ℕ) (les
   in_stub : (stub : Link) → IsPrefixOf stub.id stub.link_data t → (address : ℕ) → Holds t address → is_held stub address ≡ true
   in_stub stub of address holds = eq-eqb _ _ (ap (λ m. bit_and address m) of.mask_is ∙ holds ∙ of.masked)
 
-  caught : (stub : Link) → IsPrefixOf stub.id stub.link_data t → Contains (inner_of (fails.Link a b s) A) stub → is_of (inner_of (fails.Link a b s) A) s x ≡ true → ⊥
+  caught : (stub : Link) → IsPrefixOf stub.id stub.link_data t → Contains (inner_of (fails.Link a b s) A) stub → is_of_subnet (inner_of (fails.Link a b s) A) s x ≡ true → ⊥
   caught stub of m is =
       let inner = inner_of (fails.Link a b s) A in
       let w = and_parts (eqb (bit_and x (mask_of s.length)) s.address.0) (not (list_any (λ stub. is_held stub x) inner)) is in
@@ -89,7 +89,7 @@ module _ (A : List Advertisement) (a b : RouterId) (s t : Prefix) (x : ℕ) (les
       (any_member (is_same_stub stub) (links_by r A) one (member_by r A h.links one h.listed h.link_in) same)
       (any_member (is_link_in stub other) (links_by r A) two (member_by r A link.links two link.listed link.link_in) leads)
 
-  wire_caught : IsWire A a b t → is_of (inner_of (fails.Link a b s) A) s x ≡ true → ⊥
+  wire_caught : IsWire A a b t → is_of_subnet (inner_of (fails.Link a b s) A) s x ≡ true → ⊥
   wire_caught w is =
       let here = w.shared.told_here in
       let there = w.shared.told_there in
@@ -103,14 +103,14 @@ module _ (A : List Advertisement) (a b : RouterId) (s t : Prefix) (x : ℕ) (les
       let kept = of_kept (is_inner s a b mine theirs) mine stub m (and_from (is_inside s stub) (is_shared_stub a b mine theirs stub) (inside stub of) shared) in
       caught stub of (Contains-append_left (filter (is_inner s a b mine theirs) mine) (filter (is_inside s) (indices ∷ [])) stub kept) is
 
-  index_caught : IsUnnumbered A a b t → is_of (inner_of (fails.Link a b s) A) s x ≡ true → ⊥
+  index_caught : IsUnnumbered A a b t → is_of_subnet (inner_of (fails.Link a b s) A) s x ≡ true → ⊥
   index_caught w is =
       let mask : 0xFF000000 ≡ mask_of t.length = subst (λ n. 0xFF000000 ≡ mask_of n) (sym w.indices.of_eight) refl in
       let of : IsPrefixOf 0 0xFF000000 t = record { mask_is = mask; masked = w.indices.from_zero } in
       let kept = of_kept (is_inside s) (indices ∷ []) indices (member_head indices []) (inside indices of) in
       caught indices of (Contains-append_right (filter (is_inner s a b mine theirs) mine) (filter (is_inside s) (indices ∷ [])) indices kept) is
 
-  not_longer : IsFailure A (fails.Link a b t) → is_of (inner_of (fails.Link a b s) A) s x ≡ true → ⊥
+  not_longer : IsFailure A (fails.Link a b t) → is_of_subnet (inner_of (fails.Link a b s) A) s x ≡ true → ⊥
   not_longer (inl wire) is = wire_caught wire is
   not_longer (inr index) is = index_caught index is
 
@@ -133,12 +133,12 @@ two_kinds kind.Stub id link_data metric r p to is = cc
 
 -- a link that a failure takes leads out of its subnet, or to it
 abbrev Leaves : List Link → Prefix → Link → Type 0
-Leaves inner p l = ((r : RouterId) × (is_link_to l r ≡ true) × (is_of inner p l.link_data ≡ true)) ⊎ (is_stub_of l p ≡ true)
+Leaves inner p l = ((r : RouterId) × (is_link_to l r ≡ true) × (is_of_subnet inner p l.link_data ≡ true)) ⊎ (is_stub_of l p ≡ true)
 
 end_leaves : (inner : List Link) (l : Link) (r : RouterId) (p : Prefix) → is_wire_end inner l r p ≡ true → Leaves inner p l
 end_leaves inner l r p is =
-    elim (or_cases (is_link_to l r && is_of inner p l.link_data) (is_stub_of l p) is) [
-      | inl out ↦ (let w = and_parts (is_link_to l r) (is_of inner p l.link_data) out in inl (r, w.0, w.1))
+    elim (or_cases (is_link_to l r && is_of_subnet inner p l.link_data) (is_stub_of l p) is) [
+      | inl out ↦ (let w = and_parts (is_link_to l r) (is_of_subnet inner p l.link_data) out in inl (r, w.0, w.1))
       | inr stub ↦ inr stub
     ]
 
@@ -149,7 +149,7 @@ leaves inner a b router p l is =
       | inr two ↦ end_leaves inner l a p (and_parts (eqb router.0 b.0) (is_wire_end inner l a p) two).1
     ]
 
-holds_of : (inner : List Link) (p : Prefix) (x : ℕ) → is_of inner p x ≡ true → Holds p x
+holds_of : (inner : List Link) (p : Prefix) (x : ℕ) → is_of_subnet inner p x ≡ true → Holds p x
 holds_of inner p x is = eqb-true _ _ (and_parts (eqb (bit_and x (mask_of p.length)) p.address.0) (not (list_any (λ stub. is_held stub x) inner)) is).0
 
 pub links_fail_apart : (A : List Advertisement) (a b router : RouterId) (s t : Prefix) (l : Link) → IsFailure A (fails.Link a b s) → IsFailure A (fails.Link a b t)

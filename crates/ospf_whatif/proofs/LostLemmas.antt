@@ -26,7 +26,7 @@ use Rattle.ospf_graph.specs.declared.graph.Edge.{Edge}
 use Rattle.ospf_graph.specs.declared.graph.Vertex.{Vertex}
 use Rattle.ospf_graph.specs.declared.graph.Vertex.TheVariants as vertex
 use Rattle.ospf_graph.proofs.ListLemmas.{bool_cases, member_to_map}
-use Rattle.ospf_whatif.specs.Failure.{inner_of, is_of, is_stub_of, is_wire_end, kept_links, left_of_lsa, takes, without}
+use Rattle.ospf_whatif.specs.Failure.{inner_of, is_of_subnet, is_stub_of, is_wire_end, kept_links, left_of_lsa, takes, without}
 use Rattle.ospf_whatif.specs.Lost.{AreEdgesLost, AreEndsLost, AreStubsOf, IsTwoWay, Stays, centre_of}
 use Rattle.ospf_whatif.specs.Outage.{AreLost, StandsIn}
 use Rattle.ospf_whatif.specs.Subnets.{HaveSame}
@@ -93,19 +93,19 @@ cut_near (fails.Network n) e p = p
 cut_near (fails.Router r) e p = p
 
 module _ (inner : List Link) (x b : RouterId) (subnet : Prefix) (link_data metric : ℕ) where
-  wire_end : is_wire_end inner (to_router x link_data metric) b subnet ≡ true → (vertex.Router x ≡ vertex.Router b) × (is_of inner subnet link_data ≡ true)
+  wire_end : is_wire_end inner (to_router x link_data metric) b subnet ≡ true → (vertex.Router x ≡ vertex.Router b) × (is_of_subnet inner subnet link_data ≡ true)
   wire_end t =
-      elim (or_cases (eqb x.0 b.0 && is_of inner subnet link_data) false t) [
-        | inl both ↦ (let w = and_parts (eqb x.0 b.0) (is_of inner subnet link_data) both in (router_is x b w.0, w.1))
+      elim (or_cases (eqb x.0 b.0 && is_of_subnet inner subnet link_data) false t) [
+        | inl both ↦ (let w = and_parts (eqb x.0 b.0) (is_of_subnet inner subnet link_data) both in (router_is x b w.0, w.1))
         | inr never ↦ absurd (cc)
       ]
 
-  end_of_wire : vertex.Router x ≡ vertex.Router b → is_of inner subnet link_data ≡ true → is_wire_end inner (to_router x link_data metric) b subnet ≡ true
-  end_of_wire same held = or_left (eqb x.0 b.0 && is_of inner subnet link_data) false (and_from (eqb x.0 b.0) (is_of inner subnet link_data) (is_router x b same) held)
+  end_of_wire : vertex.Router x ≡ vertex.Router b → is_of_subnet inner subnet link_data ≡ true → is_wire_end inner (to_router x link_data metric) b subnet ≡ true
+  end_of_wire same held = or_left (eqb x.0 b.0 && is_of_subnet inner subnet link_data) false (and_from (eqb x.0 b.0) (is_of_subnet inner subnet link_data) (is_router x b same) held)
 
 module _ (inner : List Link) (a b : RouterId) (subnet : Prefix) (r x : RouterId) (link_data metric : ℕ) where
   wire_taken : takes inner (fails.Link a b subnet) r (to_router x link_data metric) ≡ true
-      → Pair (vertex.Router a) (vertex.Router b) (vertex.Router r) (vertex.Router x) × (is_of inner subnet link_data ≡ true)
+      → Pair (vertex.Router a) (vertex.Router b) (vertex.Router r) (vertex.Router x) × (is_of_subnet inner subnet link_data ≡ true)
   wire_taken t =
       let l = to_router x link_data metric in
       elim (or_cases (eqb r.0 a.0 && is_wire_end inner l b subnet) (eqb r.0 b.0 && is_wire_end inner l a subnet) t) [
@@ -113,7 +113,7 @@ module _ (inner : List Link) (a b : RouterId) (subnet : Prefix) (r x : RouterId)
         | inr p ↦ (let w = and_parts (eqb r.0 b.0) (is_wire_end inner l a subnet) p in let y = wire_end inner x a subnet link_data metric w.1 in (inr (router_is r b w.0, y.0), y.1))
       ]
 
-  taken_wire : Pair (vertex.Router a) (vertex.Router b) (vertex.Router r) (vertex.Router x) → is_of inner subnet link_data ≡ true
+  taken_wire : Pair (vertex.Router a) (vertex.Router b) (vertex.Router r) (vertex.Router x) → is_of_subnet inner subnet link_data ≡ true
       → takes inner (fails.Link a b subnet) r (to_router x link_data metric) ≡ true
   taken_wire (inl p) held =
       let l = to_router x link_data metric in

@@ -14,7 +14,7 @@ use Rattle.ospf_edges.specs.Addresses.{links_by}
 use Rattle.ospf_edges.specs.Near.{AreLinksBy}
 use Rattle.ospf_graph.specs.Advertisements.{Advertisement, router_lsa, network_lsa, IsListed}
 use Rattle.ospf_graph.proofs.ListLemmas.{bool_cases, member_cases, member_head, member_later}
-use Rattle.ospf_whatif.specs.Failure.{HasLeftLarge, HasLeftLargeBy, IsLeftBy, IsLeftLarge, IsLeftLsa, inner_of, is_of, is_stub_of, kept_links, left_of_lsa, takes, without}
+use Rattle.ospf_whatif.specs.Failure.{HasLeftLarge, HasLeftLargeBy, IsLeftBy, IsLeftLarge, IsLeftLsa, inner_of, is_of_subnet, is_stub_of, kept_links, left_of_lsa, takes, without}
 use Rattle.ospf_whatif.specs.Subnets.{HaveSame, indices, inner_between, is_end_in, is_held, is_inside, is_link_in, is_link_to, is_same_stub, is_shared_stub, is_stub}
 use Rattle.ospf_whatif.specs.declared.failure.AreaFailure.{AreaFailure}
 use Rattle.ospf_whatif.specs.declared.failure.AreaFailure.TheVariants as fails
@@ -50,7 +50,7 @@ any_same p xs ys same =
 
 -- ---- what a failure takes
 
-of_same : (xs ys : List Link) → HaveSame xs ys → (subnet : Prefix) (link_data : ℕ) → is_of xs subnet link_data ≡ is_of ys subnet link_data
+of_same : (xs ys : List Link) → HaveSame xs ys → (subnet : Prefix) (link_data : ℕ) → is_of_subnet xs subnet link_data ≡ is_of_subnet ys subnet link_data
 of_same xs ys same subnet link_data =
     ap (λ (b : Bool). eqb (bit_and link_data (mask_of subnet.length)) subnet.address.0 && not b) (any_same (λ (stub : Link). is_held stub link_data) xs ys same)
 

@@ -38,8 +38,8 @@ is_stub_of l prefix = by_kind l.kind
     by_kind _ = false
 
 -- the Link Data of a link lies in the subnet, and in none of the longer ones
-abbrev pub is_of : List Link → Prefix → ℕ → Bool
-is_of inner subnet link_data =
+abbrev pub is_of_subnet : List Link → Prefix → ℕ → Bool
+is_of_subnet inner subnet link_data =
     (bit_and link_data (mask_of subnet.length) == subnet.address.0)
     && not (list_any (λ stub. is_held stub link_data) inner)
 
@@ -47,7 +47,7 @@ is_of inner subnet link_data =
 -- there, which lies in no longer subnet, and the type 3 link to the subnet
 abbrev pub is_wire_end : List Link → Link → RouterId → Prefix → Bool
 is_wire_end inner l router subnet =
-    (is_link_to l router && is_of inner subnet l.link_data) || is_stub_of l subnet
+    (is_link_to l router && is_of_subnet inner subnet l.link_data) || is_stub_of l subnet
 
 -- ---- failures
 

@@ -9,7 +9,7 @@ use Rattle.ospf_graph.specs.Graph.{IsEdge}
 use Rattle.ospf_graph.specs.declared.graph.Edge.{Edge}
 use Rattle.ospf_graph.specs.declared.graph.Vertex.{Vertex}
 use Rattle.ospf_graph.specs.declared.graph.Vertex.TheVariants as vertex
-use Rattle.ospf_whatif.specs.Failure.{is_of, without}
+use Rattle.ospf_whatif.specs.Failure.{is_of_subnet, without}
 use Rattle.ospf_whatif.specs.Outage.{AreLost, StandsIn}
 use Rattle.ospf_whatif.specs.declared.failure.AreaFailure.{AreaFailure}
 use Rattle.ospf_whatif.specs.declared.failure.AreaFailure.TheVariants.{Attachment, Link, Links, Network, Router}
@@ -30,7 +30,7 @@ Connects e v w = ((e.from ≡ v) × (e.to ≡ w)) ⊎ ((e.from ≡ w) × (e.to �
 
 -- its Link Data lies outside the subnet, or in a longer one
 abbrev pub IsOutside : List LsaLink → Prefix → Edge → Type 0
-IsOutside inner subnet e = is_of inner subnet e.link_data ≡ false
+IsOutside inner subnet e = is_of_subnet inner subnet e.link_data ≡ false
 
 -- the second edge leads back, outside the subnet
 abbrev pub IsWayBack : List LsaLink → Prefix → Edge → Edge → Type 0

@@ -2,7 +2,7 @@
 
 ghost use Rattle.std.specs.Prelude.{◌≡◌};
 ghost use Rattle.std.specs.List.{list_any};
-ghost use Rattle.ospf_whatif.specs.Failure.{is_of, is_stub_of, is_transit_of, is_wire_end};
+ghost use Rattle.ospf_whatif.specs.Failure.{is_of_subnet, is_stub_of, is_transit_of, is_wire_end};
 ghost use Rattle.ospf_whatif.specs.Subnets.{is_held};
 
 use crate::subnets::{is_held, is_link_to};
@@ -72,12 +72,13 @@ impl AreaFailure {
 fn is_wire_end(inner: &[Link], link: Link, router: RouterId, subnet: Prefix) -> bool
     ensures { result ≡ is_wire_end inner.now link router subnet }
 {
-    (is_link_to(link, router) && is_of(inner, subnet, link.link_data)) || is_stub_of(link, subnet)
+    (is_link_to(link, router) && is_of_subnet(inner, subnet, link.link_data))
+        || is_stub_of(link, subnet)
 }
 
 /// Whether a link's Link Data lies in a subnet, and in none of these longer ones.
-pub(crate) fn is_of(inner: &[Link], subnet: Prefix, link_data: u32) -> bool
-    ensures { result ≡ is_of inner.now subnet link_data }
+pub(crate) fn is_of_subnet(inner: &[Link], subnet: Prefix, link_data: u32) -> bool
+    ensures { result ≡ is_of_subnet inner.now subnet link_data }
 {
     link_data & mask_of(subnet.length) == subnet.address.0 && !is_in_any(inner, link_data)
 }

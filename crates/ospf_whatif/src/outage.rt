@@ -8,7 +8,7 @@ ghost use Rattle.ospf_whatif.specs.Lost.{AreEdgesLost, AreEndsLost, AreStubsOf, 
 ghost use Rattle.ospf_whatif.specs.Lost.{centre_of as centre_of_spec};
 ghost use Rattle.ospf_whatif.specs.Outage.{AreLost};
 
-use crate::failure::{AreaFailure, is_of};
+use crate::failure::{AreaFailure, is_of_subnet};
 use crate::subnets::inner_of;
 use ospf_base::{Prefix, RouterId};
 use ospf_edges::{End, edges_at, edges_of, ends_at};
@@ -179,7 +179,7 @@ fn is_way_back(back: &Edge, edge: &Edge, inner: &[Link], subnet: Prefix) -> bool
 fn is_outside(edge: &Edge, inner: &[Link], subnet: Prefix) -> bool
     ensures { IsTrue result ↔ IsOutside inner.now subnet edge.now }
 {
-    !is_of(inner, subnet, edge.link_data)
+    !is_of_subnet(inner, subnet, edge.link_data)
 }
 
 // The ends that a failure takes.
