@@ -7,6 +7,7 @@ use ospf_config::Config;
 use ospf_fib::{Fib, Found};
 use ospf_router::{Event, Router, Sent};
 use std::alloc::Global;
+use std::sync::Wait;
 
 const FIRST: &str =
     "router_id = \"1.1.1.1\"\narea = \"0.0.0.0\"\n[[interface]]\nkind = \"point-to-point\"\naddress = \"10.0.0.1/30\"\ncost = 10\n";
@@ -29,15 +30,14 @@ const DD_START: u32 = 1;
 const SECONDS: u32 = 60;
 
 fn main(rt: HostRuntime) -> Result<(), anyhow::Error> {
-    if let Some(found) = looked_up(rt)? {
+    if let Some(found) = looked_up(&rt, rt.alloc())? {
         println!(rt; "{found}")?;
     }
     Ok(())
 }
 
 /// The route that the first router has to the host, out of a table that threads could share.
-pub fn looked_up(rt: HostRuntime) -> Result<Option<Found>, anyhow::Error> {
-    let alloc = rt.alloc();
+pub fn looked_up(rt: &impl Wait, alloc: Global) -> Result<Option<Found>, anyhow::Error> {
     let first = met(alloc)?;
     let (mut writer, mut seats) = Fib::open(alloc, rt, 1)?;
     writer.publish(first.table())?;

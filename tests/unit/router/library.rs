@@ -7,7 +7,7 @@ use std::test::Fail;
 #[test]
 fn two_routers_find_the_network(rt: HostRuntime) -> Result<(), Fail> {
     let alloc = rt.alloc();
-    let found = looked_up(rt).ok().flatten();
+    let found = looked_up(&rt, alloc).ok().flatten();
     assert!(rt; found.is_some());
     if let Some(found) = found {
         let text = format!(in alloc; "{found}")?;
