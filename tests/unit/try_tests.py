@@ -1,9 +1,11 @@
 #!/usr/bin/env python3
-"""Compiles the tests of a crate as `rt try --test` does (tools/checked.py), and runs them, each in a process of its own.
+"""Compiles the tests of a crate as `rt try --test` does (tools/checked.py), and runs them side by side, each in a process of its own.
 
 usage: try_tests.py FOLDER CRATE SECONDS [PART]    the crates of a folder, one of them, the most seconds of a test, and a part of the names of tests
 """
+import concurrent.futures
 import os
+import re
 import resource
 import signal
 import subprocess
@@ -15,6 +17,9 @@ sys.path[:0] = [os.path.join(TOP, "tests", "gate"), os.path.join(TOP, "tools")]
 from kit import library, look_for  # noqa: E402
 import checked  # noqa: E402
 
+RESULT = re.compile(r"^test result: \w+\. (\d+) passed; (\d+) failed.*$", re.M)
+MOST_AT_ONCE = 4
+
 
 def build(crate, program, place):
     """Compiles the tests of a crate into a program."""
@@ -25,6 +30,40 @@ def build(crate, program, place):
     checked.read(words, kept, place, crate.folder)
     checked.shrink(kept, place)
     checked.build(kept, "-O0", program, place)
+
+
+def groups_of(program):
+    """The tests of a program in groups: what the names of each group's tests begin with."""
+    listed = subprocess.run([program, "--list"], stdin=subprocess.DEVNULL, stdout=subprocess.PIPE, text=True, check=False).stdout
+    found = re.findall(r"^((?:\w+::){1,2})\S*: test$", listed, re.M)
+    return list(dict.fromkeys(found))
+
+
+def run_group(program, seconds, word, running):
+    """Runs the tests whose names hold a word, one after the other: what was said, how many passed, and how many failed, if that was said."""
+    words = [rtlib.RUNNER, "--seconds", seconds, *(["--filter", word] if word else []), program]
+    with subprocess.Popen(words, stdin=subprocess.DEVNULL, stdout=subprocess.PIPE, stderr=subprocess.STDOUT, text=True, errors="replace") as child:
+        running.append(child)
+        said = child.communicate()[0]
+        running.remove(child)
+    counted = RESULT.search(said)
+    return (RESULT.sub("", said).strip(), int(counted[1]), int(counted[2])) if counted else (said, 0, 1)
+
+
+def run_tests(program, seconds, part):
+    """Runs the tests side by side, group by group, and prints what was said of them: whether all passed."""
+    passed, failed, running = 0, 0, []
+    side_by_side = concurrent.futures.ThreadPoolExecutor(min(MOST_AT_ONCE, len(os.sched_getaffinity(0))))
+    try:
+        for said, good, bad in side_by_side.map(lambda word: run_group(program, seconds, word, running), part or groups_of(program) or [""]):
+            print(said, flush=True)
+            passed, failed = passed + good, failed + bad
+    finally:
+        side_by_side.shutdown(wait=False, cancel_futures=True)
+        for child in list(running):
+            child.kill()
+    print(f"test result: {'FAILED' if failed else 'ok'}. {passed} passed; {failed} failed")
+    return not failed
 
 
 def interrupted(number, frame):
@@ -46,5 +85,4 @@ with tempfile.TemporaryDirectory(prefix="tests-") as made:
         sys.exit(str(failure))
     # A test that fails aborts, and would leave a core file.
     resource.setrlimit(resource.RLIMIT_CORE, (0, 0))
-    words = ["--seconds", seconds, *(["--filter", *part] if part else []), tests]
-    sys.exit(subprocess.run([rtlib.RUNNER, *words], stdin=subprocess.DEVNULL, check=False).returncode)
+    sys.exit(0 if run_tests(tests, seconds, part) else 1)
