@@ -9,7 +9,7 @@ UNITS = ["tests/unit/units"]
 # These start no program of ours.
 WITHOUT_PROGRAM = [["tests/gate/layout"], ["tests/edits", "--check"], ["tools/promise", "--check", "docs/promises"], ["tests/gate/stand-ins"], ["tests/peers/bridge"]]
 # The longest first, so that the others run beside them.
-OF_PROGRAM = ["simulations/claims", "simulations/simulate", "captures/compare-inspect", "captures/read-captures", "captures/compare-failures"]
+OF_PROGRAM = ["captures/compare-failures", "simulations/claims", "simulations/simulate", "captures/compare-inspect", "captures/read-captures"]
 OF_PROGRAM += ["simulations/report", "captures/compare-captures", "captures/read-shown", "gate/shown", "gate/streams"]
 # These look at the clock while routers run, so nothing else runs beside them.
 ALONE = [["tests/peers/run"]]
