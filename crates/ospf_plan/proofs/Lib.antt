@@ -8,3 +8,4 @@ mod WireOrder
 mod UnheardLemmas
 mod Reach
 mod PartLemmas
+mod DropLemmas

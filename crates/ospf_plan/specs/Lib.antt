@@ -2,6 +2,7 @@ pub mod Ends
 pub mod Findings
 pub mod Shown
 pub mod Laws
+pub mod Drops
 pub mod Wires
 pub mod Unheard
 pub mod Joins

@@ -1,5 +1,6 @@
 //! Laws: each holds of all interfaces and findings.
 
+ghost use Rattle.ospf_plan.specs.Drops.{FoundAreaDrops, FoundHelloDrops, FoundMtuDrops, FoundRouterDrops, OthersAgree, OthersDiffer, OthersShareArea, OthersShareMtu, OthersShareNetwork};
 ghost use Rattle.ospf_plan.specs.Laws.{OthersTake, TellsEachUnheard, TellsExactly, TellsInOrder, TellsPartsInOrder, TellsUnheardInOrder, TellsWiresInOrder, ToldRefuse};
 
 /// What `findings` tells is exactly what holds.
@@ -37,4 +38,23 @@ pub fn told_refuse()
 /// Where neither is told of a network, `Iface::agrees` takes each Hello of one at each other.
 pub fn others_take()
     ensures { OthersTake }
+{}
+
+/// Where `A1 SameRouter`, `A3 Area`, `A5 Hello`, `A6 Dead` or `A7 Mtu` is found of two interfaces,
+/// the routers drop what they send each other, and for this cause.
+pub fn found_are_dropped()
+    ensures router { FoundRouterDrops }
+    ensures area { FoundAreaDrops }
+    ensures hello { FoundHelloDrops }
+    ensures mtu { FoundMtuDrops }
+{}
+
+/// Where none of them is found of a network, no packet is dropped for this cause between two of its
+/// interfaces; and none is dropped as one from another network.
+pub fn others_are_taken()
+    ensures router { OthersDiffer }
+    ensures area { OthersShareArea }
+    ensures network { OthersShareNetwork }
+    ensures hello { OthersAgree }
+    ensures mtu { OthersShareMtu }
 {}

@@ -17,7 +17,7 @@ pub use crate::ends::{LinkEnd, is_slow};
 pub use crate::fault::AreaFault;
 pub use crate::finding::{Finding, findings};
 pub use crate::laws::{
-    others_take, tells_exactly, tells_in_order, tells_parts_in_order, tells_unheard,
-    tells_wires_in_order, told_refuse,
+    found_are_dropped, others_are_taken, others_take, tells_exactly, tells_in_order,
+    tells_parts_in_order, tells_unheard, tells_wires_in_order, told_refuse,
 };
 pub use crate::told::NamedFinding;

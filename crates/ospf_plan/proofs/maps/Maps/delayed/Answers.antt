@@ -1,4 +1,4 @@
-use Rattle.std.proofs.Common.{◌≡◌, ◌∙◌, ap, sym, filter}
+use Rattle.std.proofs.Common.{◌∙◌, ap, sym, filter}
 use Rattle.ospf_base.specs.declared.interface.InterfaceKind.{InterfaceKind}
 use Rattle.ospf_base.specs.declared.interface.InterfaceKind.TheVariants.{PointToPoint, Broadcast}
 use Rattle.ospf_plan.specs.Ends.{end_in, first_on, is_slow_end, network_key, others}
