@@ -57,6 +57,7 @@ side_plain fault.Astray e name = rw (port_plain e.port) refl
 side_plain (fault.Nowhere peer) e name = refl
 side_plain fault.Apart e name = refl
 side_plain fault.Unheard e name = rw (port_plain e.port) refl
+side_plain fault.LoneDr e name = refl
 
 other_plain : (f : AreaFault) (e : LinkEnd) (name : List ℕ) → has_float (other_data f e name) ≡ false
 other_plain fault.SameRouter e name = side_plain fault.SameRouter e name
@@ -78,6 +79,7 @@ other_plain fault.Astray e name = side_plain fault.Astray e name
 other_plain (fault.Nowhere peer) e name = refl
 other_plain fault.Apart e name = side_plain fault.Apart e name
 other_plain fault.Unheard e name = side_plain fault.Unheard e name
+other_plain fault.LoneDr e name = refl
 
 finding_plain : (files : List NamedFile) (f : Finding) → has_float (finding_data files f) ≡ false
 finding_plain files f = rw (side_plain f.fault f.here (name_at files f.here.file), other_plain f.fault f.other (name_at files f.other.file)) refl
