@@ -3,6 +3,7 @@ pub mod ApartLemmas
 pub mod WithoutLemmas
 pub mod LessLemmas
 pub mod SingleLemmas
+pub mod HiddenLemmas
 pub mod LostLemmas
 pub mod OutageLemmas
 pub mod EffectLemmas

@@ -12,6 +12,7 @@ mod area;
 mod effect;
 mod failure;
 mod failures;
+mod hidden;
 mod laws;
 mod name;
 mod outage;
@@ -23,6 +24,7 @@ pub use crate::area::{WithoutFault, without, without_all};
 pub use crate::effect::{Loss, RouteChange};
 pub use crate::failure::AreaFailure;
 pub use crate::failures::single_failures;
+pub use crate::hidden::{HiddenCost, hidden_costs};
 pub use crate::laws::{
     failure_names_tell_apart, failures_make_no_edge, failures_take_away, links_fail_apart,
     networks_are_but_names, only_links_back_count, trees_stay,
