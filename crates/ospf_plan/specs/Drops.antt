@@ -68,7 +68,7 @@ DropsAll e d cause =
     → drop_of_packet local i neighbours area source destination m ≡ Some cause
 
 -- nothing in the head of a packet lets the router drop it (8.2)
-pub record Arrives (i : Iface) (a : AreaId) (source to : Addr) (m : Meaning) : Type 0 where
+pub record PassesHead (i : Iface) (a : AreaId) (source to : Addr) (m : Meaning) : Type 0 where
   pub up : is_down i.state ≡ false
   pub area : (m.area.0 == a.0) ≡ true
   pub other : (m.router.0 == i.settings.router.0) ≡ false
@@ -84,7 +84,7 @@ abbrev pub DropsHellos : LinkEnd → LinkEnd → Type 0
 DropsHellos e d =
     (local : Local) (area : AreaId) (i j : Iface) (neighbours : List NeighbourValue)
     (source destination : Addr) (m : Meaning) (heard : List RouterId) → IsRouterAt e local area i
-    → IsIfaceOf d j → m.body ≡ hello (own_hello j) heard → Arrives i area source destination m
+    → IsIfaceOf d j → m.body ≡ hello (own_hello j) heard → PassesHead i area source destination m
     → drop_of_packet local i neighbours area source destination m ≡ Some dropped.HelloMismatch
 
 -- the router at e drops each Database Description that its neighbour sends from d, since its MTU is

@@ -52,6 +52,7 @@ pub fn found_are_dropped()
 /// Where none of them is found of a network, no packet is dropped for this cause between two of its
 /// interfaces; and none is dropped as one from another network.
 pub fn others_are_taken()
+    // The causes R3, R2, R5 and R6 of a drop, and E1 of the exchange.
     ensures router { OthersDiffer }
     ensures area { OthersShareArea }
     ensures network { OthersShareNetwork }
