@@ -14,7 +14,17 @@ use Rattle.ospf_lsa.specs.Header.{header_of}
 use Rattle.ospf_lsa.specs.Lsa.{key_of}
 use Rattle.ospf_lsa.specs.Listing.{HasKey, IsInserted}
 use Rattle.ospf_base.proofs.KeyMaps.{is_eq-key_cmp, key_cmp-less}
+use Rattle.hex.specs.Hex.{decode_of}
+use Rattle.std.specs.Prelude.{◌≢◌, Ok}
+use Rattle.ospf_base.specs.Constants.{max_age}
+use Rattle.ospf_base.specs.Text.{IsBlank}
+use Rattle.ospf_lsa.specs.Lsa.{IsLsa}
+use Rattle.ospf_lsa.specs.declared.listing.ListingFault.{ListingFault}
+use Rattle.ospf_lsa.specs.declared.listing.ListingFault.TheVariants as listing_fault
 use Rattle.ospf_table.specs.Entries.{IsKeyedEntry, AreKeyed}
+use Rattle.ospf_table.specs.Fault.{IsMemoryFault}
+use Rattle.ospf_table.specs.Line.{HasLineFault, IsTaken, with_plain_age}
+use Rattle.ospf_table.specs.declared.table.EntryFault.TheVariants.{Listing}
 
 bool_cases : (b : Bool) → (b ≡ true) ⊎ (b ≡ false)
 bool_cases true = inl refl
@@ -143,3 +153,48 @@ young_it [] keyed [] lsa rest is = absurd (cc)
 young_it [] keyed (d ∷ ds) lsa rest is = absurd (cc)
 young_it (e ∷ es) keyed [] lsa rest is = let this : e.1 ≡ lsa = cc in subst (λ (l : List ℕ). (header_of l).age < 3600) this keyed.0.young
 young_it (e ∷ es) keyed (d ∷ ds) lsa rest is = let left : values_of es ≡ ds ++ lsa ∷ rest = cc in young_it es keyed.1 ds lsa rest left
+
+-- ---- an LSA of a line
+
+-- the line spells this LSA, which is below MaxAge at its plain age
+pub record IsYoungLine (text spelled lsa : List ℕ) : Type 0 where
+  pub not_blank : IsBlank text → ⊥
+  pub decoded : (decode_of text ≡ Ok spelled) × IsLsa spelled
+  pub lsa_is : lsa ≡ with_plain_age spelled
+  pub young : (header_of lsa).age ≢ max_age
+
+-- it is put in
+pub line_listed : (text spelled lsa : List ℕ) (old new : List (List ℕ)) → IsYoungLine text spelled lsa → (HasKey old (key_of lsa) → ⊥) → IsInserted lsa old new
+    → IsTaken text old new
+line_listed text spelled lsa old new line absent put = inr (
+  line.not_blank,
+  record {
+    spelled = spelled;
+    decoded = line.decoded.0;
+    is_lsa = line.decoded.1;
+    lsa = lsa;
+    lsa_is = line.lsa_is;
+    new_is = inr (line.young, absent, put);
+  },
+)
+
+-- or refused
+pub line_refused : (text spelled lsa : List ℕ) (old : List (List ℕ)) (f : ListingFault) → IsYoungLine text spelled lsa → (f ≡ listing_fault.Twice → HasKey old (key_of lsa))
+    → (f ≡ listing_fault.MaxAge → (header_of lsa).age ≡ max_age) → IsMemoryFault (Listing f) ⊎ HasLineFault text old (Listing f)
+line_refused text spelled lsa old listing_fault.Twice line twice aged = inr (
+  line.not_blank,
+  (
+    refl,
+    record {
+      spelled = spelled;
+      decoded = line.decoded.0;
+      is_lsa = line.decoded.1;
+      lsa = lsa;
+      lsa_is = line.lsa_is;
+      young = line.young;
+      listed = twice refl;
+    },
+  ),
+)
+line_refused text spelled lsa old listing_fault.MaxAge line twice aged = absurd (line.young (aged refl))
+line_refused text spelled lsa old listing_fault.Memory line twice aged = inl tt

@@ -1,12 +1,13 @@
 -- LSAs as lines of text.
-use Rattle.std.specs.Prelude.{◌≡◌, ◌≢◌, ◌⊎◌, ℕ, suc, List, [], Result, Ok, IsErr, if◌then◌else◌}
+use Rattle.std.specs.Prelude.{◌≡◌, ◌≢◌, ◌⊎◌, ◌-◌, ℕ, suc, List, [], Result, Ok, IsErr, min, nat_le, if◌then◌else◌}
 use Rattle.std.specs.Io.BufRead.{take_through, drop_through, ends_with_byte, strip_last}
 use Rattle.hex.specs.Hex.{decode_of}
 use Rattle.hex.specs.declared.error.FromHexError.{FromHexError}
+use Rattle.ospf_base.specs.Bytes.{number_at}
 use Rattle.ospf_base.specs.Constants.{max_age}
 use Rattle.ospf_base.specs.Text.{IsBlank}
 use Rattle.ospf_lsa.specs.Header.{header_of}
-use Rattle.ospf_lsa.specs.Lsa.{IsLsa, IsFirstFault, key_of}
+use Rattle.ospf_lsa.specs.Lsa.{IsLsa, IsFirstFault, key_of, with_age}
 use Rattle.ospf_lsa.specs.Listing.{IsInserted, HasKey}
 use Rattle.ospf_lsa.specs.declared.fault.LsaFault.{LsaFault}
 use Rattle.ospf_lsa.specs.declared.listing.ListingFault.TheVariants as listing_fault
@@ -22,12 +23,25 @@ HasFirstFault decoded f = (bytes : List ℕ) × (decoded ≡ Ok bytes) × IsFirs
 abbrev pub text_of : List ℕ → List ℕ
 text_of line = if ends_with_byte 10 line then strip_last 13 (strip_last 10 line) else line
 
--- the text spells an LSA. One at MaxAge leaves the listing as it is (RFC 2328, section 14); any
--- other is put in, and none of its key was listed
+-- the bit DoNotAge of an age field (RFC 1793, section 2.2): no database ages the LSA
+abbrev pub do_not_age : ℕ
+do_not_age = 32768
+
+-- the LSA at the age that counts, which is that without the bit
+unfoldable pub with_plain_age : List ℕ → List ℕ
+with_plain_age lsa =
+    if nat_le do_not_age (number_at 0 2 lsa)
+    then with_age (min (number_at 0 2 lsa - do_not_age) max_age) lsa
+    else lsa
+
+-- the text spells an LSA, which is read at its plain age. One at MaxAge leaves the listing as it is
+-- (RFC 2328, section 14); any other is put in, and none of its key was listed
 pub record IsLineListed (text : List ℕ) (old new : List (List ℕ)) : Type 0 where
+  pub spelled : List ℕ
+  pub decoded : decode_of text ≡ Ok spelled
+  pub is_lsa : IsLsa spelled
   pub lsa : List ℕ
-  pub decoded : decode_of text ≡ Ok lsa
-  pub is_lsa : IsLsa lsa
+  pub lsa_is : lsa ≡ with_plain_age spelled
   pub new_is : (((header_of lsa).age ≡ max_age) × (new ≡ old))
       ⊎ (((header_of lsa).age ≢ max_age) × (HasKey old (key_of lsa) → ⊥) × IsInserted lsa old new)
 
@@ -36,11 +50,13 @@ abbrev pub IsTaken : List ℕ → List (List ℕ) → List (List ℕ) → Type 0
 IsTaken text old new =
     (IsBlank text × (new ≡ old)) ⊎ ((IsBlank text → ⊥) × IsLineListed text old new)
 
--- the text spells an LSA below age MaxAge, and one of its key is listed
+-- the text spells an LSA of a plain age below MaxAge, and one of its key is listed
 pub record IsSecond (text : List ℕ) (listing : List (List ℕ)) : Type 0 where
+  pub spelled : List ℕ
+  pub decoded : decode_of text ≡ Ok spelled
+  pub is_lsa : IsLsa spelled
   pub lsa : List ℕ
-  pub decoded : decode_of text ≡ Ok lsa
-  pub is_lsa : IsLsa lsa
+  pub lsa_is : lsa ≡ with_plain_age spelled
   pub young : (header_of lsa).age ≢ max_age
   pub listed : HasKey listing (key_of lsa)
 

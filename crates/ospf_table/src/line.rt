@@ -6,13 +6,18 @@ ghost use Rattle.ospf_base.specs.Text.{IsBlank};
 ghost use Rattle.ospf_lsa.specs.Lsa.{IsLsa};
 ghost use Rattle.ospf_lsa.specs.declared.fault.LsaFault.{LsaFault};
 ghost use Rattle.ospf_lsa.specs.declared.fault.LsaFault.TheVariants as fault;
-ghost use Rattle.ospf_table.specs.Line.{HasFirstFault, text_of};
+ghost use Rattle.ospf_table.specs.Line.{HasFirstFault, text_of, with_plain_age};
 
 use hex::FromHexError;
+use ospf_base::{Age, u16_at};
 use ospf_lsa::{Lsa, LsaFault, LsaView};
 use std::alloc::Global;
 use std::fmt::{self, Display, Formatter, Write};
 use thiserror::Error;
+
+// The bit of an age field that keeps an LSA from growing older in databases (RFC 1793, section
+// 2.2). Demand circuits and flood reduction set it.
+const DO_NOT_AGE: u16 = 0x8000;
 
 /// Why a line is no LSA.
 #[derive(Clone, Copy, Debug, PartialEq, Eq, Error)]
@@ -80,6 +85,19 @@ pub(crate) fn lsa_of_line(alloc: Global, text: &[u8]) -> Result<Lsa, LineFault>
         Ok(text) => lsa_line(alloc, text),
         Err(_) => Err(LineFault::NotHex),
     }
+}
+
+// The LSA at the age that counts, which is that without the bit DoNotAge.
+#[tactic(auto, unfolding(crate::specs::Line::with_plain_age))]
+pub(crate) fn with_plain_age(lsa: Lsa) -> Lsa
+    ensures { result ≡ with_plain_age lsa }
+{
+    let mut lsa = lsa;
+    let age = u16_at(lsa.view().as_bytes(), 0);
+    if age >= DO_NOT_AGE {
+        lsa.set_age(Age::new(age - DO_NOT_AGE));
+    }
+    lsa
 }
 
 // A line without its end: a line feed, or a carriage return and a line feed.

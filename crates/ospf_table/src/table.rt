@@ -14,7 +14,7 @@ ghost use Rattle.ospf_table.specs.Line.{IsTaken, HasLineFault, Reads, Refuses};
 ghost use Rattle.ospf_table.specs.Refusal.{IsLineRefusalTold, refusal_line};
 
 use crate::entries::LineEntries;
-use crate::line::{LineFault, is_blank, lsa_of_line, without_end};
+use crate::line::{LineFault, is_blank, lsa_of_line, with_plain_age, without_end};
 use crate::lookup::{print_lookups, publish_once};
 use ospf_base::{Addr, MAX_AGE, RouterId};
 use ospf_fib::{Seat, Writer};
@@ -142,14 +142,14 @@ pub fn is_unlisted(listing: &Listing, root: RouterId) -> bool
 /// Reads LSAs, a line of hexadecimal each, and writes a router's table and the lookups in it.
 ///
 /// A line ends in a line feed, which a carriage return may precede, or at the end of the input. One
-/// of spaces alone is skipped. An LSA at `MAX_AGE` is checked, and left out of the table. Once all
-/// is read the table is published, by `rt`, and written, and the addresses are looked up from a
-/// seat that learned it. Where LSAs are listed and the root's router-LSA is not among them, `err`
-/// says so. The first line that is refused is told on `err`, with status `Refused`. Status `Memory`
-/// says that memory ran out, or there was no place for the seat, and `Stream` that a read or a
-/// write failed, or the published table was closed; what it was is told on `err`, as far as that
-/// can be written. Then no more than a beginning of the table and the lookups is written, and
-/// nothing where the input was not read.
+/// of spaces alone is skipped. An LSA at `MAX_AGE` is checked, and left out of the table; the bit
+/// DoNotAge of an age (RFC 1793) does not count. Once all is read the table is published, by `rt`,
+/// and written, and the addresses are looked up from a seat that learned it. Where LSAs are listed
+/// and the root's router-LSA is not among them, `err` says so. The first line that is refused is
+/// told on `err`, with status `Refused`. Status `Memory` says that memory ran out, or there was no
+/// place for the seat, and `Stream` that a read or a write failed, or the published table was
+/// closed; what it was is told on `err`, as far as that can be written. Then no more than a
+/// beginning of the table and the lookups is written, and nothing where the input was not read.
 pub fn table_text<W: Wait + Drop, R: BufRead + Drop, O: Write, E: Write>(
     alloc: Global,
     rt: W,
@@ -212,7 +212,7 @@ fn take_entry(alloc: Global, entries: &mut LineEntries, text: &[u8]) -> Result<(
         return Ok(());
     }
     let lsa = match lsa_of_line(alloc, text) {
-        Ok(lsa) => lsa,
+        Ok(lsa) => with_plain_age(lsa),
         Err(fault) => return Err(EntryFault::Line(fault)),
     };
     if lsa.view().header().age.ticks() == MAX_AGE {

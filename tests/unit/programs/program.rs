@@ -25,7 +25,7 @@ struct Case {
 }
 
 // Input that has a table.
-static TABLES: [Case; 15] = [
+static TABLES: [Case; 17] = [
     Case {
         name: "age above the greatest",
         words: "table 1.1.1.1",
@@ -55,6 +55,22 @@ static TABLES: [Case; 15] = [
         words: "table 1.1.1.1 10.1.2.3 10.1.9.9 172.16.0.1",
         input: "00000201010101010101010180000001ffde0048000000040a010000ffff0000030000030a010200ffffff00030000070000000000000000030000090a010203ffffffff03000001\n",
         out: "0.0.0.0/0 9 attached\n10.1.0.0/16 3 attached\n10.1.2.0/24 7 attached\n10.1.2.3/32 1 attached\nlookup 10.1.2.3 10.1.2.3/32 1 attached\nlookup 10.1.9.9 10.1.0.0/16 3 attached\nlookup 172.16.0.1 0.0.0.0/0 9 attached\n",
+        err: "",
+        status: 0,
+    },
+    Case {
+        name: "DoNotAge, at the ages 1 and 3599 without it",
+        words: "table 1.1.1.1",
+        input: "80010201010101010101010180000001e22c003000000002020202020a0000010100000a0a000000fffffffc0300000a\n8e0f020102020202020202028000000197f1003c00000003010101010a0000020100000a0a000000fffffffc0300000ac0a80200ffffff0003000005\n",
+        out: "10.0.0.0/30 10 attached\n192.168.2.0/24 15 10.0.0.1>2.2.2.2\n",
+        err: "",
+        status: 0,
+    },
+    Case {
+        name: "DoNotAge, at the age 3600 without it",
+        words: "table 1.1.1.1",
+        input: "80010201010101010101010180000001e22c003000000002020202020a0000010100000a0a000000fffffffc0300000a\n8e10020102020202020202028000000197f1003c00000003010101010a0000020100000a0a000000fffffffc0300000ac0a80200ffffff0003000005\n",
+        out: "10.0.0.0/30 10 attached\n",
         err: "",
         status: 0,
     },
