@@ -1,10 +1,10 @@
 -- What the LSA at the other end of a link tells.
-use Rattle.std.proofs.Common.{Option, ◌≡◌, ◌≤◌, ◌∙◌, ◌++◌, append_assoc, drop, length, reverse, ℕ, Bool, true, false, List, [], ◌∷◌, None, Some, refl, sym, ap, subst, inl, inr, arith}
+use Rattle.std.proofs.Common.{Option, ◌≡◌, ◌≤◌, ◌∙◌, ◌++◌, append_assoc, reverse, ℕ, Bool, true, false, List, [], ◌∷◌, None, Some, refl, sym, ap, subst, inl, inr, arith}
 use Rattle.std.proofs.lemmas.Bool.{eq-eqb, eqb-true}
-use Rattle.std.proofs.lemmas.List.{append-nil, length-append, length-drop, length-map, reverse-append}
+use Rattle.std.proofs.lemmas.List.{reverse-append}
 use Rattle.std.proofs.lemmas.List.Elements.{All-from_recursion}
 use Rattle.std.proofs.lemmas.List.Folds.{find-append}
-use Rattle.std.specs.List.{Contains, find, flat_map}
+use Rattle.std.specs.List.{Contains, find}
 use Rattle.std.specs.Option.{option_or}
 use Rattle.std.specs.Prelude.{◌==◌, ◌&&◌}
 use Rattle.std.specs.List.{AllByRecursion}
@@ -15,15 +15,12 @@ use Rattle.ospf_base.specs.declared.ids.LsaKey.{LsaKey}
 use Rattle.ospf_base.specs.declared.ids.RouterId.{RouterId}
 use Rattle.ospf_lsa.specs.Listing.{HasKey, IsListing, IsNetworkOf, IsOfNetwork}
 use Rattle.ospf_lsa.proofs.Words.{IsRising}
-use Rattle.ospf_lsa.specs.Link.{LinkEntry, entry_bytes}
-use Rattle.ospf_lsa.specs.Lsa.{HasLinks, IsNetworkLsa, IsRouterLsa, attached_of, key_of, kind_of, links_of, type_of}
+use Rattle.ospf_lsa.specs.Lsa.{IsNetworkLsa, IsRouterLsa, attached_of, key_of, kind_of, links_of, type_of}
 use Rattle.ospf_lsa.specs.declared.fault.LsaFault.TheVariants as fault
-use Rattle.ospf_lsa.specs.declared.link.Link.{Link}
-use Rattle.ospf_lsa.proofs.LinkLemmas.{links_of_entries}
 use Rattle.ospf_lsa.proofs.ListingLemmas.{listed_in, one_key}
 use Rattle.ospf_edges.proofs.ListedLemmas.{keyed_router, router_key}
 use Rattle.ospf_graph.proofs.ListLemmas.{bool_cases, member_cases, member_head, member_later}
-use Rattle.ospf_records.specs.Graph.{attached_to, is_lsa_of_network, is_lsa_of_router, drawn_link_line, drawn_link_lines, links_listed_by, links_in_some, routers_in_some}
+use Rattle.ospf_records.specs.Graph.{attached_to, is_lsa_of_network, is_lsa_of_router, links_listed_by, links_in_some, routers_in_some}
 
 module _ {X : Type 0} (test : X → Bool) where
   -- the only one that passes is found
@@ -142,35 +139,6 @@ attached_found id lsas lsa is of = ap routers_in_some (last_is id lsas lsa is.ri
 
 pub attached_none : (id : ℕ) (lsas : List (List ℕ)) → ((x : List ℕ) → Contains lsas x → IsOfNetwork id x → ⊥) → attached_to lsas id ≡ []
 attached_none id lsas none = ap routers_in_some (last_none id lsas none)
-
--- ---- lines of links
-
--- the line of one link more
-pub link_lines_more : (lsas : List (List ℕ)) (router : ℕ) (before xs : List Link) (x : Link)
-    → drawn_link_lines lsas router before (xs ++ x ∷ []) ≡ drawn_link_lines lsas router before xs ++ drawn_link_line lsas router (before ++ xs) x
-link_lines_more lsas router before [] x = append-nil (drawn_link_line lsas router before x) ∙ ap (λ (b : List Link). drawn_link_line lsas router b x) (sym (append-nil before))
-link_lines_more lsas router before (y ∷ ys) x =
-    let rest = link_lines_more lsas router (before ++ y ∷ []) ys x in
-    ap (λ t. drawn_link_line lsas router before y ++ t) (rest ∙ ap (λ (b : List Link). drawn_link_lines lsas router (before ++ y ∷ []) ys ++ drawn_link_line lsas router b x) (append_assoc before (y ∷ []) ys))
-    ∙ sym (append_assoc (drawn_link_line lsas router before y) (drawn_link_lines lsas router (before ++ y ∷ []) ys) (drawn_link_line lsas router (before ++ y ∷ ys) x))
-
--- ---- how many links there are
-
-entry_some : (e : LinkEntry) → 1 ≤ length (entry_bytes e)
-entry_some e = omega arith
-
-entries_few : (es : List LinkEntry) → length es ≤ length (flat_map entry_bytes es)
-entries_few [] = omega arith
-entries_few (e ∷ es) = let one = entry_some e in let more = entries_few es in omega (arith, length-append (entry_bytes e) (flat_map entry_bytes es))
-
--- a router-LSA has fewer links than bytes
-pub links_few : (lsa : List ℕ) → HasLinks lsa → length (links_of lsa) ≤ length lsa
-links_few lsa has =
-    let are = has.1 in
-    let bytes = drop 24 lsa in
-    let all : length (links_of lsa) ≡ length are.entries = ap length (links_of_entries (number_at 22 2 lsa) bytes are) ∙ length-map are.entries (λ (e : LinkEntry). e.link) in
-    let few : length are.entries ≤ length bytes = subst (λ (bs : List ℕ). length are.entries ≤ length bs) (sym are.spelled) (entries_few are.entries) in
-    omega (arith, all, few, length-drop 24 lsa)
 
 -- ---- texts of several pieces
 

@@ -1,6 +1,6 @@
 -- A listing as a drawing in the language of Graphviz: a box for each router and transit network,
 -- and a line for each link between them.
-use Rattle.std.specs.Prelude.{ℕ, ◌==◌, ◌&&◌, nat_lt, Bool, true, false, cond, List, [], ◌∷◌, ◌++◌, Option, None, Some, bit_and, codes, count_ones, decimal, drop, filter, find, flat_map, length, reverse, slice_get, zip}
+use Rattle.std.specs.Prelude.{ℕ, ◌==◌, ◌&&◌, nat_lt, Bool, true, false, cond, List, [], ◌∷◌, ◌++◌, Option, None, Some, bit_and, codes, count_ones, decimal, drop, find, flat_map, if◌then◌else◌, max, not, reverse, zip}
 use Rattle.std.specs.List.{list_any}
 use Rattle.ospf_base.specs.Bytes.{number_at}
 use Rattle.ospf_base.specs.Text.{number_text}
@@ -76,15 +76,77 @@ is_point_to_point Virtual = false
 abbrev pub is_drawn_link_to : ℕ → Link → Bool
 is_drawn_link_to router link = is_point_to_point link.kind && (link.id == router)
 
--- those of the links that lead to a router
-abbrev pub links_to : ℕ → List Link → List Link
-links_to router links = filter (is_drawn_link_to router) links
+-- a router has a link of type 1 to another, as an edge back needs (section 16.1, (2) (b))
+abbrev pub leads_back : List (List ℕ) → ℕ → ℕ → Bool
+leads_back lsas other router =
+    list_any (is_drawn_link_to router) (links_listed_by lsas other)
 
--- the other end of a link of type 1 that stands behind these links of its router: the n-th link to
--- a router is one with the n-th link of that router back
+-- ---- which links of type 1 are one
+
+-- type 3 of links
+abbrev pub is_stub : LinkKind → Bool
+is_stub PointToPoint = false
+is_stub Transit = false
+is_stub Stub = true
+is_stub Virtual = false
+
+-- a stub network that holds an address
+abbrev pub is_subnet_at : ℕ → Link → Bool
+is_subnet_at address link =
+    is_stub link.kind && (bit_and address link.link_data == bit_and link.id link.link_data)
+
+-- the longer of a mask and that of a link, if this is a stub network that holds the address
+abbrev pub mask_with : ℕ → ℕ → Link → ℕ
+mask_with address mask link =
+    if is_subnet_at address link then max mask link.link_data else mask
+
+-- the longest of a mask and those of the links that do
+abbrev pub longest_mask : ℕ → ℕ → List Link → ℕ
+longest_mask address mask [] = mask
+longest_mask address mask (link ∷ rest) = longest_mask address (mask_with address mask link) rest
+
+-- the mask of an address in the longest stub network of its router that holds it; 0 where none does
+abbrev pub subnet_mask : List Link → ℕ → ℕ
+subnet_mask links address = longest_mask address 0 links
+
+-- two addresses with these masks are of one subnet
+abbrev pub is_one_subnet : (address mask other other_mask : ℕ) → Bool
+is_one_subnet address mask other other_mask =
+    (mask == other_mask) && (not (mask == 0) && (bit_and address mask == bit_and other mask))
+
+-- one of these links leads back to a router, in the subnet of this mask of a link there
+abbrev pub is_mate : ℕ → List Link → Link → ℕ → Link → Bool
+is_mate router there link mask back =
+    is_drawn_link_to router back
+    && is_one_subnet link.link_data mask back.link_data (subnet_mask there back.link_data)
+
+-- the first that does
+abbrev pub mate_of : ℕ → List Link → Link → ℕ → Option Link
+mate_of router there link mask = find (is_mate router there link mask) there
+
+-- exactly one link leads to a router: one was found before these, or one of these does
+abbrev pub has_one_to : ℕ → (found : Bool) → List Link → Bool
+has_one_to router found [] = found
+has_one_to router found (link ∷ rest) =
+    if is_drawn_link_to router link
+    then (if found then false else has_one_to router true rest)
+    else has_one_to router found rest
+
+-- a router has one link to another, and this has one back
+abbrev pub have_one_link : (router : ℕ) → List Link → (other : ℕ) → List Link → Bool
+have_one_link router here other there =
+    has_one_to other false here && has_one_to router false there
+
+-- which of the links there is one with a link here: the only link back of an only link, or the one
+-- in its subnet; none where that is not known
+abbrev pub back_among : ℕ → List Link → List Link → Link → Option Link
+back_among router here there link =
+    if have_one_link router here link.id there then find (is_drawn_link_to router) there
+    else mate_of router there link (subnet_mask here link.link_data)
+
+-- the other end of a link of type 1 of a router that has these links
 abbrev pub back_of : List (List ℕ) → ℕ → List Link → Link → Option Link
-back_of lsas router before link =
-    slice_get (links_to router (links_listed_by lsas link.id)) (length (links_to link.id before))
+back_of lsas router here link = back_among router here (links_listed_by lsas link.id) link
 
 -- ---- boxes
 
@@ -152,36 +214,44 @@ abbrev pub both_line : ℕ → Link → ℕ → List ℕ
 both_line router link back =
     cond (nat_lt link.id router) [] (joined_line router link.id link.metric back)
 
--- a link to a router, with the link back, if there is one
-abbrev pub point_line : ℕ → Link → Option Link → List ℕ
-point_line router link None = told_line router (router_node link.id) link.metric
-point_line router link (Some back) = both_line router link back.metric
+-- a link to a router that has links back, of which it is not known which one is the other end
+abbrev pub own_line : ℕ → ℕ → ℕ → List ℕ
+own_line from to cost =
+    codes "  " ++ router_node from ++ codes " -- " ++ router_node to ++ codes " [taillabel="
+    ++ decimal cost ++ codes "];\n"
+
+-- a link to a router without its other end: with or without a link back
+abbrev pub lone_line : ℕ → Link → Bool → List ℕ
+lone_line router link true = own_line router link.id link.metric
+lone_line router link false = told_line router (router_node link.id) link.metric
+
+-- a link to a router, which leads back or does not, with its other end, if that is known
+abbrev pub point_line : ℕ → Link → Bool → Option Link → List ℕ
+point_line router link leads None = lone_line router link leads
+point_line router link leads (Some back) = both_line router link back.metric
 
 -- a link to a transit network, which names the router or does not
 abbrev pub transit_line : ℕ → Link → Bool → List ℕ
 transit_line router link true = member_line router link.id link.metric
 transit_line router link false = told_line router (network_node link.id) link.metric
 
--- the line of a link that stands behind these links of its router, by its type: stub networks stand
--- in the box, and links of type 4 are not drawn
+-- the line of a link of a router with these links, by its type: stub networks stand in the box, and
+-- links of type 4 are not drawn
 abbrev pub line_of_kind : List (List ℕ) → ℕ → List Link → Link → LinkKind → List ℕ
-line_of_kind lsas router before link PointToPoint =
-    point_line router link (back_of lsas router before link)
-line_of_kind lsas router before link Transit =
+line_of_kind lsas router here link PointToPoint =
+    point_line router link (leads_back lsas link.id router) (back_of lsas router here link)
+line_of_kind lsas router here link Transit =
     transit_line router link (names_router lsas link.id router)
-line_of_kind lsas router before link Stub = []
-line_of_kind lsas router before link Virtual = []
+line_of_kind lsas router here link Stub = []
+line_of_kind lsas router here link Virtual = []
 
 -- the same by the link
 abbrev pub drawn_link_line : List (List ℕ) → ℕ → List Link → Link → List ℕ
-drawn_link_line lsas router before link = line_of_kind lsas router before link link.kind
+drawn_link_line lsas router here link = line_of_kind lsas router here link link.kind
 
--- the lines of links that stand behind these of their router
+-- the lines of such links
 abbrev pub drawn_link_lines : List (List ℕ) → ℕ → List Link → List Link → List ℕ
-drawn_link_lines lsas router before [] = []
-drawn_link_lines lsas router before (link ∷ rest) =
-    drawn_link_line lsas router before link
-    ++ drawn_link_lines lsas router (before ++ link ∷ []) rest
+drawn_link_lines lsas router here links = flat_map (drawn_link_line lsas router here) links
 
 -- a router that a network names, and that has a link there or has none
 abbrev pub named_unless : ℕ → RouterId → Bool → List ℕ
@@ -213,7 +283,7 @@ steps_of walked = zip walked (drop 1 walked)
 -- a router and its links
 abbrev pub drawn_router_lines : List (List ℕ) → ℕ → List Link → List ℕ
 drawn_router_lines lsas router links =
-    drawn_router_line router links ++ drawn_link_lines lsas router [] links
+    drawn_router_line router links ++ drawn_link_lines lsas router links links
 
 -- a network and the routers that it names
 abbrev pub network_lines : List (List ℕ) → ℕ → ℕ → List RouterId → List ℕ
@@ -229,12 +299,12 @@ lines_of_kind lsas lsa Network =
 abbrev pub lsa_lines : List (List ℕ) → List ℕ → List ℕ
 lsa_lines lsas lsa = lines_of_kind lsas lsa (kind_of lsa)
 
--- how all is laid out: boxes that lie apart, over straight lines; what has
--- no line of its own is plain text
+-- how all is laid out: boxes that lie apart, and lines that lead round them; what has no line of
+-- its own is plain text
 abbrev pub graph_head : List ℕ
 graph_head =
     codes
-    "graph area {\n  graph [layout=neato, overlap=false, splines=line, sep=\"+30\", outputorder=edgesfirst];\n"
+    "graph area {\n  graph [layout=neato, overlap=false, splines=true, sep=\"+30\", outputorder=edgesfirst];\n"
     ++ codes "  node [shape=plaintext, style=filled, fillcolor=white];\n"
 
 -- the LSAs in their order, the routers that do not run, and the walk that met these

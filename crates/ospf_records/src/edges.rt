@@ -1,11 +1,10 @@
 //! The lines between the boxes of a drawing.
 
 ghost use Rattle.std.specs.Fmt.{WritesOnOk};
-ghost use Rattle.std.specs.Prelude.{[], take};
 ghost use Rattle.ospf_lsa.specs.Lsa.{IsRouterLsa, links_of};
-ghost use Rattle.ospf_records.specs.Graph.{attached_line, attached_lines, both_line, drawn_link_line, drawn_link_lines, point_line, transit_line};
+ghost use Rattle.ospf_records.specs.Graph.{attached_line, attached_lines, both_line, drawn_link_line, drawn_link_lines, lone_line, point_line, transit_line};
 
-use crate::ends::{link_back, links_in, links_to_network, names_router, place_among};
+use crate::ends::{leads_back, link_back, links_to_network, names_router};
 use crate::nodes::{NetworkNode, RouterNode};
 use ospf_base::RouterId;
 use ospf_lsa::{Attached, Link, LinkKind, Listing, LsaView};
@@ -20,12 +19,10 @@ pub(crate) fn write_links<W: Write>(
 ) -> fmt::Result
     requires { IsRouterLsa lsa.now }
     ensures { WritesOnOk W.Write.write_str_gives f.old result
-        (drawn_link_lines listing.now router.0 [] (links_of lsa.now)) f.new }
+        (drawn_link_lines listing.now router.0 (links_of lsa.now) (links_of lsa.now)) f.new }
 {
-    let mut at = 0;
-    for link in links_in(lsa) {
-        write_link(f, listing, router, lsa, at, link)?;
-        at += 1;
+    for link in lsa.links() {
+        write_link(f, listing, router, lsa, link)?;
     }
     Ok(())
 }
@@ -46,25 +43,23 @@ pub(crate) fn write_attached<W: Write>(
     Ok(())
 }
 
-// The line of a link of a router's LSA, behind as many others.
+// The line of a link of a router's LSA.
 fn write_link<W: Write>(
     f: &mut Formatter<W>,
     listing: &Listing,
     router: RouterId,
     lsa: &LsaView,
-    at: usize,
     link: Link,
 ) -> fmt::Result
     requires { IsRouterLsa lsa.now }
     ensures { WritesOnOk W.Write.write_str_gives f.old result (drawn_link_line listing.now router.0
-        (take at (links_of lsa.now)) link) f.new }
+        (links_of lsa.now) link) f.new }
 {
-    let other = RouterId(link.id);
     match link.kind {
         LinkKind::PointToPoint => {
-            let place = place_among(lsa.links(), at, other);
-            let back = link_back(listing, other, router, place);
-            write_point(f, router, link, back)
+            let leads = leads_back(listing, RouterId(link.id), router);
+            let back = link_back(listing, router, lsa, &link);
+            write_point(f, router, link, leads, back)
         }
         LinkKind::Transit => {
             let both = names_router(listing, link.id, router);
@@ -74,23 +69,41 @@ fn write_link<W: Write>(
     }
 }
 
-// The line of a link to a router, by that router's link back.
+// The line of a link to a router, which leads back or does not, by its other end.
 fn write_point<W: Write>(
     f: &mut Formatter<W>,
     router: RouterId,
     link: Link,
+    leads: bool,
     back: Option<Link>,
 ) -> fmt::Result
-    ensures { WritesOnOk W.Write.write_str_gives f.old result (point_line router.0 link back)
+    ensures { WritesOnOk W.Write.write_str_gives f.old result (point_line router.0 link leads back)
+        f.new }
+{
+    match back {
+        Some(back) => write_joined(f, router, link, back.metric),
+        None => write_lone(f, router, link, leads),
+    }
+}
+
+// The line of a link whose other end is not known, at this end.
+fn write_lone<W: Write>(
+    f: &mut Formatter<W>,
+    router: RouterId,
+    link: Link,
+    leads: bool,
+) -> fmt::Result
+    ensures { WritesOnOk W.Write.write_str_gives f.old result (lone_line router.0 link leads)
         f.new }
 {
     let (from, to, cost) = (RouterNode(router.0), RouterNode(link.id), link.metric);
-    match back {
-        Some(back) => write_joined(f, router, link, back.metric),
-        None => writeln!(
+    if leads {
+        writeln!(f, "  {from} -- {to} [taillabel={cost}];")
+    } else {
+        writeln!(
             f,
             "  {from} -- {to} [taillabel={cost}, dir=forward, style=dashed];"
-        ),
+        )
     }
 }
 

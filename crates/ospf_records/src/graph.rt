@@ -12,10 +12,10 @@ use ospf_base::{Kind, RouterId};
 use ospf_lsa::{Attached, Listing, Lsa, LsaView};
 use std::fmt::{self, Display, Formatter, Write};
 
-// How all is laid out: boxes that lie apart, over straight lines; what has no
-// line of its own is plain text.
+// How all is laid out: boxes that lie apart, and lines that lead round them; what has no line of its
+// own is plain text.
 const HEAD: &str =
-    "graph area {\n  graph [layout=neato, overlap=false, splines=line, sep=\"+30\", outputorder=edgesfirst];\n  node [shape=plaintext, style=filled, fillcolor=white];\n";
+    "graph area {\n  graph [layout=neato, overlap=false, splines=true, sep=\"+30\", outputorder=edgesfirst];\n  node [shape=plaintext, style=filled, fillcolor=white];\n";
 
 /// A listing, to be printed as a graph in the language of Graphviz: a box a router, with its stub
 /// networks, and a box a transit network, and a line a link between them, in the order of the
@@ -29,8 +29,9 @@ pub struct Graph<'a> {
     pub walked: &'a [RouterId],
 }
 
-/// A link that both ends tell is one line with the cost at each end, one that one end alone tells
-/// is dashed and has an arrow; what has no LSA is plain text.
+/// A link is one line with the cost at each end. Of several links between two routers those in one
+/// subnet are one; where that is not known each end has a line with its cost. A link to what has no
+/// link back is dashed and has an arrow; what has no LSA is plain text.
 impl<'a> Display for Graph<'a> {
     ghost use Rattle.std.specs.Prelude.{Some};
     ghost use Rattle.ospf_records.specs.Graph.{graph_text};

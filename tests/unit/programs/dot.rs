@@ -16,7 +16,7 @@ const NETWORK: u32 = 0x0a01_0002;
 const MASK: u32 = 0xffff_ff00;
 
 static HEAD: &str = "graph area {
-  graph [layout=neato, overlap=false, splines=line, sep=\"+30\", outputorder=edgesfirst];
+  graph [layout=neato, overlap=false, splines=true, sep=\"+30\", outputorder=edgesfirst];
   node [shape=plaintext, style=filled, fillcolor=white];
 ";
 
@@ -100,13 +100,15 @@ fn a_walk(rt: HostRuntime) -> Result<(), Fail> {
     expect(&rt, alloc, &listing, (&[], &[FIRST, SECOND, THIRD]), WALKED)
 }
 
-// Three links one way and two back: the first with the first, the second with the second, and the third alone.
+// Three links one way and two back, in no subnets: which of them are one is not known.
 static PARALLEL: &str = "  \"1.1.1.1\" [shape=box, label=\"1.1.1.1\"];
-  \"1.1.1.1\" -- \"2.2.2.2\" [taillabel=1, headlabel=4];
+  \"1.1.1.1\" -- \"2.2.2.2\" [taillabel=1];
   \"1.1.1.1\" -- \"3.3.3.3\" [taillabel=9, dir=forward, style=dashed];
-  \"1.1.1.1\" -- \"2.2.2.2\" [taillabel=2, headlabel=5];
-  \"1.1.1.1\" -- \"2.2.2.2\" [taillabel=3, dir=forward, style=dashed];
+  \"1.1.1.1\" -- \"2.2.2.2\" [taillabel=2];
+  \"1.1.1.1\" -- \"2.2.2.2\" [taillabel=3];
   \"2.2.2.2\" [shape=box, label=\"2.2.2.2\"];
+  \"2.2.2.2\" -- \"1.1.1.1\" [taillabel=4];
+  \"2.2.2.2\" -- \"1.1.1.1\" [taillabel=5];
 ";
 
 #[test]
@@ -123,6 +125,37 @@ fn links_side_by_side(rt: HostRuntime) -> Result<(), Fail> {
     listing.add(Lsa::router(alloc, FIRST, 1, &of_first)?)?;
     listing.add(Lsa::router(alloc, SECOND, 1, &of_second)?)?;
     expect(&rt, alloc, &listing, (&[], &[]), PARALLEL)
+}
+
+// Three links one way, in 10.0.0.0/30, 10.0.0.4/30 and 10.0.0.0/24, and those of the last two back, the other way round.
+static IN_SUBNETS: &str = "  \"1.1.1.1\" [shape=box, label=\"1.1.1.1\\n10.0.0.0/30 cost 1\\n10.0.0.4/30 cost 2\\n10.0.0.0/24 cost 3\"];
+  \"1.1.1.1\" -- \"2.2.2.2\" [taillabel=1];
+  \"1.1.1.1\" -- \"2.2.2.2\" [taillabel=2, headlabel=5];
+  \"1.1.1.1\" -- \"2.2.2.2\" [taillabel=3, headlabel=4];
+  \"2.2.2.2\" [shape=box, label=\"2.2.2.2\\n10.0.0.0/24 cost 4\\n10.0.0.4/30 cost 5\"];
+";
+
+#[test]
+fn links_in_subnets(rt: HostRuntime) -> Result<(), Fail> {
+    let alloc = rt.alloc();
+    let of_first = [
+        to(SECOND, 0x0a00_0001, 1),
+        to(SECOND, 0x0a00_0005, 2),
+        to(SECOND, 0x0a00_0010, 3),
+        link(LinkKind::Stub, 0x0a00_0000, 0xffff_fffc, 1),
+        link(LinkKind::Stub, 0x0a00_0004, 0xffff_fffc, 2),
+        link(LinkKind::Stub, 0x0a00_0000, 0xffff_ff00, 3),
+    ];
+    let of_second = [
+        to(FIRST, 0x0a00_0020, 4),
+        to(FIRST, 0x0a00_0006, 5),
+        link(LinkKind::Stub, 0x0a00_0000, 0xffff_ff00, 4),
+        link(LinkKind::Stub, 0x0a00_0004, 0xffff_fffc, 5),
+    ];
+    let mut listing = Listing::new(alloc);
+    listing.add(Lsa::router(alloc, FIRST, 1, &of_first)?)?;
+    listing.add(Lsa::router(alloc, SECOND, 1, &of_second)?)?;
+    expect(&rt, alloc, &listing, (&[], &[]), IN_SUBNETS)
 }
 
 // The larger Router ID alone tells of the link.

@@ -1,4 +1,4 @@
-use Rattle.std.proofs.Common.{◌≡◌, ◌<◌, ◌^◌, ◌++◌, [], length}
+use Rattle.std.proofs.Common.{◌≡◌, ◌++◌}
 use Rattle.std.specs.Fmt.{HasWritten, IsPlainFormatter}
 use Rattle.ospf_lsa.specs.Lsa.{links_of}
 use Rattle.ospf_records.specs.Graph.{drawn_link_lines}
@@ -8,7 +8,5 @@ use Rattle.ospf_records.proofs.edges.write_links.Given as goal
 abbrev pub invariant-loop-link : goal.invariant-loop-link
 invariant-loop-link g l = record {
   walked : links_of l.fn.lsa ≡ l.yielded ++ l.link-iterator;
-  counted : l.at ≡ length l.yielded;
-  few : length (links_of l.fn.lsa) < 2 ^ 63;
-  written : IsPlainFormatter l.fn.f → HasWritten g.W.Write.write_str_gives l.fn.f (drawn_link_lines l.fn.listing l.fn.router.0 [] l.yielded) l.f;
+  written : IsPlainFormatter l.fn.f → HasWritten g.W.Write.write_str_gives l.fn.f (drawn_link_lines l.fn.listing l.fn.router.0 (links_of l.fn.lsa) l.yielded) l.f;
 }

@@ -2,10 +2,10 @@ use Rattle.std.proofs.Common.{List, ℕ, ap, subst, sym, ◌∙◌}
 use Rattle.ospf_edges.proofs.ListedLemmas.{keyed_router}
 use Rattle.ospf_records.proofs.Drawn.{links_found, links_none}
 use Rattle.ospf_lsa.specs.Lsa.{IsRouterLsa, links_of}
-use Rattle.ospf_records.proofs.ends.links_by.Goals as goal
+use Rattle.ospf_records.proofs.ends.lsa_by.Goals as goal
 
-pub links-requires : goal.links-requires
-links-requires c =
+pub returns-in-Some-clause-is_router : goal.returns-in-Some-clause-is_router
+returns-in-Some-clause-is_router c =
     let found = c.in-Some.ensures.found in
     subst (λ (l : List ℕ). IsRouterLsa l) (sym c.view.ensures.same)
     (keyed_router c.args.listing.now c.router.ensures.listing c.args.router c.in-Some.lsa.now found.0 found.1)
@@ -13,7 +13,7 @@ links-requires c =
 pub returns-in-Some-clause-found : goal.returns-in-Some-clause-found
 returns-in-Some-clause-found c =
     let found = c.in-Some.ensures.found in
-    c.links.ensures ∙ ap links_of c.view.ensures.same
+    ap links_of c.view.ensures.same
     ∙ sym (links_found c.args.listing.now c.router.ensures.listing c.args.router c.in-Some.lsa.now found.0 found.1)
 
 pub returns-in-None-clause-none : goal.returns-in-None-clause-none
