@@ -12,8 +12,8 @@ use ospf_base::{Kind, RouterId};
 use ospf_lsa::{Attached, Listing, Lsa, LsaView};
 use std::fmt::{self, Display, Formatter, Write};
 
-// How all is laid out: boxes that lie apart, and lines that lead round them; what has no line of its
-// own is plain text.
+// How all is laid out: boxes that lie apart, and lines that lead round them; what has no line of
+// its own is plain text.
 const HEAD: &str =
     "graph area {\n  graph [layout=neato, overlap=false, splines=true, sep=\"+30\", outputorder=edgesfirst];\n  node [shape=plaintext, style=filled, fillcolor=white];\n";
 

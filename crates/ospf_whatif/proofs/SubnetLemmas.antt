@@ -15,7 +15,7 @@ use Rattle.ospf_edges.specs.Near.{AreLinksBy}
 use Rattle.ospf_graph.specs.Advertisements.{Advertisement, router_lsa, network_lsa, IsListed}
 use Rattle.ospf_graph.proofs.ListLemmas.{bool_cases, member_cases, member_head, member_later}
 use Rattle.ospf_whatif.specs.Failure.{HasLeftLarge, HasLeftLargeBy, IsLeftBy, IsLeftLarge, IsLeftLsa, inner_of, is_of_subnet, is_stub_of, kept_links, left_of_lsa, takes, without}
-use Rattle.ospf_whatif.specs.Subnets.{HaveSame, indices, inner_between, is_end_in, is_held, is_inside, is_link_in, is_link_to, is_same_stub, is_shared_stub, is_stub}
+use Rattle.ospf_whatif.specs.Subnets.{HaveSame, indices, inner_between, is_end_in, is_held, is_inside, is_link_in, is_link_to, is_same_stub, is_shared_stub, is_stub_link}
 use Rattle.ospf_whatif.specs.declared.failure.AreaFailure.{AreaFailure}
 use Rattle.ospf_whatif.specs.declared.failure.AreaFailure.TheVariants as fails
 use Rattle.ospf_whatif.proofs.LessLemmas.{kept_of, of_kept}
@@ -113,7 +113,7 @@ module _ (subnet : Prefix) (a b : RouterId) where
   is_inner mine theirs l = is_inside subnet l && is_shared_stub a b mine theirs l
 
   test_same : (mine mine' theirs theirs' : List Link) → HaveSame mine mine' → HaveSame theirs theirs' → (l : Link) → is_inner mine theirs l ≡ is_inner mine' theirs' l
-  test_same mine mine' theirs theirs' sm st l = λ i. is_inside subnet l && (is_stub l && (end_same l a theirs theirs' st i && end_same l b mine mine' sm i))
+  test_same mine mine' theirs theirs' sm st l = λ i. is_inside subnet l && (is_stub_link l && (end_same l a theirs theirs' st i && end_same l b mine mine' sm i))
 
   between : (mine mine' theirs theirs' : List Link) → HaveSame mine mine' → HaveSame theirs theirs' → (l : Link)
       → Contains (inner_between subnet a b mine theirs) l → Contains (inner_between subnet a b mine' theirs') l

@@ -20,8 +20,8 @@ is_link_to l router = by_kind l.kind
     by_kind _ = false
 
 -- a type 3 link
-abbrev pub is_stub : Link → Bool
-is_stub l = by_kind l.kind
+abbrev pub is_stub_link : Link → Bool
+is_stub_link l = by_kind l.kind
   where
     by_kind : LinkKind → Bool
     by_kind kind.Stub = true
@@ -33,7 +33,7 @@ is_held stub address = bit_and address stub.link_data == bit_and stub.id stub.li
 
 -- a type 3 link to the same subnet
 abbrev pub is_same_stub : Link → Link → Bool
-is_same_stub stub l = is_stub l && ((l.link_data == stub.link_data) && is_held stub l.id)
+is_same_stub stub l = is_stub_link l && ((l.link_data == stub.link_data) && is_held stub l.id)
 
 -- the Link Data is an address, and not the index of an interface, which lies in 0.0.0.0/8
 abbrev pub is_address : ℕ → Bool
@@ -55,7 +55,7 @@ is_end_in stub other links =
 -- both routers do: the subnet is one of their links
 abbrev pub is_shared_stub : RouterId → RouterId → List Link → List Link → Link → Bool
 is_shared_stub a b mine theirs stub =
-    is_stub stub && (is_end_in stub a theirs && is_end_in stub b mine)
+    is_stub_link stub && (is_end_in stub a theirs && is_end_in stub b mine)
 
 -- a subnet inside another one, and longer
 abbrev pub is_inside : Prefix → Link → Bool

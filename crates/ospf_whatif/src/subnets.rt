@@ -5,7 +5,7 @@ ghost use Rattle.std.specs.List.{list_any};
 ghost use Rattle.ospf_edges.specs.Addresses.{links_by};
 ghost use Rattle.ospf_edges.specs.Listed.{advertisements_of};
 ghost use Rattle.ospf_whatif.specs.Failure.{inner_of};
-ghost use Rattle.ospf_whatif.specs.Subnets.{HaveSame, indices, inner_between, is_address, is_end_in, is_held, is_inside, is_link_in, is_link_to, is_same_stub, is_shared_stub, is_stub};
+ghost use Rattle.ospf_whatif.specs.Subnets.{HaveSame, indices, inner_between, is_address, is_end_in, is_held, is_inside, is_link_in, is_link_to, is_same_stub, is_shared_stub, is_stub_link};
 
 use crate::failure::AreaFailure;
 use ospf_base::{Prefix, RouterId, mask_of};
@@ -132,7 +132,7 @@ fn is_inside(subnet: Prefix, stub: Link) -> bool
 fn is_shared(a: RouterId, b: RouterId, mine: &[Link], theirs: &[Link], stub: Link) -> bool
     ensures { result ≡ is_shared_stub a b mine.now theirs.now stub }
 {
-    is_stub(stub) && is_end_in(stub, a, theirs) && is_end_in(stub, b, mine)
+    is_stub_link(stub) && is_end_in(stub, a, theirs) && is_end_in(stub, b, mine)
 }
 
 // Whether a router of these links tells the subnet, and has a link in it to another router.
@@ -160,7 +160,7 @@ fn has_link_in(stub: Link, router: RouterId, links: &[Link]) -> bool
 fn is_same_stub(stub: Link, link: Link) -> bool
     ensures { result ≡ is_same_stub stub link }
 {
-    is_stub(link) && link.link_data == stub.link_data && is_held(stub, link.id)
+    is_stub_link(link) && link.link_data == stub.link_data && is_held(stub, link.id)
 }
 
 // Whether it is a type 1 link to a router, out of an address in the subnet.
@@ -195,8 +195,8 @@ pub(crate) fn is_link_to(link: Link, router: RouterId) -> bool
 }
 
 // Whether it is a type 3 link.
-fn is_stub(link: Link) -> bool
-    ensures { result ≡ is_stub link }
+fn is_stub_link(link: Link) -> bool
+    ensures { result ≡ is_stub_link link }
 {
     match link.kind {
         LinkKind::Stub => true,
