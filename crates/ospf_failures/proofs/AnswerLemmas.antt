@@ -12,7 +12,16 @@ use Rattle.ospf_files.specs.declared.streams.FailedStreams.{FailedStreams}
 use Rattle.ospf_table.proofs.Lines.{map_some}
 use Rattle.ospf_table.specs.Line.{Reads}
 use Rattle.ospf_whatif.specs.Failure.{HasLarge}
-use Rattle.ospf_failures.specs.Answer.{FailuresEndsBy, IsFailuresAnswerBegun, IsFailuresAnswerOf, IsFailuresAnswered, IsFailuresCutShort, IsFailuresEnding, IsUnreported, IsFailuresRefusal, IsFailuresRefusalBegun, IsRefusalOf, IsFailuresRefusalTold, IsFailuresSaid, IsUnserved, IsFailuresWarningBegun, IsEndBy, IsAllPrinted, SaysOf, WarnsOf, end_by, in_answer, in_refusal, in_warning, is_answered, is_refused, names_of, of_name, root_of}
+use Rattle.ospf_whatif.specs.Hidden.{AreHidden}
+use Rattle.ospf_whatif.specs.declared.hidden.HiddenCost.{HiddenCost}
+use Rattle.std.proofs.lemmas.Result.{IfOk-weaker}
+use Rattle.ospf_graph.specs.Advertisements.{Advertisement}
+use Rattle.ospf_failures.specs.Warnings.{hidden_text}
+use Rattle.std.specs.Prelude.{IfOk, String}
+use Rattle.std.specs.declared.alloc.AllocError.{AllocError}
+use Rattle.std.specs.declared.alloc.Global.{Global}
+use Rattle.std.specs.declared.result.Result.{Result}
+use Rattle.ospf_failures.specs.Answer.{FailuresEndsBy, IsFailuresAnswerBegun, IsFailuresAnswerOf, IsFailuresAnswered, IsFailuresCutShort, IsFailuresEnding, IsUnreported, IsFailuresRefusal, IsFailuresRefusalBegun, IsRefusalOf, IsFailuresRefusalTold, IsFailuresSaid, IsUnserved, IsFailuresWarningBegun, IsEndBy, IsAllPrinted, SaysOf, TellsHidden, WarnsOf, end_by, in_answer, in_refusal, in_warning, is_answered, is_refused, names_of, of_name}
 use Rattle.ospf_failures.specs.Without.{IsFaultOfNames, IsFirstUnnamed}
 use Rattle.ospf_failures.specs.declared.answer.FailuresAnswer.{FailuresAnswer}
 use Rattle.ospf_failures.specs.declared.answer.FailuresJob.{FailuresJob}
@@ -37,11 +46,16 @@ end_is P Q true false false cuts is = (refl, inr (λ q. let t : false ≡ true =
 end_is P Q false cut listed cuts is = (refl, λ e unmet. cc)
 
 pub answer_made : (input : Option (List ℕ)) (job : FailuresJob) (answer : FailuresAnswer) (listing : List (List ℕ)) → IfSome input (λ bytes. Reads bytes [] listing)
-    → (names_of job ≢ [] → HasLarge (advertisements_of listing) → ⊥) → WarnsOf (root_of job) listing (string_bytes answer.warning)
+    → (names_of job ≢ [] → HasLarge (advertisements_of listing) → ⊥) → WarnsOf job (advertisements_of listing) (string_bytes answer.warning)
     → SaysOf job (advertisements_of listing) (string_bytes answer.said.text) answer.said.end → IfSome input (IsFailuresAnswerOf job answer)
 answer_made input job answer listing reads small warned says =
     map_some input (λ bytes. Reads bytes [] listing) (IsFailuresAnswerOf job answer)
     (λ bytes read. record { listing = listing; reads = read; small = small; warned = warned; says = says }) reads
+
+pub told_hidden : (adverts : List Advertisement) (hidden seen : List HiddenCost) (found : Result (String Global) AllocError) → seen ≡ hidden → AreHidden adverts hidden
+    → IfOk found (λ text. string_bytes text ≡ hidden_text seen) → IfOk found (λ text. TellsHidden adverts (string_bytes text))
+told_hidden adverts hidden seen found same are told =
+    IfOk-weaker found _ _ (λ text is. (hidden, are, is ∙ ap hidden_text same)) told
 
 module _ (input : Option (List ℕ)) (job : FailuresJob) (answer : FailuresAnswer) (is : IfSome input (IsFailuresAnswerOf job answer)) where
   pub answer_said : (old new : Written) (warning text : List ℕ) → IsAllPrinted answer.said.end → warning ≡ string_bytes answer.warning

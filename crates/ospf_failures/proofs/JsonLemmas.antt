@@ -1,8 +1,8 @@
 -- What failures change as JSON holds no float.
-use Rattle.std.proofs.Common.{◌≡◌, ◌∙◌, ◌+◌, ◌<◌, ℕ, Bool, true, false, List, [], ◌∷◌, ap, ap₂, get_or, length, map, refl, sym, take}
+use Rattle.std.proofs.Common.{◌≡◌, ◌==◌, ◌∙◌, ◌+◌, ◌<◌, ℕ, Bool, true, false, List, [], ◌∷◌, ap, ap₂, get_or, length, map, refl, sym, take}
 use Rattle.std.proofs.lemmas.List.{map_push, take_more}
-use Rattle.std.specs.Prelude.{◌++◌, ◌||◌, codes, flat_map}
-use Rattle.serde_json.specs.Data.{Data, member, number, unsigned}
+use Rattle.std.specs.Prelude.{◌++◌, ◌||◌, codes, filter, flat_map}
+use Rattle.serde_json.specs.Data.{Data, Members, array, member, no_members, number, put, string, unsigned}
 use Rattle.serde_json.specs.View.{items_of, view}
 use Rattle.serde_json.specs.declared.value.Value.{Value}
 use Rattle.serde_json.specs.Written.{has_float, items_have_float, members_have_float}
@@ -10,22 +10,48 @@ use Rattle.ospf_base.specs.declared.ids.RouterId.{RouterId}
 use Rattle.ospf_table.proofs.FloatLemmas.{change_none, counted_none, items_none}
 use Rattle.ospf_table.specs.Changes.{totals_of}
 use Rattle.ospf_table.specs.Objects.{change_data}
-use Rattle.ospf_failures.specs.Json.{overall_data, report_data, routes_member, sight_data}
+use Rattle.ospf_failures.specs.Json.{hidden_member, overall_data, overall_members, report_data, report_members, routes_member, sight_data, with_hidden}
 use Rattle.ospf_failures.specs.Reports.{ReportValue, SightValue}
+use Rattle.ospf_failures.specs.Warnings.{hidden_name, hidden_names, is_cause}
+use Rattle.ospf_whatif.specs.declared.failure.AreaFailure.{AreaFailure}
+use Rattle.ospf_whatif.specs.declared.hidden.HiddenCost.{HiddenCost}
 use Rattle.ospf_failures.specs.declared.overall.Overall.{Overall}
 
-member_none : (each : Bool) (routes : List Data) → items_have_float (items_of routes) ≡ false → members_have_float (routes_member each routes) ≡ false
-member_none true routes none = rw none refl
-member_none false routes none = refl
+member_none : (each : Bool) (routes : List Data) (rest : Members) → items_have_float (items_of routes) ≡ false → members_have_float rest ≡ false
+    → members_have_float (routes_member each routes rest) ≡ false
+member_none true routes rest none last = rw (none, last) refl
+member_none false routes rest none last = last
 
-report_none : (each : Bool) (root : RouterId) (r : ReportValue) → has_float (report_data each root r) ≡ false
-report_none each root r =
+names_none : (hidden : List HiddenCost) → items_have_float (items_of (map (λ h. string (hidden_name h)) hidden)) ≡ false
+names_none hidden = items_none (λ (h : HiddenCost). string (hidden_name h)) (λ h. refl) hidden
+
+ends_none : (names : List Data) → items_have_float (items_of names) ≡ false → members_have_float (hidden_member names) ≡ false
+ends_none [] none = refl
+ends_none (name ∷ names) none = rw none refl
+
+hidden_none : (hidden : List HiddenCost) (f : AreaFailure) → members_have_float (hidden_member (hidden_names hidden f)) ≡ false
+hidden_none hidden f = ends_none (hidden_names hidden f) (names_none (filter (is_cause f) hidden))
+
+-- where there are names they are put behind the other members
+pub put_names : (names : List Value) (before : Members) → (length names == 0) ≡ false
+    → put (codes "unknown_costs") (array (items_of (map view names))) before ≡ with_hidden (map view names) before
+put_names [] before some = cc
+put_names (name ∷ names) before some = refl
+
+-- what is put behind the members of a report is the last of them
+pub report_with : (each : Bool) (root : RouterId) (r : ReportValue) (names : List Data) → with_hidden names (report_members each root r no_members) ≡ report_members each root r (hidden_member names)
+report_with each root r [] = refl
+report_with true root r (name ∷ names) = refl
+report_with false root r (name ∷ names) = refl
+
+report_none : (each : Bool) (root : RouterId) (hidden : List HiddenCost) (r : ReportValue) → has_float (report_data each root hidden r) ≡ false
+report_none each root hidden r =
     let t = totals_of r.1 in
-    counted_none r.0 t.cut t.gone t.cost t.hops (routes_member each (map (change_data root) r.1))
-    (member_none each (map (change_data root) r.1) (items_none (change_data root) (change_none root) r.1))
+    counted_none r.0 t.cut t.gone t.cost t.hops (routes_member each (map (change_data root) r.1) (hidden_member (hidden_names hidden r.0)))
+    (member_none each (map (change_data root) r.1) (hidden_member (hidden_names hidden r.0)) (items_none (change_data root) (change_none root) r.1) (hidden_none hidden r.0))
 
-pub reports_none : (each : Bool) (root : RouterId) (reports : List ReportValue) → items_have_float (items_of (map (report_data each root) reports)) ≡ false
-reports_none each root reports = items_none (report_data each root) (report_none each root) reports
+pub reports_none : (each : Bool) (root : RouterId) (hidden : List HiddenCost) (reports : List ReportValue) → items_have_float (items_of (map (report_data each root hidden) reports)) ≡ false
+reports_none each root hidden reports = items_none (report_data each root hidden) (report_none each root hidden) reports
 
 -- an array behind another
 both_none : (ds es : List Data) → items_have_float (items_of ds) ≡ false → items_have_float (items_of es) ≡ false → items_have_float (items_of (ds ++ es)) ≡ false
@@ -41,14 +67,20 @@ sights_none : (sights : List SightValue) → items_have_float (items_of (flat_ma
 sights_none [] = refl
 sights_none (s ∷ sights) = both_none (sight_data s) (flat_map sight_data sights) (items_none (change_data s.0) (change_none s.0) s.1) (sights_none sights)
 
-overall_none : (each : Bool) (o : Overall) → has_float (overall_data each o) ≡ false
-overall_none each o =
-    counted_none o.failure o.sums.cut o.sums.gone o.sums.cost o.sums.hops
-    (member (codes "routers") (number (unsigned o.sums.routers)) (routes_member each (flat_map sight_data o.sights.items)))
-    (member_none each (flat_map sight_data o.sights.items) (sights_none o.sights.items))
+pub overall_with : (each : Bool) (o : Overall) (names : List Data) → with_hidden names (overall_members each o no_members) ≡ overall_members each o (hidden_member names)
+overall_with each o [] = refl
+overall_with true o (name ∷ names) = refl
+overall_with false o (name ∷ names) = refl
 
-pub overalls_none : (each : Bool) (overalls : List Overall) → items_have_float (items_of (map (overall_data each) overalls)) ≡ false
-overalls_none each overalls = items_none (overall_data each) (overall_none each) overalls
+overall_none : (each : Bool) (hidden : List HiddenCost) (o : Overall) → has_float (overall_data each hidden o) ≡ false
+overall_none each hidden o =
+    let last = hidden_member (hidden_names hidden o.failure) in
+    counted_none o.failure o.sums.cut o.sums.gone o.sums.cost o.sums.hops
+    (member (codes "routers") (number (unsigned o.sums.routers)) (routes_member each (flat_map sight_data o.sights.items) last))
+    (member_none each (flat_map sight_data o.sights.items) last (sights_none o.sights.items) (hidden_none hidden o.failure))
+
+pub overalls_none : (each : Bool) (hidden : List HiddenCost) (overalls : List Overall) → items_have_float (items_of (map (overall_data each hidden) overalls)) ≡ false
+overalls_none each hidden overalls = items_none (overall_data each hidden) (overall_none each hidden) overalls
 
 -- one value more
 pub values_next : {X : Type 0} (f : X → Data) (xs : List X) (i : ℕ) (x : X) (values more : List Value) (value : Value) → i < length xs → x ≡ get_or xs i x → more ≡ values ++ value ∷ []

@@ -1,6 +1,6 @@
 -- What is printed of the failures of the area whose LSAs are the lines
 -- of an input, and how that ends.
-use Rattle.std.specs.Prelude.{◌≡◌, ◌≢◌, ◌⊎◌, ◌&&◌, ◌||◌, ℕ, Bool, not, true, false, List, [], ◌∷◌, ◌++◌, IfSome, Option, None, Some, String, if◌then◌else◌, codes, string_bytes, vec_items}
+use Rattle.std.specs.Prelude.{◌≡◌, ◌≢◌, ◌⊎◌, ◌&&◌, ◌||◌, ℕ, Bool, not, true, false, List, [], ◌∷◌, ◌++◌, IfSome, Option, String, if◌then◌else◌, codes, string_bytes, vec_items}
 use Rattle.std.specs.Io.KnownBytes.{Appends}
 use Rattle.std.specs.declared.alloc.Global.{Global}
 use Rattle.ospf_base.specs.Text.{number_text}
@@ -21,8 +21,11 @@ use Rattle.ospf_table.specs.Output.{unlisted_line}
 use Rattle.ospf_table.specs.Refusal.{refusal_line}
 use Rattle.ospf_table.specs.declared.table.EntryFault.{EntryFault}
 use Rattle.ospf_whatif.specs.Failure.{HasLarge, IsLarge}
+use Rattle.ospf_whatif.specs.Hidden.{AreHidden}
+use Rattle.ospf_whatif.specs.declared.hidden.HiddenCost.{HiddenCost}
 use Rattle.ospf_failures.specs.Json.{overalls_json, reports_json}
 use Rattle.ospf_failures.specs.Overall.{AreOveralls, CutsSomewhere, overalls_text}
+use Rattle.ospf_failures.specs.Warnings.{hidden_text}
 use Rattle.ospf_failures.specs.Reports.{HasCut, IsReported, ReportValue, reports_text}
 use Rattle.ospf_failures.specs.Without.{IsFirstUnnamed, IsTableWithout, unnamed_line}
 use Rattle.ospf_failures.specs.declared.answer.FailuresAnswer.{FailuresAnswer}
@@ -75,12 +78,6 @@ IsAllPrinted end = (end ≡ Ended status.Done) ⊎ (end ≡ Unmet)
 
 -- ---- what is asked
 
--- the router that is asked of
-abbrev pub root_of : FailuresJob → Option RouterId
-root_of (Root root each strict form) = Some root
-root_of (All each strict form) = None
-root_of (Without root names addresses) = Some root
-
 -- the names of parts that are to be left out
 abbrev pub names_of : FailuresJob → List (String Global)
 names_of (Root root each strict form) = []
@@ -126,9 +123,10 @@ IsUnserved s = (s ≡ status.Refused) ⊎ (s ≡ status.Words)
 -- ---- what is printed
 
 -- reports in a form
-abbrev pub changes_text : FailuresForm → Bool → RouterId → List ReportValue → List ℕ
-changes_text form.Text each root printed = reports_text each printed
-changes_text form.Json each root printed = reports_json each root printed
+abbrev pub changes_text
+    : FailuresForm → Bool → RouterId → List HiddenCost → List ReportValue → List ℕ
+changes_text form.Text each root hidden printed = reports_text each printed
+changes_text form.Json each root hidden printed = reports_json each root hidden printed
 
 -- the reports of the area at the root, in a form
 pub record SaysChanges (adverts : List Advertisement) (root : RouterId) (each strict : Bool)
@@ -137,7 +135,9 @@ pub record SaysChanges (adverts : List Advertisement) (root : RouterId) (each st
   pub is_table : IsTable adverts root table
   pub printed : List ReportValue
   pub reported : IsReported adverts root table printed
-  pub text_is : text ≡ changes_text form each root printed
+  pub hidden : List HiddenCost
+  pub are_hidden : AreHidden adverts hidden
+  pub text_is : text ≡ changes_text form each root hidden printed
   pub ends : IsEndBy strict (IsUnmetAt adverts root printed) end
 
 -- what is kept of the routes that change, where each is to be told
@@ -147,16 +147,18 @@ detail_of true form.Json = detail.Routes
 detail_of false form = detail.Sums
 
 -- what is told over all routers, in a form
-abbrev pub added_text : FailuresForm → Bool → List Overall → List ℕ
-added_text form.Text each printed = overalls_text printed
-added_text form.Json each printed = overalls_json each printed
+abbrev pub added_text : FailuresForm → Bool → List HiddenCost → List Overall → List ℕ
+added_text form.Text each hidden printed = overalls_text printed
+added_text form.Json each hidden printed = overalls_json each hidden printed
 
 -- what each failure changes at all routers, in a form
 pub record SaysOverall (adverts : List Advertisement) (each strict : Bool) (form : FailuresForm)
     (text : List ℕ) (end : FailuresStatus) : Type 0 where
   pub printed : List Overall
   pub are : AreOveralls adverts (detail_of each form) printed
-  pub text_is : text ≡ added_text form each printed
+  pub hidden : List HiddenCost
+  pub are_hidden : AreHidden adverts hidden
+  pub text_is : text ≡ added_text form each hidden printed
   pub ends : IsEndBy strict (IsUnmetSomewhere adverts printed) end
 
 -- what is asked of the area, and the status that it ends with
@@ -174,19 +176,27 @@ TellsOfRoot adverts root text =
     ((IsListed adverts root → ⊥) × (text ≡ unlisted_line root))
     ⊎ (IsListed adverts root × (text ≡ []))
 
--- what is said of the root, if there is one
-abbrev pub WarnsOf : Option RouterId → List (List ℕ) → List ℕ → Type 0
-WarnsOf (Some root) listing text = TellsOfRoot (advertisements_of listing) root text
-WarnsOf None listing text = text ≡ []
+-- what is said of costs that no LSA contains: a line each
+abbrev pub TellsHidden : List Advertisement → List ℕ → Type 0
+TellsHidden adverts text =
+    (hidden : List HiddenCost) × AreHidden adverts hidden × (text ≡ hidden_text hidden)
+
+-- what is said of the root, if there is one, and then of such costs after failures
+abbrev pub WarnsOf : FailuresJob → List Advertisement → List ℕ → Type 0
+WarnsOf (Root root each strict form) adverts text =
+    (own more : List ℕ) × TellsOfRoot adverts root own × TellsHidden adverts more
+    × (text ≡ own ++ more)
+WarnsOf (All each strict form) adverts text = TellsHidden adverts text
+WarnsOf (Without root names addresses) adverts text = TellsOfRoot adverts root text
 
 -- the answer of the area whose LSAs the lines of the input are, none of whose routers has too many
--- links where parts are named; and the warning of the root
+-- links where parts are named; and what it warns of
 pub record IsFailuresAnswer (job : FailuresJob) (end : FailuresStatus) (input text warning : List ℕ)
     : Type 0 where
   pub listing : List (List ℕ)
   pub reads : Reads input [] listing
   pub small : names_of job ≢ [] → HasLarge (advertisements_of listing) → ⊥
-  pub warned : WarnsOf (root_of job) listing warning
+  pub warned : WarnsOf job (advertisements_of listing) warning
   pub says : SaysOf job (advertisements_of listing) text end
 
 -- the answer stands on standard output, its warning on standard error, and

@@ -1,5 +1,6 @@
 pub mod Reports
 pub mod Overall
 pub mod Json
+pub mod Warnings
 pub mod Without
 pub mod Answer

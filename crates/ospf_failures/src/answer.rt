@@ -7,7 +7,7 @@ ghost use Rattle.ospf_files.specs.declared.status.Status.{Status};
 ghost use Rattle.ospf_files.specs.declared.streams.FailedStreams.{FailedStreams};
 ghost use Rattle.ospf_table.specs.Line.{Reads, Refuses};
 ghost use Rattle.ospf_whatif.specs.Failure.{HasLarge, IsLarge};
-ghost use Rattle.ospf_failures.specs.Answer.{FailuresEndsBy, IsFailuresAnswerOf, IsFailuresAnswered, IsFailuresCutShort, IsFailuresEnding, IsUnreported, HasRouter, IsFirstLarge, IsRefusalOf, IsFailuresRefusalTold, IsFailuresSaid, IsUnserved, IsAllPrinted, SaysChanges, SaysOf, SaysOverall, WarnsOf, added_text, changes_text, detail_of, end_by, names_of};
+ghost use Rattle.ospf_failures.specs.Answer.{FailuresEndsBy, IsFailuresAnswerOf, IsFailuresAnswered, IsFailuresCutShort, IsFailuresEnding, IsUnreported, HasRouter, IsFirstLarge, IsRefusalOf, IsFailuresRefusalTold, IsFailuresSaid, IsUnserved, IsAllPrinted, SaysChanges, SaysOf, SaysOverall, TellsHidden, TellsOfRoot, WarnsOf, added_text, changes_text, detail_of, end_by, names_of};
 ghost use Rattle.ospf_failures.specs.declared.answer.FailuresJob.{FailuresJob};
 ghost use Rattle.ospf_graph.specs.Routes.{IsTable};
 ghost use Rattle.ospf_graph.specs.declared.route.Route.{Route};
@@ -19,6 +19,7 @@ use crate::overall::{
 };
 use crate::progress::Progress;
 use crate::report::{Report, has_cut, reports, reports_json, reports_text};
+use crate::warnings::hidden_text;
 use crate::without::text_without;
 use ospf_base::{Addr, Kind, RouterId};
 use ospf_edges::is_listed;
@@ -26,6 +27,7 @@ use ospf_files::{FailedStreams, Failure, Status};
 use ospf_lsa::{Links, Listing, LsaView};
 use ospf_spf::RouteTable;
 use ospf_table::{EntryFault, TableFault, read_listing};
+use ospf_whatif::{HiddenCost, hidden_costs};
 use std::alloc::{AllocError, Global};
 use std::io::{BufRead, Write};
 use std::process::ExitCode;
@@ -77,18 +79,7 @@ pub enum FailuresJob {
 
 impl FailuresJob {
     ghost use Rattle.std.specs.Prelude.{◌≡◌, ◌≢◌, ◌↔◌, [], IsTrue};
-    ghost use Rattle.ospf_failures.specs.Answer.{names_of, root_of};
-
-    // The router that is asked of, if it is one.
-    fn root(&self) -> Option<RouterId>
-        ensures { result ≡ root_of self.now }
-    {
-        match self {
-            FailuresJob::Root { root, .. } => Some(*root),
-            FailuresJob::All { .. } => None,
-            FailuresJob::Without { root, .. } => Some(*root),
-        }
-    }
+    ghost use Rattle.ospf_failures.specs.Answer.{names_of};
 
     // Whether parts are named that are to be left out.
     fn has_names(&self) -> bool
@@ -166,14 +157,18 @@ impl From<FailuresStatus> for ExitCode {
 /// (`reports_json`, `overalls_json`). Or it is the root's table in the area without the parts that
 /// are named, with lookups, as `table_text` prints it.
 ///
-/// Where the root's router-LSA is not listed, `err` says so. The status is `Ended(Done)`, or with
-/// `strict` `Unmet` where some failure cuts a prefix off, or the root's router-LSA is not listed,
-/// or over all routers none is. The first line that is refused is told on `err`, or where none is
-/// and parts are named, whose routers' LSAs are made anew, the first router whose router-LSA has
-/// more than 1,361 links, with status `Ended(Refused)`; else the first name of nothing in the area,
-/// with status `Ended(Words)`. Then nothing is printed. `Ended(Memory)` says that memory ran out,
-/// and `Ended(Stream)` that a read or a write failed; what it was is told on `err`, as far as that
-/// can be written, and no more than a beginning is printed. `progress` is told how far it has come.
+/// Where the root's router-LSA is not listed, `err` says so. Over failures it also names the stub
+/// routers that a failure leaves alone on a network, at a cost that no LSA contains.
+///
+/// The status is `Ended(Done)`, or with `strict` `Unmet` where some failure cuts a prefix off, or
+/// the root's router-LSA is not listed, or over all routers none is. The first line that is refused
+/// is told on `err`, or where none is and parts are named, whose routers' LSAs are made anew, the
+/// first router whose router-LSA has more than 1,361 links, with status `Ended(Refused)`; else the
+/// first name of nothing in the area, with status `Ended(Words)`. Then nothing is printed.
+///
+/// `Ended(Memory)` says that memory ran out, and `Ended(Stream)` that a read or a write failed.
+/// What it was is told on `err`, as far as that can be written, and no more than a beginning is
+/// printed. `progress` is told how far it has come.
 pub fn failures_text<R: BufRead + Drop, O: Write, E: Write, P: Progress>(
     rt: &(impl AllocGlobal + Threads + Sync),
     job: &FailuresJob,
@@ -278,7 +273,7 @@ fn answer_of<R: BufRead + Drop, P: Progress>(
     ensures fault { IfErr result (IsUnreported (R.remaining input) job.now) }
 {
     let listing = listing_of(alloc, job, input)?;
-    let warning = warning_of(alloc, &listing, job.root())?;
+    let warning = warning_of(alloc, &listing, job)?;
     match said_of(alloc, rt, job, listing, progress) {
         Ok(said) => Ok(FailuresAnswer { warning, said }),
         Err(fault) => Err(fault),
@@ -377,17 +372,36 @@ fn router_refused(alloc: Global, router: RouterId) -> Unreported
     }
 }
 
-// What is said of the root, if there is one: that its router-LSA is not listed.
-fn warning_of(
-    alloc: Global,
-    listing: &Listing,
-    root: Option<RouterId>,
-) -> Result<String, AllocError>
-    ensures { IfOk result (λ text. WarnsOf root listing.now (string_bytes text)) }
+// What is said of the root, if there is one, and of costs after failures that no LSA contains.
+fn warning_of(alloc: Global, listing: &Listing, job: &FailuresJob) -> Result<String, AllocError>
+    ensures { IfOk result (λ text. WarnsOf job.now (advertisements_of listing.now)
+        (string_bytes text)) }
 {
-    let Some(root) = root else {
-        return Ok(String::new(alloc));
-    };
+    match job {
+        FailuresJob::Root { root, .. } => {
+            let mut text = root_warning(alloc, listing, *root)?;
+            text.push_str(&hidden_warning(alloc, listing)?)?;
+            Ok(text)
+        }
+        FailuresJob::All { .. } => hidden_warning(alloc, listing),
+        FailuresJob::Without { root, .. } => root_warning(alloc, listing, *root),
+    }
+}
+
+// What is said of costs after failures that no LSA contains.
+fn hidden_warning(alloc: Global, listing: &Listing) -> Result<String, AllocError>
+    ensures { IfOk result (λ text. TellsHidden (advertisements_of listing.now)
+        (string_bytes text)) }
+{
+    let hidden = hidden_costs(alloc, listing)?;
+    hidden_text(alloc, &hidden)
+}
+
+// What is said of a root: that its router-LSA is not listed.
+fn root_warning(alloc: Global, listing: &Listing, root: RouterId) -> Result<String, AllocError>
+    ensures { IfOk result (λ text. TellsOfRoot (advertisements_of listing.now) root
+        (string_bytes text)) }
+{
     if is_listed(listing, root) {
         return Ok(String::new(alloc));
     }
@@ -453,7 +467,8 @@ fn changes_said(
     ensures whole { IfOk result (λ said. IsAllPrinted said.end) }
 {
     let printed = reports_at(alloc, rt, listing, root)?;
-    let text = changes_text(alloc, &printed, root, each, form)?;
+    let hidden = hidden_costs(alloc, listing)?;
+    let text = changes_text(alloc, &printed, root, each, form, &hidden)?;
     let end = end_of(strict, has_cut(&printed), is_listed(listing, root));
     Ok(PrintedText { text, end })
 }
@@ -488,7 +503,8 @@ fn overalls_said<P: Progress>(
     ensures whole { IfOk result (λ said. IsAllPrinted said.end) }
 {
     let printed = overalls(alloc, rt, listing, detail_of(each, form), progress)?;
-    let text = added_text(alloc, &printed, each, form)?;
+    let hidden = hidden_costs(alloc, listing)?;
+    let text = added_text(alloc, &printed, each, form, &hidden)?;
     let end = end_of(strict, cuts_somewhere(&printed), has_router(listing));
     Ok(PrintedText { text, end })
 }
@@ -512,12 +528,14 @@ fn changes_text(
     root: RouterId,
     each: bool,
     form: FailuresForm,
+    hidden: &[HiddenCost],
 ) -> Result<String, AllocError>
-    ensures { IfOk result (λ text. string_bytes text ≡ changes_text form each root printed.now) }
+    ensures { IfOk result (λ text. string_bytes text
+        ≡ changes_text form each root hidden.now printed.now) }
 {
     match form {
         FailuresForm::Text => reports_text(alloc, printed, each),
-        FailuresForm::Json => reports_json(alloc, printed, root, each),
+        FailuresForm::Json => reports_json(alloc, printed, root, each, hidden),
     }
 }
 
@@ -527,12 +545,14 @@ fn added_text(
     printed: &[Overall],
     each: bool,
     form: FailuresForm,
+    hidden: &[HiddenCost],
 ) -> Result<String, AllocError>
-    ensures { IfOk result (λ text. string_bytes text ≡ added_text form each printed.now) }
+    ensures { IfOk result (λ text. string_bytes text
+        ≡ added_text form each hidden.now printed.now) }
 {
     match form {
         FailuresForm::Text => overalls_text(alloc, printed),
-        FailuresForm::Json => overalls_json(alloc, printed, each),
+        FailuresForm::Json => overalls_json(alloc, printed, each, hidden),
     }
 }
 

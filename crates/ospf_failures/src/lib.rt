@@ -7,6 +7,7 @@ mod answer;
 mod overall;
 mod progress;
 mod report;
+mod warnings;
 mod without;
 
 pub use crate::answer::{FailuresForm, FailuresJob, FailuresStatus, failures_text};

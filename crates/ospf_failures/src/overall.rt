@@ -8,21 +8,24 @@ ghost use Rattle.ospf_whatif.specs.Effect.{IsEffectIn};
 ghost use Rattle.ospf_whatif.specs.Failure.{without};
 ghost use Rattle.ospf_whatif.specs.Outage.{IsAreaGraph, IsOutage};
 ghost use Rattle.ospf_table.specs.Changes.{change_line};
-ghost use Rattle.serde_json.specs.Data.{array};
-ghost use Rattle.serde_json.specs.View.{items_of, view};
-ghost use Rattle.ospf_failures.specs.Json.{overall_data, overalls_json, sight_data};
+ghost use Rattle.serde_json.specs.Data.{array, no_members};
+ghost use Rattle.serde_json.specs.View.{items_of, members_view, view};
+ghost use Rattle.ospf_failures.specs.Json.{overall_data, overall_members, overalls_json, sight_data};
 ghost use Rattle.ospf_failures.specs.Overall.{AreOveralls, AreOverallsFound, CutsSomewhere, IsTableBefore, IsOverallFound, IsSoFar, KeepsMore, Sees, failing_router, overall_cmp, overall_rank, overalls_text, roots_in, sight_lines, sums_of};
 ghost use Rattle.ospf_table.specs.Sums.{HasSumRoom};
 
 use crate::progress::Progress;
 use crate::report::{is_of, place_of};
+use crate::warnings::put_hidden;
 use ospf_base::RouterId;
 use ospf_lsa::Listing;
 use ospf_spf::RouteTable;
 use ospf_table::{Sums, add_changes, change_line, counted_members, objects_line, sums_line};
-use ospf_whatif::{AreaFailure, AreaGraph, KeptRoot, Outage, RouteChange, single_failures};
+use ospf_whatif::{
+    AreaFailure, AreaGraph, HiddenCost, KeptRoot, Outage, RouteChange, single_failures,
+};
 use rayon::prelude::*;
-use serde_json::{Value, put};
+use serde_json::{Map, Value, put};
 use std::alloc::{AllocError, Global};
 use std::cmp::Reverse;
 use std::marker::Model;
@@ -108,12 +111,18 @@ pub fn overalls_text(alloc: Global, overalls: &[Overall]) -> Result<String, Allo
 /// `routers` is at how many anything changes, and with `each`, `routes` are those that were kept.
 ///
 /// `AllocError` where memory runs out.
-pub fn overalls_json(alloc: Global, overalls: &[Overall], each: bool) -> Result<String, AllocError>
-    ensures { IfOk result (λ text. string_bytes text ≡ overalls_json each overalls.now) }
+pub fn overalls_json(
+    alloc: Global,
+    overalls: &[Overall],
+    each: bool,
+    hidden: &[HiddenCost],
+) -> Result<String, AllocError>
+    ensures { IfOk result (λ text. string_bytes text
+        ≡ overalls_json each hidden.now overalls.now) }
 {
     let mut objects = Vec::new(alloc);
     for overall in overalls {
-        objects.push(overall.value(alloc, each)?)?;
+        objects.push(overall.value(alloc, each, hidden)?)?;
     }
     objects_line(alloc, objects)
 }
@@ -378,18 +387,28 @@ impl Overall {
     }
 
     // What is told of it as an object.
-    fn value(&self, alloc: Global, each: bool) -> Result<Value, AllocError>
-        ensures { IfOk result (λ value. view value ≡ overall_data each self.now) }
+    fn value(&self, alloc: Global, each: bool, hidden: &[HiddenCost]) -> Result<Value, AllocError>
+        ensures { IfOk result (λ value. view value ≡ overall_data each hidden.now self.now) }
+    {
+        let mut members = self.members(alloc, each)?;
+        put_hidden(alloc, &mut members, &self.failure, hidden)?;
+        Ok(Value::Object(members))
+    }
+
+    // The sums, and with `each` the routes.
+    fn members(&self, alloc: Global, each: bool) -> Result<Map<String, Value>, AllocError>
+        ensures { IfOk result (λ members. members_view members.entries
+            ≡ overall_members each self.now no_members) }
     {
         let s = self.sums;
         let mut members = counted_members(alloc, &self.failure, s.cut, s.gone, s.cost, s.hops)?;
         put(&mut members, alloc, "routers", Value::from(s.routers))?;
         if !each {
-            return Ok(Value::Object(members));
+            return Ok(members);
         }
         let routes = routes_value(alloc, &self.sights)?;
         put(&mut members, alloc, "routes", routes)?;
-        Ok(Value::Object(members))
+        Ok(members)
     }
 
     // What it is ordered by.

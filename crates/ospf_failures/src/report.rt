@@ -11,13 +11,16 @@ ghost use Rattle.ospf_whatif.specs.declared.failure.AreaFailure.{AreaFailure};
 ghost use Rattle.ospf_failures.specs.Json.{reports_json};
 ghost use Rattle.ospf_failures.specs.Reports.{HasCut, IsOtherFailure, IsReportFound, IsReported, is_of, failure_place, report_cmp, reports_text};
 
+use crate::warnings::put_hidden;
 use ospf_base::RouterId;
 use ospf_lsa::Listing;
 use ospf_spf::RouteTable;
 use ospf_table::{Totals, add_changes, counted_members, failure_lines, objects_line};
-use ospf_whatif::{AreaFailure, AreaGraph, KeptRoot, Outage, RouteChange, single_failures};
+use ospf_whatif::{
+    AreaFailure, AreaGraph, HiddenCost, KeptRoot, Outage, RouteChange, single_failures,
+};
 use rayon::prelude::*;
-use serde_json::{Value, put};
+use serde_json::{Map, Value, put};
 use std::alloc::{AllocError, Global};
 use std::cmp::Reverse;
 use std::marker::Model;
@@ -47,8 +50,9 @@ impl Report {
     ghost use Rattle.std.specs.Prelude.{◌≡◌, IfOk, string_bytes};
     ghost use Rattle.ospf_whatif.specs.declared.failure.AreaFailure.{AreaFailure};
     ghost use Rattle.ospf_table.specs.Changes.{failure_lines, totals_of};
-    ghost use Rattle.serde_json.specs.View.{view};
-    ghost use Rattle.ospf_failures.specs.Json.{report_data};
+    ghost use Rattle.serde_json.specs.Data.{no_members};
+    ghost use Rattle.serde_json.specs.View.{members_view, view};
+    ghost use Rattle.ospf_failures.specs.Json.{report_data, report_members};
     ghost use Rattle.ospf_failures.specs.Reports.{rank_of};
 
     /// The report of a failure that makes these changes.
@@ -81,8 +85,29 @@ impl Report {
     }
 
     // What is told of it at a root as an object.
-    fn value(&self, alloc: Global, root: RouterId, each: bool) -> Result<Value, AllocError>
-        ensures { IfOk result (λ value. view value ≡ report_data each root self.now) }
+    fn value(
+        &self,
+        alloc: Global,
+        root: RouterId,
+        each: bool,
+        hidden: &[HiddenCost],
+    ) -> Result<Value, AllocError>
+        ensures { IfOk result (λ value. view value ≡ report_data each root hidden.now self.now) }
+    {
+        let mut members = self.members(alloc, root, each)?;
+        put_hidden(alloc, &mut members, &self.failure, hidden)?;
+        Ok(Value::Object(members))
+    }
+
+    // How many prefixes it changes, and with `each` these.
+    fn members(
+        &self,
+        alloc: Global,
+        root: RouterId,
+        each: bool,
+    ) -> Result<Map<String, Value>, AllocError>
+        ensures { IfOk result (λ members. members_view members.entries
+            ≡ report_members each root self.now no_members) }
     {
         let t = self.totals;
         let mut members = counted_members(
@@ -94,12 +119,12 @@ impl Report {
             t.hops as u128,
         )?;
         if !each {
-            return Ok(Value::Object(members));
+            return Ok(members);
         }
         let mut routes = Vec::new(alloc);
         add_changes(alloc, root, &self.changes, &mut routes)?;
         put(&mut members, alloc, "routes", Value::Array(routes))?;
-        Ok(Value::Object(members))
+        Ok(members)
     }
 
     // What it is ordered by.
@@ -154,7 +179,8 @@ pub fn reports_text(alloc: Global, reports: &[Report], each: bool) -> Result<Str
 /// with the name of the `failure`, its `kind`, and how many prefixes it changes, as `cut`, `gone`,
 /// `cost` and `hops`. With `each` it has `routes`, an array of an object a route that changes: the
 /// `router` in whose table it is, its `prefix`, the `loss` by one of these four words, and its cost
-/// and hops `before` and, where there are any, `after`.
+/// and hops `before` and, where there are any, `after`. A failure after which costs are in no LSA
+/// has `unknown_costs`, an array of the interfaces, each by its router and network.
 ///
 /// `AllocError` where memory runs out.
 pub fn reports_json(
@@ -162,12 +188,14 @@ pub fn reports_json(
     reports: &[Report],
     root: RouterId,
     each: bool,
+    hidden: &[HiddenCost],
 ) -> Result<String, AllocError>
-    ensures { IfOk result (λ text. string_bytes text ≡ reports_json each root reports.now) }
+    ensures { IfOk result (λ text. string_bytes text
+        ≡ reports_json each root hidden.now reports.now) }
 {
     let mut objects = Vec::new(alloc);
     for report in reports {
-        objects.push(report.value(alloc, root, each)?)?;
+        objects.push(report.value(alloc, root, each, hidden)?)?;
     }
     objects_line(alloc, objects)
 }

@@ -149,6 +149,19 @@ fn nested(alloc: Global) -> Result<Vec<Lsa>, Fail> {
     Ok(lsas)
 }
 
+// Two routers on 10.1.0.0/24, of which the second is a stub router, as FRR's `max-metric router-lsa administrative` makes it.
+fn stub_router_on_a_lan(alloc: Global) -> Result<Vec<Lsa>, Fail> {
+    let network = 0x0a01_0002;
+    let first = [link(LinkKind::Transit, network, 0x0a01_0001, 10)];
+    let second = [link(LinkKind::Transit, network, network, 0xffff)];
+    let attached = [FIRST, SECOND];
+    let mut lsas = Vec::new(alloc);
+    lsas.push(router(alloc, FIRST, &first)?)?;
+    lsas.push(router(alloc, SECOND, &second)?)?;
+    lsas.push(Lsa::network(alloc, network, SECOND, FIRST_NUMBER, 0xffff_ff00, &attached)?)?;
+    Ok(lsas)
+}
+
 // LSAs as lines.
 fn lines(alloc: Global, lsas: &[Lsa]) -> Result<String, Fail> {
     let mut text = String::new(alloc);
@@ -646,6 +659,34 @@ fn failures_are_told_as_json(rt: HostRuntime) -> Result<(), Fail> {
         \"before\":{\"cost\":15,\"hops\":[\"10.0.0.1>2.2.2.2\",\"10.1.0.1>2.2.2.2@10.1.0.2\"]},\
         \"loss\":\"hops\",\"prefix\":\"192.168.2.0/24\",\"router\":\"1.1.1.1\"}]}]\n";
     expect_json(&rt, alloc, &lsas, true, each)
+}
+
+// Left alone, a stub router advertises its network at the cost of its interface, which is in no LSA.
+#[test]
+fn cost_of_a_stub_router_left_alone_is_unknown(rt: HostRuntime) -> Result<(), Fail> {
+    let alloc = rt.alloc();
+    let input = lines(alloc, &stub_router_on_a_lan(alloc)?)?;
+    let err = "2.2.2.2@10.1.0.2: its cost after a failure of 1.1.1.1 is not in the LSAs\n";
+    let text = "2.2.2.2@10.1.0.2 cut 1 gone 0 cost 0 hops 0\n\
+        @10.1.0.2 cut 0 gone 1 cost 0 hops 0\n\
+        1.1.1.1@10.1.0.2 cut 0 gone 0 cost 0 hops 0\n\
+        1.1.1.1 cut 0 gone 0 cost 0 hops 0\n";
+    let json = "[{\"cost\":0,\"cut\":1,\"failure\":\"2.2.2.2@10.1.0.2\",\"gone\":0,\"hops\":0,\"kind\":\"attachment\"},\
+        {\"cost\":0,\"cut\":0,\"failure\":\"@10.1.0.2\",\"gone\":1,\"hops\":0,\"kind\":\"network\"},\
+        {\"cost\":0,\"cut\":0,\"failure\":\"1.1.1.1@10.1.0.2\",\"gone\":0,\"hops\":0,\"kind\":\"attachment\",\
+        \"unknown_costs\":[\"2.2.2.2@10.1.0.2\"]},\
+        {\"cost\":0,\"cut\":0,\"failure\":\"1.1.1.1\",\"gone\":0,\"hops\":0,\"kind\":\"router\",\
+        \"unknown_costs\":[\"2.2.2.2@10.1.0.2\"]}]\n";
+    for (form, out) in [(FailuresForm::Text, text), (FailuresForm::Json, json)] {
+        let job = FailuresJob::Root {
+            root: SECOND,
+            each: false,
+            strict: false,
+            form,
+        };
+        expect_of(&rt, alloc, &job, &Case::over(&input, DONE, out, err))?;
+    }
+    Ok(())
 }
 
 #[test]

@@ -1,6 +1,3 @@
-use Rattle.std.proofs.Common.{Option, string_bytes, subst}
-use Rattle.ospf_base.specs.declared.ids.RouterId.{RouterId}
-use Rattle.ospf_failures.specs.Answer.{WarnsOf}
 use Rattle.ospf_failures.proofs.AnswerLemmas.{answer_made, names_refused}
 use Rattle.ospf_failures.proofs.answer.answer_of.Goals as goal
 
@@ -8,7 +5,7 @@ pub returns-in-Ok-clause-answer : goal.returns-in-Ok-clause-answer
 returns-in-Ok-clause-answer g c =
     answer_made (g.R.Read.remaining c.args.input) c.args.job.now (record { warning = c.in_ok-warning.warning; said = c.in-Ok.said }) c.in_ok-listing.listing
     c.in_ok-listing.ensures.whole c.in_ok-listing.ensures.small
-    (subst (λ (r : Option RouterId). WarnsOf r c.in_ok-listing.listing (string_bytes c.in_ok-warning.warning)) c.root.ensures c.in_ok-warning.ensures) c.in-Ok.ensures.said
+    c.in_ok-warning.ensures c.in-Ok.ensures.said
 
 pub returns-in-Err-clause-fault : goal.returns-in-Err-clause-fault
 returns-in-Err-clause-fault g c =

@@ -1,12 +1,24 @@
-use Rattle.std.proofs.Common.{rules, ◌≡◌, ◌∙◌, true, false, inl, string_bytes, sym, subst}
-use Rattle.ospf_base.specs.declared.ids.RouterId.{RouterId}
-use Rattle.std.specs.Prelude.{Option}
-use Rattle.ospf_table.specs.Output.{unlisted_line}
+use Rattle.std.proofs.Common.{◌≡◌, ◌∙◌, ◌++◌, ℕ, IfOk, List, String, ap, string_bytes, subst, sym}
+use Rattle.std.specs.declared.alloc.Global.{Global}
+use Rattle.ospf_edges.specs.Listed.{advertisements_of}
 use Rattle.ospf_failures.specs.Answer.{WarnsOf}
+use Rattle.ospf_failures.specs.declared.answer.FailuresJob.{FailuresJob}
 use Rattle.ospf_failures.proofs.answer.warning_of.Goals as goal
 
-pub returns : goal.returns
-returns c =
-    let shown : string_bytes c.in_ok-text.text ≡ unlisted_line c.in-Some.root = search (rules, c.in_ok-text.ensures.ok) in
-    subst (λ (root : Option RouterId). WarnsOf root c.args.listing.now (string_bytes c.in_ok-text.text)) (sym c.in-Some.is)
-    (inl ((λ listed. (let both : true ≡ false = sym (c.is_listed.ensures.1 listed) ∙ c.if-is_listed.false in cc)), shown))
+pub returns-in_ok-push_str-in-Root : goal.returns-in_ok-push_str-in-Root
+returns-in_ok-push_str-in-Root c =
+    let own = string_bytes c.in_ok-text-in-Root.text in
+    let more = string_bytes c.in_ok-hidden_warning-in-Root.field-0 in
+    let both : string_bytes c.push_str.new.self ≡ own ++ more = c.in_ok-push_str-in-Root.ensures.bytes ∙ ap (λ (l : List ℕ). own ++ l) c.deref.ensures in
+    subst (λ (job : FailuresJob). WarnsOf job (advertisements_of c.args.listing.now) (string_bytes c.push_str.new.self)) (sym c.in-Root.is)
+    (own, more, c.in_ok-text-in-Root.ensures, c.in_ok-hidden_warning-in-Root.ensures, both)
+
+pub returns-in-All : goal.returns-in-All
+returns-in-All c =
+    subst (λ (job : FailuresJob). IfOk c.hidden_warning-in-All.result (λ (text : String Global). WarnsOf job (advertisements_of c.args.listing.now) (string_bytes text)))
+    (sym c.in-All.is) c.hidden_warning-in-All.ensures
+
+pub returns-in-Without : goal.returns-in-Without
+returns-in-Without c =
+    subst (λ (job : FailuresJob). IfOk c.root_warning-in-Without.result (λ (text : String Global). WarnsOf job (advertisements_of c.args.listing.now) (string_bytes text)))
+    (sym c.in-Without.is) c.root_warning-in-Without.ensures

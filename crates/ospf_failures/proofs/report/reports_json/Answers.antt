@@ -8,4 +8,4 @@ use Rattle.ospf_failures.proofs.report.reports_json.Goals as goal
 pub objects_line-requires : goal.objects_line-requires
 objects_line-requires c =
     ap (λ (ds : List Data). items_have_float (items_of ds)) c.loop-report.invariant
-    ∙ reports_none c.args.each c.args.root (take c.loop-report.report-index c.args.reports.now)
+    ∙ reports_none c.args.each c.args.root c.args.hidden.now (take c.loop-report.report-index c.args.reports.now)

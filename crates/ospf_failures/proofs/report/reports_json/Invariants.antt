@@ -5,4 +5,4 @@ use Rattle.ospf_failures.proofs.report.reports_json.Given as goal
 
 -- those so far
 abbrev pub invariant-loop-report : goal.invariant-loop-report
-invariant-loop-report l = map view l.objects.items ≡ map (report_data l.each l.root) (take l.report-index l.reports)
+invariant-loop-report l = map view l.objects.items ≡ map (report_data l.each l.root l.hidden) (take l.report-index l.reports)

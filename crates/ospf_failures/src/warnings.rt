@@ -1,0 +1,98 @@
+//! Costs that no LSA contains, as they are told.
+
+ghost use Rattle.std.specs.Prelude.{◌≡◌, ◌++◌, ◌∷◌, [], IfOk, OnOk, filter, map, string_bytes};
+ghost use Rattle.serde_json.specs.View.{members_view, view};
+ghost use Rattle.ospf_failures.specs.Json.{with_hidden};
+ghost use Rattle.ospf_failures.specs.Warnings.{hidden_line, hidden_name, hidden_names, hidden_text, is_cause};
+
+use ospf_base::Addr;
+use ospf_whatif::{AreaFailure, HiddenCost};
+use serde_json::{Map, Value, put};
+use std::alloc::{AllocError, Global};
+
+// A line each.
+pub(crate) fn hidden_text(alloc: Global, hidden: &[HiddenCost]) -> Result<String, AllocError>
+    ensures { IfOk result (λ text. string_bytes text ≡ hidden_text hidden.now) }
+{
+    let mut text = String::new(alloc);
+    for cost in hidden {
+        text.push_str(&hidden_line(alloc, cost)?)?;
+    }
+    Ok(text)
+}
+
+// The line of one.
+fn hidden_line(alloc: Global, hidden: &HiddenCost) -> Result<String, AllocError>
+    ensures { IfOk result (λ line. string_bytes line ≡ hidden_line hidden.now) }
+{
+    let (router, network, other) = (hidden.router, Addr(hidden.network), hidden.other);
+    let line = format!(in alloc;
+        "{router}@{network}: its cost after a failure of {other} is not in the LSAs\n"
+    )?;
+    Ok(line)
+}
+
+// Puts the names of those that a failure brings about behind the members of its object.
+pub(crate) fn put_hidden(
+    alloc: Global,
+    members: &mut Map<String, Value>,
+    failure: &AreaFailure,
+    hidden: &[HiddenCost],
+) -> Result<(), AllocError>
+    ensures { OnOk result (members_view members.new.entries
+        ≡ with_hidden (hidden_names hidden.now failure.now) (members_view members.old.entries)) }
+{
+    let names = hidden_values(alloc, hidden, failure)?;
+    if !names.is_empty() {
+        put(members, alloc, "unknown_costs", Value::Array(names))?;
+    }
+    Ok(())
+}
+
+// The names of those that a failure brings about.
+fn hidden_values(
+    alloc: Global,
+    hidden: &[HiddenCost],
+    failure: &AreaFailure,
+) -> Result<Vec<Value>, AllocError>
+    ensures { IfOk result (λ names. map view names.items
+        ≡ hidden_names hidden.now failure.now) }
+{
+    let mut names = Vec::new(alloc);
+    for cost in hidden {
+        push_hidden(alloc, cost, failure, &mut names)?;
+    }
+    Ok(names)
+}
+
+// Adds the name of one, if the failure brings it about.
+fn push_hidden(
+    alloc: Global,
+    hidden: &HiddenCost,
+    failure: &AreaFailure,
+    names: &mut Vec<Value>,
+) -> Result<(), AllocError>
+    ensures { OnOk result (map view names.new.items
+        ≡ map view names.old.items ++ hidden_names (hidden.now ∷ []) failure.now) }
+{
+    if is_cause(failure, hidden) {
+        let name = format!(in alloc; "{}@{}", hidden.router, Addr(hidden.network))?;
+        names.push(Value::String(name))?;
+    }
+    Ok(())
+}
+
+// Whether a failure is that of the router beside the stub router, or of its interface there.
+fn is_cause(failure: &AreaFailure, hidden: &HiddenCost) -> bool
+    ensures { result ≡ is_cause failure.now hidden.now }
+{
+    match *failure {
+        AreaFailure::Router(gone) => gone.0 == hidden.other.0,
+        AreaFailure::Attachment { router, network } => {
+            router.0 == hidden.other.0 && network == hidden.network
+        }
+        AreaFailure::Link { .. } => false,
+        AreaFailure::Links { .. } => false,
+        AreaFailure::Network(_) => false,
+    }
+}
