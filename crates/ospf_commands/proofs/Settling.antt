@@ -1,7 +1,7 @@
 -- Rounds behind which nothing that is seen has changed.
 use Rattle.std.proofs.Common.{◌≡◌, ◌∙◌, ap, sym, subst, refl, true, false, ◌+◌, ◌-◌, ◌<◌, ◌≤◌, ℕ, zero, suc, List, [], ◌∷◌, Option, None, Some, Result, Ok, Err, length, add-one, arith}
 use Rattle.ospf_commands.specs.Rounds.{IsOneRound}
-use Rattle.ospf_commands.specs.Settling.{ArePassed, IsStillFor, NeverStillFor, Passes, Settles, does_not_settle, has_ended, has_not_settled, has_settled, longest_wait, no_room_ends_it, round_ends_it, settled_line, settles, settling_offers, sight, unsettled_line}
+use Rattle.ospf_commands.specs.Settling.{ArePassed, IsStillFor, NeverStillFor, Passes, Settles, does_not_settle, has_ended, has_not_settled, has_settled, no_room_ends_it, round_ends_it, rounds_to_stay, settled_line, settles, settling_offers, sight, unsettled_line}
 use Rattle.ospf_event.specs.declared.event.WorldFault.{WorldFault}
 use Rattle.ospf_event.specs.declared.event.WorldFault.TheVariants as fault
 use Rattle.ospf_commands.specs.declared.simulation.Simulation.{Simulation}
@@ -106,19 +106,19 @@ no_room_behind most still s before now done unchanged within fewer p round =
 
 -- ---- what is told of it
 
-pub settled_so : (most still : ℕ) (s now : Simulation) (result : Result (Option ℕ) WorldFault) (rounds : ℕ) → still ≡ longest_wait s → result ≡ Ok (Some rounds)
+pub settled_so : (most still : ℕ) (s now : Simulation) (result : Result (Option ℕ) WorldFault) (rounds : ℕ) → still ≡ rounds_to_stay s → result ≡ Ok (Some rounds)
     → Passes most still s result now → Settles most s (Ok tt) (settled_line (rounds - still) still) (record now { is_settled = true })
 settled_so most still s now result rounds still_is is p =
     has_settled rounds now (subst (λ n. Passes most n s (Ok (Some rounds)) now) still_is (subst (λ r. Passes most still s r now) is p)) refl
     (ap (λ (n : ℕ). settled_line (rounds - n) n) still_is) refl
 
-pub unsettled_so : (most still : ℕ) (s now : Simulation) (result : Result (Option ℕ) WorldFault) → still ≡ longest_wait s → result ≡ Ok None → Passes most still s result now
+pub unsettled_so : (most still : ℕ) (s now : Simulation) (result : Result (Option ℕ) WorldFault) → still ≡ rounds_to_stay s → result ≡ Ok None → Passes most still s result now
     → Settles most s (Ok tt) (unsettled_line most still) now
 unsettled_so most still s now result still_is is p =
     has_not_settled (subst (λ n. Passes most n s (Ok None) now) still_is (subst (λ r. Passes most still s r now) is p)) refl
     (ap (λ (n : ℕ). unsettled_line most n) still_is)
 
-pub ended_so : (most still : ℕ) (s now : Simulation) (result : Result (Option ℕ) WorldFault) (f : WorldFault) → still ≡ longest_wait s → result ≡ Err f → Passes most still s result now
+pub ended_so : (most still : ℕ) (s now : Simulation) (result : Result (Option ℕ) WorldFault) (f : WorldFault) → still ≡ rounds_to_stay s → result ≡ Err f → Passes most still s result now
     → Settles most s (Err f) [] now
 ended_so most still s now result f still_is is p =
     has_ended f (subst (λ n. Passes most n s (Err f) now) still_is (subst (λ r. Passes most still s r now) is p)) refl refl

@@ -1,5 +1,5 @@
 -- What is seen of a simulation, and rounds until it stays so.
-use Rattle.std.specs.Prelude.{◌≡◌, ◌<◌, ◌≤◌, ◌-◌, ⊤, ℕ, zero, suc, List, [], ◌∷◌, ◌++◌, Result, Ok, Err, Option, None, Some, codes, decimal, flat_map, fold, length, max, true, false}
+use Rattle.std.specs.Prelude.{◌≡◌, ◌<◌, ◌≤◌, ◌+◌, ◌-◌, ⊤, ℕ, zero, suc, List, [], ◌∷◌, ◌++◌, Result, Ok, Err, Option, None, Some, codes, decimal, flat_map, fold, length, max, true, false}
 use Rattle.ospf_config.specs.declared.interface.Interface.{Interface}
 use Rattle.ospf_event.specs.declared.event.WorldFault.{WorldFault}
 use Rattle.ospf_event.specs.declared.event.WorldFault.TheVariants as fault
@@ -31,6 +31,11 @@ longer_in longest s = fold longer longest s.config.interfaces.items
 -- of all routers, and MinLSInterval (section 12.4)
 abbrev pub longest_wait : Simulation → ℕ
 longest_wait s = fold longer_in min_ls_interval s.world.slots
+
+-- how many rounds in a row are to change nothing: as many as a router waits at most, and one more,
+-- since the first of them delivers what waited before it, and each wait may begin there
+abbrev pub rounds_to_stay : Simulation → ℕ
+rounds_to_stay s = longest_wait s + 1
 
 -- ---- until nothing changes
 
@@ -89,15 +94,15 @@ pub data Passes (most still : ℕ) (s : Simulation) (result : Result (Option ℕ
       → NeverStillFor still passed → length passed ≤ most
       → result ≡ Err (fault.Memory false) → Passes most still s result s'
 
--- it is looked at for as many rounds as a router waits at most before it does what is due, and told
--- what came of it
+-- it is looked at for as many rounds as a router waits at most before it does what is due, and for
+-- one more, and told what came of it
 pub data Settles (most : ℕ) (s : Simulation) (answer : Answer) (text : Text) (s' : Simulation)
     : Type 0 where
   has_settled : (rounds : ℕ) (now : Simulation)
-      → Passes most (longest_wait s) s (Ok (Some rounds)) now → answer ≡ Ok tt
-      → text ≡ settled_line (rounds - longest_wait s) (longest_wait s)
+      → Passes most (rounds_to_stay s) s (Ok (Some rounds)) now → answer ≡ Ok tt
+      → text ≡ settled_line (rounds - rounds_to_stay s) (rounds_to_stay s)
       → s' ≡ record now { is_settled = true } → Settles most s answer text s'
-  has_not_settled : Passes most (longest_wait s) s (Ok None) s' → answer ≡ Ok tt
-      → text ≡ unsettled_line most (longest_wait s) → Settles most s answer text s'
-  has_ended : (f : WorldFault) → Passes most (longest_wait s) s (Err f) s' → answer ≡ Err f
+  has_not_settled : Passes most (rounds_to_stay s) s (Ok None) s' → answer ≡ Ok tt
+      → text ≡ unsettled_line most (rounds_to_stay s) → Settles most s answer text s'
+  has_ended : (f : WorldFault) → Passes most (rounds_to_stay s) s (Err f) s' → answer ≡ Err f
       → text ≡ [] → Settles most s answer text s'

@@ -1,6 +1,6 @@
 //! Rounds until nothing changes any more.
 
-ghost use Rattle.std.specs.Prelude.{◌≡◌, IfErr, IfOk, OnErr, false, fold, string_bytes};
+ghost use Rattle.std.specs.Prelude.{◌≡◌, ◌+◌, IfErr, IfOk, OnErr, false, fold, string_bytes};
 ghost use Rattle.ospf_commands.specs.Printed.{IsPrinted, IsPrintedBegun};
 ghost use Rattle.ospf_commands.specs.Settling.{Passes, Settles, longer, longer_in, settled_line, unsettled_line};
 ghost use Rattle.ospf_files.specs.Streams.{IsOutputCut};
@@ -22,7 +22,8 @@ use std::io::Write;
 const SETTLING_OFFERS: u64 = 1_000_000;
 
 // Rounds, at most so many, until nothing that is seen has changed for as many as a router waits at
-// most before it does what is due. How many it took is printed, or a beginning of that.
+// most before it does what is due, and for one more. How many it took is printed, or a beginning of
+// that.
 pub(crate) fn settle<O: Write, V: Watch>(
     simulation: &mut Simulation,
     most: u64,
@@ -42,7 +43,7 @@ pub(crate) fn settle<O: Write, V: Watch>(
         (simulation.old.world, watch.old) (simulation.new.world, watch.new) }
 {
     simulation.is_settled = false;
-    let still = longest_wait(simulation.world.slots());
+    let still = rounds_to_stay(simulation.world.slots());
     match pass_rounds(simulation, most, still, alloc, watch) {
         Ok(Some(rounds)) => {
             simulation.is_settled = true;
@@ -96,11 +97,19 @@ fn pass_rounds<V: Watch>(
     Ok(None)
 }
 
+// How many rounds in a row are to change nothing: as many as a router waits at most, and one more,
+// which delivers what waited before the first.
+fn rounds_to_stay(slots: &[Slot]) -> u64
+    ensures { result ≡ fold longer_in min_ls_interval slots.now + 1 }
+{
+    u64::from(longest_wait(slots)) + 1
+}
+
 // How long a router waits at most until it drops a neighbour, repeats itself or issues an LSA.
-fn longest_wait(slots: &[Slot]) -> u64
+fn longest_wait(slots: &[Slot]) -> u16
     ensures { result ≡ fold longer_in min_ls_interval slots.now }
 {
-    let mut longest = u64::from(MIN_LS_INTERVAL);
+    let mut longest = MIN_LS_INTERVAL;
     for slot in slots {
         longest = longer_in(longest, &slot.config().interfaces);
     }
@@ -108,13 +117,13 @@ fn longest_wait(slots: &[Slot]) -> u64
 }
 
 // The longer of this one and those of these interfaces.
-fn longer_in(longest: u64, interfaces: &[Interface]) -> u64
+fn longer_in(longest: u16, interfaces: &[Interface]) -> u16
     ensures { result ≡ fold longer longest interfaces.now }
 {
     let mut longest = longest;
     for interface in interfaces {
-        longest = longest.max(u64::from(interface.dead));
-        longest = longest.max(u64::from(interface.retransmit));
+        longest = longest.max(interface.dead);
+        longest = longest.max(interface.retransmit);
     }
     longest
 }

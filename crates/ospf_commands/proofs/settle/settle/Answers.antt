@@ -1,4 +1,4 @@
-use Rattle.std.proofs.Common.{◌≡◌, ◌∙◌, ap, subst, ℕ, ◌-◌, [], Ok, Option, false, true, fold}
+use Rattle.std.proofs.Common.{◌≡◌, ◌∙◌, ap, subst, ℕ, ◌+◌, ◌-◌, [], Ok, Option, false, true, fold}
 use Rattle.std.specs.Io.KnownBytes.{Appends}
 use Rattle.ospf_files.proofs.Cut.{for_memory}
 use Rattle.ospf_files.proofs.Written.{nothing_begun, nothing_written, whatever}
@@ -13,16 +13,16 @@ use Rattle.ospf_commands.proofs.settle.settle.Goals as goal
 
 pub overflow_sub-rounds : goal.overflow_sub-rounds
 overflow_sub-rounds g c =
-    rounds_over_still c.args.most c.longest_wait-still.result (record c.args.simulation.now { is_settled = false }) c.pass_rounds.new.simulation c.pass_rounds.result c.in-Ok-Some.rounds
+    rounds_over_still c.args.most c.rounds_to_stay-still.result (record c.args.simulation.now { is_settled = false }) c.pass_rounds.new.simulation c.pass_rounds.result c.in-Ok-Some.rounds
     (c.in-Ok-Some.is ∙ ap (λ (o : Option ℕ). Ok o) c.in-Ok-Some.field-0-is) c.pass_rounds.ensures.passes
 
 pub returns-in_err-line-in-Ok-Some-clause-begun : goal.returns-in_err-line-in-Ok-Some-clause-begun
 returns-in_err-line-in-Ok-Some-clause-begun g c =
-    let so : Settles c.args.most (record c.args.simulation.now { is_settled = false }) (Ok tt) (settled_line (c.in-Ok-Some.rounds - c.longest_wait-still.result) c.longest_wait-still.result) (record c.pass_rounds.new.simulation { is_settled = true }) =
-    settled_so c.args.most c.longest_wait-still.result (record c.args.simulation.now { is_settled = false }) c.pass_rounds.new.simulation c.pass_rounds.result c.in-Ok-Some.rounds (c.longest_wait-still.ensures ∙ ap (fold longer_in min_ls_interval) c.slots.ensures)
+    let so : Settles c.args.most (record c.args.simulation.now { is_settled = false }) (Ok tt) (settled_line (c.in-Ok-Some.rounds - c.rounds_to_stay-still.result) c.rounds_to_stay-still.result) (record c.pass_rounds.new.simulation { is_settled = true }) =
+    settled_so c.args.most c.rounds_to_stay-still.result (record c.args.simulation.now { is_settled = false }) c.pass_rounds.new.simulation c.pass_rounds.result c.in-Ok-Some.rounds (c.rounds_to_stay-still.ensures ∙ ap (λ slots. fold longer_in min_ls_interval slots + 1) c.slots.ensures)
     (c.in-Ok-Some.is ∙ ap (λ (o : Option ℕ). Ok o) c.in-Ok-Some.field-0-is) c.pass_rounds.ensures.passes in
     let begun : IsPrintedBegun (λ (given : Answer) (text : Text). Settles c.args.most (record c.args.simulation.now { is_settled = false }) given text (record c.pass_rounds.new.simulation { is_settled = true })) (g.O.Write.contents c.args.out.now) (g.O.Write.contents c.args.out.now) =
-    record { answer = Ok tt; text = (settled_line (c.in-Ok-Some.rounds - c.longest_wait-still.result) c.longest_wait-still.result); is_so = so; begun = nothing_begun _ _ } in
+    record { answer = Ok tt; text = (settled_line (c.in-Ok-Some.rounds - c.rounds_to_stay-still.result) c.rounds_to_stay-still.result); is_so = so; begun = nothing_begun _ _ } in
     whatever _ begun
 
 pub returns-in_err-line-in-Ok-Some-clause-cut : goal.returns-in_err-line-in-Ok-Some-clause-cut
@@ -30,13 +30,13 @@ returns-in_err-line-in-Ok-Some-clause-cut g c = for_memory c.from_residual.resul
 
 pub returns-in_err-write-in-Ok-Some-clause-begun : goal.returns-in_err-write-in-Ok-Some-clause-begun
 returns-in_err-write-in-Ok-Some-clause-begun g c =
-    let so : Settles c.args.most (record c.args.simulation.now { is_settled = false }) (Ok tt) (settled_line (c.in-Ok-Some.rounds - c.longest_wait-still.result) c.longest_wait-still.result) (record c.pass_rounds.new.simulation { is_settled = true }) =
-    settled_so c.args.most c.longest_wait-still.result (record c.args.simulation.now { is_settled = false }) c.pass_rounds.new.simulation c.pass_rounds.result c.in-Ok-Some.rounds (c.longest_wait-still.ensures ∙ ap (fold longer_in min_ls_interval) c.slots.ensures)
+    let so : Settles c.args.most (record c.args.simulation.now { is_settled = false }) (Ok tt) (settled_line (c.in-Ok-Some.rounds - c.rounds_to_stay-still.result) c.rounds_to_stay-still.result) (record c.pass_rounds.new.simulation { is_settled = true }) =
+    settled_so c.args.most c.rounds_to_stay-still.result (record c.args.simulation.now { is_settled = false }) c.pass_rounds.new.simulation c.pass_rounds.result c.in-Ok-Some.rounds (c.rounds_to_stay-still.ensures ∙ ap (λ slots. fold longer_in min_ls_interval slots + 1) c.slots.ensures)
     (c.in-Ok-Some.is ∙ ap (λ (o : Option ℕ). Ok o) c.in-Ok-Some.field-0-is) c.pass_rounds.ensures.passes in
-    let same : c.deref.result.now ≡ (settled_line (c.in-Ok-Some.rounds - c.longest_wait-still.result) c.longest_wait-still.result) = c.deref.ensures ∙ c.in_ok-line-in-Ok-Some.ensures in
+    let same : c.deref.result.now ≡ (settled_line (c.in-Ok-Some.rounds - c.rounds_to_stay-still.result) c.rounds_to_stay-still.result) = c.deref.ensures ∙ c.in_ok-line-in-Ok-Some.ensures in
     let begun : IsPrintedBegun (λ (given : Answer) (text : Text). Settles c.args.most (record c.args.simulation.now { is_settled = false }) given text (record c.pass_rounds.new.simulation { is_settled = true })) (g.O.Write.contents c.args.out.now) (g.O.Write.contents c.write.new.out) = record {
       answer = Ok tt;
-      text = (settled_line (c.in-Ok-Some.rounds - c.longest_wait-still.result) c.longest_wait-still.result);
+      text = (settled_line (c.in-Ok-Some.rounds - c.rounds_to_stay-still.result) c.rounds_to_stay-still.result);
       is_so = so;
       begun = subst (IsBegun (g.O.Write.contents c.args.out.now) (g.O.Write.contents c.write.new.out)) same c.in_err-write-in-Ok-Some.ensures.begun;
     } in
@@ -44,23 +44,23 @@ returns-in_err-write-in-Ok-Some-clause-begun g c =
 
 pub returns-in_ok-write-in-Ok-Some-clause-settles : goal.returns-in_ok-write-in-Ok-Some-clause-settles
 returns-in_ok-write-in-Ok-Some-clause-settles g c =
-    let so : Settles c.args.most (record c.args.simulation.now { is_settled = false }) (Ok tt) (settled_line (c.in-Ok-Some.rounds - c.longest_wait-still.result) c.longest_wait-still.result) (record c.pass_rounds.new.simulation { is_settled = true }) =
-    settled_so c.args.most c.longest_wait-still.result (record c.args.simulation.now { is_settled = false }) c.pass_rounds.new.simulation c.pass_rounds.result c.in-Ok-Some.rounds (c.longest_wait-still.ensures ∙ ap (fold longer_in min_ls_interval) c.slots.ensures)
+    let so : Settles c.args.most (record c.args.simulation.now { is_settled = false }) (Ok tt) (settled_line (c.in-Ok-Some.rounds - c.rounds_to_stay-still.result) c.rounds_to_stay-still.result) (record c.pass_rounds.new.simulation { is_settled = true }) =
+    settled_so c.args.most c.rounds_to_stay-still.result (record c.args.simulation.now { is_settled = false }) c.pass_rounds.new.simulation c.pass_rounds.result c.in-Ok-Some.rounds (c.rounds_to_stay-still.ensures ∙ ap (λ slots. fold longer_in min_ls_interval slots + 1) c.slots.ensures)
     (c.in-Ok-Some.is ∙ ap (λ (o : Option ℕ). Ok o) c.in-Ok-Some.field-0-is) c.pass_rounds.ensures.passes in
-    let same : c.deref.result.now ≡ (settled_line (c.in-Ok-Some.rounds - c.longest_wait-still.result) c.longest_wait-still.result) = c.deref.ensures ∙ c.in_ok-line-in-Ok-Some.ensures in
+    let same : c.deref.result.now ≡ (settled_line (c.in-Ok-Some.rounds - c.rounds_to_stay-still.result) c.rounds_to_stay-still.result) = c.deref.ensures ∙ c.in_ok-line-in-Ok-Some.ensures in
     record {
-      text = (settled_line (c.in-Ok-Some.rounds - c.longest_wait-still.result) c.longest_wait-still.result);
+      text = (settled_line (c.in-Ok-Some.rounds - c.rounds_to_stay-still.result) c.rounds_to_stay-still.result);
       is_so = so;
       written = subst (Appends (g.O.Write.contents c.args.out.now) (g.O.Write.contents c.write.new.out)) same c.in_ok-write-in-Ok-Some.ensures.written;
     }
 
 pub returns-in_err-line-in-Ok-None-clause-begun : goal.returns-in_err-line-in-Ok-None-clause-begun
 returns-in_err-line-in-Ok-None-clause-begun g c =
-    let so : Settles c.args.most (record c.args.simulation.now { is_settled = false }) (Ok tt) (unsettled_line c.args.most c.longest_wait-still.result) c.pass_rounds.new.simulation =
-    unsettled_so c.args.most c.longest_wait-still.result (record c.args.simulation.now { is_settled = false }) c.pass_rounds.new.simulation c.pass_rounds.result (c.longest_wait-still.ensures ∙ ap (fold longer_in min_ls_interval) c.slots.ensures)
+    let so : Settles c.args.most (record c.args.simulation.now { is_settled = false }) (Ok tt) (unsettled_line c.args.most c.rounds_to_stay-still.result) c.pass_rounds.new.simulation =
+    unsettled_so c.args.most c.rounds_to_stay-still.result (record c.args.simulation.now { is_settled = false }) c.pass_rounds.new.simulation c.pass_rounds.result (c.rounds_to_stay-still.ensures ∙ ap (λ slots. fold longer_in min_ls_interval slots + 1) c.slots.ensures)
     (c.in-Ok-None.is ∙ ap (λ (o : Option ℕ). Ok o) c.in-Ok-None.field-0-is) c.pass_rounds.ensures.passes in
     let begun : IsPrintedBegun (λ (given : Answer) (text : Text). Settles c.args.most (record c.args.simulation.now { is_settled = false }) given text c.pass_rounds.new.simulation) (g.O.Write.contents c.args.out.now) (g.O.Write.contents c.args.out.now) =
-    record { answer = Ok tt; text = (unsettled_line c.args.most c.longest_wait-still.result); is_so = so; begun = nothing_begun _ _ } in
+    record { answer = Ok tt; text = (unsettled_line c.args.most c.rounds_to_stay-still.result); is_so = so; begun = nothing_begun _ _ } in
     whatever _ begun
 
 pub returns-in_err-line-in-Ok-None-clause-cut : goal.returns-in_err-line-in-Ok-None-clause-cut
@@ -68,13 +68,13 @@ returns-in_err-line-in-Ok-None-clause-cut g c = for_memory c.from_residual-in_er
 
 pub returns-in_err-write-in-Ok-None-clause-begun : goal.returns-in_err-write-in-Ok-None-clause-begun
 returns-in_err-write-in-Ok-None-clause-begun g c =
-    let so : Settles c.args.most (record c.args.simulation.now { is_settled = false }) (Ok tt) (unsettled_line c.args.most c.longest_wait-still.result) c.pass_rounds.new.simulation =
-    unsettled_so c.args.most c.longest_wait-still.result (record c.args.simulation.now { is_settled = false }) c.pass_rounds.new.simulation c.pass_rounds.result (c.longest_wait-still.ensures ∙ ap (fold longer_in min_ls_interval) c.slots.ensures)
+    let so : Settles c.args.most (record c.args.simulation.now { is_settled = false }) (Ok tt) (unsettled_line c.args.most c.rounds_to_stay-still.result) c.pass_rounds.new.simulation =
+    unsettled_so c.args.most c.rounds_to_stay-still.result (record c.args.simulation.now { is_settled = false }) c.pass_rounds.new.simulation c.pass_rounds.result (c.rounds_to_stay-still.ensures ∙ ap (λ slots. fold longer_in min_ls_interval slots + 1) c.slots.ensures)
     (c.in-Ok-None.is ∙ ap (λ (o : Option ℕ). Ok o) c.in-Ok-None.field-0-is) c.pass_rounds.ensures.passes in
-    let same : c.deref-in-Ok-None.result.now ≡ (unsettled_line c.args.most c.longest_wait-still.result) = c.deref-in-Ok-None.ensures ∙ c.in_ok-line-in-Ok-None.ensures in
+    let same : c.deref-in-Ok-None.result.now ≡ (unsettled_line c.args.most c.rounds_to_stay-still.result) = c.deref-in-Ok-None.ensures ∙ c.in_ok-line-in-Ok-None.ensures in
     let begun : IsPrintedBegun (λ (given : Answer) (text : Text). Settles c.args.most (record c.args.simulation.now { is_settled = false }) given text c.pass_rounds.new.simulation) (g.O.Write.contents c.args.out.now) (g.O.Write.contents c.write-in-Ok-None.new.out) = record {
       answer = Ok tt;
-      text = (unsettled_line c.args.most c.longest_wait-still.result);
+      text = (unsettled_line c.args.most c.rounds_to_stay-still.result);
       is_so = so;
       begun = subst (IsBegun (g.O.Write.contents c.args.out.now) (g.O.Write.contents c.write-in-Ok-None.new.out)) same c.in_err-write-in-Ok-None.ensures.begun;
     } in
@@ -82,12 +82,12 @@ returns-in_err-write-in-Ok-None-clause-begun g c =
 
 pub returns-in_ok-write-in-Ok-None-clause-settles : goal.returns-in_ok-write-in-Ok-None-clause-settles
 returns-in_ok-write-in-Ok-None-clause-settles g c =
-    let so : Settles c.args.most (record c.args.simulation.now { is_settled = false }) (Ok tt) (unsettled_line c.args.most c.longest_wait-still.result) c.pass_rounds.new.simulation =
-    unsettled_so c.args.most c.longest_wait-still.result (record c.args.simulation.now { is_settled = false }) c.pass_rounds.new.simulation c.pass_rounds.result (c.longest_wait-still.ensures ∙ ap (fold longer_in min_ls_interval) c.slots.ensures)
+    let so : Settles c.args.most (record c.args.simulation.now { is_settled = false }) (Ok tt) (unsettled_line c.args.most c.rounds_to_stay-still.result) c.pass_rounds.new.simulation =
+    unsettled_so c.args.most c.rounds_to_stay-still.result (record c.args.simulation.now { is_settled = false }) c.pass_rounds.new.simulation c.pass_rounds.result (c.rounds_to_stay-still.ensures ∙ ap (λ slots. fold longer_in min_ls_interval slots + 1) c.slots.ensures)
     (c.in-Ok-None.is ∙ ap (λ (o : Option ℕ). Ok o) c.in-Ok-None.field-0-is) c.pass_rounds.ensures.passes in
-    let same : c.deref-in-Ok-None.result.now ≡ (unsettled_line c.args.most c.longest_wait-still.result) = c.deref-in-Ok-None.ensures ∙ c.in_ok-line-in-Ok-None.ensures in
+    let same : c.deref-in-Ok-None.result.now ≡ (unsettled_line c.args.most c.rounds_to_stay-still.result) = c.deref-in-Ok-None.ensures ∙ c.in_ok-line-in-Ok-None.ensures in
     record {
-      text = (unsettled_line c.args.most c.longest_wait-still.result);
+      text = (unsettled_line c.args.most c.rounds_to_stay-still.result);
       is_so = so;
       written = subst (Appends (g.O.Write.contents c.args.out.now) (g.O.Write.contents c.write-in-Ok-None.new.out)) same c.in_ok-write-in-Ok-None.ensures.written;
     }
@@ -95,6 +95,6 @@ returns-in_ok-write-in-Ok-None-clause-settles g c =
 pub returns-in-Err-clause-settles : goal.returns-in-Err-clause-settles
 returns-in-Err-clause-settles g c = record {
   text = [];
-  is_so = ended_so c.args.most c.longest_wait-still.result (record c.args.simulation.now { is_settled = false }) c.pass_rounds.new.simulation c.pass_rounds.result c.in-Err.fault (c.longest_wait-still.ensures ∙ ap (fold longer_in min_ls_interval) c.slots.ensures) c.in-Err.is c.pass_rounds.ensures.passes;
+  is_so = ended_so c.args.most c.rounds_to_stay-still.result (record c.args.simulation.now { is_settled = false }) c.pass_rounds.new.simulation c.pass_rounds.result c.in-Err.fault (c.rounds_to_stay-still.ensures ∙ ap (λ slots. fold longer_in min_ls_interval slots + 1) c.slots.ensures) c.in-Err.is c.pass_rounds.ensures.passes;
   written = nothing_written _;
 }
