@@ -8,12 +8,14 @@ use Rattle.ospf_headline.specs.Slots.{member_of}
 use Rattle.ospf_headline.proofs.RunFacts.{Facts-new, Facts-run}
 use Rattle.ospf_router.specs.Steps.{is_dropped}
 use Rattle.ospf_world.specs.Worlds.{WorldValue, is_slot_of, world_of}
-use Rattle.ospf_commands.specs.Agreement.{AgreedListTheSame, AgreedWalksMayArrive}
-use Rattle.ospf_commands.specs.Judged.{AllList, AreFirstToDiffer, IsFirstOther, ListsIfRuns, NoneRuns, all_list, both, none_runs, one_lists_otherwise, one_runs}
+use Rattle.ospf_script.specs.Words.{Text}
+use Rattle.ospf_commands.specs.Agreement.{AgreedListOneThing, AgreedListTheSame, AgreedRun, AgreedWalksMayArrive}
+use Rattle.ospf_commands.specs.Judged.{AllList, AreFirstToDiffer, IsFirstOther, IsOfAll, ListsIfRuns, NoneRuns, all_list, both, no_room, nobody_runs, none_runs, one_lists_otherwise, one_runs, some_run, they_agree, they_differ}
 use Rattle.ospf_views.specs.Sight.{area_listed}
+use Rattle.ospf_commands.specs.Simulations.{Answer}
 use Rattle.ospf_commands.specs.Worlds.{SlotValue}
 use Rattle.ospf_commands.proofs.Apart.{lists_if_stopped}
-use Rattle.ospf_commands.proofs.Headers.{same_instances}
+use Rattle.ospf_commands.proofs.Rows.{same_contents, same_instances}
 
 -- ---- all list one thing
 
@@ -80,16 +82,29 @@ runs_lists lsas w r x all at = go (find (is_slot_of r.0) w.slots) refl (sym (rou
 
 -- ---- the laws
 
-pub agreed_list_the_same : AgreedListTheSame
-agreed_list_the_same w (events, by) agree r q x y at_r at_q =
-    let (lsas, all) = agreed w.slots None refl agree in
+-- what is met: a router runs, and none is found to list otherwise
+is_met : (w : WorldValue) (answer : Answer) (text : Text) → IsOfAll w answer text false → (some_run w.slots ≡ true) × AreFirstToDiffer w.slots None
+is_met w answer text (they_agree some agree done none met) = (some, agree)
+is_met w answer text (nobody_runs none done told unmet) = absurd (cc unmet)
+is_met w answer text (no_room done told unmet) = absurd (cc unmet)
+is_met w answer text (they_differ two differ done told unmet) = absurd (cc unmet)
+
+pub agreed_run : AgreedRun
+agreed_run w reached (answer, text, met) = (is_met w answer text met).0
+
+pub agreed_list_one_thing : AgreedListOneThing
+agreed_list_one_thing w (events, by) (answer, text, met) r q x y at_r at_q =
+    let (lsas, all) = agreed w.slots None refl (is_met w answer text met).1 in
     let facts = Facts-run is_dropped events by.start (world_of w) (Facts-new by.start by.new) by.runs in
-    same_instances (listing x) (listing y) (facts.tables r x at_r).is_listing (facts.tables q y at_q).is_listing
+    same_contents (listing x) (listing y) (facts.tables r x at_r).is_listing (facts.tables q y at_q).is_listing
     (runs_lists lsas w r x all at_r ∙ sym (runs_lists lsas w q y all at_q))
 
+pub agreed_list_the_same : AgreedListTheSame
+agreed_list_the_same w reached met r q x y at_r at_q = same_instances (listing x) (listing y) (agreed_list_one_thing w reached met r q x y at_r at_q)
+
 pub agreed_walks_may_arrive : AgreedWalksMayArrive
-agreed_walks_may_arrive w reached agree r x at run q lists = go (router_at (world_of w) q) refl (run q lists)
+agreed_walks_may_arrive w reached met r x at run q lists = go (router_at (world_of w) q) refl (run q lists)
   where
     go : (o : Option Running) → router_at (world_of w) q ≡ o → is_some o ≡ true → (y : Running) × (router_at (world_of w) q ≡ Some y) × ListTheSame (listing x) (listing y)
     go None is runs = absurd (cc runs)
-    go (Some y) is runs = (y, is, agreed_list_the_same w reached agree r q x y at is)
+    go (Some y) is runs = (y, is, agreed_list_the_same w reached met r q x y at is)

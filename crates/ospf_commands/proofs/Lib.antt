@@ -5,6 +5,6 @@ pub mod Leading
 pub mod Settling
 pub mod Apart
 pub mod Same
-pub mod Headers
+pub mod Rows
 pub mod Agreed
 pub mod Among

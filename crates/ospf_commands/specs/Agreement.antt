@@ -1,5 +1,6 @@
--- What it comes to that routers are expected to agree.
-use Rattle.std.specs.Prelude.{◌≡◌, None, Some, is_some, true}
+-- What follows where routers are expected to agree, and do.
+use Rattle.std.specs.Prelude.{◌≡◌, Some, false, is_some, map, true}
+use Rattle.ospf_base.specs.Sums.{contents}
 use Rattle.ospf_base.specs.declared.ids.RouterId.{RouterId}
 use Rattle.ospf_graph.specs.Advertisements.{IsListed}
 use Rattle.ospf_headline.specs.Headline.{IsReached}
@@ -7,8 +8,24 @@ use Rattle.ospf_headline.specs.Listings.{ListTheSame}
 use Rattle.ospf_headline.specs.Walks.{AllListedAgree, adverts}
 use Rattle.ospf_headline.specs.World.{Running, World, listing, router_at}
 use Rattle.ospf_router.specs.Steps.{is_dropped}
+use Rattle.ospf_script.specs.Words.{Text}
 use Rattle.ospf_world.specs.Worlds.{WorldValue, world_of}
-use Rattle.ospf_commands.specs.Judged.{AreFirstToDiffer}
+use Rattle.ospf_commands.specs.Judged.{IsOfAll, some_run}
+use Rattle.ospf_commands.specs.Simulations.{Answer}
+
+-- `expect agree` is met in this network
+abbrev pub IsAgreed : WorldValue → Type 0
+IsAgreed w = (answer : Answer) × (text : Text) × IsOfAll w answer text false
+
+-- two routers list the same LSAs, each whole but for its age
+abbrev pub ListOneThing : Running → Running → Type 0
+ListOneThing x y = map contents (listing x) ≡ map contents (listing y)
+
+-- any two routers that run do
+abbrev pub RunningListOneThing : World → Type 0
+RunningListOneThing w =
+    (r q : RouterId) (x y : Running) → router_at w r ≡ Some x → router_at w q ≡ Some y
+    → ListOneThing x y
 
 -- any two routers that run list the same instances
 abbrev pub RunningListTheSame : World → Type 0
@@ -20,16 +37,26 @@ RunningListTheSame w =
 abbrev pub AllListedRun : World → Running → Type 0
 AllListedRun w x = (q : RouterId) → IsListed (adverts x) q → is_some (router_at w q) ≡ true
 
--- in every network that events led to, where no router that runs is found
--- to list otherwise than the first
+-- where it is met in a network that events led to, a router runs
+abbrev pub AgreedRun : Type 0
+AgreedRun =
+    (w : WorldValue) → IsReached is_dropped (world_of w) → IsAgreed w → some_run w.slots ≡ true
+
+-- all that run list the same LSAs
+abbrev pub AgreedListOneThing : Type 0
+AgreedListOneThing =
+    (w : WorldValue) → IsReached is_dropped (world_of w) → IsAgreed w
+    → RunningListOneThing (world_of w)
+
+-- so they list the same instances
 abbrev pub AgreedListTheSame : Type 0
 AgreedListTheSame =
-    (w : WorldValue) → IsReached is_dropped (world_of w) → AreFirstToDiffer w.slots None
+    (w : WorldValue) → IsReached is_dropped (world_of w) → IsAgreed w
     → RunningListTheSame (world_of w)
 
 -- and where all that a router lists run, this is what the walks of the headline ask for
 abbrev pub AgreedWalksMayArrive : Type 0
 AgreedWalksMayArrive =
-    (w : WorldValue) → IsReached is_dropped (world_of w) → AreFirstToDiffer w.slots None
+    (w : WorldValue) → IsReached is_dropped (world_of w) → IsAgreed w
     → (r : RouterId) (x : Running) → router_at (world_of w) r ≡ Some x
     → AllListedRun (world_of w) x → AllListedAgree (world_of w) x

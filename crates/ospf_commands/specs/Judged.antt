@@ -1,6 +1,6 @@
 -- Whether something is as it is expected to be, and what is printed where it is not.
-use Rattle.std.specs.Prelude.{◌≡◌, ◌&&◌, ◌==◌, ℕ, Bool, true, false, not, List, [], ◌∷◌, ◌++◌, Ok, Err, Option, None, Some, codes}
-use Rattle.std.specs.List.{AllByRecursion}
+use Rattle.std.specs.Prelude.{◌≡◌, ◌&&◌, ◌==◌, ℕ, Bool, true, false, not, List, [], ◌∷◌, ◌++◌, Ok, Err, Option, None, Some, codes, is_some}
+use Rattle.std.specs.List.{AllByRecursion, list_any}
 use Rattle.ospf_base.specs.Text.{number_text}
 use Rattle.ospf_base.specs.declared.ids.Addr.{Addr}
 use Rattle.ospf_base.specs.declared.ids.RouterId.{RouterId}
@@ -104,6 +104,14 @@ pub data AreFirstToDiffer (slots : List SlotValue) : Option (RouterId × RouterI
       → NoneRuns before → s.running ≡ Some x → IsFirstOther (area_listed (Some x.state)) after other
       → AreFirstToDiffer slots (both s.config.router_id other)
 
+-- some router runs
+abbrev pub some_run : List SlotValue → Bool
+some_run slots = list_any (λ (s : SlotValue). is_some s.running) slots
+
+-- that none does
+abbrev pub nobody_line : Text
+nobody_line = codes "no router runs\n"
+
 -- two routers
 abbrev pub two_text : RouterId × RouterId → Text
 two_text two = number_text two.0.0 ++ codes " and " ++ number_text two.1.0
@@ -112,10 +120,13 @@ two_text two = number_text two.0.0 ++ codes " and " ++ number_text two.1.0
 abbrev pub apart_line : RouterId × RouterId → Text
 apart_line two = two_text two ++ codes " list otherwise\n"
 
--- all routers that run list the same; or there is no room to know; or
--- two do not, and that is printed
+-- routers run, and all that do list the same; or none runs, and that is printed; or there is no
+-- room to know; or two do not list the same, and that is printed
 pub data IsOfAll (w : WorldValue) (answer : Answer) (text : Text) (unmet : Bool) : Type 0 where
-  they_agree : AreFirstToDiffer w.slots None → answer ≡ Ok tt → text ≡ [] → unmet ≡ false
+  they_agree : some_run w.slots ≡ true → AreFirstToDiffer w.slots None → answer ≡ Ok tt
+      → text ≡ [] → unmet ≡ false → IsOfAll w answer text unmet
+  nobody_runs : some_run w.slots ≡ false → answer ≡ Ok tt
+      → text ≡ unmet_line expected.Agree ++ nobody_line → unmet ≡ true
       → IsOfAll w answer text unmet
   no_room : answer ≡ Err (fault.Memory false) → text ≡ [] → unmet ≡ true
       → IsOfAll w answer text unmet

@@ -1,7 +1,7 @@
 //! Whether all routers that run list the same.
 
 ghost use Rattle.std.specs.Prelude.{◌≡◌, IfOk};
-ghost use Rattle.ospf_commands.specs.Judged.{AreFirstToDiffer, IsFirstOther, both};
+ghost use Rattle.ospf_commands.specs.Judged.{AreFirstToDiffer, IsFirstOther, both, some_run};
 
 use ospf_base::RouterId;
 use ospf_views::listed_by;
@@ -25,6 +25,13 @@ pub(crate) fn apart(
         rest = behind;
     }
     Ok(None)
+}
+
+// Whether a router runs.
+pub(crate) fn some_run(slots: &[Slot]) -> bool
+    ensures { result ≡ some_run slots.now }
+{
+    slots.iter().any(|slot| slot.runs())
 }
 
 // The first of these routers that runs and lists otherwise.

@@ -1,14 +1,14 @@
 //! Whether something is as it is expected to be.
 
-ghost use Rattle.std.specs.Prelude.{◌≡◌, ◌++◌, IfErr, IfOk, OnErr, Some, string_bytes};
-ghost use Rattle.ospf_commands.specs.Judged.{JudgedSo, apart_line, arrives, is_arrived, is_at_cost};
+ghost use Rattle.std.specs.Prelude.{◌≡◌, ◌++◌, IfErr, IfOk, OnErr, Some, false, string_bytes};
+ghost use Rattle.ospf_commands.specs.Judged.{JudgedSo, apart_line, arrives, is_arrived, is_at_cost, nobody_line, some_run};
 ghost use Rattle.ospf_commands.specs.Printed.{IsPrinted, IsPrintedBegun};
 ghost use Rattle.ospf_commands.specs.Shown.{walk_line};
 ghost use Rattle.ospf_files.specs.Streams.{IsOutputCut};
 ghost use Rattle.ospf_script.specs.declared.expected.Expected.TheVariants as expected;
 ghost use Rattle.ospf_commands.specs.Expectations.{unmet_line};
 
-use crate::agreement::apart;
+use crate::agreement::{apart, some_run};
 use crate::expectations::{is_met, unmet_line, write_unmet};
 use crate::show::walk_line;
 use crate::simulation::Simulation;
@@ -149,6 +149,9 @@ fn judge_agreement<O: Write>(
     ensures cut { IfErr result (IsOutputCut streams.new) }
     ensures world { simulation.new.world ≡ simulation.old.world }
 {
+    if !some_run(simulation.world.slots()) {
+        return tell_nobody(simulation, out, alloc, streams);
+    }
     match apart(simulation.world.slots(), alloc) {
         Ok(None) => Ok(Ok(())),
         Ok(Some(two)) => {
@@ -162,6 +165,28 @@ fn judge_agreement<O: Write>(
             Ok(Err(WorldFault::Memory { stopped: false }))
         }
     }
+}
+
+// No router runs, so none agrees with another.
+fn tell_nobody<O: Write>(
+    simulation: &mut Simulation,
+    out: &mut O,
+    alloc: Global,
+    streams: &mut FailedStreams,
+) -> Result<Result<(), WorldFault>, Failure>
+    requires { some_run simulation.old.world.slots ≡ false }
+    // what is printed
+    ensures judged { IfOk result (λ answer. IsPrinted (JudgedSo expected.Agree simulation.old
+        simulation.new) answer (O.contents out.old) (O.contents out.new)) }
+    ensures begun { OnErr result (IsPrintedBegun (JudgedSo expected.Agree simulation.old
+        simulation.new) (O.contents out.old) (O.contents out.new)) }
+    ensures cut { IfErr result (IsOutputCut streams.new) }
+    ensures world { simulation.new.world ≡ simulation.old.world }
+{
+    simulation.is_unmet = true;
+    let lines = nobody_lines(alloc)?;
+    streams.write(out, &lines)?;
+    Ok(Ok(()))
 }
 
 // Of the last settling.
@@ -220,6 +245,16 @@ fn unarrived_lines(alloc: Global, expected: &Expected, walk: &Walk) -> Result<St
     let mut lines = unmet_line(alloc, expected)?;
     let line = walk_line(alloc, walk)?;
     lines.push_str(&line)?;
+    Ok(lines)
+}
+
+// The lines where no router runs.
+fn nobody_lines(alloc: Global) -> Result<String, AllocError>
+    ensures { IfOk result (λ lines. string_bytes lines
+        ≡ unmet_line expected.Agree ++ nobody_line) }
+{
+    let mut lines = unmet_line(alloc, &Expected::Agree)?;
+    lines.push_str("no router runs\n")?;
     Ok(lines)
 }
 

@@ -1,11 +1,13 @@
-//! A law: what it comes to that routers agree.
+//! A law: what follows where routers are expected to agree, and do.
 
-ghost use Rattle.ospf_commands.specs.Agreement.{AgreedListTheSame, AgreedWalksMayArrive};
+ghost use Rattle.ospf_commands.specs.Agreement.{AgreedListOneThing, AgreedListTheSame, AgreedRun, AgreedWalksMayArrive};
 
-/// Where `expect agree` is met, any two routers that run list the same instances of LSAs; and where
-/// all routers that one of them lists run, that is what the headline asks of a network in which
-/// each walk arrives (`AllListedAgree`).
+/// Where `expect agree` is met, some router runs, and any two that do list the same LSAs, each
+/// whole but for its age, and so the same instances; and where all routers that one of them lists
+/// run, that is what the headline asks of a network in which each walk arrives (`AllListedAgree`).
 pub fn agreement_law()
+    ensures some_run { AgreedRun }
+    ensures one_thing { AgreedListOneThing }
     ensures the_same { AgreedListTheSame }
     ensures arrive { AgreedWalksMayArrive }
 {}

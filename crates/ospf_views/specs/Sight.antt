@@ -1,19 +1,16 @@
 -- What is seen of routers: what changes as long as something is yet to come.
-use Rattle.std.specs.Prelude.{List, [], ◌++◌, ℕ, Option, None, Some, codes, drop, flat_map, take}
+use Rattle.std.specs.Prelude.{List, [], ◌++◌, ℕ, Option, None, Some, codes, flat_map}
 use Rattle.ospf_area.specs.State.{AreaValue}
+use Rattle.ospf_base.specs.Sums.{contents}
 use Rattle.ospf_base.specs.Text.{number_text}
 use Rattle.ospf_headline.specs.Slots.{SlotValue}
 use Rattle.ospf_headline.specs.World.{Running}
 use Rattle.ospf_router.specs.Routers.{listing_of}
 use Rattle.ospf_views.specs.Shown.{links_lines}
 
--- an LSA's header but for its age (RFC 2328, section A.4.1)
-abbrev pub ageless : List ℕ → List ℕ
-ageless lsa = drop 2 (take 20 lsa)
-
--- the LSAs that are listed, by those headers
+-- the LSAs that are listed, each whole but for its age (RFC 2328, section A.4.1)
 abbrev pub area_listed : Option AreaValue → List ℕ
-area_listed area = flat_map ageless (listing_of area)
+area_listed area = flat_map contents (listing_of area)
 
 -- what is seen of a router that runs: its neighbours, as `neighbours`
 -- prints them, and what it lists

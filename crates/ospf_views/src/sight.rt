@@ -1,10 +1,10 @@
 //! What is seen of routers.
 
 ghost use Rattle.std.specs.Prelude.{◌≡◌, ◌++◌, IfOk, OnOk, flat_map};
-ghost use Rattle.ospf_views.specs.Sight.{ageless, area_listed, area_sight, slot_sight};
+ghost use Rattle.ospf_base.specs.Sums.{contents};
+ghost use Rattle.ospf_views.specs.Sight.{area_listed, area_sight, slot_sight};
 
 use crate::views::add_view;
-use ospf_base::LSA_HEADER;
 use ospf_lsa::Lsa;
 use ospf_router::Router;
 use ospf_script::View;
@@ -28,7 +28,7 @@ pub fn sight_of(slots: &[Slot], alloc: Global) -> Result<Vec<u8>, AllocError>
     Ok(seen)
 }
 
-/// What a router lists, by the headers of its LSAs but for their ages (RFC 2328, appendix A.4.1).
+/// What a router lists: each LSA whole but for its age (RFC 2328, appendix A.4.1).
 ///
 /// `AllocError` where memory runs out.
 pub fn listed_by(router: &Router, alloc: Global) -> Result<Vec<u8>, AllocError>
@@ -63,24 +63,24 @@ fn push_listed(seen: &mut Vec<u8>, router: &Router) -> Result<(), AllocError>
     ensures { OnOk result (seen.new.items ≡ seen.old.items ++ area_listed router.now.area) }
 {
     match router.kept_listing() {
-        Some(listing) => push_headers(seen, listing.lsas()),
+        Some(listing) => push_contents(seen, listing.lsas()),
         None => Ok(()),
     }
 }
 
-// Adds the headers of LSAs, but for their ages.
-fn push_headers(seen: &mut Vec<u8>, lsas: &[Lsa]) -> Result<(), AllocError>
-    ensures { OnOk result (seen.new.items ≡ seen.old.items ++ flat_map ageless lsas.now) }
+// Adds LSAs, but for their ages.
+fn push_contents(seen: &mut Vec<u8>, lsas: &[Lsa]) -> Result<(), AllocError>
+    ensures { OnOk result (seen.new.items ≡ seen.old.items ++ flat_map contents lsas.now) }
 {
     for lsa in lsas {
-        seen.extend_from_slice(ageless(lsa))?;
+        seen.extend_from_slice(contents(lsa))?;
     }
     Ok(())
 }
 
-// The header of an LSA, but for its age.
-fn ageless(lsa: &Lsa) -> &[u8]
-    ensures { result.now ≡ ageless lsa.now }
+// An LSA, but for its age.
+fn contents(lsa: &Lsa) -> &[u8]
+    ensures { result.now ≡ contents lsa.now }
 {
-    &lsa.view().as_bytes()[AGE_END..LSA_HEADER]
+    &lsa.view().as_bytes()[AGE_END..]
 }
