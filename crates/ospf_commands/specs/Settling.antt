@@ -1,14 +1,20 @@
 -- What is seen of a simulation, and rounds until it stays so.
-use Rattle.std.specs.Prelude.{◌≡◌, ◌<◌, ◌≤◌, ◌+◌, ◌-◌, ⊤, ℕ, zero, suc, List, [], ◌∷◌, ◌++◌, Result, Ok, Err, Option, None, Some, codes, decimal, flat_map, fold, length, max, true, false}
+use Rattle.std.specs.Prelude.{◌≡◌, ◌<◌, ◌≤◌, ◌+◌, ◌-◌, ⊤, ℕ, zero, suc, List, [], ◌∷◌, ◌++◌, Result, Ok, Err, Option, None, Some, codes, decimal, flat_map, fold, length, max, option_map, slice_get, true, false}
+use Rattle.ospf_base.specs.Text.{number_text}
+use Rattle.ospf_config.specs.Conflicts.{network_part}
+use Rattle.ospf_config.specs.declared.address.InterfaceAddress.{InterfaceAddress}
 use Rattle.ospf_config.specs.declared.interface.Interface.{Interface}
 use Rattle.ospf_event.specs.declared.event.WorldFault.{WorldFault}
 use Rattle.ospf_event.specs.declared.event.WorldFault.TheVariants as fault
 use Rattle.ospf_originate.specs.Numbers.{min_ls_interval}
 use Rattle.ospf_script.specs.Words.{Text}
 use Rattle.ospf_views.specs.Sight.{slot_sight}
+use Rattle.ospf_world.specs.Rounds.{sending_address}
 use Rattle.ospf_commands.specs.Rounds.{IsOneRound}
 use Rattle.ospf_commands.specs.Simulations.{Answer}
-use Rattle.ospf_commands.specs.Worlds.{SlotValue}
+use Rattle.ospf_commands.specs.Worlds.{SlotValue, WorldValue}
+use Rattle.ospf_commands.specs.declared.settle.Outcome.{Outcome}
+use Rattle.ospf_commands.specs.declared.settle.Outcome.TheVariants as outcome
 use Rattle.ospf_commands.specs.declared.simulation.Simulation.{Simulation}
 
 -- ---- what is seen
@@ -39,17 +45,24 @@ rounds_to_stay s = longest_wait s + 1
 
 -- ---- until nothing changes
 
--- how many datagrams such a round offers at most
+-- how many datagrams such a round offers at most, as `round` does of itself
 abbrev pub settling_offers : ℕ
-settling_offers = 1000000
+settling_offers = 10000
 
--- simulations, the latest first: the last is this one, and a round lies
--- between each and the one before
+-- what a round leaves over: the address of the interface that sent the first datagram that waits
+-- for the next round, if one waits
+abbrev pub left_over : WorldValue → Option (Option InterfaceAddress)
+left_over w =
+    option_map (λ g. sending_address w.slots g) (slice_get w.logs.datagrams w.offered)
+
+-- simulations, the latest first: the last is this one, and between each and the one before lies a
+-- round that leaves nothing over
 abbrev pub ArePassed : Simulation → List Simulation → Type 0
 ArePassed s [] = ⊥
 ArePassed s (now ∷ []) = now ≡ s
 ArePassed s (now ∷ before ∷ passed) =
-    IsOneRound settling_offers before (Ok tt) now × ArePassed s (before ∷ passed)
+    IsOneRound settling_offers before (Ok tt) now × (left_over now.world ≡ None)
+    × ArePassed s (before ∷ passed)
 
 -- of simulations, the latest first: in the last so many rounds nothing that is seen has changed
 abbrev pub IsStillFor : ℕ → List Simulation → Type 0
@@ -76,20 +89,38 @@ unsettled_line rounds still =
     codes "not settled by round " ++ decimal rounds
     ++ (codes ": " ++ decimal still ++ codes " in a row are to change nothing\n")
 
+-- the network of an interface, where there is one
+abbrev pub network_text : Option InterfaceAddress → Text
+network_text None = []
+network_text (Some from) =
+    codes ", at " ++ number_text (network_part from) ++ codes "/" ++ decimal from.length
+
+-- where a round has left datagrams over, the first of which this interface sent
+abbrev pub storm_line : Option InterfaceAddress → Text
+storm_line from =
+    codes "not settled: 10,000 datagrams in one round" ++ network_text from ++ codes "\n"
+
 -- rounds, at most so many, up to the first behind which nothing has changed for so many; or there
--- is none such; or a round is refused; or there is no room for what is seen
-pub data Passes (most still : ℕ) (s : Simulation) (result : Result (Option ℕ) WorldFault)
+-- is none such; or a round is refused, or leaves something over; or there is no room for what is
+-- seen
+pub data Passes (most still : ℕ) (s : Simulation) (result : Result Outcome WorldFault)
     (s' : Simulation) : Type 0 where
   settles : (passed : List Simulation) → ArePassed s (s' ∷ passed) → IsStillFor still (s' ∷ passed)
       → NeverStillFor still passed
-      → length passed ≤ most → result ≡ Ok (Some (length passed)) → Passes most still s result s'
+      → length passed ≤ most → result ≡ Ok (outcome.Settled (length passed))
+      → Passes most still s result s'
   does_not_settle : (passed : List Simulation) → ArePassed s (s' ∷ passed)
       → NeverStillFor still (s' ∷ passed) → length passed ≡ most
-      → result ≡ Ok None → Passes most still s result s'
+      → result ≡ Ok outcome.Unsettled → Passes most still s result s'
   round_ends_it : (now : Simulation) (passed : List Simulation) (f : WorldFault)
       → ArePassed s (now ∷ passed) → NeverStillFor still (now ∷ passed)
       → length passed < most → IsOneRound settling_offers now (Err f) s' → result ≡ Err f
       → Passes most still s result s'
+  round_leaves_some : (now : Simulation) (passed : List Simulation)
+      (from : Option InterfaceAddress) → ArePassed s (now ∷ passed)
+      → NeverStillFor still (now ∷ passed) → length passed < most
+      → IsOneRound settling_offers now (Ok tt) s' → left_over s'.world ≡ Some from
+      → result ≡ Ok (outcome.Storms from) → Passes most still s result s'
   no_room_ends_it : (passed : List Simulation) → ArePassed s (s' ∷ passed)
       → NeverStillFor still passed → length passed ≤ most
       → result ≡ Err (fault.Memory false) → Passes most still s result s'
@@ -99,10 +130,13 @@ pub data Passes (most still : ℕ) (s : Simulation) (result : Result (Option ℕ
 pub data Settles (most : ℕ) (s : Simulation) (answer : Answer) (text : Text) (s' : Simulation)
     : Type 0 where
   has_settled : (rounds : ℕ) (now : Simulation)
-      → Passes most (rounds_to_stay s) s (Ok (Some rounds)) now → answer ≡ Ok tt
+      → Passes most (rounds_to_stay s) s (Ok (outcome.Settled rounds)) now → answer ≡ Ok tt
       → text ≡ settled_line (rounds - rounds_to_stay s) (rounds_to_stay s)
       → s' ≡ record now { is_settled = true } → Settles most s answer text s'
-  has_not_settled : Passes most (rounds_to_stay s) s (Ok None) s' → answer ≡ Ok tt
+  has_not_settled : Passes most (rounds_to_stay s) s (Ok outcome.Unsettled) s' → answer ≡ Ok tt
       → text ≡ unsettled_line most (rounds_to_stay s) → Settles most s answer text s'
+  has_stormed : (from : Option InterfaceAddress)
+      → Passes most (rounds_to_stay s) s (Ok (outcome.Storms from)) s' → answer ≡ Ok tt
+      → text ≡ storm_line from → Settles most s answer text s'
   has_ended : (f : WorldFault) → Passes most (rounds_to_stay s) s (Err f) s' → answer ≡ Err f
       → text ≡ [] → Settles most s answer text s'

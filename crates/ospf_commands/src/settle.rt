@@ -2,24 +2,33 @@
 
 ghost use Rattle.std.specs.Prelude.{◌≡◌, ◌+◌, IfErr, IfOk, OnErr, false, fold, string_bytes};
 ghost use Rattle.ospf_commands.specs.Printed.{IsPrinted, IsPrintedBegun};
-ghost use Rattle.ospf_commands.specs.Settling.{Passes, Settles, longer, longer_in, settled_line, unsettled_line};
+ghost use Rattle.ospf_commands.specs.Settling.{Passes, Settles, left_over, longer, longer_in, network_text, settled_line, storm_line, unsettled_line};
 ghost use Rattle.ospf_files.specs.Streams.{IsOutputCut};
 ghost use Rattle.ospf_originate.specs.Numbers.{min_ls_interval};
 ghost use Rattle.ospf_rounds.specs.Progress.{ToldOn};
 
 use crate::rounds::run_round;
 use crate::simulation::Simulation;
-use ospf_config::Interface;
+use ospf_base::RouterId;
+use ospf_config::{Interface, InterfaceAddress};
 use ospf_files::{FailedStreams, Failure};
 use ospf_originate::MIN_LS_INTERVAL;
 use ospf_rounds::Watch;
 use ospf_views::sight_of;
-use ospf_world::{Slot, WorldFault};
+use ospf_world::{MOST_OFFERS, Slot, World, WorldFault, network_of};
 use std::alloc::{AllocError, Global};
 use std::io::Write;
 
-// How many datagrams a round offers at most.
-const SETTLING_OFFERS: u64 = 1_000_000;
+/// How the rounds of a line end that are to go on until nothing changes.
+#[derive(Clone, Copy)]
+pub enum Outcome {
+    /// So many have passed, and nothing has changed in the last of them.
+    Settled(u64),
+    /// All have passed.
+    Unsettled,
+    /// The last leaves datagrams over, the first of which an interface of this address sent.
+    Storms(Option<InterfaceAddress>),
+}
 
 // Rounds, at most so many, until nothing that is seen has changed for as many as a router waits at
 // most before it does what is due, and for one more. How many it took is printed, or a beginning of
@@ -45,14 +54,19 @@ pub(crate) fn settle<O: Write, V: Watch>(
     simulation.is_settled = false;
     let still = rounds_to_stay(simulation.world.slots());
     match pass_rounds(simulation, most, still, alloc, watch) {
-        Ok(Some(rounds)) => {
+        Ok(Outcome::Settled(rounds)) => {
             simulation.is_settled = true;
             let line = settled_line(alloc, rounds - still, still)?;
             streams.write(out, &line)?;
             Ok(Ok(()))
         }
-        Ok(None) => {
+        Ok(Outcome::Unsettled) => {
             let line = unsettled_line(alloc, most, still)?;
+            streams.write(out, &line)?;
+            Ok(Ok(()))
+        }
+        Ok(Outcome::Storms(from)) => {
+            let line = storm_line(alloc, from)?;
             streams.write(out, &line)?;
             Ok(Ok(()))
         }
@@ -67,7 +81,7 @@ fn pass_rounds<V: Watch>(
     still: u64,
     alloc: Global,
     watch: &mut V,
-) -> Result<Option<u64>, WorldFault>
+) -> Result<Outcome, WorldFault>
     ensures passes { Passes most still simulation.old result simulation.new }
     ensures told { ToldOn V.comes_gives V.came_gives V.goes_on_gives
         (simulation.old.world, watch.old) (simulation.new.world, watch.new) }
@@ -78,12 +92,15 @@ fn pass_rounds<V: Watch>(
     let mut unchanged = 0;
     for done in 0..most {
         if unchanged >= still {
-            return Ok(Some(done));
+            return Ok(Outcome::Settled(done));
         }
         watch.begins_round(done, most);
-        match run_round(simulation, SETTLING_OFFERS, alloc, watch) {
+        match run_round(simulation, MOST_OFFERS, alloc, watch) {
             Ok(()) => {}
             Err(fault) => return Err(fault),
+        }
+        if let Some(from) = left_over(&simulation.world) {
+            return Ok(Outcome::Storms(from));
         }
         let Ok(now) = sight_of(simulation.world.slots(), alloc) else {
             return Err(WorldFault::Memory { stopped: false });
@@ -92,9 +109,19 @@ fn pass_rounds<V: Watch>(
         seen = now;
     }
     if unchanged >= still {
-        return Ok(Some(most));
+        return Ok(Outcome::Settled(most));
     }
-    Ok(None)
+    Ok(Outcome::Unsettled)
+}
+
+// What a round leaves over: what sent the first datagram that waits for the next one.
+fn left_over(world: &World) -> Option<Option<InterfaceAddress>>
+    ensures { result ≡ left_over world.now }
+{
+    match world.datagrams().get(world.offered()) {
+        Some(sent) => Some(world.source_of(sent)),
+        None => None,
+    }
 }
 
 // How many rounds in a row are to change nothing: as many as a router waits at most, and one more,
@@ -146,4 +173,26 @@ fn unsettled_line(alloc: Global, rounds: u64, still: u64) -> Result<String, Allo
     let rest = format!(in alloc; ": {still} in a row are to change nothing\n")?;
     line.push_str(&rest)?;
     Ok(line)
+}
+
+// The line of a round that leaves datagrams over, the first of which this interface sent.
+fn storm_line(alloc: Global, from: Option<InterfaceAddress>) -> Result<String, AllocError>
+    ensures { IfOk result (λ line. string_bytes line ≡ storm_line from) }
+{
+    let mut line = String::from_str(alloc, "not settled: 10,000 datagrams in one round")?;
+    let network = network_text(alloc, from)?;
+    line.push_str(&network)?;
+    line.push_str("\n")?;
+    Ok(line)
+}
+
+// The network of an interface, where there is one.
+fn network_text(alloc: Global, from: Option<InterfaceAddress>) -> Result<String, AllocError>
+    ensures { IfOk result (λ text. string_bytes text ≡ network_text from) }
+{
+    let Some(from) = from else {
+        return Ok(String::new(alloc));
+    };
+    let (network, length) = (RouterId(network_of(&from)), from.length);
+    format!(in alloc; ", at {network}/{length}")
 }
