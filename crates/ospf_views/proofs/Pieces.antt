@@ -1,5 +1,5 @@
 -- Texts that are written piece by piece.
-use Rattle.std.proofs.Common.{◌≡◌, ◌⊎◌, ◌∙◌, inl, inr, ap, sym, subst, refl, arith, ◌+◌, ◌<◌, ℕ, zero, suc, List, [], ◌++◌, Option, add-one}
+use Rattle.std.proofs.Common.{◌≡◌, ◌⊎◌, ◌∙◌, inl, inr, ap, sym, subst, refl, arith, ◌+◌, ◌<◌, ℕ, zero, suc, List, [], ◌++◌, Option, add-one, append_assoc}
 use Rattle.std.specs.Io.KnownBytes.{Appends}
 use Rattle.ospf_area.specs.State.{AreaValue}
 use Rattle.ospf_router.specs.Routers.{neighbours_on}
@@ -44,3 +44,7 @@ links_begun area a b c (suc count) link within h k =
       | inr before ↦ front_begun a c _ _ (links_begun area a b c count link before h k)
     ] in
     subst (IsBegun a c) (links_more area count) last
+
+-- the pieces of a line, which are written one after another
+pub five_pieces : (a b c d e : List ℕ) → a ++ (b ++ (c ++ (d ++ e))) ≡ a ++ b ++ c ++ d ++ e
+five_pieces a b c d e = sym (simp append_assoc)

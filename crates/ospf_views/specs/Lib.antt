@@ -3,6 +3,7 @@ pub mod Shown
 pub mod Waits
 pub mod Details
 pub mod Drops
+pub mod Misfits
 pub mod Offered
 pub mod Datagrams
 pub mod Sight

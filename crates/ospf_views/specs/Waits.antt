@@ -1,7 +1,9 @@
 -- What a router waits for on a link, and of a neighbour there (RFC 2328, sections 9.1 and 10.1).
 use Rattle.std.specs.Prelude.{◌==◌, ℕ, List, [], ◌++◌, Option, None, Some, codes, decimal, flat_map, length, option_map, slice_get, take, if◌then◌else◌}
 use Rattle.ospf_area.specs.State.{AreaValue, LinkValue}
+use Rattle.ospf_base.specs.Addresses.{nowhere}
 use Rattle.ospf_base.specs.Text.{number_text}
+use Rattle.ospf_base.specs.declared.ids.Addr.{Addr}
 use Rattle.ospf_base.specs.declared.ids.RouterId.{RouterId}
 use Rattle.ospf_iface.specs.declared.machine.Iface.{Iface}
 use Rattle.ospf_iface.specs.declared.machine.IfaceState.{IfaceState}
@@ -25,11 +27,19 @@ stands_line link q s =
     codes "link " ++ decimal link ++ codes " neighbour " ++ number_text q.0 ++ codes " "
     ++ state_text s ++ codes "\n"
 
--- in 2-Way: the election, or nothing (10.4)
-abbrev pub two_way_waits : IfaceState → ℕ → List ℕ
-two_way_waits iface.Waiting wait =
+-- without Waiting: nothing, where there is a Designated Router; else for one, which none of those
+-- that hear each other may become (9.4)
+abbrev pub elected_waits : Addr → List ℕ
+elected_waits dr =
+    if dr.0 == nowhere.0
+    then codes "  waits for a Designated Router: no router here has a priority above 0\n"
+    else codes "  waits for nothing: no adjacency is wanted\n"
+
+-- in 2-Way: the election, or what has come of it (10.4)
+abbrev pub two_way_waits : IfaceState → ℕ → Addr → List ℕ
+two_way_waits iface.Waiting wait dr =
     codes "  waits for the end of Waiting, in " ++ decimal wait ++ codes " ticks\n"
-two_way_waits _ wait = codes "  waits for nothing: no adjacency is wanted\n"
+two_way_waits _ wait dr = elected_waits dr
 
 -- in Exchange: the other's next Database Description (10.8)
 abbrev pub exchange_waits : Exchanging → List ℕ
@@ -45,7 +55,7 @@ unfoldable pub state_waits : NeighbourState → Iface → NeighbourValue → Lis
 state_waits state.Down i n = codes "  waits for a Hello\n"
 state_waits state.Init i n =
     codes "  waits for a Hello that lists " ++ number_text i.settings.router.0 ++ codes "\n"
-state_waits state.TwoWay i n = two_way_waits i.state i.wait
+state_waits state.TwoWay i n = two_way_waits i.state i.wait i.dr
 state_waits state.ExStart i n =
     codes "  waits for a Database Description that settles who is master\n"
 state_waits state.Exchange i n = exchange_waits n.exchanging

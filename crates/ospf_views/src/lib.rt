@@ -7,6 +7,7 @@ mod datagrams;
 mod detail;
 mod drops;
 mod headed;
+mod misfit;
 mod offered;
 mod shown;
 mod sight;

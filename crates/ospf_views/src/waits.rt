@@ -2,11 +2,11 @@
 
 ghost use Rattle.std.specs.Fmt.{WritesOnOk};
 ghost use Rattle.std.specs.Prelude.{◌≡◌, IfOk, flat_map, option_map, string_bytes, take};
-ghost use Rattle.ospf_views.specs.Waits.{asked_text, acknowledgement_waits, acknowledgements_line, alone_waits, exchange_waits, full_waits, interface_line, interface_of, neighbour_why, neighbours_why, request_line, request_waits, requested_text, requests_line, retransmission_line, stands_line, state_waits, two_way_waits, type_text, why_of, why_text};
+ghost use Rattle.ospf_views.specs.Waits.{asked_text, acknowledgement_waits, acknowledgements_line, alone_waits, elected_waits, exchange_waits, full_waits, interface_line, interface_of, neighbour_why, neighbours_why, request_line, request_waits, requested_text, requests_line, retransmission_line, stands_line, state_waits, two_way_waits, type_text, why_of, why_text};
 
 use crate::shown::ListedShown;
 use ospf_area::AreaLink;
-use ospf_base::{NETWORK_LSA, ROUTER_LSA, RouterId};
+use ospf_base::{Addr, NETWORK_LSA, ROUTER_LSA, RouterId};
 use ospf_iface::{Iface, IfaceState};
 use ospf_journal::iface_text;
 use ospf_lsa::LsaHeader;
@@ -244,7 +244,7 @@ fn write_state<W: Write>(f: &mut Formatter<W>, iface: &Iface, neighbour: &Neighb
             let own = iface.settings.router;
             write!(f, "  waits for a Hello that lists {own}\n")
         }
-        NeighbourState::TwoWay => write_two_way(f, iface.state, iface.wait),
+        NeighbourState::TwoWay => write_two_way(f, iface),
         NeighbourState::ExStart => {
             f.write_str("  waits for a Database Description that settles who is master\n")
         }
@@ -254,12 +254,25 @@ fn write_state<W: Write>(f: &mut Formatter<W>, iface: &Iface, neighbour: &Neighb
 }
 
 // What a neighbour in 2-Way waits for.
-fn write_two_way<W: Write>(f: &mut Formatter<W>, state: IfaceState, wait: u32) -> fmt::Result
-    ensures { WritesOnOk W.Write.write_str_gives f.old result (two_way_waits state wait) f.new }
+fn write_two_way<W: Write>(f: &mut Formatter<W>, iface: &Iface) -> fmt::Result
+    ensures { WritesOnOk W.Write.write_str_gives f.old result
+        (two_way_waits iface.now.state iface.now.wait iface.now.dr) f.new }
 {
-    match state {
+    let wait = iface.wait;
+    match iface.state {
         IfaceState::Waiting => write!(f, "  waits for the end of Waiting, in {wait} ticks\n"),
-        _ => f.write_str("  waits for nothing: no adjacency is wanted\n"),
+        _ => write_elected(f, iface.dr),
+    }
+}
+
+// What it waits for after Waiting, where this is the Designated Router.
+fn write_elected<W: Write>(f: &mut Formatter<W>, dr: Addr) -> fmt::Result
+    ensures { WritesOnOk W.Write.write_str_gives f.old result (elected_waits dr) f.new }
+{
+    if dr.0 == Addr::NOWHERE.0 {
+        f.write_str("  waits for a Designated Router: no router here has a priority above 0\n")
+    } else {
+        f.write_str("  waits for nothing: no adjacency is wanted\n")
     }
 }
 
