@@ -13,7 +13,7 @@ use Rattle.ospf_rounds.specs.Many.{ComesAbout}
 use Rattle.ospf_commands.specs.Printed.{IsPrinted, IsPrintedBegun}
 use Rattle.ospf_commands.specs.Rounds.{AreBatches, AreRounds, most_of}
 use Rattle.ospf_commands.specs.Settling.{Settles}
-use Rattle.ospf_commands.specs.Simulations.{Answer, moved}
+use Rattle.ospf_commands.specs.Simulations.{Answer, moved, unsettled}
 use Rattle.ospf_commands.specs.Worlds.{EventDoes, IsRandomRun, WorldValue}
 use Rattle.ospf_rounds.specs.declared.losses.Losses.{Losses}
 use Rattle.ospf_commands.specs.declared.simulation.Simulation.{Simulation}
@@ -43,12 +43,13 @@ abbrev pub DoesCommand : Command → Simulation → Answer → Text → Simulati
 DoesCommand (command.Event e) s answer text s' = EventComesAbout e s answer s' × (text ≡ [])
 DoesCommand (command.Many many) s answer text s' = ManyHappen many s answer s' × (text ≡ [])
 DoesCommand (command.Round count most) s answer text s' =
-    AreRounds (most_of most) count s answer s' × (text ≡ [])
-DoesCommand (command.Batch count) s answer text s' = AreBatches count s answer s' × (text ≡ [])
+    AreRounds (most_of most) count (unsettled s) answer s' × (text ≡ [])
+DoesCommand (command.Batch count) s answer text s' =
+    AreBatches count (unsettled s) answer s' × (text ≡ [])
 DoesCommand (command.Random number count) s answer text s' =
     SomeHappen number count s answer s' × (text ≡ [])
 DoesCommand (command.Settle most) s answer text s' =
-    Settles most (record s { is_settled = false }) answer text s'
+    Settles most (unsettled s) answer text s'
 DoesCommand (command.Show view r) s answer text s' = IsViewShown view r s answer text × (s' ≡ s)
 DoesCommand (command.Walk from address choices) s answer text s' =
     IsWalked from address choices.items s s' answer text

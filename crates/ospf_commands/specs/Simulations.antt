@@ -21,6 +21,10 @@ begun_in w =
       is_unmet = false;
     }
 
+-- it is asked for that something comes about: it is not known to have settled
+abbrev pub unsettled : Simulation → Simulation
+unsettled s = record s { is_settled = false }
+
 -- something may have come about: the world is this one, and it is not known to have settled
 abbrev pub moved : Simulation → WorldValue → Simulation
 moved s w = record s { world = w; is_settled = false }

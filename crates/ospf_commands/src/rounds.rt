@@ -3,6 +3,7 @@
 ghost use Rattle.std.specs.Prelude.{◌≡◌};
 ghost use Rattle.ospf_commands.specs.Commands.{SomeHappen};
 ghost use Rattle.ospf_commands.specs.Rounds.{AreBatches, AreRounds, IsOneRound, most_of};
+ghost use Rattle.ospf_commands.specs.Simulations.{unsettled};
 ghost use Rattle.ospf_commands.specs.Worlds.{IsRandomRun};
 ghost use Rattle.ospf_rounds.specs.Progress.{ToldOn};
 ghost use Rattle.ospf_world.specs.Watching.{Told};
@@ -24,10 +25,12 @@ pub(crate) fn run_rounds<V: Watch>(
     alloc: Global,
     watch: &mut V,
 ) -> Result<(), WorldFault>
-    ensures rounds { AreRounds (most_of most) count simulation.old result simulation.new }
+    ensures rounds { AreRounds (most_of most) count (unsettled simulation.old) result
+        simulation.new }
     ensures told { ToldOn V.comes_gives V.came_gives V.goes_on_gives
         (simulation.old.world, watch.old) (simulation.new.world, watch.new) }
 {
+    simulation.is_settled = false;
     let most = most_of(most);
     for done in 0..count {
         watch.begins_round(done, count);
@@ -65,10 +68,11 @@ pub(crate) fn run_batches<V: Watch>(
     alloc: Global,
     watch: &mut V,
 ) -> Result<(), WorldFault>
-    ensures batches { AreBatches count simulation.old result simulation.new }
+    ensures batches { AreBatches count (unsettled simulation.old) result simulation.new }
     ensures told { ToldOn V.comes_gives V.came_gives V.goes_on_gives
         (simulation.old.world, watch.old) (simulation.new.world, watch.new) }
 {
+    simulation.is_settled = false;
     for done in 0..count {
         watch.begins_round(done, count);
         simulation.is_settled = false;

@@ -1,6 +1,7 @@
 use Rattle.std.proofs.Common.{refl, subst, ℕ, Ok, Err}
 use Rattle.ospf_rounds.proofs.ProgressFacts.{on_nowhere, word_then_events}
 use Rattle.ospf_commands.specs.Rounds.{AreRounds}
+use Rattle.ospf_commands.specs.Simulations.{unsettled}
 use Rattle.ospf_commands.proofs.Leading.{leads_at_start, leads_further, leads_to_end, leads_to_refusal}
 use Rattle.ospf_commands.proofs.rounds.run_rounds.Goals as goal
 
@@ -15,7 +16,7 @@ loop-done-preserved g c = record {
 
 pub returns-in-Err-clause-rounds : goal.returns-in-Err-clause-rounds
 returns-in-Err-clause-rounds g c =
-    subst (λ (m : ℕ). AreRounds m c.args.count c.args.simulation.now (Err c.in-Err.fault) c.run_round.new.simulation) c.most_of-most.ensures
+    subst (λ (m : ℕ). AreRounds m c.args.count (unsettled c.args.simulation.now) (Err c.in-Err.fault) c.run_round.new.simulation) c.most_of-most.ensures
     (leads_to_refusal _ _ _ _ _ _ _ c.loop-done-test.true c.loop-done.invariant.leads c.in-Err.ensures.round)
 
 pub returns-in-Err-clause-told : goal.returns-in-Err-clause-told
@@ -23,5 +24,5 @@ returns-in-Err-clause-told g c = word_then_events _ _ _ _ _ _ _ _ c.loop-done.in
 
 pub returns-clause-rounds : goal.returns-clause-rounds
 returns-clause-rounds g c =
-    subst (λ (m : ℕ). AreRounds m c.args.count c.args.simulation.now (Ok tt) c.loop-done.simulation) c.most_of-most.ensures
+    subst (λ (m : ℕ). AreRounds m c.args.count (unsettled c.args.simulation.now) (Ok tt) c.loop-done.simulation) c.most_of-most.ensures
     (leads_to_end _ _ _ _ _ c.loop-done-test.false c.loop-done.invariant.leads)

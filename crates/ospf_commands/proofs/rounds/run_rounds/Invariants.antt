@@ -1,11 +1,12 @@
 use Rattle.ospf_rounds.specs.Progress.{ToldOn}
 use Rattle.ospf_commands.specs.Rounds.{IsOneRound}
+use Rattle.ospf_commands.specs.Simulations.{unsettled}
 use Rattle.ospf_commands.proofs.Leading.{LeadsOn}
 use Rattle.ospf_commands.proofs.rounds.run_rounds.Given as goal
 
 -- what the rounds that are left lead to all lead to; and what the watch was told
 abbrev pub invariant-loop-done : goal.invariant-loop-done
 invariant-loop-done g l = record {
-  leads : LeadsOn (IsOneRound l.most) l.count l.done l.fn.simulation l.simulation;
+  leads : LeadsOn (IsOneRound l.most) l.count l.done (unsettled l.fn.simulation) l.simulation;
   told : ToldOn g.V.EventWatch.comes_gives g.V.EventWatch.came_gives g.V.Watch.goes_on_gives (l.fn.simulation.world, l.fn.watch) (l.simulation.world, l.watch);
 }
