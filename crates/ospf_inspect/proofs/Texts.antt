@@ -10,17 +10,19 @@ use Rattle.ospf_lsa.specs.Lsa.{attached_of, instance_of, key_of, links_of}
 use Rattle.ospf_lsa.specs.declared.link.Link.{Link}
 use Rattle.ospf_inspect.specs.Lines.{AreLines}
 use Rattle.ospf_inspect.specs.declared.lsas.NetworkName.{NetworkName}
-use Rattle.ospf_inspect.specs.Lsas.{IsMarkUnless, SaysOfAttached, SaysOfLink, SaysOfNetwork, SaysOfRouter, network_name_of, network_line, router_line, unused}
+use Rattle.ospf_inspect.specs.Lsas.{IsMarkUnless, SaysOfAttached, SaysOfLink, SaysOfNetwork, SaysOfRouter, flags_of, network_name_of, network_line, router_line, unused}
 
-pub router_said : (adverts : List Advertisement) (lsa : List ℕ) (key : LsaKey) (age : ℕ) (instance : Instance) (line lines text : List ℕ) (links : List Link)
-    → key ≡ key_of lsa → age ≡ (header_of lsa).age → instance ≡ instance_of lsa → links ≡ links_of lsa → line ≡ router_line key.router age instance
+pub router_said : (adverts : List Advertisement) (lsa : List ℕ) (key : LsaKey) (age : ℕ) (instance : Instance) (flags : ℕ) (line lines text : List ℕ) (links : List Link)
+    → key ≡ key_of lsa → age ≡ (header_of lsa).age → instance ≡ instance_of lsa → flags ≡ flags_of lsa → links ≡ links_of lsa
+    → line ≡ router_line key.router age instance flags
     → AreLines (SaysOfLink adverts key.router) links lines → text ≡ line ++ lines → SaysOfRouter adverts lsa text
-router_said adverts lsa key age instance line lines text links key_is age_is instance_is links_are line_is said text_is = (
+router_said adverts lsa key age instance flags line lines text links key_is age_is instance_is flags_are links_are line_is said text_is = (
   lines,
   subst (λ (k : LsaKey). AreLines (SaysOfLink adverts k.router) (links_of lsa) lines) key_is (subst (λ (xs : List Link). AreLines (SaysOfLink adverts key.router) xs lines) links_are said),
   text_is ∙ ap (λ l. l ++ lines)
-      (line_is ∙ ap (λ (k : LsaKey). router_line k.router age instance) key_is ∙ ap (λ (a : ℕ). router_line (key_of lsa).router a instance) age_is
-      ∙ ap (λ (i : Instance). router_line (key_of lsa).router (header_of lsa).age i) instance_is),
+      (line_is ∙ ap (λ (k : LsaKey). router_line k.router age instance flags) key_is ∙ ap (λ (a : ℕ). router_line (key_of lsa).router a instance flags) age_is
+      ∙ ap (λ (i : Instance). router_line (key_of lsa).router (header_of lsa).age i flags) instance_is
+      ∙ ap (λ (b : ℕ). router_line (key_of lsa).router (header_of lsa).age (instance_of lsa) b) flags_are),
 )
 
 pub network_said : (adverts : List Advertisement) (lsa : List ℕ) (key : LsaKey) (name : NetworkName) (age : ℕ) (instance : Instance) (mark line lines text : List ℕ)

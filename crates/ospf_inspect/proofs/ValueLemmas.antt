@@ -19,7 +19,7 @@ use Rattle.ospf_lsa.specs.Header.{header_of}
 use Rattle.ospf_lsa.specs.Lsa.{attached_of, instance_of, key_of, links_of}
 use Rattle.ospf_lsa.specs.declared.link.Link.{Link}
 use Rattle.ospf_inspect.proofs.Marks.{joins_are}
-use Rattle.ospf_inspect.specs.Lsas.{AreJoined, AreJoinedBy, network_name_of}
+use Rattle.ospf_inspect.specs.Lsas.{AreJoined, AreJoinedBy, flags_of, network_name_of}
 use Rattle.ospf_inspect.specs.Json.{AreValues, IsArray, no_values, more_values}
 use Rattle.ospf_inspect.specs.Values.{IsOneWay, TellsAttached, TellsLink, TellsNetwork, TellsRouter, network_data, router_data}
 use Rattle.ospf_inspect.specs.declared.lsas.NetworkName.{NetworkName}
@@ -86,14 +86,15 @@ one_way_unless adverts v w edges b at is =
 
 -- ---- LSAs
 
-pub router_told : (adverts : List Advertisement) (lsa : List ℕ) (key : LsaKey) (age : ℕ) (instance : Instance) (links : List Link) (told d : Data)
-    → key ≡ key_of lsa → age ≡ (header_of lsa).age → instance ≡ instance_of lsa → links ≡ links_of lsa → IsArray (TellsLink adverts key.router) links told
-    → d ≡ router_data key.router age instance told → TellsRouter adverts lsa d
-router_told adverts lsa key age instance links told d key_is age_is instance_is links_are is d_is = (
+pub router_told : (adverts : List Advertisement) (lsa : List ℕ) (key : LsaKey) (age : ℕ) (instance : Instance) (flags : ℕ) (links : List Link) (told d : Data)
+    → key ≡ key_of lsa → age ≡ (header_of lsa).age → instance ≡ instance_of lsa → flags ≡ flags_of lsa → links ≡ links_of lsa → IsArray (TellsLink adverts key.router) links told
+    → d ≡ router_data key.router age instance flags told → TellsRouter adverts lsa d
+router_told adverts lsa key age instance flags links told d key_is age_is instance_is flags_are links_are is d_is = (
   told,
   subst (λ (k : LsaKey). IsArray (TellsLink adverts k.router) (links_of lsa) told) key_is (subst (λ (xs : List Link). IsArray (TellsLink adverts key.router) xs told) links_are is),
-  d_is ∙ ap (λ (k : LsaKey). router_data k.router age instance told) key_is ∙ ap (λ (a : ℕ). router_data (key_of lsa).router a instance told) age_is
-      ∙ ap (λ (i : Instance). router_data (key_of lsa).router (header_of lsa).age i told) instance_is,
+  d_is ∙ ap (λ (k : LsaKey). router_data k.router age instance flags told) key_is ∙ ap (λ (a : ℕ). router_data (key_of lsa).router a instance flags told) age_is
+      ∙ ap (λ (i : Instance). router_data (key_of lsa).router (header_of lsa).age i flags told) instance_is
+      ∙ ap (λ (b : ℕ). router_data (key_of lsa).router (header_of lsa).age (instance_of lsa) b told) flags_are,
 )
 
 pub network_told : (adverts : List Advertisement) (lsa : List ℕ) (key : LsaKey) (name : NetworkName) (age : ℕ) (instance : Instance) (attached : List RouterId) (told d : Data) (used : Bool)

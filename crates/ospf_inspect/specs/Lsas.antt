@@ -1,6 +1,6 @@
 -- The LSAs of a listing in words (RFC 2328, sections 12.1, 12.4.1 and 12.4.2), and which of
 -- their links lead one way alone.
-use Rattle.std.specs.Prelude.{◌≡◌, ◌⊎◌, ℕ, List, [], ◌++◌, Contains, codes, decimal}
+use Rattle.std.specs.Prelude.{◌≡◌, ◌⊎◌, ◌==◌, ℕ, List, [], ◌++◌, Contains, bit_and, codes, decimal, if◌then◌else◌, slice_index}
 use Rattle.ospf_base.specs.Text.{number_text}
 use Rattle.ospf_base.specs.declared.ids.Instance.{Instance}
 use Rattle.ospf_base.specs.declared.ids.Kind.{Kind}
@@ -71,12 +71,12 @@ stub_text link =
     codes "  stub " ++ prefix_under link.id link.link_data ++ codes " cost " ++ decimal link.metric
     ++ codes "\n"
 
--- the line of a virtual link, which leads nowhere within one area
+-- the line of a virtual link, which these calculations do not follow
 abbrev pub virtual_text : ℕ → List ℕ
-virtual_text to = codes "  virtual " ++ number_text to ++ codes " unused\n"
+virtual_text to = codes "  virtual " ++ number_text to ++ codes " passed over\n"
 
 -- what a link says by its kind: where it leads, marked where no edge does; a stub network; or a
--- virtual link, which is not used
+-- virtual link, which is passed over
 abbrev pub SaysOfKind : List Advertisement → RouterId → Link → LinkKind → List ℕ → Type 0
 SaysOfKind adverts router link PointToPoint line =
     (mark : List ℕ)
@@ -115,10 +115,31 @@ instance_text age i =
     codes " age " ++ decimal age ++ codes " number " ++ floor_text i.number ++ codes " sum "
     ++ hexadecimal 4 i.sum
 
+-- the flags of a router-LSA (RFC 2328, appendix A.4.2)
+abbrev pub flags_of : List ℕ → ℕ
+flags_of lsa = slice_index lsa 20
+
+-- the letter of a flag, where it is set
+abbrev pub letter_of : ℕ → ℕ → List ℕ → List ℕ
+letter_of flags flag letter = if bit_and flags flag == 0 then [] else letter
+
+-- the letters of the flags that are set: B of an area border router, E of an AS boundary router, V
+-- of an end of a virtual link (A.4.2), and W of a wildcard multicast receiver (RFC 1584)
+abbrev pub flag_letters : ℕ → List ℕ
+flag_letters flags =
+    letter_of flags 1 (codes "B") ++ letter_of flags 2 (codes "E") ++ letter_of flags 4 (codes "V")
+    ++ letter_of flags 8 (codes "W")
+
+-- these, where one is set
+abbrev pub flags_text : ℕ → List ℕ
+flags_text flags =
+    if bit_and flags 15 == 0 then [] else codes " flags " ++ flag_letters flags
+
 -- a router-LSA: whose it is
-abbrev pub router_line : RouterId → ℕ → Instance → List ℕ
-router_line router age instance =
-    codes "router " ++ number_text router.0 ++ instance_text age instance ++ codes "\n"
+abbrev pub router_line : RouterId → ℕ → Instance → ℕ → List ℕ
+router_line router age instance flags =
+    codes "router " ++ number_text router.0 ++ instance_text age instance ++ flags_text flags
+    ++ codes "\n"
 
 -- what names a network-LSA: its Link State ID, mask and router
 abbrev pub network_name_of : List ℕ → NetworkName
@@ -144,7 +165,8 @@ network_line name age instance mark =
 abbrev pub SaysOfRouter : List Advertisement → List ℕ → List ℕ → Type 0
 SaysOfRouter adverts lsa text =
     (lines : List ℕ) × AreLines (SaysOfLink adverts (key_of lsa).router) (links_of lsa) lines
-    × (text ≡ router_line (key_of lsa).router (header_of lsa).age (instance_of lsa) ++ lines)
+    × (text
+    ≡ router_line (key_of lsa).router (header_of lsa).age (instance_of lsa) (flags_of lsa) ++ lines)
 
 -- marked where another of its Link State ID stands for the network, and the routers that it names
 abbrev pub SaysOfNetwork : List Advertisement → List ℕ → List ℕ → Type 0

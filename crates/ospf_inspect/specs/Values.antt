@@ -18,7 +18,7 @@ use Rattle.ospf_edges.specs.Given.{StandsFor}
 use Rattle.ospf_records.specs.Graph.{prefix_under}
 use Rattle.ospf_script.specs.Texts.{floor_text, hexadecimal}
 use Rattle.ospf_inspect.specs.Json.{IsArray, json_line}
-use Rattle.ospf_inspect.specs.Lsas.{AreJoined, network_name_of}
+use Rattle.ospf_inspect.specs.Lsas.{AreJoined, flag_letters, flags_of, network_name_of}
 use Rattle.ospf_inspect.specs.declared.lsas.NetworkName.{NetworkName}
 
 -- ---- links of a router
@@ -94,16 +94,18 @@ instance_data age i =
     (member (codes "number") (string (floor_text i.number))
     (member (codes "sum") (string (hexadecimal 4 i.sum)) no_members))
 
--- a router-LSA: its age, links, LS sequence number and checksum, and whose it is
-abbrev pub router_data : RouterId → ℕ → Instance → Data → Data
-router_data router age i links =
+-- a router-LSA: its age, the letters of its flags, its links, LS sequence number and checksum, and
+-- whose it is
+abbrev pub router_data : RouterId → ℕ → Instance → ℕ → Data → Data
+router_data router age i flags links =
     object
     (member (codes "age") (number (unsigned age))
+    (member (codes "flags") (string (flag_letters flags))
     (member (codes "links") links
     (member (codes "lsa") (string (codes "router"))
     (member (codes "number") (string (floor_text i.number))
     (member (codes "router") (string (number_text router.0))
-    (member (codes "sum") (string (hexadecimal 4 i.sum)) no_members))))))
+    (member (codes "sum") (string (hexadecimal 4 i.sum)) no_members)))))))
 
 -- a network-LSA: its age, the routers that it names, its Link State ID, number, prefix, router and
 -- sum, and whether another stands for its network
@@ -124,7 +126,8 @@ network_data name age i attached unused =
 abbrev pub TellsRouter : List Advertisement → List ℕ → Data → Type 0
 TellsRouter adverts lsa d =
     (links : Data) × IsArray (TellsLink adverts (key_of lsa).router) (links_of lsa) links
-    × (d ≡ router_data (key_of lsa).router (header_of lsa).age (instance_of lsa) links)
+    × (d
+    ≡ router_data (key_of lsa).router (header_of lsa).age (instance_of lsa) (flags_of lsa) links)
 
 -- the value tells a network-LSA, its attached routers in order, and whether
 -- another LSA stands for the network

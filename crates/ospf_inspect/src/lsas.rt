@@ -11,7 +11,7 @@ ghost use Rattle.ospf_edges.specs.Listed.{advertisements_of};
 ghost use Rattle.ospf_edges.specs.Near.{AreEdgesAt};
 ghost use Rattle.ospf_script.specs.Texts.{hexadecimal};
 ghost use Rattle.ospf_inspect.specs.Lines.{AreLines};
-ghost use Rattle.ospf_inspect.specs.Lsas.{AreJoinedBy, SaysOfAttached, SaysOfLink, SaysOfLsa, SaysOfNetwork, SaysOfRouter, link_line, member_text, network_name_of, network_line, one_way, router_line, stub_text, unused, virtual_text, way_of};
+ghost use Rattle.ospf_inspect.specs.Lsas.{AreJoinedBy, SaysOfAttached, SaysOfLink, SaysOfLsa, SaysOfNetwork, SaysOfRouter, flags_of, flags_text, letter_of, link_line, member_text, network_name_of, network_line, one_way, router_line, stub_text, unused, virtual_text, way_of};
 
 use ospf_base::{Addr, Instance, Kind, RouterId};
 use ospf_edges::edges_at;
@@ -28,11 +28,17 @@ const ONE_WAY: &str = " one-way";
 
 const UNUSED: &str = " unused";
 
+// Where the flags of a router-LSA stand (RFC 2328, appendix A.4.2), and those that are shown.
+const FLAGS_AT: usize = 20;
+
+const FLAGS: u8 = 15;
+
 /// The LSAs of a listing in words, in their order: whose each is, its age, LS sequence number and
 /// checksum, and below it a line for each link or attached router (RFC 2328, appendix A.4). A link
 /// or an attached router is `one-way` where no edge of the graph leads there, so that no path goes
-/// over it: the LSA at its other end does not name it back (section 16.1). A network-LSA is
-/// `unused` where one of a larger Advertising Router has its Link State ID.
+/// over it: the LSA at its other end does not name it back (section 16.1). The line of a router-LSA
+/// ends with the letters of the flags that are set: B, E, V and W. A virtual link is `passed over`.
+/// A network-LSA is `unused` where one of a larger Advertising Router has its Link State ID.
 ///
 /// `AllocError` where memory runs out.
 pub fn lsas_text(alloc: Global, listing: &Listing) -> Result<String, AllocError>
@@ -121,18 +127,89 @@ fn router_text(alloc: Global, listing: &Listing, lsa: &LsaView) -> Result<String
 {
     let router = lsa.key().router;
     let edges = edges_at(alloc, listing, Vertex::Router(router))?;
-    let mut text = router_line(alloc, router, shown_of(lsa))?;
+    let mut text = router_line(alloc, router, shown_of(lsa), flags_of(lsa))?;
     text.push_str(&links_text(alloc, &edges, router, lsa.links())?)?;
     Ok(text)
 }
 
 // The line of a router-LSA itself.
-fn router_line(alloc: Global, router: RouterId, shown: LsaShown) -> Result<String, AllocError>
+fn router_line(
+    alloc: Global,
+    router: RouterId,
+    shown: LsaShown,
+    flags: u8,
+) -> Result<String, AllocError>
     ensures { IfOk result (λ line. string_bytes line
-        ≡ router_line router shown.age shown.instance) }
+        ≡ router_line router shown.age shown.instance flags) }
 {
-    let line = format!(in alloc; "router {router}{shown}\n")?;
+    let line = format!(in alloc; "router {router}{shown}{}\n", FlagsShown(flags))?;
     Ok(line)
+}
+
+// The flags of a router-LSA.
+pub(crate) fn flags_of(lsa: &LsaView) -> u8
+    requires { IsRouterLsa lsa.now }
+    ensures { result ≡ flags_of lsa.now }
+{
+    lsa.as_bytes()[FLAGS_AT]
+}
+
+// The flags of a router-LSA at the end of its line, where one is set.
+#[derive(Clone, Copy)]
+struct FlagsShown(u8);
+
+/// As ` flags BE`.
+impl Display for FlagsShown {
+    ghost use Rattle.std.specs.Prelude.{Some};
+    ghost use Rattle.ospf_inspect.specs.Lsas.{flags_text};
+
+    ghost output = { λ flags. Some (flags_text flags.0) };
+
+    fn fmt<W: Write>(&self, f: &mut Formatter<W>) -> fmt::Result {
+        write_flags(f, self.0)
+    }
+}
+
+// A space, the word and the letters, where a flag is set.
+fn write_flags<W: Write>(f: &mut Formatter<W>, flags: u8) -> fmt::Result
+    ensures { WritesOnOk W.Write.write_str_gives f.old result (flags_text flags) f.new }
+{
+    if flags & FLAGS == 0 {
+        Ok(())
+    } else {
+        write!(f, " flags {}", Flags(flags))
+    }
+}
+
+// The flags of a router-LSA, as the letters of those that are set.
+#[derive(Clone, Copy)]
+pub(crate) struct Flags(pub(crate) u8);
+
+/// As `BE`.
+impl Display for Flags {
+    ghost use Rattle.std.specs.Prelude.{Some};
+    ghost use Rattle.ospf_inspect.specs.Lsas.{flag_letters};
+
+    ghost output = { λ flags. Some (flag_letters flags.0) };
+
+    fn fmt<W: Write>(&self, f: &mut Formatter<W>) -> fmt::Result {
+        write_flag(f, self.0, 1, "B")?;
+        write_flag(f, self.0, 2, "E")?;
+        write_flag(f, self.0, 4, "V")?;
+        write_flag(f, self.0, 8, "W")
+    }
+}
+
+// The letter of a flag, where it is set.
+fn write_flag<W: Write>(f: &mut Formatter<W>, flags: u8, flag: u8, letter: &str) -> fmt::Result
+    ensures { WritesOnOk W.Write.write_str_gives f.old result (letter_of flags flag letter.now)
+        f.new }
+{
+    if flags & flag == 0 {
+        Ok(())
+    } else {
+        f.write_str(letter)
+    }
 }
 
 // The links of a router in words, by the edges that touch it.
@@ -241,7 +318,7 @@ fn stub_line(alloc: Global, link: Link) -> Result<String, AllocError>
 fn virtual_line(alloc: Global, to: RouterId) -> Result<String, AllocError>
     ensures { IfOk result (λ line. string_bytes line ≡ virtual_text to.0) }
 {
-    let line = format!(in alloc; "  virtual {to} unused\n")?;
+    let line = format!(in alloc; "  virtual {to} passed over\n")?;
     Ok(line)
 }
 

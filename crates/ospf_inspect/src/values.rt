@@ -11,7 +11,9 @@ ghost use Rattle.ospf_inspect.specs.Json.{IsArray};
 ghost use Rattle.ospf_inspect.specs.Values.{SaysLsasInJson, TellsAttached, TellsLink, TellsLsa, TellsLsas, TellsNetwork, TellsRouter, instance_data, member_data, network_data, router_data, stub_data, virtual_data, way_data};
 
 use crate::json::json_line;
-use crate::lsas::{LsaShown, NetworkName, Sum, joins, name_of, shown_of, stands_for};
+use crate::lsas::{
+    Flags, LsaShown, NetworkName, Sum, flags_of, joins, name_of, shown_of, stands_for,
+};
 use ospf_base::{Addr, Kind, RouterId};
 use ospf_edges::edges_at;
 use ospf_graph::{Edge, Vertex};
@@ -66,7 +68,7 @@ fn router_value(alloc: Global, listing: &Listing, lsa: &LsaView) -> Result<Value
     let router = lsa.key().router;
     let edges = edges_at(alloc, listing, Vertex::Router(router))?;
     let links = links_value(alloc, &edges, router, lsa.links())?;
-    router_object(alloc, router, shown_of(lsa), links)
+    router_object(alloc, router, shown_of(lsa), flags_of(lsa), links)
 }
 
 // A router-LSA as an object, with these links.
@@ -74,11 +76,13 @@ fn router_object(
     alloc: Global,
     router: RouterId,
     shown: LsaShown,
+    flags: u8,
     links: Value,
 ) -> Result<Value, AllocError>
     ensures { IfOk result (λ value. view value
-        ≡ router_data router shown.age shown.instance (view links)) }
+        ≡ router_data router shown.age shown.instance flags (view links)) }
 {
+    let flags = format!(in alloc; "{}", Flags(flags))?;
     let router = format!(in alloc; "{router}")?;
     let mut members = instance_members(alloc, shown)?;
     put(
@@ -88,6 +92,7 @@ fn router_object(
         Value::try_from_str(alloc, "router")?,
     )?;
     put(&mut members, alloc, "router", Value::String(router))?;
+    put(&mut members, alloc, "flags", Value::String(flags))?;
     put(&mut members, alloc, "links", links)?;
     Ok(Value::Object(members))
 }

@@ -135,7 +135,7 @@ fn lsas_stand_in_words(rt: HostRuntime) -> Result<(), Fail> {
         \x20 network 10.1.0.2 from 10.1.0.3 cost 5\n\
         \x20 router 4.4.4.4 from 10.0.0.9 cost 3 one-way\n\
         \x20 stub 172.16.0.3/32 cost 1\n\
-        \x20 virtual 1.1.1.1 unused\n\
+        \x20 virtual 1.1.1.1 passed over\n\
         network 10.1.0.0/24 of 10.1.0.2 by 2.2.2.2 age 0 number 80000001 sum {network}\n\
         \x20 router 1.1.1.1 one-way\n\
         \x20 router 2.2.2.2\n\
@@ -209,6 +209,23 @@ fn tables_of_all_routers_stand_below_their_names(rt: HostRuntime) -> Result<(), 
     expect(&rt, alloc, &InspectJob::Tables(Form::Text), &input, (Status::Done, wanted, ""))
 }
 
+// Router-LSAs of 1.1.1.1 and 2.2.2.2 without links, with the flags B, E, V and W (and one that is not shown), and E alone. Their
+// checksums by hand (RFC 905, annex B).
+static FLAGGED: &str = "0001020101010101010101018000000190ab00181f000000\n00010201020202020202020280000001ec64001802000000\n";
+
+#[test]
+fn flags_are_shown(rt: HostRuntime) -> Result<(), Fail> {
+    let alloc = rt.alloc();
+    let words = "router 1.1.1.1 age 1 number 80000001 sum 90ab flags BEVW\n\
+        router 2.2.2.2 age 1 number 80000001 sum ec64 flags E\n";
+    expect(&rt, alloc, &InspectJob::Lsas(Form::Text), FLAGGED, (Status::Done, words, ""))?;
+    let values = "[{\"age\":1,\"flags\":\"BEVW\",\"links\":[],\"lsa\":\"router\",\"number\":\"80000001\",\
+        \"router\":\"1.1.1.1\",\"sum\":\"90ab\"},\
+        {\"age\":1,\"flags\":\"E\",\"links\":[],\"lsa\":\"router\",\"number\":\"80000001\",\
+        \"router\":\"2.2.2.2\",\"sum\":\"ec64\"}]\n";
+    expect(&rt, alloc, &InspectJob::Lsas(Form::Json), FLAGGED, (Status::Done, values, ""))
+}
+
 // The members of each object stand in the order of their names.
 #[test]
 fn lsas_stand_in_json(rt: HostRuntime) -> Result<(), Fail> {
@@ -216,18 +233,18 @@ fn lsas_stand_in_json(rt: HostRuntime) -> Result<(), Fail> {
     let lsas = area(alloc)?;
     let (first, second, third, network) = sums(alloc, &lsas)?;
     let mut wanted = format!(in alloc;
-        "[{{\"age\":7,\"links\":[\
+        "[{{\"age\":7,\"flags\":\"\",\"links\":[\
         {{\"cost\":10,\"from\":\"10.0.0.1\",\"link\":\"router\",\"one_way\":false,\"to\":\"2.2.2.2\"}},\
         {{\"cost\":10,\"link\":\"stub\",\"prefix\":\"10.0.0.0/30\"}},\
         {{\"cost\":10,\"from\":\"10.0.0.5\",\"link\":\"router\",\"one_way\":false,\"to\":\"2.2.2.2\"}}],\
         \"lsa\":\"router\",\"number\":\"80000001\",\"router\":\"1.1.1.1\",\"sum\":\"{first}\"}},\
-        {{\"age\":0,\"links\":[\
+        {{\"age\":0,\"flags\":\"\",\"links\":[\
         {{\"cost\":10,\"from\":\"10.0.0.2\",\"link\":\"router\",\"one_way\":false,\"to\":\"1.1.1.1\"}},\
         {{\"cost\":5,\"from\":\"10.1.0.2\",\"link\":\"network\",\"one_way\":false,\"to\":\"10.1.0.2\"}}],\
         \"lsa\":\"router\",\"number\":\"80000001\",\"router\":\"2.2.2.2\",\"sum\":\"{second}\"}},"
     )?;
     wanted.push_str(&format!(in alloc;
-        "{{\"age\":3599,\"links\":[\
+        "{{\"age\":3599,\"flags\":\"\",\"links\":[\
         {{\"cost\":5,\"from\":\"10.1.0.3\",\"link\":\"network\",\"one_way\":false,\"to\":\"10.1.0.2\"}},\
         {{\"cost\":3,\"from\":\"10.0.0.9\",\"link\":\"router\",\"one_way\":true,\"to\":\"4.4.4.4\"}},\
         {{\"cost\":1,\"link\":\"stub\",\"prefix\":\"172.16.0.3/32\"}},\

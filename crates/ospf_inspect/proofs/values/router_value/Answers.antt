@@ -12,6 +12,6 @@ pub returns : goal.returns
 returns c =
     let adverts = advertisements_of c.args.listing.now in
     IfOk-weaker c.router_object.result _ _ (λ value is.
-    router_told adverts c.args.lsa.now c.key.result c.shown_of.result.age c.shown_of.result.instance c.links.result (view c.in_ok-links.links) (view value) c.key.ensures
-    c.shown_of.ensures.age c.shown_of.ensures.instance c.links.ensures
+    router_told adverts c.args.lsa.now c.key.result c.shown_of.result.age c.shown_of.result.instance c.flags_of.result c.links.result (view c.in_ok-links.links) (view value) c.key.ensures
+    c.shown_of.ensures.age c.shown_of.ensures.instance c.flags_of.ensures c.links.ensures
     (c.in_ok-links.ensures adverts (subst (λ (es : List Edge). AreEdgesAt adverts (vertex.Router c.key.result.router) es) (sym c.deref.ensures.value) c.in_ok-edges.ensures.edges)) is) c.router_object.ensures
