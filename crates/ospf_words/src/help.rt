@@ -49,12 +49,12 @@ Examples:
 
 // What `lsas --help` says.
 pub(crate) const LSAS_HELP: &str = "Output:
-  router R age N number N sum N
+  router R age N number N sum N [flags LETTERS]
                               a router-LSA, and a line for each of its links:
     router S from ADDRESS cost N
     network ADDRESS from ADDRESS cost N
     stub PREFIX cost N
-    virtual S unused
+    virtual S passed over
   network PREFIX of ADDRESS by R age N number N sum N
                               a network-LSA, and a line for each attached router:
     router S
@@ -62,6 +62,8 @@ With --dot it is a drawing instead, in the language of Graphviz, and with --json
 array: an object an LSA.
 A link or router is `one-way` where the LSA at its other end does not name it back;
 a network-LSA is `unused` where another of its Link State ID stands for the network.
+The flags of a router-LSA: B an area border router, E an AS boundary router, V an end
+of a virtual link, W a wildcard multicast receiver.
 
 Exit status:
   0  done
