@@ -14,19 +14,14 @@ import statistics
 import sys
 
 TOP = os.path.dirname(os.path.dirname(os.path.abspath(__file__)))
-LAST, MEASURED = os.path.join(TOP, "out", "costs"), os.path.join(TOP, "bench", "costs.txt")
+sys.path.insert(0, os.path.join(TOP, "tests", "gate"))
+sys.dont_write_bytecode = True
+from kit import MEASURED, costs_in  # noqa: E402
+
+LAST = os.path.join(TOP, "out", "costs")
 TENTH, SECONDS = 1.1, 10
 FUNCTION = re.compile(r"^[ \t]*(?:pub(?:\([a-z]+\))? )?(?:const |final |unsafe )*fn \w+", re.M)
 HEAD = "# What the checks of each crate take: the crate, what is checked, seconds of processor time, MB of memory.\n"
-
-
-def read(path):
-    """What checks took, by crate and kind; the last of several counts."""
-    if not os.path.isfile(path):
-        return {}
-    with open(path, encoding="utf-8") as file:
-        lines = [line.split() for line in file if line.strip() and not line.startswith("#")]
-    return {(name, kind): (int(seconds), int(megabytes)) for name, kind, seconds, megabytes in lines}
 
 
 def functions(crate):
@@ -70,7 +65,7 @@ def keep(now):
 
 
 def main():
-    now, before, words = read(LAST), read(MEASURED), sys.argv[1:]
+    now, before, words = costs_in(LAST), costs_in(MEASURED), sys.argv[1:]
     if words not in ([], ["--dearer"], ["--keep"]):
         sys.exit(__doc__)
     if not now and words != ["--dearer"]:

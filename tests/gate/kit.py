@@ -86,11 +86,11 @@ def quicken(crate_type):
     crate_type.stamp = stamp
 
 
-def measured():
-    """What the checks of each crate were measured to take: by crate and kind, seconds of processor time and MB."""
-    if not os.path.isfile(MEASURED):
+def costs_in(path):
+    """What checks took, by crate and kind, as a file has it: seconds of processor time and MB; the last of several counts."""
+    if not os.path.isfile(path):
         return {}
-    with open(MEASURED, encoding="utf-8") as file:
+    with open(path, encoding="utf-8") as file:
         lines = [line.split() for line in file if line.strip() and not line.startswith("#")]
     return {(name, kind): (int(seconds), int(megabytes)) for name, kind, seconds, megabytes in lines}
 
@@ -98,7 +98,7 @@ def measured():
 def know_needs(module):
     """Has the memory of a check be what it was measured to be, where it was."""
     plain, most = module.need, {}
-    for (name, _), (_, megabytes) in measured().items():
+    for (name, _), (_, megabytes) in costs_in(MEASURED).items():
         most[name] = max(most.get(name, 0), int(megabytes * MB * ROOM))
     module.need = lambda crate: most.get(crate.name) or plain(crate)
 
