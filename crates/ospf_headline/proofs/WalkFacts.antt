@@ -10,7 +10,9 @@ use Rattle.ospf_lsdb.proofs.Words.{AreKeysRising}
 use Rattle.ospf_exchange.proofs.LawLemmas.{of_copy}
 use Rattle.ospf_graph.specs.Advertisements.{IsListed}
 use Rattle.ospf_graph.specs.Routes.{IsTable, IsRoute}
-use Rattle.ospf_graph.specs.Walk.{HaveTables, IsBest, IsWalkStep, IsWalk, IsOnWay, IsSoundWalk, IsLinkCost}
+use Rattle.ospf_graph.specs.Walk.{HaveReachedTables, IsReachedFrom, IsBest, IsNext, IsWalkStep, IsWalk, IsOnWay, IsSoundWalk, IsLinkCost}
+use Rattle.ospf_graph.specs.declared.hop.NextHop.{NextHop}
+use Rattle.ospf_graph.proofs.WalkLaw.{next_reached, reached_on}
 use Rattle.ospf_graph.specs.declared.route.Route.{Route}
 use Rattle.ospf_spf.specs.Walks as spf
 use Rattle.ospf_area.specs.State.{database_entry}
@@ -20,7 +22,7 @@ use Rattle.ospf_step.proofs.StateFacts.{same_contents, key_of-lsa_of, Contains-m
 use Rattle.ospf_headline.specs.Listings.{ListTheSame}
 use Rattle.ospf_headline.specs.Sound.{NoCollision}
 use Rattle.ospf_headline.specs.World.{World, Running, router_at, listing, HasItsTable}
-use Rattle.ospf_headline.specs.Walks.{adverts, table_at, table_in, AllListedAgree, StepsOn, WalksOn, StandsOnWay, RunningWalksArrive}
+use Rattle.ospf_headline.specs.Walks.{adverts, table_at, table_in, AllReachedAgree, StepsOn, WalksOn, StandsOnWay, RunningWalksArrive}
 use Rattle.ospf_headline.proofs.Facts.{Facts}
 use Rattle.ospf_headline.proofs.SameListing.{same_advertisements, AgreeByInstance}
 
@@ -52,17 +54,20 @@ same_adverts w a b x y facts none at_a at_b same =
 best_listed : (x : Running) (address : ℕ) (first : Route) → HasItsTable x → IsBest x.table address first → IsListed (adverts x) x.state.router
 best_listed x address first has best = (All-contains (IsRoute (adverts x) x.state.router) x.table first has.is_table.sound best.listed).way.listed
 
-module _ (w : World) (a : RouterId) (x : Running) (law : spf.WalksArrive) (facts : Facts w) (none : NoCollision w.issued) (runs : router_at w a ≡ Some x) (agree : AllListedAgree w x) where
-  -- a listed router runs, lists the same, and has the table of that listing
+module _ (w : World) (a : RouterId) (x : Running) (law : spf.WalksArrive) (facts : Facts w) (none : NoCollision w.issued) (runs : router_at w a ≡ Some x) (agree : AllReachedAgree w a x) where
+  -- a router that is reached runs, lists the same, and has the table of that listing
   record HasOurs (r : RouterId) (y : Running) : Type 0 where
     runs_as : router_at w r ≡ Some y
     same : adverts x ≡ adverts y
     table_is : table_at w r ≡ y.table
     is_table : IsTable (adverts x) r (table_at w r)
 
-  ours : (r : RouterId) → IsListed (adverts x) r → (y : Running) × HasOurs r y
-  ours r listed =
-      let (y, at, same) = agree r listed in
+  abbrev IsReached : RouterId → Type 0
+  IsReached r = IsListed (adverts x) r × IsReachedFrom (adverts x) a r
+
+  ours : (r : RouterId) → IsReached r → (y : Running) × HasOurs r y
+  ours r reached =
+      let (y, at, same) = agree r reached.0 reached.1 in
       let one : adverts x ≡ adverts y = same_adverts w a r x y facts none runs at same in
       let table : table_at w r ≡ y.table = ap table_in at in (
         y,
@@ -77,40 +82,50 @@ module _ (w : World) (a : RouterId) (x : Running) (law : spf.WalksArrive) (facts
         },
       )
 
-  have_tables : HaveTables (adverts x) (table_at w)
-  have_tables r listed = (ours r listed).1.is_table
+  have_tables : (b : RouterId) → IsReached b → HaveReachedTables (adverts x) b (table_at w)
+  have_tables b reached r listed on = (ours r (listed, reached_on (adverts x) a b r reached.1 on)).1.is_table
 
-  on_way : (address : ℕ) (b : RouterId) (first : Route) → IsListed (adverts x) b → IsBest (table_at w b) address first → (routers : List RouterId) (c : RouterId) (paid : ℕ) → IsWalk (adverts x) (table_at w) address b routers c paid → IsSoundWalk (adverts x) (table_at w) address b first routers c paid
-  on_way address b first listed best routers c paid walk = law (listing x) (table_at w) address b first (facts.tables a x runs).is_listing have_tables listed best routers c paid walk
+  on_way : (address : ℕ) (b : RouterId) (first : Route) → IsReached b → IsBest (table_at w b) address first → (routers : List RouterId) (c : RouterId) (paid : ℕ) → IsWalk (adverts x) (table_at w) address b routers c paid → IsSoundWalk (adverts x) (table_at w) address b first routers c paid
+  on_way address b first reached best routers c paid walk = law (listing x) (table_at w) address b first (facts.tables a x runs).is_listing (have_tables b reached) reached.0 best routers c paid walk
 
-  -- a step in the world is one in the listing, and leads to a listed router
-  one_step : (address : ℕ) (b c : RouterId) (cost : ℕ) → IsListed (adverts x) b → StepsOn w address b c cost → IsWalkStep (adverts x) (table_at w) address b c cost
-  one_step address b c cost listed s =
-      let (y, has) = ours b listed in
+  -- a step in the world is one in the listing, and leads to a router that is reached
+  one_step : (address : ℕ) (b c : RouterId) (cost : ℕ) → IsReached b → StepsOn w address b c cost → IsWalkStep (adverts x) (table_at w) address b c cost
+  one_step address b c cost reached s =
+      let (y, has) = ours b reached in
       let same : s.running ≡ y = same_Some s.running y (sym s.runs ∙ has.runs_as) in
       subst (λ adv. IsWalkStep adv (table_at w) address b c cost) (ap adverts same ∙ sym has.same) s.step
 
-  next_listed : (address : ℕ) (b c : RouterId) (cost : ℕ) → IsListed (adverts x) b → IsWalkStep (adverts x) (table_at w) address b c cost → IsListed (adverts x) c
-  next_listed address b c cost listed step =
-      (on_way address b step.route listed step.best (c ∷ []) c (cost + 0) (cost, 0, step, (refl, refl), refl)).on_way.listed
+  hop_reached : (b c : RouterId) (hop : NextHop) (cost : ℕ) → IsReached b → IsLinkCost (adverts x) b hop cost → IsNext hop c → IsListed (adverts x) c → IsReached c
+  hop_reached b c hop cost reached link next listed = (listed, next_reached (adverts x) a b c hop cost reached.1 link.link next)
 
-  as_walk : (address : ℕ) (b : RouterId) (routers : List RouterId) (c : RouterId) (paid : ℕ) → IsListed (adverts x) b → WalksOn w address b routers c paid → IsWalk (adverts x) (table_at w) address b routers c paid
-  as_walk address b [] c paid listed walk = walk
-  as_walk address b (next ∷ routers) c paid listed (cost, left, s, rest, sum) =
-      let step = one_step address b next cost listed s in
-      (cost, left, step, as_walk address next routers c left (next_listed address b next cost listed step) rest, sum)
+  reached_next : (address : ℕ) (b c : RouterId) (cost : ℕ) → IsReached b → IsWalkStep (adverts x) (table_at w) address b c cost → IsReached c
+  reached_next address b c cost reached step =
+      hop_reached b c step.hop cost reached step.link_cost step.next
+      (on_way address b step.route reached step.best (c ∷ []) c (cost + 0) (cost, 0, step, (refl, refl), refl)).on_way.listed
+
+  as_walk : (address : ℕ) (b : RouterId) (routers : List RouterId) (c : RouterId) (paid : ℕ) → IsReached b → WalksOn w address b routers c paid → IsWalk (adverts x) (table_at w) address b routers c paid
+  as_walk address b [] c paid reached walk = walk
+  as_walk address b (next ∷ routers) c paid reached (cost, left, s, rest, sum) =
+      let step = one_step address b next cost reached s in
+      (cost, left, step, as_walk address next routers c left (reached_next address b next cost reached step) rest, sum)
 
   -- and a walk in the listing is one in the world
-  on_walk : (address : ℕ) (b : RouterId) (routers : List RouterId) (c : RouterId) (paid : ℕ) → IsListed (adverts x) b → IsWalk (adverts x) (table_at w) address b routers c paid → WalksOn w address b routers c paid
-  on_walk address b [] c paid listed walk = walk
-  on_walk address b (next ∷ routers) c paid listed (cost, left, step, rest, sum) =
-      let (y, has) = ours b listed in
+  on_walk : (address : ℕ) (b : RouterId) (routers : List RouterId) (c : RouterId) (paid : ℕ) → IsReached b → IsWalk (adverts x) (table_at w) address b routers c paid → WalksOn w address b routers c paid
+  on_walk address b [] c paid reached walk = walk
+  on_walk address b (next ∷ routers) c paid reached (cost, left, step, rest, sum) =
+      let (y, has) = ours b reached in
       let s : StepsOn w address b next cost = record { running = y; runs = has.runs_as; step = subst (λ adv. IsWalkStep adv (table_at w) address b next cost) has.same step } in
-      (cost, left, s, on_walk address next routers c left (next_listed address b next cost listed step) rest, sum)
+      (cost, left, s, on_walk address next routers c left (reached_next address b next cost reached step) rest, sum)
 
-  stands : (address : ℕ) (first : Route) (b : RouterId) (paid : ℕ) → IsOnWay (adverts x) (table_at w) address first b paid → StandsOnWay w address first b paid
-  stands address first b paid way =
-      let (y, has) = ours b way.listed in
+  -- it ends at a router that is reached
+  walk_reaches : (address : ℕ) (b : RouterId) (routers : List RouterId) (c : RouterId) (paid : ℕ) → IsReached b → IsWalk (adverts x) (table_at w) address b routers c paid → IsReached c
+  walk_reaches address b [] c paid reached walk = subst IsReached walk.0 reached
+  walk_reaches address b (next ∷ routers) c paid reached (cost, left, step, rest, sum) =
+      walk_reaches address next routers c left (reached_next address b next cost reached step) rest
+
+  stands : (address : ℕ) (first : Route) (b : RouterId) (paid : ℕ) → IsReached b → IsOnWay (adverts x) (table_at w) address first b paid → StandsOnWay w address first b paid
+  stands address first b paid reached way =
+      let (y, has) = ours b reached in
       record {
         running = y;
         runs = has.runs_as;
@@ -121,29 +136,35 @@ module _ (w : World) (a : RouterId) (x : Running) (law : spf.WalksArrive) (facts
         has_hop = way.has_hop;
         goes_on = λ hop c. elim (way.goes_on hop c) [
           | inl ends ↦ inl ends
-          | inr more ↦ inr (let (next, cost, names, link, there) = more in let (z, theirs) = ours next there in (next, cost, names, subst (λ adv. IsLinkCost adv b hop cost) has.same link, z, theirs.runs_as))
+          | inr more ↦ inr (
+              let (next, cost, names, link, there) = more in
+              let (z, theirs) = ours next (hop_reached b next hop cost reached link names there) in
+              (next, cost, names, subst (λ adv. IsLinkCost adv b hop cost) has.same link, z, theirs.runs_as))
         ];
       }
 
   our_table : table_at w a ≡ x.table
   our_table = ap table_in runs
 
-  our_listed : (address : ℕ) (first : Route) → IsBest x.table address first → IsListed (adverts x) a
-  our_listed address first best = subst (λ q. IsListed (adverts x) q) (facts.router a x runs) (best_listed x address first (facts.tables a x runs) best)
+  -- the router of a walk's first route is listed, and reaches itself
+  is_reached : (address : ℕ) (first : Route) → IsBest x.table address first → IsReached a
+  is_reached address first best =
+      (subst (λ q. IsListed (adverts x) q) (facts.router a x runs) (best_listed x address first (facts.tables a x runs) best), [], refl)
 
   pub walks_arrive : RunningWalksArrive w a x
   walks_arrive address first best routers b paid walk =
-      let listed = our_listed address first best in
-      let s = on_way address a first listed (subst (λ routes. IsBest routes address first) (sym our_table) best) routers b paid (as_walk address a routers b paid listed walk) in
+      let reached = is_reached address first best in
+      let listed_walk = as_walk address a routers b paid reached walk in
+      let s = on_way address a first reached (subst (λ routes. IsBest routes address first) (sym our_table) best) routers b paid listed_walk in
       record {
-        stands = stands address first b paid s.on_way;
+        stands = stands address first b paid (walk_reaches address a routers b paid reached listed_walk) s.on_way;
         once = s.once;
         short = s.short;
         ends = record {
           more = s.ends.more;
           last = s.ends.last;
           total = s.ends.total;
-          walk = on_walk address a (routers ++ s.ends.more) s.ends.last s.ends.total listed s.ends.walk;
+          walk = on_walk address a (routers ++ s.ends.more) s.ends.last s.ends.total reached s.ends.walk;
           arrives = s.ends.arrives;
         };
       }

@@ -7,7 +7,7 @@ use Rattle.ospf_area.specs.State.{AreaValue}
 use Rattle.ospf_step.specs.Step.{Event}
 use Rattle.ospf_headline.specs.World.{World, WorldEvent, Running, router_at, IsNewWorld, RunsEvents}
 use Rattle.ospf_headline.specs.Sound.{HeldAnywhere, WasIssued, AgreeUnlessIssuedAgain, BasesAreHigh, NoCollision}
-use Rattle.ospf_headline.specs.Walks.{adverts, AllListedAgree, RunningWalksArrive, ChosenWalksArrive}
+use Rattle.ospf_headline.specs.Walks.{adverts, AllListedAgree, AllReachedAgree, RunningWalksArrive, ChosenWalksArrive}
 
 -- these events led here from a world in which nothing ran and nothing had happened
 pub record IsReachedBy (is_dropped : Event → AreaValue → Bool) (events : List WorldEvent)
@@ -39,5 +39,10 @@ pub record Headline (before after : World) : Type 0 where
       → AllListedAgree after x → RunningWalksArrive after r x
   pub chosen : (r : RouterId) (x : Running) → NoCollision after.issued → router_at after r ≡ Some x
       → AllListedAgree after x → ChosenWalksArrive after r x
+  -- and so it does where those agree that the router reaches, whatever else is listed
+  pub reached_walks : (r : RouterId) (x : Running) → NoCollision after.issued
+      → router_at after r ≡ Some x → AllReachedAgree after r x → RunningWalksArrive after r x
+  pub reached_chosen : (r : RouterId) (x : Running) → NoCollision after.issued
+      → router_at after r ≡ Some x → AllReachedAgree after r x → ChosenWalksArrive after r x
   -- where each run began above all that its router had issued, nothing issued collides
   pub no_collision : BasesAreHigh after.issued → NoCollision after.issued

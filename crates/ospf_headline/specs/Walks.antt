@@ -3,7 +3,7 @@ use Rattle.std.specs.Prelude.{◌≡◌, ◌≢◌, ◌⊎◌, ◌+◌, ◌++◌
 use Rattle.ospf_base.specs.Prefixes.{Holds}
 use Rattle.ospf_base.specs.declared.ids.RouterId.{RouterId}
 use Rattle.ospf_graph.specs.Advertisements.{Advertisement, IsListed}
-use Rattle.ospf_graph.specs.Walk.{IsBest, IsLinkCost, IsNext, IsWalkStep, listed_routers}
+use Rattle.ospf_graph.specs.Walk.{IsBest, IsLinkCost, IsNext, IsReachedFrom, IsWalkStep, listed_routers}
 use Rattle.ospf_graph.specs.Walk as graph
 use Rattle.ospf_graph.specs.declared.hop.NextHop.{NextHop}
 use Rattle.ospf_graph.specs.declared.hop.NextHop.TheVariants.{Attached}
@@ -31,6 +31,14 @@ table_at w r = table_in (router_at w r)
 abbrev pub AllListedAgree : World → Running → Type 0
 AllListedAgree w x =
     (r : RouterId) → IsListed (adverts x) r
+    → (y : Running) × (router_at w r ≡ Some y) × ListTheSame (listing x) (listing y)
+
+-- of a, which runs as x: each router that a reaches in what x lists runs, and lists the same
+-- instances. A router that stopped, and is listed until its LSA is too old, is no longer reached
+-- once its neighbours have dropped it
+abbrev pub AllReachedAgree : World → RouterId → Running → Type 0
+AllReachedAgree w a x =
+    (r : RouterId) → IsListed (adverts x) r → IsReachedFrom (adverts x) a r
     → (y : Running) × (router_at w r ≡ Some y) × ListTheSame (listing x) (listing y)
 
 -- ---- walks, for every choice at every router

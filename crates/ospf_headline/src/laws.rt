@@ -9,7 +9,7 @@ ghost use Rattle.ospf_step.specs.Step.{Event};
 ghost use Rattle.ospf_headline.specs.Headline.{Headline, IsReached};
 ghost use Rattle.ospf_headline.specs.Runs.{IsRun};
 ghost use Rattle.ospf_headline.specs.Sound.{HeldAnywhere, WasIssued, AgreeUnlessIssuedAgain, BasesAreHigh, NoCollision, NoneLargest, BasesAreFloors, IsSoundAcknowledgement};
-ghost use Rattle.ospf_headline.specs.Walks.{adverts, AllListedAgree, RunningWalksArrive, ChosenWalksArrive};
+ghost use Rattle.ospf_headline.specs.Walks.{adverts, AllListedAgree, AllReachedAgree, RunningWalksArrive, ChosenWalksArrive};
 ghost use Rattle.ospf_headline.specs.World.{World, WorldEvent, WorldFault, Running, router_at, IsNewWorld, RunsEvents, Happens, Comes};
 
 use ospf_spf::walk_law;
@@ -42,22 +42,31 @@ pub fn tables_are_exact()
 
 /// Where nothing issued collides, and all listed routers run and list the same
 /// instances, every walk along next hops ends on the prefix of its first route at that
-/// route's cost, and meets no router twice.
+/// route's cost, and meets no router twice. It is enough that those do which the first
+/// router reaches in its listing.
 pub fn walks_arrive()
-    ensures { (is_dropped : Event → AreaValue → Bool) (events : List WorldEvent) (start end : World)
+    ensures listed { (is_dropped : Event → AreaValue → Bool) (events : List WorldEvent) (start end : World)
         (a : RouterId) (x : Running) →
         IsNewWorld start → RunsEvents is_dropped events start end → NoCollision end.issued →
         router_at end a ≡ Some x → AllListedAgree end x → RunningWalksArrive end a x }
+    ensures reached { (is_dropped : Event → AreaValue → Bool) (events : List WorldEvent)
+        (start end : World) (a : RouterId) (x : Running) →
+        IsNewWorld start → RunsEvents is_dropped events start end → NoCollision end.issued →
+        router_at end a ≡ Some x → AllReachedAgree end a x → RunningWalksArrive end a x }
 {
     walk_law()
 }
 
 /// There each walk by choices arrives, and none turns.
 pub fn chosen_walks_arrive()
-    ensures { (is_dropped : Event → AreaValue → Bool) (events : List WorldEvent) (start end : World)
+    ensures listed { (is_dropped : Event → AreaValue → Bool) (events : List WorldEvent) (start end : World)
         (a : RouterId) (x : Running) →
         IsNewWorld start → RunsEvents is_dropped events start end → NoCollision end.issued →
         router_at end a ≡ Some x → AllListedAgree end x → ChosenWalksArrive end a x }
+    ensures reached { (is_dropped : Event → AreaValue → Bool) (events : List WorldEvent)
+        (start end : World) (a : RouterId) (x : Running) →
+        IsNewWorld start → RunsEvents is_dropped events start end → NoCollision end.issued →
+        router_at end a ≡ Some x → AllReachedAgree end a x → ChosenWalksArrive end a x }
 {
     walk_law()
 }

@@ -57,7 +57,7 @@ module _ (A : List Advertisement) (tables : RouterId → List Route) (metrics : 
     Ended text = (legs : List ℕ) × (text ≡ legs ++ arrived_line first.prefix first.cost)
 
     sound : (routers : List RouterId) (b : RouterId) (paid : ℕ) → IsWalk A tables address a routers b paid → IsSoundWalk A tables address a first routers b paid
-    sound routers b paid walk = walk_law A tables address a first metrics have listed best routers b paid walk
+    sound routers b paid walk = walk_law A tables address a first metrics (λ r there reached. have r there) listed best routers b paid walk
 
     way_ends : (routers : List RouterId) (at : RouterId) (paid most : ℕ) (choices text : List ℕ) → IsWalk A tables address a routers at paid → length A ≤ length routers + most
         → SaysWay A address most choices at paid text → Ended text

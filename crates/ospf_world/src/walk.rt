@@ -5,7 +5,7 @@ ghost use Rattle.ospf_edges.specs.Listed.{advertisements_of};
 ghost use Rattle.ospf_graph.specs.Walk.{HasLinkFor, IsNext};
 ghost use Rattle.ospf_graph.specs.declared.hop.NextHop.TheVariants as hops;
 ghost use Rattle.ospf_headline.specs.Sound.{NoCollision};
-ghost use Rattle.ospf_headline.specs.Walks.{AllListedAgree, WorldWalk, choice_of};
+ghost use Rattle.ospf_headline.specs.Walks.{AllListedAgree, AllReachedAgree, WorldWalk, choice_of};
 ghost use Rattle.ospf_headline.specs.World.{Running, member, router_at};
 ghost use Rattle.ospf_headline.specs.declared.walk.WalkEnd.TheVariants as ends;
 ghost use Rattle.ospf_router.specs.Routers.{listing_of};
@@ -56,6 +56,10 @@ impl World {
         ensures walks { Walks (world_of self.now) from address.0 choices.now result }
         ensures never_turns { (x : Running) → NoCollision self.now.logs.issued →
             router_at (world_of self.now) from ≡ Some x → AllListedAgree (world_of self.now) x →
+            IfOk result (λ walk. walk.end ≢ ends.Turns) }
+        ensures never_turns_where_reached { (x : Running) → NoCollision self.now.logs.issued →
+            router_at (world_of self.now) from ≡ Some x →
+            AllReachedAgree (world_of self.now) from x →
             IfOk result (λ walk. walk.end ≢ ends.Turns) }
     {
         // For the proof.
