@@ -13,7 +13,7 @@ use Rattle.ospf_packet.specs.declared.entry.RequestEntry.{RequestEntry}
 use Rattle.ospf_exchange.specs.Requests.{all_held, is_asked}
 use Rattle.ospf_area.specs.Packing.{IsFull, IsWithin, ip_length}
 use Rattle.ospf_area.specs.Sending.{packet_from}
-use Rattle.ospf_area.specs.declared.sending.Own.{Own}
+use Rattle.ospf_area.specs.declared.sending.RouterContext.{RouterContext}
 use Rattle.ospf_area.proofs.PackLemmas.{ip_length-is}
 use Rattle.ospf_adjacency.specs.Answers.{answered_keys}
 use Rattle.ospf_adjacency.specs.ResendLaws.{KeysGoInOrder, UpdatesArePacked}
@@ -42,7 +42,7 @@ bytes_joined : (lsas : List (List ℕ)) → length (lsas_bytes lsas) ≡ bytes_i
 bytes_joined [] = refl
 bytes_joined (lsa ∷ lsas) = omega (arith, bytes_joined lsas, length-append lsa (lsas_bytes lsas))
 
-update_sized : (own : Own) (lsas : List (List ℕ)) → ip_length (packet_from own (update lsas)) ≡ 48 + bytes_in lsas
+update_sized : (own : RouterContext) (lsas : List (List ℕ)) → ip_length (packet_from own (update lsas)) ≡ 48 + bytes_in lsas
 update_sized own lsas = omega (arith, ip_length-is own (update lsas), bytes_joined lsas)
 
 bytes_more : (batch : List (List ℕ)) (lsa : List ℕ) → bytes_in (batch ++ lsa ∷ []) ≡ bytes_in batch + length lsa
@@ -72,7 +72,7 @@ goes_on : (mtu : ℕ) (batch : List (List ℕ)) (lsa : List ℕ) → 0 < length 
 goes_on mtu [] lsa some goes = inr (omega arith)
 goes_on mtu (b ∷ bs) lsa some goes = inl (room_left mtu b bs lsa some goes)
 
-is_out : (own : Own) (mtu : ℕ) (batch : List (List ℕ)) → batch ≢ [] → IsSound mtu batch → IsWithin (λ lsas. packet_from own (update lsas)) mtu batch ⊎ (length batch ≡ 1)
+is_out : (own : RouterContext) (mtu : ℕ) (batch : List (List ℕ)) → batch ≢ [] → IsSound mtu batch → IsWithin (λ lsas. packet_from own (update lsas)) mtu batch ⊎ (length batch ≡ 1)
 is_out own mtu batch some (inl fits) = inl (omega (arith, update_sized own batch))
 is_out own mtu [] some (inr one) = absurd (some refl)
 is_out own mtu (b ∷ bs) some (inr one) = inr (omega arith)
@@ -93,10 +93,10 @@ none_empty mtu batch (lsa ∷ lsas) = by_test (goes_in (update_room mtu) batch l
     by_test true is more next = more
     by_test false is more next = (has_some mtu batch lsa is, next)
 
-abbrev AllFit : Own → ℕ → List (List (List ℕ)) → Type 0
+abbrev AllFit : RouterContext → ℕ → List (List (List ℕ)) → Type 0
 AllFit own mtu packets = AllByRecursion (λ (one : List (List ℕ)). IsWithin (λ lsas. packet_from own (update lsas)) mtu one ⊎ (length one ≡ 1)) packets
 
-all_fit : (own : Own) (mtu : ℕ) (batch lsas : List (List ℕ)) → IsSound mtu batch → AllByRecursion (λ (lsa : List ℕ). 0 < length lsa) lsas
+all_fit : (own : RouterContext) (mtu : ℕ) (batch lsas : List (List ℕ)) → IsSound mtu batch → AllByRecursion (λ (lsa : List ℕ). 0 < length lsa) lsas
     → AllFit own mtu (packed (update_room mtu) batch lsas)
 all_fit own mtu [] [] sound some = tt
 all_fit own mtu (b ∷ bs) [] sound some = (is_out own mtu (b ∷ bs) (λ none. absurd (cc)) sound, tt)
@@ -120,15 +120,15 @@ begins room b bs (lsa ∷ lsas) next later is = by_test (goes_in room (b ∷ bs)
     by_test false rec is' = ap (λ (l : List (List ℕ)). get_or l 0 b) (sym (same_Some (b ∷ bs) (next ∷ later) is'))
 
 -- where two packets stand one behind the other, the first is full
-abbrev FullAt : Own → ℕ → List (List (List ℕ)) → ℕ → List (List ℕ) → List ℕ → List (List ℕ) → Type 0
+abbrev FullAt : RouterContext → ℕ → List (List (List ℕ)) → ℕ → List (List ℕ) → List ℕ → List (List ℕ) → Type 0
 FullAt own mtu packets i one next later = slice_get packets i ≡ Some one → slice_get packets (suc i) ≡ Some (next ∷ later) → IsFull (λ lsas. packet_from own (update lsas)) mtu one next
 
-last_one : (own : Own) (mtu : ℕ) (batch : List (List ℕ)) (k : ℕ) (one : List (List ℕ)) (next : List ℕ) (later : List (List ℕ))
+last_one : (own : RouterContext) (mtu : ℕ) (batch : List (List ℕ)) (k : ℕ) (one : List (List ℕ)) (next : List ℕ) (later : List (List ℕ))
     → slice_get (packed (update_room mtu) batch []) (suc k) ≡ Some (next ∷ later) → IsFull (λ lsas. packet_from own (update lsas)) mtu one next
 last_one own mtu [] k one next later there = absurd (none-some (next ∷ later) there)
 last_one own mtu (b ∷ bs) k one next later there = absurd (none-some (next ∷ later) there)
 
-all_full : (own : Own) (mtu : ℕ) (batch lsas : List (List ℕ)) (k : ℕ) (one : List (List ℕ)) (next : List ℕ) (later : List (List ℕ))
+all_full : (own : RouterContext) (mtu : ℕ) (batch lsas : List (List ℕ)) (k : ℕ) (one : List (List ℕ)) (next : List ℕ) (later : List (List ℕ))
     → slice_get (packed (update_room mtu) batch lsas) k ≡ Some one → slice_get (packed (update_room mtu) batch lsas) (suc k) ≡ Some (next ∷ later) → IsFull (λ lsas. packet_from own (update lsas)) mtu one next
 all_full own mtu batch [] k one next later here there = last_one own mtu batch k one next later there
 all_full own mtu batch (lsa ∷ lsas) k one next later here there =

@@ -17,7 +17,7 @@ use Rattle.ospf_neighbour.specs.Neighbours.{AreNeighboursRising}
 use Rattle.ospf_adjacency.specs.Adjacency.{begins_by, event_taken, number_by}
 use Rattle.ospf_adjacency.specs.Elections.{AreOfLink, ElectsOn, adjusted, number_after, first_dds, candidates_of}
 use Rattle.ospf_adjacency.proofs.Words.{adj_ok_for, candidate_of, taking_part}
-use Rattle.ospf_area.specs.Packets.{Parcel, dd_parcel, parcel_if}
+use Rattle.ospf_area.specs.Packets.{PendingPacket, dd_packet, packet_if}
 use Rattle.ospf_area.proofs.PlaceLemmas.{read_left, write_left}
 
 -- ---- who takes part
@@ -60,23 +60,23 @@ number_after-push i next [] n = refl
 number_after-push i next (m ∷ ns) n = number_after-push i (number_by (adj_ok_for i m) m next) ns n
 
 first_dds-push : (i : Iface) (mtu tick next : ℕ) (ns : List NeighbourValue) (n : NeighbourValue)
-    → first_dds i mtu tick next (ns ++ n ∷ []) ≡ first_dds i mtu tick next ns ++ parcel_if (begins_by (adj_ok_for i n) n) (dd_parcel i mtu (event_taken (adj_ok_for i n) i.settings.dead (number_after i next ns) tick n))
-first_dds-push i mtu tick next [] n = append-nil (parcel_if (begins_by (adj_ok_for i n) n) (dd_parcel i mtu (event_taken (adj_ok_for i n) i.settings.dead next tick n)))
+    → first_dds i mtu tick next (ns ++ n ∷ []) ≡ first_dds i mtu tick next ns ++ packet_if (begins_by (adj_ok_for i n) n) (dd_packet i mtu (event_taken (adj_ok_for i n) i.settings.dead (number_after i next ns) tick n))
+first_dds-push i mtu tick next [] n = append-nil (packet_if (begins_by (adj_ok_for i n) n) (dd_packet i mtu (event_taken (adj_ok_for i n) i.settings.dead next tick n)))
 first_dds-push i mtu tick next (m ∷ ns) n =
-    let first = parcel_if (begins_by (adj_ok_for i m) m) (dd_parcel i mtu (event_taken (adj_ok_for i m) i.settings.dead next tick m)) in
+    let first = packet_if (begins_by (adj_ok_for i m) m) (dd_packet i mtu (event_taken (adj_ok_for i m) i.settings.dead next tick m)) in
     let after = number_by (adj_ok_for i m) m next in
     ap (λ rest. first ++ rest) (first_dds-push i mtu tick after ns n) ∙ sym (append_assoc first (first_dds i mtu tick after ns) _)
 
 -- where AdjOK? has come to the first neighbours
-pub record AreAdjusted (i : Iface) (mtu tick next : ℕ) (ns : List NeighbourValue) (k : ℕ) (now : List NeighbourValue) (number : ℕ) (before sent : List Parcel) : Type 0 where
+pub record AreAdjusted (i : Iface) (mtu tick next : ℕ) (ns : List NeighbourValue) (k : ℕ) (now : List NeighbourValue) (number : ℕ) (before sent : List PendingPacket) : Type 0 where
   pub neighbours : now ≡ adjusted i tick next (take k ns) ++ drop k ns
   pub number_is : number ≡ number_after i next (take k ns)
   pub sent_are : sent ≡ before ++ first_dds i mtu tick next (take k ns)
 
-pub adjusted-more : (i : Iface) (mtu tick next : ℕ) (ns : List NeighbourValue) (k : ℕ) (now : List NeighbourValue) (number number' : ℕ) (before sent sent' : List Parcel) (e : NbrEvent) (n m : NeighbourValue)
+pub adjusted-more : (i : Iface) (mtu tick next : ℕ) (ns : List NeighbourValue) (k : ℕ) (now : List NeighbourValue) (number number' : ℕ) (before sent sent' : List PendingPacket) (e : NbrEvent) (n m : NeighbourValue)
     → AreAdjusted i mtu tick next ns k now number before sent → k < length ns → n ≡ get_or now k n → e ≡ adj_ok_for i n
     → m ≡ event_taken e i.settings.dead number tick n → number' ≡ number_by e n number
-    → sent' ≡ sent ++ parcel_if (begins_by e n) (dd_parcel i mtu (event_taken e i.settings.dead number tick n))
+    → sent' ≡ sent ++ packet_if (begins_by e n) (dd_packet i mtu (event_taken e i.settings.dead number tick n))
     → AreAdjusted i mtu tick next ns (k + 1) (set now k m) number' before sent'
 adjusted-more i mtu tick next ns k now number number' before sent sent' e n m are within there asked after number_after_it sent_after =
     let front = take k ns in
@@ -87,7 +87,7 @@ adjusted-more i mtu tick next ns k now number number' before sent sent' e n m ar
     let is : n ≡ get_or ns k n = read_left (adjusted i tick next front) ns now k n long within are.neighbours there in
     let more : take (k + 1) ns ≡ front ++ n ∷ [] = take_more ns k n within ∙ ap (λ x. front ++ x ∷ []) (sym is) in
     let m_is : m ≡ event_taken ok dead c tick n = after ∙ ap (λ (x : NbrEvent). event_taken x dead number tick n) asked ∙ ap (λ (x : ℕ). event_taken ok dead x tick n) are.number_is in
-    let first = λ (x : NbrEvent) (y : ℕ). parcel_if (begins_by x n) (dd_parcel i mtu (event_taken x dead y tick n)) in
+    let first = λ (x : NbrEvent) (y : ℕ). packet_if (begins_by x n) (dd_packet i mtu (event_taken x dead y tick n)) in
     record {
       neighbours =
           write_left (adjusted i tick next front) ns now k n m long within are.neighbours
@@ -99,16 +99,16 @@ adjusted-more i mtu tick next ns k now number number' before sent sent' e n m ar
           sent_after
           ∙ ap (λ (x : NbrEvent). sent ++ first x number) asked
           ∙ ap (λ (x : ℕ). sent ++ first ok x) are.number_is
-          ∙ ap (λ (ps : List Parcel). ps ++ first ok c) are.sent_are
+          ∙ ap (λ (ps : List PendingPacket). ps ++ first ok c) are.sent_are
           ∙ append_assoc before (first_dds i mtu tick next front) (first ok c)
-          ∙ ap (λ (ps : List Parcel). before ++ ps) (sym (first_dds-push i mtu tick next front n))
+          ∙ ap (λ (ps : List PendingPacket). before ++ ps) (sym (first_dds-push i mtu tick next front n))
           ∙ ap (λ (xs : List NeighbourValue). before ++ first_dds i mtu tick next xs) (sym more);
     }
 
 -- ---- the election
 
 -- AdjOK? has come where it was due
-pub elects_changed : (mtu tick next next' : ℕ) (i i' : Iface) (ns ns' : List NeighbourValue) (cs : List Candidate) (change : IfaceChange) (sent : List Parcel)
+pub elects_changed : (mtu tick next next' : ℕ) (i i' : Iface) (ns ns' : List NeighbourValue) (cs : List Candidate) (change : IfaceChange) (sent : List PendingPacket)
     → Elects cs i i' change → cs ≡ candidates_of i ns → true ≡ change.adj_ok
     → ns' ≡ adjusted i' tick next ns → next' ≡ number_after i' next ns → sent ≡ first_dds i' mtu tick next ns
     → ElectsOn mtu tick i ns next sent i' ns' next'

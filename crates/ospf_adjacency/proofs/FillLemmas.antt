@@ -9,11 +9,11 @@ use Rattle.ospf_packet.proofs.BodyLengths.{description_length}
 use Rattle.ospf_exchange.specs.Exchange.{dd_room, describes}
 use Rattle.ospf_area.specs.Packing.{ip_length}
 use Rattle.ospf_area.specs.Sending.{packet_from}
-use Rattle.ospf_area.specs.declared.sending.Own.{Own}
+use Rattle.ospf_area.specs.declared.sending.RouterContext.{RouterContext}
 use Rattle.ospf_area.proofs.PackLemmas.{filled, ip_length-is}
 use Rattle.ospf_adjacency.specs.Laws.{DescriptionsAreFilled}
 
-description_sized : (own : Own) (fields : Description) (headers : List LsaHeader) → ip_length (packet_from own (description fields headers)) ≡ 52 + length headers * 20
+description_sized : (own : RouterContext) (fields : Description) (headers : List LsaHeader) → ip_length (packet_from own (description fields headers)) ≡ 52 + length headers * 20
 description_sized own fields headers = omega (arith, ip_length-is own (description fields headers), description_length fields headers)
 
 pub descriptions_are_filled : DescriptionsAreFilled

@@ -9,7 +9,7 @@ use Rattle.ospf_neighbour.specs.Neighbours.{AreNeighboursRising, place_for}
 use Rattle.ospf_packet.specs.declared.body.Hello.{Hello}
 use Rattle.ospf_exchange.specs.declared.rule.Local.{Local}
 use Rattle.ospf_area.specs.Turns.{Turn, turn}
-use Rattle.ospf_area.specs.Posting.{PostValue}
+use Rattle.ospf_area.specs.Outboxes.{OutboxValue}
 use Rattle.ospf_adjacency.specs.Heard.{Neighbourhood, neighbourhood, turn_of, put_back, hello_on, hello_turn, elects_by_hello, put}
 use Rattle.ospf_adjacency.proofs.Words.{sender_of}
 use Rattle.ospf_adjacency.proofs.PutLemmas.{found, not_found, put_found, put_new}
@@ -33,7 +33,7 @@ router_of : (i : Iface) (local : Local) (h : Hello) (named : Bool) (x : Neighbou
     → t ≡ hello_turn i local h named (turn_of e x) → e.router ≡ q → t.neighbour.router ≡ q
 router_of i local h named x e t q is e_is = ap (λ (u : Turn). u.neighbour.router) is ∙ same_router i local h named (turn_of e x) ∙ e_is
 
-pub hello_found : (i : Iface) (local : Local) (q : RouterId) (source : Addr) (h : Hello) (named : Bool) (ns : List NeighbourValue) (p p' : PostValue) (k : ℕ) (e m : NeighbourValue) (elects : Bool)
+pub hello_found : (i : Iface) (local : Local) (q : RouterId) (source : Addr) (h : Hello) (named : Bool) (ns : List NeighbourValue) (p p' : OutboxValue) (k : ℕ) (e m : NeighbourValue) (elects : Bool)
     → k ≡ place_for ns q.0 → slice_get ns k ≡ Some e → e.router ≡ q
     → turn m p' ≡ hello_turn i local h named (turn e p) → elects ≡ elects_by_hello i.state e m
     → neighbourhood (set ns k m) elects p' ≡ hello_on i local q source h named (neighbourhood ns false p)
@@ -49,7 +49,7 @@ hello_found i local q source h named ns p p' k e m elects at there e_is is due =
     ∙ by_turn i local h named x e t elects is due
     ∙ ap (λ (n : NeighbourValue). hello_by i local h named n x) (sym sender)
 
-pub hello_new : (i : Iface) (local : Local) (q : RouterId) (source : Addr) (h : Hello) (named : Bool) (ns : List NeighbourValue) (p p' : PostValue) (k : ℕ) (e m : NeighbourValue) (elects : Bool)
+pub hello_new : (i : Iface) (local : Local) (q : RouterId) (source : Addr) (h : Hello) (named : Bool) (ns : List NeighbourValue) (p p' : OutboxValue) (k : ℕ) (e m : NeighbourValue) (elects : Bool)
     → AreNeighboursRising ns → k ≡ place_for ns q.0 → ((o : NeighbourValue) → slice_get ns k ≡ Some o → o.router ≢ q) → e ≡ new_neighbour q source
     → turn m p' ≡ hello_turn i local h named (turn e p) → elects ≡ elects_by_hello i.state e m
     → neighbourhood (insert ns k m) elects p' ≡ hello_on i local q source h named (neighbourhood ns false p)

@@ -26,7 +26,7 @@ use Rattle.ospf_exchange.proofs.NotTakenLemmas.{not_taken}
 use Rattle.ospf_adjacency.specs.Adjacency.{event_taken, wants_adjacency}
 use Rattle.ospf_adjacency.specs.Descriptions.{event_turn, is_init, answered_turn, description_turn, dd_dropped}
 use Rattle.ospf_adjacency.proofs.Words.{greeted_turn, exchange_turn}
-use Rattle.ospf_area.specs.Packets.{dd_parcel}
+use Rattle.ospf_area.specs.Packets.{dd_packet}
 use Rattle.ospf_area.specs.Turns.{Turn, request_turn}
 use Rattle.ospf_adjacency.specs.Laws.{GoesOn, SameLists, KeepsLists, HasNoneBelow}
 use Rattle.ospf_adjacency.proofs.MemberLemmas.{map_has, map_from, none_of_empty, none_of_nil}
@@ -112,7 +112,7 @@ answer_keeps : (a : Result DdAnswer ExchangeFault) (i : Iface) (local : Local) (
 answer_keeps (Ok answer.NotTaken) i local t = inl (same_lists t.neighbour)
 answer_keeps (Ok answer.PassedOver) i local t = inl (same_lists t.neighbour)
 answer_keeps (Ok answer.Repeats) i local t = inl (record { summary = refl; last_dd = refl; requests = refl; retransmission = refl })
-answer_keeps (Ok answer.Sends) i local t = inl (requests_keep i local (record t { sent = t.sent ++ dd_parcel i local.mtu t.neighbour ∷ [] }))
+answer_keeps (Ok answer.Sends) i local t = inl (requests_keep i local (record t { sent = t.sent ++ dd_packet i local.mtu t.neighbour ∷ [] }))
 answer_keeps (Ok answer.Ends) i local t = inl (requests_keep i local t)
 answer_keeps (Err fault.Mtu) i local t = inl (same_lists t.neighbour)
 answer_keeps (Err fault.Mismatch) i local t = event_keeps SeqNumberMismatch i.settings.dead t.next local.tick t.neighbour

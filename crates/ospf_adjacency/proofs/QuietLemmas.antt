@@ -26,7 +26,7 @@ use Rattle.ospf_adjacency.specs.Descriptions.{event_turn, dd_repeated}
 use Rattle.ospf_area.specs.Turns.{Turn}
 use Rattle.ospf_adjacency.specs.Laws.{GoesOn, KeepsLists, NeverEnters, SaysOnly}
 use Rattle.ospf_exchange.specs.Laws.{KeepsRouter}
-use Rattle.ospf_area.specs.Packets.{Parcel, dd_parcel, request_parcel}
+use Rattle.ospf_area.specs.Packets.{PendingPacket, dd_packet, request_packet}
 use Rattle.ospf_adjacency.proofs.MemberLemmas.{cons_cases, cons_first, cons_rest, map_from, none_of_nil}
 use Rattle.ospf_adjacency.proofs.LawLemmas.{event_keeps}
 use Rattle.ospf_adjacency.proofs.SayLemmas.{event_says}
@@ -82,10 +82,10 @@ packed_from room batch [] b x is has = inl (subst (λ (y : List (List ℕ)). Con
 packed_from room batch (lsa ∷ lsas) b x is has = packed_in room (goes_in room batch lsa) batch lsa lsas b x (λ start there. packed_from room start lsas b x there has) is has
 
 -- Updates have only copies of the database
-updates_have : (to : Addr) (mtu delay : ℕ) (db : List Held) (keys : List LsaKey) (n : NeighbourValue) (p : Parcel) → Contains (updates_of to mtu delay db keys) p → HasCopiesOnly db delay n p.body
+updates_have : (to : Addr) (mtu delay : ℕ) (db : List Held) (keys : List LsaKey) (n : NeighbourValue) (p : PendingPacket) → Contains (updates_of to mtu delay db keys) p → HasCopiesOnly db delay n p.body
 updates_have to mtu delay db keys n p is =
     let from = map_from (update_to to) (packed (update_room mtu) [] (copies_of db delay keys)) p is in
-    subst (λ (x : Parcel). HasCopiesOnly db delay n x.body) from.2
+    subst (λ (x : PendingPacket). HasCopiesOnly db delay n x.body) from.2
     (λ lsa has. elim (packed_from (update_room mtu) [] (copies_of db delay keys) from.0 lsa from.1 has) [ inl none ↦ absurd (none_of_nil lsa none) | inr copy ↦ copies_from db delay keys lsa copy ])
 
 -- ---- one neighbour
@@ -145,7 +145,7 @@ alike_enters : (n m : NeighbourValue) → IsAlike n m → NeverEnters n m
 alike_enters n m same is = ap (λ s. is_exchanging s) (sym same.state) ∙ is
 
 -- a part after which the neighbour is alike
-quiet_by : (db : List Held) (delay : ℕ) (t u : Turn) → IsAlike t.neighbour u.neighbour → ((p : Parcel) → Contains u.sent p → Contains t.sent p ⊎ HasCopiesOnly db delay t.neighbour p.body) → IsQuiet db delay t u
+quiet_by : (db : List Held) (delay : ℕ) (t u : Turn) → IsAlike t.neighbour u.neighbour → ((p : PendingPacket) → Contains u.sent p → Contains t.sent p ⊎ HasCopiesOnly db delay t.neighbour p.body) → IsQuiet db delay t u
 quiet_by db delay t u same sends = record {
   goes = λ told. alike_goes db told t.neighbour u.neighbour same;
   enters = alike_enters t.neighbour u.neighbour same;
@@ -155,7 +155,7 @@ quiet_by db delay t u same sends = record {
 
 -- ---- Requests
 
-copies_send : (i : Iface) (local : Local) (delay : ℕ) (db : List Held) (keys : List LsaKey) (n : NeighbourValue) (t : Turn) (p : Parcel)
+copies_send : (i : Iface) (local : Local) (delay : ℕ) (db : List Held) (keys : List LsaKey) (n : NeighbourValue) (t : Turn) (p : PendingPacket)
     → Contains (copies_turn i local delay db keys t).sent p → Contains t.sent p ⊎ HasCopiesOnly db delay n p.body
 copies_send i local delay db keys n t p is = elim (Contains-append_cases t.sent (updates_of (to_address i t.neighbour.address) local.mtu delay db keys) p is) [
   | inl old ↦ inl old
@@ -194,26 +194,26 @@ answers_are_quiet i local delay db es t = answer_by (all_held db es) i local del
 
 -- ---- repeats
 
-one_more : (db : List Held) (delay : ℕ) (n : NeighbourValue) (sent : List Parcel) (p q : Parcel) → HasCopiesOnly db delay n p.body → Contains (sent ++ p ∷ []) q → Contains sent q ⊎ HasCopiesOnly db delay n q.body
+one_more : (db : List Held) (delay : ℕ) (n : NeighbourValue) (sent : List PendingPacket) (p q : PendingPacket) → HasCopiesOnly db delay n p.body → Contains (sent ++ p ∷ []) q → Contains sent q ⊎ HasCopiesOnly db delay n q.body
 one_more db delay n sent p q has is = elim (Contains-append_cases sent (p ∷ []) q is) [
   | inl old ↦ inl old
-  | inr new ↦ elim (cons_cases p [] q new) [ inl same ↦ inr (subst (λ (x : Parcel). HasCopiesOnly db delay n x.body) same has) | inr none ↦ absurd (none_of_nil q none) ]
+  | inr new ↦ elim (cons_cases p [] q new) [ inl same ↦ inr (subst (λ (x : PendingPacket). HasCopiesOnly db delay n x.body) same has) | inr none ↦ absurd (none_of_nil q none) ]
 ]
 
 dd_quiet : (i : Iface) (local : Local) (delay : ℕ) (db : List Held) (t : Turn) (due : Bool) → IsAlike t.neighbour (if due then dd_repeated i local t else t).neighbour
-    × ((p : Parcel) → Contains (if due then dd_repeated i local t else t).sent p → Contains t.sent p ⊎ HasCopiesOnly db delay t.neighbour p.body)
+    × ((p : PendingPacket) → Contains (if due then dd_repeated i local t else t).sent p → Contains t.sent p ⊎ HasCopiesOnly db delay t.neighbour p.body)
 dd_quiet i local delay db t true = (
   record { router = refl; address = refl; state = refl; summary = refl; last_dd = refl; requests = refl; waiting = refl },
-  (λ p is. one_more db delay t.neighbour t.sent (dd_parcel i local.mtu (dd_repeated i local t).neighbour) p (λ h has. inl has) is),
+  (λ p is. one_more db delay t.neighbour t.sent (dd_packet i local.mtu (dd_repeated i local t).neighbour) p (λ h has. inl has) is),
 )
 dd_quiet i local delay db t false = (alike_same t.neighbour, (λ p is. inl is))
 
 request_quiet : (i : Iface) (local : Local) (delay : ℕ) (db : List Held) (n : NeighbourValue) (t : Turn) (due : Bool)
-    → IsAlike t.neighbour (if due then record t { neighbour = asked_next local.mtu local.tick t.neighbour; sent = t.sent ++ request_parcel i (asked_next local.mtu local.tick t.neighbour) ∷ [] } else t).neighbour
-    × ((p : Parcel) → Contains (if due then record t { neighbour = asked_next local.mtu local.tick t.neighbour; sent = t.sent ++ request_parcel i (asked_next local.mtu local.tick t.neighbour) ∷ [] } else t).sent p → Contains t.sent p ⊎ HasCopiesOnly db delay n p.body)
+    → IsAlike t.neighbour (if due then record t { neighbour = asked_next local.mtu local.tick t.neighbour; sent = t.sent ++ request_packet i (asked_next local.mtu local.tick t.neighbour) ∷ [] } else t).neighbour
+    × ((p : PendingPacket) → Contains (if due then record t { neighbour = asked_next local.mtu local.tick t.neighbour; sent = t.sent ++ request_packet i (asked_next local.mtu local.tick t.neighbour) ∷ [] } else t).sent p → Contains t.sent p ⊎ HasCopiesOnly db delay n p.body)
 request_quiet i local delay db n t true = (
   record { router = refl; address = refl; state = refl; summary = refl; last_dd = refl; requests = refl; waiting = refl },
-  (λ p is. one_more db delay n t.sent (request_parcel i (asked_next local.mtu local.tick t.neighbour)) p tt is),
+  (λ p is. one_more db delay n t.sent (request_packet i (asked_next local.mtu local.tick t.neighbour)) p tt is),
 )
 request_quiet i local delay db n t false = (alike_same t.neighbour, (λ p is. inl is))
 
@@ -222,7 +222,7 @@ repeats_are_quiet i local retransmit delay db t =
     let keys = due_keys retransmit local.tick db t.neighbour in
     let a = (if dd_due retransmit local.tick t.neighbour then dd_repeated i local t else t) in
     let asked = asked_next local.mtu local.tick a.neighbour in
-    let b = (if request_repeat_due retransmit local.tick a.neighbour then record a { neighbour = asked; sent = a.sent ++ request_parcel i asked ∷ [] } else a) in
+    let b = (if request_repeat_due retransmit local.tick a.neighbour then record a { neighbour = asked; sent = a.sent ++ request_packet i asked ∷ [] } else a) in
     let u = copies_turn i local delay db keys b in
     let p = dd_quiet i local delay db t (dd_due retransmit local.tick t.neighbour) in
     let q = request_quiet i local delay db t.neighbour a (request_repeat_due retransmit local.tick a.neighbour) in

@@ -20,7 +20,7 @@ use Rattle.ospf_exchange.proofs.RouterLemmas.{keep_routers}
 use Rattle.ospf_adjacency.specs.Adjacency.{event_taken, wants_adjacency}
 use Rattle.ospf_adjacency.specs.Descriptions.{event_turn, is_init, answered_turn}
 use Rattle.ospf_adjacency.proofs.Words.{greeted_turn, exchange_turn}
-use Rattle.ospf_area.specs.Packets.{dd_parcel}
+use Rattle.ospf_area.specs.Packets.{dd_packet}
 use Rattle.ospf_area.specs.Turns.{Turn, request_turn}
 use Rattle.ospf_adjacency.specs.Laws.{DescriptionKeepsRouter}
 use Rattle.ospf_adjacency.proofs.LawLemmas.{bool_cases}
@@ -41,7 +41,7 @@ answer_same : (a : Result DdAnswer ExchangeFault) (i : Iface) (local : Local) (t
 answer_same (Ok answer.NotTaken) i local t = same t.neighbour
 answer_same (Ok answer.PassedOver) i local t = same t.neighbour
 answer_same (Ok answer.Repeats) i local t = record { router = refl; address = refl }
-answer_same (Ok answer.Sends) i local t = request_same i local (record t { sent = t.sent ++ dd_parcel i local.mtu t.neighbour ∷ [] })
+answer_same (Ok answer.Sends) i local t = request_same i local (record t { sent = t.sent ++ dd_packet i local.mtu t.neighbour ∷ [] })
 answer_same (Ok answer.Ends) i local t = request_same i local t
 answer_same (Err fault.Mtu) i local t = same t.neighbour
 answer_same (Err fault.Mismatch) i local t = event_same SeqNumberMismatch i.settings.dead t.next local.tick t.neighbour

@@ -10,7 +10,7 @@ use Rattle.ospf_neighbour.specs.Neighbours.{neighbour_of}
 use Rattle.ospf_neighbour.specs.declared.machine.NbrEvent.{NbrEvent}
 use Rattle.ospf_neighbour.specs.declared.machine.NbrEvent.TheVariants.{AdjOk, HelloReceived, TwoWayReceived, OneWayReceived}
 use Rattle.ospf_packet.specs.Meaning.{update}
-use Rattle.ospf_area.specs.Packets.{Parcel}
+use Rattle.ospf_area.specs.Packets.{PendingPacket}
 use Rattle.ospf_area.specs.Sending.{sent_lsa}
 use Rattle.ospf_iface.specs.declared.candidate.Candidate.{Candidate}
 use Rattle.ospf_neighbour.specs.Machine.{is_two_way}
@@ -87,7 +87,7 @@ abbrev pub adj_ok_for : Iface → NeighbourValue → NbrEvent
 adj_ok_for i n = AdjOk (wants_adjacency i n.address)
 
 -- an Update of these LSAs to this address (13.3)
-abbrev pub update_to : Addr → List (List ℕ) → Parcel
+abbrev pub update_to : Addr → List (List ℕ) → PendingPacket
 update_to destination lsas = record { destination = destination; body = update lsas }
 
 -- how many bytes of LSAs an Update has room for

@@ -19,7 +19,7 @@ use Rattle.ospf_exchange.specs.declared.fault.ExchangeFault.{ExchangeFault}
 use Rattle.ospf_exchange.specs.declared.fault.ExchangeFault.TheVariants as fault
 use Rattle.ospf_exchange.specs.declared.rule.Local.{Local}
 use Rattle.ospf_adjacency.specs.Adjacency.{wants_adjacency, begins_by, event_taken, number_by}
-use Rattle.ospf_area.specs.Packets.{parcel_if, dd_parcel}
+use Rattle.ospf_area.specs.Packets.{packet_if, dd_packet}
 use Rattle.ospf_area.specs.Turns.{Turn, request_turn}
 
 -- an event, and the first DD packet where an adjacency begins by it (10.3, 10.8)
@@ -29,8 +29,8 @@ event_turn i local e t = record {
   next = number_by e t.neighbour t.next;
   sent =
       t.sent
-      ++ parcel_if (begins_by e t.neighbour)
-      (dd_parcel i local.mtu (event_taken e i.settings.dead t.next local.tick t.neighbour));
+      ++ packet_if (begins_by e t.neighbour)
+      (dd_packet i local.mtu (event_taken e i.settings.dead t.next local.tick t.neighbour));
 }
 
 -- ---- Database Descriptions
@@ -45,7 +45,7 @@ abbrev pub dd_repeated : Iface → Local → Turn → Turn
 dd_repeated i local t =
     let n = t.neighbour in
     let m = record n { exchanging = record n.exchanging { sent_at = local.tick } } in
-    record t { neighbour = m; sent = t.sent ++ dd_parcel i local.mtu m ∷ [] }
+    record t { neighbour = m; sent = t.sent ++ dd_packet i local.mtu m ∷ [] }
 
 -- what follows an answer (10.6, 10.8): the slave's last packet goes out again; or the next packet
 -- does, before a Request; or SeqNumberMismatch begins the adjacency anew
@@ -54,7 +54,7 @@ answered_turn (Ok answer.NotTaken) i local t = t
 answered_turn (Ok answer.PassedOver) i local t = t
 answered_turn (Ok answer.Repeats) i local t = dd_repeated i local t
 answered_turn (Ok answer.Sends) i local t =
-    request_turn i local (record t { sent = t.sent ++ dd_parcel i local.mtu t.neighbour ∷ [] })
+    request_turn i local (record t { sent = t.sent ++ dd_packet i local.mtu t.neighbour ∷ [] })
 answered_turn (Ok answer.Ends) i local t = request_turn i local t
 answered_turn (Err fault.Mismatch) i local t = event_turn i local SeqNumberMismatch t
 answered_turn (Err _) i local t = t

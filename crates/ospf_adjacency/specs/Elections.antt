@@ -13,7 +13,7 @@ use Rattle.ospf_neighbour.specs.Machine.{is_two_way}
 use Rattle.ospf_neighbour.specs.Neighbour.{NeighbourValue}
 use Rattle.ospf_neighbour.specs.Neighbours.{AreNeighboursRising}
 use Rattle.ospf_adjacency.specs.Adjacency.{wants_adjacency, begins_by, event_taken, number_by}
-use Rattle.ospf_area.specs.Packets.{Parcel, dd_parcel, parcel_if}
+use Rattle.ospf_area.specs.Packets.{PendingPacket, dd_packet, packet_if}
 
 -- ---- who takes part
 
@@ -46,11 +46,11 @@ number_after i next (n ∷ ns) =
     number_after i (number_by (AdjOk (wants_adjacency i n.address)) n next) ns
 
 -- the first DD packets that go out (10.8)
-abbrev pub first_dds : Iface → ℕ → ℕ → ℕ → List NeighbourValue → List Parcel
+abbrev pub first_dds : Iface → ℕ → ℕ → ℕ → List NeighbourValue → List PendingPacket
 first_dds i mtu tick next [] = []
 first_dds i mtu tick next (n ∷ ns) =
     let ok = AdjOk (wants_adjacency i n.address) in
-    parcel_if (begins_by ok n) (dd_parcel i mtu (event_taken ok i.settings.dead next tick n))
+    packet_if (begins_by ok n) (dd_packet i mtu (event_taken ok i.settings.dead next tick n))
     ++ first_dds i mtu tick (number_by ok n next) ns
 
 -- ---- the election
@@ -71,7 +71,7 @@ pub record AreOfLink (i : Iface) (ns : List NeighbourValue) : Type 0 where
 -- the interface has the result of the election, and AdjOK? comes to its neighbours where the DR
 -- or the Backup is another (9.4)
 pub record ElectsOn (mtu tick : ℕ) (i : Iface) (ns : List NeighbourValue) (next : ℕ)
-    (sent : List Parcel) (i' : Iface) (ns' : List NeighbourValue) (next' : ℕ) : Type 0 where
+    (sent : List PendingPacket) (i' : Iface) (ns' : List NeighbourValue) (next' : ℕ) : Type 0 where
   pub result : Elected
   pub is_elected : IsElected (candidates_of i ns) i.settings.router result
   pub interface : i' ≡ elected result i

@@ -19,8 +19,8 @@ use Rattle.ospf_area.specs.Changes.{after_event}
 use Rattle.ospf_adjacency.specs.Adjacency.{is_broadcast, wants_adjacency}
 use Rattle.ospf_adjacency.specs.Descriptions.{event_turn}
 use Rattle.ospf_area.specs.Turns.{Turn}
-use Rattle.ospf_area.specs.Packets.{Parcel}
-use Rattle.ospf_area.specs.Posting.{PostValue}
+use Rattle.ospf_area.specs.Packets.{PendingPacket}
+use Rattle.ospf_area.specs.Outboxes.{OutboxValue}
 use Rattle.ospf_adjacency.specs.declared.heard.ElectionView.{ElectionView}
 
 -- a Hello names the router among the neighbours that were heard (10.5)
@@ -49,8 +49,8 @@ hello_turn i local h named t =
 
 -- what an election looks at in a neighbour: whether it is in 2-Way or above, its priority, whether
 -- it declares itself DR and Backup, and whether it declares that there is no Backup (9.2, 9.4)
-abbrev pub bearing_of : NeighbourValue → ElectionView
-bearing_of n = record {
+abbrev pub election_view : NeighbourValue → ElectionView
+election_view n = record {
   two_way = is_two_way n.state;
   priority = n.declared.priority;
   is_dr = (n.declared.dr.0 == n.address.0);
@@ -86,8 +86,8 @@ is_waiting _ = false
 -- in DROther, Backup and DR (9.3)
 abbrev pub elects_by_hello : IfaceState → NeighbourValue → NeighbourValue → Bool
 elects_by_hello s n m =
-    (is_waiting s && is_backup_seen (bearing_of m))
-    || (is_settled s && is_neighbor_change (bearing_of n) (bearing_of m))
+    (is_waiting s && is_backup_seen (election_view m))
+    || (is_settled s && is_neighbor_change (election_view n) (election_view m))
 
 -- ---- the neighbours of the link
 
@@ -106,10 +106,10 @@ pub record Neighbourhood : Type 0 where
   pub neighbours : List NeighbourValue
   pub elects : Bool
   pub next : ℕ
-  pub sent : List Parcel
+  pub sent : List PendingPacket
 
 -- neighbours, and what a part leaves beside them
-abbrev pub neighbourhood : List NeighbourValue → Bool → PostValue → Neighbourhood
+abbrev pub neighbourhood : List NeighbourValue → Bool → OutboxValue → Neighbourhood
 neighbourhood ns elects p =
     record { neighbours = ns; elects = elects; next = p.next; sent = p.sent }
 

@@ -25,8 +25,8 @@ use Rattle.ospf_adjacency.specs.Descriptions.{event_turn, description_turn, dd_d
 use Rattle.ospf_area.specs.Turns.{Turn, request_turn}
 use Rattle.ospf_area.specs.Packing.{IsFilled}
 use Rattle.ospf_area.specs.Sending.{packet_from}
-use Rattle.ospf_area.specs.declared.sending.Own.{Own}
-use Rattle.ospf_area.specs.Packets.{Parcel, dd_parcel}
+use Rattle.ospf_area.specs.declared.sending.RouterContext.{RouterContext}
+use Rattle.ospf_area.specs.Packets.{PendingPacket, dd_packet}
 
 -- a neighbour goes on: new on its lists are copies of the database, on the request list what it
 -- told, and in the last Database Description also what the summary list had; what waits for its
@@ -133,21 +133,22 @@ SaysOnly db n (update lsas) = ⊥
 SaysOnly db n (acknowledgment headers) = ⊥
 
 -- so is each of a list that was not in another
-abbrev pub AllSayOnly : List Held → NeighbourValue → List Parcel → List Parcel → Type 0
+abbrev pub AllSayOnly : List Held → NeighbourValue → List PendingPacket → List PendingPacket
+    → Type 0
 AllSayOnly db n before after =
-    (p : Parcel) → Contains after p → Contains before p ⊎ SaysOnly db n p.body
+    (p : PendingPacket) → Contains after p → Contains before p ⊎ SaysOnly db n p.body
 
 -- by an event nothing goes out but Database Descriptions without headers (10.8)
 abbrev pub EventsSayOnly : Type 0
 EventsSayOnly =
-    (i : Iface) (local : Local) (e : NbrEvent) (t : Turn) (p : Parcel)
+    (i : Iface) (local : Local) (e : NbrEvent) (t : Turn) (p : PendingPacket)
     → Contains (event_turn i local e t).sent p
     → Contains t.sent p ⊎ ((fields : Description) × (p.body ≡ description fields []))
 
 -- where a Request may be due nothing goes out but Requests (10.9)
 abbrev pub RequestsSayOnly : Type 0
 RequestsSayOnly =
-    (i : Iface) (local : Local) (t : Turn) (p : Parcel)
+    (i : Iface) (local : Local) (t : Turn) (p : PendingPacket)
     → Contains (request_turn i local t).sent p
     → Contains t.sent p ⊎ ((entries : List RequestEntry) × (p.body ≡ request entries))
 
@@ -173,10 +174,10 @@ DescriptionKeepsRouter =
 -- the MTU, and the others stay on the list (10.8)
 abbrev pub DescriptionsAreFilled : Type 0
 DescriptionsAreFilled =
-    (own : Own) (i : Iface) (local : Local) (number : ℕ) (n : NeighbourValue)
+    (own : RouterContext) (i : Iface) (local : Local) (number : ℕ) (n : NeighbourValue)
     → ip_header + packet_header + description_fields ≤ local.mtu
     → (fields : Description)
-    × ((dd_parcel i local.mtu (describes local number n)).body
+    × ((dd_packet i local.mtu (describes local number n)).body
     ≡ description fields (describes local number n).last_dd)
     × IsFilled (λ headers. packet_from own (description fields headers)) local.mtu n.summary
     (describes local number n).last_dd (describes local number n).summary

@@ -9,14 +9,14 @@ use Rattle.ospf_iface.specs.Machine.{is_down, iface_stopped}
 use Rattle.ospf_neighbour.specs.Machine.{is_two_way}
 use Rattle.ospf_neighbour.specs.Neighbour.{NeighbourValue}
 use Rattle.ospf_packet.specs.Meaning.{hello}
-use Rattle.ospf_area.specs.Packets.{Parcel}
+use Rattle.ospf_area.specs.Packets.{PendingPacket}
 use Rattle.ospf_adjacency.specs.Heard.{is_waiting, is_settled}
 
 -- ---- Hellos that go out
 
 -- the Hello that a link sends to all: it names the link's neighbours (9.5)
-abbrev pub hello_parcel : Iface → List NeighbourValue → Parcel
-hello_parcel i ns =
+abbrev pub hello_packet : Iface → List NeighbourValue → PendingPacket
+hello_packet i ns =
     record {
       destination = all_spf_routers;
       body = hello (own_hello i) (map (λ n. n.router) ns);

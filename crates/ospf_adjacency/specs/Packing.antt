@@ -7,7 +7,7 @@ use Rattle.ospf_lsdb.specs.Database.{Held, entry_of, lsa_of}
 use Rattle.ospf_neighbour.specs.Neighbour.{is_empty}
 use Rattle.ospf_packet.specs.Meaning.{update}
 use Rattle.ospf_area.specs.Sending.{sent_lsa}
-use Rattle.ospf_area.specs.Packets.{Parcel}
+use Rattle.ospf_area.specs.Packets.{PendingPacket}
 
 -- ---- copies
 
@@ -44,7 +44,7 @@ packed room batch (lsa ∷ lsas) =
 
 -- the Updates with the copies of these keys, to this address: an Update has the room that an IP
 -- header, a packet header and the number of LSAs leave (10.7, 13.3, 13.6)
-abbrev pub updates_of : Addr → ℕ → ℕ → List Held → List LsaKey → List Parcel
+abbrev pub updates_of : Addr → ℕ → ℕ → List Held → List LsaKey → List PendingPacket
 updates_of destination mtu delay db keys =
     map (λ lsas. record { destination = destination; body = update lsas })
     (packed (mtu - (ip_header + packet_header + update_count)) [] (copies_of db delay keys))

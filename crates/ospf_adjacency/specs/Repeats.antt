@@ -13,7 +13,7 @@ use Rattle.ospf_exchange.specs.declared.rule.Local.{Local}
 use Rattle.ospf_base.specs.Ticks.{have_passed}
 use Rattle.ospf_adjacency.specs.Descriptions.{dd_repeated}
 use Rattle.ospf_area.specs.Turns.{Turn}
-use Rattle.ospf_area.specs.Packets.{request_parcel}
+use Rattle.ospf_area.specs.Packets.{request_packet}
 use Rattle.ospf_adjacency.specs.Answers.{copies_turn}
 
 -- the keys of the database of which an entry is due on the neighbour's retransmission list
@@ -33,6 +33,6 @@ repeats_turn i local retransmit delay db t =
     let asked = asked_next local.mtu local.tick u.neighbour in
     let v =
     (if request_repeat_due retransmit local.tick u.neighbour
-    then record u { neighbour = asked; sent = u.sent ++ request_parcel i asked ∷ [] }
+    then record u { neighbour = asked; sent = u.sent ++ request_packet i asked ∷ [] }
     else u) in
     copies_turn i local delay db (due_keys retransmit local.tick db t.neighbour) v

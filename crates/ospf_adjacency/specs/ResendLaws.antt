@@ -14,11 +14,11 @@ use Rattle.ospf_packet.specs.declared.entry.RequestEntry.{RequestEntry}
 use Rattle.ospf_exchange.specs.declared.rule.Local.{Local}
 use Rattle.ospf_area.specs.Packing.{ArePacked}
 use Rattle.ospf_area.specs.Sending.{packet_from, sent_lsa}
-use Rattle.ospf_area.specs.declared.sending.Own.{Own}
+use Rattle.ospf_area.specs.declared.sending.RouterContext.{RouterContext}
 use Rattle.ospf_area.specs.Turns.{Turn}
 use Rattle.ospf_adjacency.specs.Laws.{GoesOn, NeverEnters, SaysOnly}
 use Rattle.ospf_exchange.specs.Laws.{KeepsRouter}
-use Rattle.ospf_area.specs.Packets.{Parcel}
+use Rattle.ospf_area.specs.Packets.{PendingPacket}
 use Rattle.ospf_adjacency.specs.Answers.{answer_turn, answered_keys}
 use Rattle.ospf_adjacency.specs.Packing.{copies_of, updates_of}
 use Rattle.ospf_adjacency.specs.Repeats.{due_keys, repeats_turn}
@@ -42,7 +42,7 @@ pub record IsQuiet (db : List Held) (delay : ℕ) (t u : Turn) : Type 0 where
   pub goes : (told : List LsaHeader) → GoesOn db told t.neighbour u.neighbour
   pub enters : NeverEnters t.neighbour u.neighbour
   pub same : KeepsRouter t.neighbour u.neighbour
-  pub sends : (p : Parcel) → Contains u.sent p
+  pub sends : (p : PendingPacket) → Contains u.sent p
       → Contains t.sent p ⊎ HasCopiesOnly db delay t.neighbour p.body
 
 -- a Request that is answered, or not
@@ -63,7 +63,7 @@ RepeatsAreQuiet =
 -- in each as fit the MTU, and an LSA that does not fit has an Update of its own (10.7, 13.6)
 abbrev pub UpdatesArePacked : Type 0
 UpdatesArePacked =
-    (own : Own) (destination : Addr) (mtu delay : ℕ) (db : List Held) (keys : List LsaKey)
+    (own : RouterContext) (destination : Addr) (mtu delay : ℕ) (db : List Held) (keys : List LsaKey)
     → (packets : List (List (List ℕ)))
     × (updates_of destination mtu delay db keys
     ≡ map (λ lsas. record { destination = destination; body = update lsas }) packets)

@@ -5,7 +5,7 @@ ghost use Rattle.ospf_adjacency.specs.Adjacency.{is_broadcast, is_chosen, wants_
 ghost use Rattle.ospf_adjacency.specs.Descriptions.{event_turn};
 ghost use Rattle.ospf_area.specs.Turns.{turn};
 
-use ospf_area::{OnLink, Post, send_dd};
+use ospf_area::{LinkContext, Outbox, send_dd};
 use ospf_base::{Addr, InterfaceKind};
 use ospf_exchange::begin;
 use ospf_iface::Iface;
@@ -36,19 +36,19 @@ pub fn wants_adjacency(iface: &Iface, address: Addr) -> bool
 pub fn take_event(
     neighbour: &mut Neighbour,
     event: NbrEvent,
-    at: &OnLink,
-    post: &mut Post,
+    at: &LinkContext,
+    outbox: &mut Outbox,
 ) -> Result<(), AllocError>
     ensures neighbour { neighbour.new
-        ≡ event_taken event at.now.iface.settings.dead post.old.next at.now.local.tick
+        ≡ event_taken event at.now.iface.settings.dead outbox.old.next at.now.local.tick
         neighbour.old }
-    ensures number { post.new.next ≡ number_by event neighbour.old post.old.next }
+    ensures number { outbox.new.next ≡ number_by event neighbour.old outbox.old.next }
     ensures turn { OnOk result
-        (turn neighbour.new post.new
-        ≡ event_turn at.now.iface at.now.local event (turn neighbour.old post.old)) }
+        (turn neighbour.new outbox.new
+        ≡ event_turn at.now.iface at.now.local event (turn neighbour.old outbox.old)) }
 {
-    if count_event(neighbour, event, at, post) {
-        send_dd(neighbour, at, post)?;
+    if count_event(neighbour, event, at, outbox) {
+        send_dd(neighbour, at, outbox)?;
     }
     Ok(())
 }
@@ -62,20 +62,25 @@ fn is_chosen(iface: &Iface, address: Addr) -> bool
 
 // Takes an event; whether an adjacency begins by it. The neighbour then has the router's next
 // Database Description number, which counts up.
-fn count_event(neighbour: &mut Neighbour, event: NbrEvent, at: &OnLink, post: &mut Post) -> bool
+fn count_event(
+    neighbour: &mut Neighbour,
+    event: NbrEvent,
+    at: &LinkContext,
+    outbox: &mut Outbox,
+) -> bool
     ensures begins { result ≡ begins_by event neighbour.old }
     ensures neighbour { neighbour.new
-        ≡ event_taken event at.now.iface.settings.dead post.old.next at.now.local.tick
+        ≡ event_taken event at.now.iface.settings.dead outbox.old.next at.now.local.tick
         neighbour.old }
-    ensures number { post.new ≡ record post.old
-        { next = number_by event neighbour.old post.old.next } }
+    ensures number { outbox.new ≡ record outbox.old
+        { next = number_by event neighbour.old outbox.old.next } }
 {
-    let next = post.next();
+    let next = outbox.next();
     let change = neighbour.event(event, at.iface.settings.dead);
     if !matches!(change.effect, Effect::AdjacencyBegins) {
         return false;
     }
     begin(neighbour, next, at.local.tick);
-    post.set_next(next.wrapping_add(1));
+    outbox.set_next(next.wrapping_add(1));
     true
 }

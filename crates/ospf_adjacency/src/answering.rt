@@ -10,7 +10,7 @@ ghost use Rattle.ospf_adjacency.specs.Answers.{copies_turn, answered_keys, answe
 
 use crate::adjacency::take_event;
 use crate::packing::send_copies;
-use ospf_area::{OnLink, Post, to_address};
+use ospf_area::{LinkContext, Outbox, to_address};
 use ospf_base::LsaKey;
 use ospf_exchange::{ExchangeFault, on_request};
 use ospf_lsdb::{EntryView, Lsdb};
@@ -28,30 +28,30 @@ pub fn take_request(
     neighbour: &mut Neighbour,
     requests: Requests<'_>,
     database: &Lsdb,
-    at: &OnLink,
+    at: &LinkContext,
     delay: u16,
-    post: &mut Post,
+    outbox: &mut Outbox,
 ) -> Result<BTreeSet<LsaKey>, AllocError>
     requires { IsTrue (is_exchanging neighbour.old.state) }
     ensures turn { OnOk result
-        (turn neighbour.new post.new
+        (turn neighbour.new outbox.new
         ≡ answer_turn at.now.iface at.now.local delay database.now requests.entry
-        (turn neighbour.old post.old)) }
+        (turn neighbour.old outbox.old)) }
     ensures keys { IfOk result (λ keys. keys.keys ≡ answered_keys database.now requests.entry) }
 {
     // Its contract says that the keys of the database rise.
     let _entries = database.entries();
-    match on_request(neighbour, requests, database, post.alloc()) {
+    match on_request(neighbour, requests, database, outbox.alloc()) {
         Ok(Some(keys)) => {
-            send_to(neighbour, &keys, database, at, delay, post)?;
+            send_to(neighbour, &keys, database, at, delay, outbox)?;
             Ok(keys)
         }
         Ok(None) => unreachable!(),
         Err(ExchangeFault::Memory) => Err(AllocError),
         Err(_) => {
             let event = NbrEvent::BadLsReq;
-            take_event(neighbour, event, at, post)?;
-            Ok(BTreeSet::new(post.alloc()))
+            take_event(neighbour, event, at, outbox)?;
+            Ok(BTreeSet::new(outbox.alloc()))
         }
     }
 }
@@ -62,21 +62,21 @@ pub(crate) fn send_to(
     neighbour: &mut Neighbour,
     keys: &BTreeSet<LsaKey>,
     database: &Lsdb,
-    at: &OnLink,
+    at: &LinkContext,
     delay: u16,
-    post: &mut Post,
+    outbox: &mut Outbox,
 ) -> Result<(), AllocError>
     ensures { OnOk result
-        (turn neighbour.new post.new
+        (turn neighbour.new outbox.new
         ≡ copies_turn at.now.iface at.now.local delay database.now keys.now.keys
-        (turn neighbour.old post.old)) }
+        (turn neighbour.old outbox.old)) }
 {
     if keys.is_empty() {
         return Ok(());
     }
     let to = to_address(&at.iface, neighbour.address());
     resend_keys(neighbour, keys, database, at.local.tick);
-    send_copies(keys, database, delay, at.local.mtu, to, post)
+    send_copies(keys, database, delay, at.local.mtu, to, outbox)
 }
 
 // The copies of these keys count as sent to the neighbour.

@@ -5,11 +5,11 @@ ghost use Rattle.ospf_exchange.specs.Exchange.{after_dd, dd_answer};
 ghost use Rattle.ospf_exchange.specs.Laws.{is_not_taken};
 ghost use Rattle.ospf_adjacency.specs.Adjacency.{wants_adjacency};
 ghost use Rattle.ospf_adjacency.specs.Descriptions.{answered_turn, dd_dropped, dd_repeated, description_turn, event_turn, is_init};
-ghost use Rattle.ospf_area.specs.Packets.{dd_parcel};
+ghost use Rattle.ospf_area.specs.Packets.{dd_packet};
 ghost use Rattle.ospf_area.specs.Turns.{turn, request_turn};
 
 use crate::adjacency::{take_event, wants_adjacency};
-use ospf_area::{OnLink, Post, request_turn, send_dd};
+use ospf_area::{LinkContext, Outbox, request_turn, send_dd};
 use ospf_base::RouterId;
 use ospf_exchange::{DdAnswer, ExchangeFault, Local, dd_sent, is_not_taken, on_dd};
 use ospf_lsdb::Lsdb;
@@ -44,13 +44,13 @@ pub fn take_description(
     description: Description,
     headers: Headers<'_>,
     database: &Lsdb,
-    at: &OnLink,
-    post: &mut Post,
+    at: &LinkContext,
+    outbox: &mut Outbox,
 ) -> Result<bool, AllocError>
     ensures turn { OnOk result
-        (turn neighbour.new post.new
+        (turn neighbour.new outbox.new
         ≡ description_turn at.now.iface at.now.local sender description headers.entry database.now
-        (turn neighbour.old post.old)) }
+        (turn neighbour.old outbox.old)) }
     ensures taken { IfOk result
         (λ taken. taken
         ≡ not (dd_dropped at.now.local sender description headers.entry neighbour.old)) }
@@ -59,8 +59,16 @@ pub fn take_description(
         return Ok(false);
     }
     let was_init = is_init(neighbour.state());
-    greet(neighbour, at, post)?;
-    let taken = exchange(neighbour, sender, description, headers, database, at, post)?;
+    greet(neighbour, at, outbox)?;
+    let taken = exchange(
+        neighbour,
+        sender,
+        description,
+        headers,
+        database,
+        at,
+        outbox,
+    )?;
     Ok(was_init || taken)
 }
 
@@ -72,18 +80,18 @@ fn is_init(state: NeighbourState) -> bool
 }
 
 // In Init a Database Description is 2-WayReceived first.
-fn greet(neighbour: &mut Neighbour, at: &OnLink, post: &mut Post) -> Result<(), AllocError>
+fn greet(neighbour: &mut Neighbour, at: &LinkContext, outbox: &mut Outbox) -> Result<(), AllocError>
     ensures { OnOk result
-        (turn neighbour.new post.new
+        (turn neighbour.new outbox.new
         ≡ (if is_init neighbour.old.state
         then event_turn at.now.iface at.now.local
         (NbrEvent.TwoWayReceived (wants_adjacency at.now.iface neighbour.old.address))
-        (turn neighbour.old post.old)
-        else turn neighbour.old post.old)) }
+        (turn neighbour.old outbox.old)
+        else turn neighbour.old outbox.old)) }
 {
     if is_init(neighbour.state()) {
         let event = NbrEvent::TwoWayReceived(wants_adjacency(&at.iface, neighbour.address()));
-        take_event(neighbour, event, at, post)?;
+        take_event(neighbour, event, at, outbox)?;
     }
     Ok(())
 }
@@ -96,16 +104,16 @@ fn exchange(
     description: Description,
     headers: Headers<'_>,
     database: &Lsdb,
-    at: &OnLink,
-    post: &mut Post,
+    at: &LinkContext,
+    outbox: &mut Outbox,
 ) -> Result<bool, AllocError>
     ensures turn { OnOk result
-        (turn neighbour.new post.new
+        (turn neighbour.new outbox.new
         ≡ answered_turn (dd_answer at.now.local sender description headers.entry neighbour.old)
         at.now.iface at.now.local
         (turn
         (after_dd at.now.local sender description headers.entry database.now neighbour.old)
-        post.old)) }
+        outbox.old)) }
     ensures taken { IfOk result
         (λ taken.
         taken
@@ -119,25 +127,25 @@ fn exchange(
         headers,
         database,
         at.local,
-        post.alloc(),
+        outbox.alloc(),
     ) {
         Ok(DdAnswer::NotTaken) => Ok(false),
         Ok(DdAnswer::PassedOver) => Ok(true),
         Ok(DdAnswer::Repeats) => {
-            repeat(neighbour, at, post)?;
+            repeat(neighbour, at, outbox)?;
             Ok(true)
         }
         Ok(DdAnswer::Sends) => {
-            go_on(neighbour, at, post)?;
+            go_on(neighbour, at, outbox)?;
             Ok(true)
         }
         Ok(DdAnswer::Ends) => {
-            request_turn(neighbour, at, post)?;
+            request_turn(neighbour, at, outbox)?;
             Ok(true)
         }
         Err(ExchangeFault::Mismatch) => {
             let event = NbrEvent::SeqNumberMismatch;
-            take_event(neighbour, event, at, post)?;
+            take_event(neighbour, event, at, outbox)?;
             Ok(true)
         }
         Err(ExchangeFault::Mtu) => Ok(false),
@@ -147,23 +155,27 @@ fn exchange(
 }
 
 // The slave's last packet goes out again.
-fn repeat(neighbour: &mut Neighbour, at: &OnLink, post: &mut Post) -> Result<(), AllocError>
+fn repeat(
+    neighbour: &mut Neighbour,
+    at: &LinkContext,
+    outbox: &mut Outbox,
+) -> Result<(), AllocError>
     ensures { OnOk result
-        (turn neighbour.new post.new
-        ≡ dd_repeated at.now.iface at.now.local (turn neighbour.old post.old)) }
+        (turn neighbour.new outbox.new
+        ≡ dd_repeated at.now.iface at.now.local (turn neighbour.old outbox.old)) }
 {
     dd_sent(neighbour, at.local.tick);
-    send_dd(neighbour, at, post)
+    send_dd(neighbour, at, outbox)
 }
 
 // The next packet goes out, and then a Request where one is due.
-fn go_on(neighbour: &mut Neighbour, at: &OnLink, post: &mut Post) -> Result<(), AllocError>
+fn go_on(neighbour: &mut Neighbour, at: &LinkContext, outbox: &mut Outbox) -> Result<(), AllocError>
     ensures { OnOk result
-        (turn neighbour.new post.new
+        (turn neighbour.new outbox.new
         ≡ request_turn at.now.iface at.now.local
-        (record (turn neighbour.old post.old)
-        { sent = post.old.sent ++ dd_parcel at.now.iface at.now.local.mtu neighbour.old ∷ [] })) }
+        (record (turn neighbour.old outbox.old)
+        { sent = outbox.old.sent ++ dd_packet at.now.iface at.now.local.mtu neighbour.old ∷ [] })) }
 {
-    send_dd(neighbour, at, post)?;
-    request_turn(neighbour, at, post)
+    send_dd(neighbour, at, outbox)?;
+    request_turn(neighbour, at, outbox)
 }

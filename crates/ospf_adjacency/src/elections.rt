@@ -6,10 +6,10 @@ ghost use Rattle.ospf_iface.specs.declared.candidate.Candidate.{Candidate};
 ghost use Rattle.ospf_iface.specs.declared.machine.IfaceChange.{IfaceChange};
 ghost use Rattle.ospf_iface.specs.Machine.{own_candidate, Elects};
 ghost use Rattle.ospf_adjacency.specs.Elections.{AreOfLink, ElectsOn, elects_in, candidates_of, adjusted, number_after, first_dds};
-ghost use Rattle.ospf_area.specs.Packets.{Parcel};
+ghost use Rattle.ospf_area.specs.Packets.{PendingPacket};
 
 use crate::adjacency::{take_event, wants_adjacency};
-use ospf_area::{OnLink, Post};
+use ospf_area::{LinkContext, Outbox};
 use ospf_exchange::Local;
 use ospf_iface::{Candidate, Iface, IfaceEvent, IfaceState};
 use ospf_neighbour::{NbrEvent, Neighbour};
@@ -23,23 +23,23 @@ pub fn elect_on(
     iface: &mut Iface,
     neighbours: &mut [Neighbour],
     local: Local,
-    post: &mut Post,
+    outbox: &mut Outbox,
 ) -> Result<(), AllocError>
     requires electing { elects_in iface.old.state ≡ true }
     requires link { AreOfLink iface.old neighbours.old }
     ensures { OnOk result
-        ((sent : List Parcel)
-        × ElectsOn local.mtu local.tick iface.old neighbours.old post.old.next sent
-        iface.new neighbours.new post.new.next
-        × (post.new.sent ≡ post.old.sent ++ sent)) }
+        ((sent : List PendingPacket)
+        × ElectsOn local.mtu local.tick iface.old neighbours.old outbox.old.next sent
+        iface.new neighbours.new outbox.new.next
+        × (outbox.new.sent ≡ outbox.old.sent ++ sent)) }
 {
-    let candidates = candidates_of(iface, neighbours, post.alloc())?;
+    let candidates = candidates_of(iface, neighbours, outbox.alloc())?;
     if elect(iface, &candidates) {
-        let at = OnLink {
+        let at = LinkContext {
             iface: *iface,
             local,
         };
-        adjust(neighbours, &at, post)?;
+        adjust(neighbours, &at, outbox)?;
     }
     Ok(())
 }
@@ -99,19 +99,23 @@ fn elect(iface: &mut Iface, candidates: &[Candidate]) -> bool
 }
 
 // AdjOK? comes to the neighbours of a link.
-fn adjust(neighbours: &mut [Neighbour], at: &OnLink, post: &mut Post) -> Result<(), AllocError>
+fn adjust(
+    neighbours: &mut [Neighbour],
+    at: &LinkContext,
+    outbox: &mut Outbox,
+) -> Result<(), AllocError>
     ensures neighbours { OnOk result
-        (neighbours.new ≡ adjusted at.now.iface at.now.local.tick post.old.next neighbours.old) }
-    ensures number { OnOk result (post.new.next
-        ≡ number_after at.now.iface post.old.next neighbours.old) }
+        (neighbours.new ≡ adjusted at.now.iface at.now.local.tick outbox.old.next neighbours.old) }
+    ensures number { OnOk result (outbox.new.next
+        ≡ number_after at.now.iface outbox.old.next neighbours.old) }
     ensures sent { OnOk result
-        (post.new.sent
-        ≡ post.old.sent
-        ++ first_dds at.now.iface at.now.local.mtu at.now.local.tick post.old.next neighbours.old) }
+        (outbox.new.sent
+        ≡ outbox.old.sent ++ first_dds at.now.iface at.now.local.mtu at.now.local.tick
+        outbox.old.next neighbours.old) }
 {
     for neighbour in neighbours.iter_mut() {
         let event = NbrEvent::AdjOk(wants_adjacency(&at.iface, neighbour.address()));
-        take_event(neighbour, event, at, post)?;
+        take_event(neighbour, event, at, outbox)?;
     }
     Ok(())
 }

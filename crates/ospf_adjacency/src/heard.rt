@@ -7,10 +7,10 @@ ghost use Rattle.ospf_area.specs.Turns.{turn};
 ghost use Rattle.std.specs.Prelude.{if◌then◌else◌};
 ghost use Rattle.ospf_area.specs.Changes.{after_event};
 ghost use Rattle.ospf_adjacency.specs.Adjacency.{is_broadcast, wants_adjacency};
-ghost use Rattle.ospf_adjacency.specs.Heard.{names, hello_turn, bearing_of, is_neighbor_change, is_backup_seen, is_settled, is_waiting, elects_by_hello, neighbourhood, hello_on};
+ghost use Rattle.ospf_adjacency.specs.Heard.{names, hello_turn, election_view, is_neighbor_change, is_backup_seen, is_settled, is_waiting, elects_by_hello, neighbourhood, hello_on};
 
 use crate::adjacency::{is_broadcast, take_event, wants_adjacency};
-use ospf_area::{OnLink, Post};
+use ospf_area::{LinkContext, Outbox};
 use ospf_base::{Addr, RouterId};
 use ospf_iface::{Iface, IfaceState};
 use ospf_neighbour::{Declared, NbrEvent, Neighbour, place_for};
@@ -71,24 +71,24 @@ pub fn hello_on(
     source: Addr,
     hello: &Hello,
     named: bool,
-    at: &OnLink,
-    post: &mut Post,
+    at: &LinkContext,
+    outbox: &mut Outbox,
 ) -> Result<bool, AllocError>
     requires { AreNeighboursRising neighbours.old.items }
     ensures { IfOk result
         (λ elects.
-        neighbourhood neighbours.new.items elects post.new
+        neighbourhood neighbours.new.items elects outbox.new
         ≡ hello_on at.now.iface at.now.local sender source hello.now named
-        (neighbourhood neighbours.old.items false post.old)) }
+        (neighbourhood neighbours.old.items false outbox.old)) }
 {
     let place = place_for(neighbours, sender);
     if is_at(neighbours, place, sender) {
         let neighbour = &mut neighbours[place];
-        let elects = hello_of(neighbour, hello, named, at, post)?;
+        let elects = hello_of(neighbour, hello, named, at, outbox)?;
         return Ok(elects);
     }
-    let mut neighbour = Neighbour::new(post.alloc(), sender, source);
-    let elects = hello_of(&mut neighbour, hello, named, at, post)?;
+    let mut neighbour = Neighbour::new(outbox.alloc(), sender, source);
+    let elects = hello_of(&mut neighbour, hello, named, at, outbox)?;
     neighbours.insert(place, neighbour)?;
     Ok(elects)
 }
@@ -105,18 +105,18 @@ fn hello_of(
     neighbour: &mut Neighbour,
     hello: &Hello,
     named: bool,
-    at: &OnLink,
-    post: &mut Post,
+    at: &LinkContext,
+    outbox: &mut Outbox,
 ) -> Result<bool, AllocError>
     ensures turn { OnOk result
-        (turn neighbour.new post.new
-        ≡ hello_turn at.now.iface at.now.local hello.now named (turn neighbour.old post.old)) }
+        (turn neighbour.new outbox.new
+        ≡ hello_turn at.now.iface at.now.local hello.now named (turn neighbour.old outbox.old)) }
     ensures elects { IfOk result
         (λ elects. elects ≡ elects_by_hello at.now.iface.state neighbour.old neighbour.new) }
 {
-    let before = bearing_of(neighbour);
-    take_hello(neighbour, hello, named, at, post)?;
-    let after = bearing_of(neighbour);
+    let before = election_view(neighbour);
+    take_hello(neighbour, hello, named, at, outbox)?;
+    let after = election_view(neighbour);
     let state = at.iface.state;
     Ok(
         (is_waiting(state) && is_backup_seen(after))
@@ -124,8 +124,8 @@ fn hello_of(
     )
 }
 
-fn bearing_of(neighbour: &Neighbour) -> ElectionView
-    ensures { result ≡ bearing_of neighbour.now }
+fn election_view(neighbour: &Neighbour) -> ElectionView
+    ensures { result ≡ election_view neighbour.now }
 {
     let declared = neighbour.declared();
     let address = neighbour.address();
@@ -143,16 +143,16 @@ fn take_hello(
     neighbour: &mut Neighbour,
     hello: &Hello,
     named: bool,
-    at: &OnLink,
-    post: &mut Post,
+    at: &LinkContext,
+    outbox: &mut Outbox,
 ) -> Result<(), AllocError>
     ensures { OnOk result
-        (turn neighbour.new post.new
-        ≡ hello_turn at.now.iface at.now.local hello.now named (turn neighbour.old post.old)) }
+        (turn neighbour.new outbox.new
+        ≡ hello_turn at.now.iface at.now.local hello.now named (turn neighbour.old outbox.old)) }
 {
     let event = naming_event(&at.iface, named, neighbour.address());
     hear(neighbour, &at.iface, hello);
-    take_event(neighbour, event, at, post)
+    take_event(neighbour, event, at, outbox)
 }
 
 // 2-WayReceived, or 1-WayReceived.

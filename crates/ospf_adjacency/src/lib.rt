@@ -6,7 +6,7 @@
 //! its timers, and `send_due_hello` sends its Hello. `take_event` takes an event of the neighbour
 //! machine, `take_description` a Database Description, and `take_request` a Request; `repeat` sends
 //! again what is due in a tick. `elect_on` ends a step on the link with its election and AdjOK?.
-//! What goes out is put into a `Post`, and sent at the end of a part.
+//! What goes out is put into a `Outbox`, and sent at the end of a part.
 #![tactic(auto)]
 
 mod adjacency;

@@ -4,12 +4,12 @@ ghost use Rattle.std.specs.Prelude.{◌≡◌, ◌+◌, ◌-◌, ◌||◌, nat_l
 ghost use Rattle.ospf_base.specs.Constants.{ip_header, packet_header};
 ghost use Rattle.ospf_lsdb.specs.Database.{lsa_of};
 ghost use Rattle.ospf_area.specs.Sending.{sent_lsa};
-ghost use Rattle.ospf_area.specs.Posting.{and_parcels};
+ghost use Rattle.ospf_area.specs.Outboxes.{and_packets};
 ghost use Rattle.ospf_packet.specs.Meaning.{update};
 ghost use Rattle.ospf_neighbour.specs.Neighbour.{is_empty};
 ghost use Rattle.ospf_adjacency.specs.Packing.{bytes_in, packed, updates_of};
 
-use ospf_area::Post;
+use ospf_area::Outbox;
 use ospf_base::{Addr, IP_HEADER, LsaKey, PACKET_HEADER};
 use ospf_lsa::Lsa;
 use ospf_lsdb::{EntryView, Lsdb};
@@ -32,24 +32,24 @@ pub fn send_copies(
     delay: u16,
     mtu: u16,
     destination: Addr,
-    post: &mut Post,
+    outbox: &mut Outbox,
 ) -> Result<(), AllocError>
     ensures { OnOk result
-        (post.new
-        ≡ and_parcels post.old (updates_of destination mtu delay database.now keys.now.keys)) }
+        (outbox.new
+        ≡ and_packets outbox.old (updates_of destination mtu delay database.now keys.now.keys)) }
 {
-    let alloc = post.alloc();
+    let alloc = outbox.alloc();
     let room = update_room(mtu);
     let mut batch = Vec::new(alloc);
     let mut left = room;
     for key in keys {
         if let Some(copy) = database.get(key) {
             let lsa = sent_copy(&copy, delay, alloc)?;
-            add(lsa, &mut batch, &mut left, room, destination, post)?;
+            add(lsa, &mut batch, &mut left, room, destination, outbox)?;
         }
     }
     if !batch.is_empty() {
-        send(batch, destination, post)?;
+        send(batch, destination, outbox)?;
     }
     Ok(())
 }
@@ -80,23 +80,23 @@ fn add(
     left: &mut usize,
     room: usize,
     destination: Addr,
-    post: &mut Post,
+    outbox: &mut Outbox,
 ) -> Result<(), AllocError>
     requires { left.old ≡ room - bytes_in batch.old.items }
     ensures left { OnOk result (left.new ≡ room - bytes_in batch.new.items) }
     ensures sent { OnOk result
         ((rest : List (List ℕ))
-        → and_parcels post.new
+        → and_packets outbox.new
         (map (λ lsas. record { destination = destination; body = update lsas })
         (packed room batch.new.items rest))
-        ≡ and_parcels post.old
+        ≡ and_packets outbox.old
         (map (λ lsas. record { destination = destination; body = update lsas })
         (packed room batch.old.items (lsa ∷ rest)))) }
 {
     let length = lsa.view().as_bytes().len();
     if !goes_in(batch, length, *left) {
-        let full = mem::replace(batch, Vec::new(post.alloc()));
-        send(full, destination, post)?;
+        let full = mem::replace(batch, Vec::new(outbox.alloc()));
+        send(full, destination, outbox)?;
         *left = room;
     }
     *left = left.saturating_sub(length);
@@ -112,9 +112,9 @@ fn goes_in(batch: &[Lsa], length: usize, left: usize) -> bool
 }
 
 // An Update with these LSAs goes out.
-fn send(lsas: Vec<Lsa>, destination: Addr, post: &mut Post) -> Result<(), AllocError>
-    ensures { OnOk result (post.new ≡ and_parcels post.old
+fn send(lsas: Vec<Lsa>, destination: Addr, outbox: &mut Outbox) -> Result<(), AllocError>
+    ensures { OnOk result (outbox.new ≡ and_packets outbox.old
         (record { destination = destination; body = update lsas.items } ∷ [])) }
 {
-    post.put(destination, BodyValue::Update(lsas))
+    outbox.put(destination, BodyValue::Update(lsas))
 }

@@ -6,12 +6,12 @@ ghost use Rattle.ospf_exchange.specs.Timers.{dd_due, request_repeat_due};
 ghost use Rattle.ospf_lsdb.specs.Database.{entry_of};
 ghost use Rattle.ospf_base.specs.Ticks.{have_passed};
 ghost use Rattle.ospf_area.specs.Turns.{turn};
-ghost use Rattle.ospf_area.specs.Packets.{request_parcel};
+ghost use Rattle.ospf_area.specs.Packets.{request_packet};
 ghost use Rattle.ospf_adjacency.specs.Descriptions.{dd_repeated};
 ghost use Rattle.ospf_adjacency.specs.Repeats.{due_keys, repeats_turn};
 
 use crate::answering::send_to;
-use ospf_area::{OnLink, Post, send_dd, send_request};
+use ospf_area::{LinkContext, Outbox, send_dd, send_request};
 use ospf_base::LsaKey;
 use ospf_exchange::{dd_sent, is_dd_due, is_request_repeat_due, next_request};
 use ospf_flood::is_due;
@@ -29,22 +29,28 @@ use std::collections::BTreeSet;
 pub fn repeat(
     neighbour: &mut Neighbour,
     database: &Lsdb,
-    at: &OnLink,
+    at: &LinkContext,
     retransmit: u16,
     delay: u16,
-    post: &mut Post,
+    outbox: &mut Outbox,
 ) -> Result<BTreeSet<LsaKey>, AllocError>
     ensures turn { OnOk result
-        (turn neighbour.new post.new
+        (turn neighbour.new outbox.new
         ≡ repeats_turn at.now.iface at.now.local retransmit delay database.now
-        (turn neighbour.old post.old)) }
+        (turn neighbour.old outbox.old)) }
     ensures keys { IfOk result
         (λ keys. keys.keys ≡ due_keys retransmit at.now.local.tick database.now neighbour.old) }
 {
-    let keys = due_keys(neighbour, database, retransmit, at.local.tick, post.alloc())?;
-    repeat_dd(neighbour, at, retransmit, post)?;
-    repeat_request(neighbour, at, retransmit, post)?;
-    send_to(neighbour, &keys, database, at, delay, post)?;
+    let keys = due_keys(
+        neighbour,
+        database,
+        retransmit,
+        at.local.tick,
+        outbox.alloc(),
+    )?;
+    repeat_dd(neighbour, at, retransmit, outbox)?;
+    repeat_request(neighbour, at, retransmit, outbox)?;
+    send_to(neighbour, &keys, database, at, delay, outbox)?;
     Ok(keys)
 }
 
@@ -81,19 +87,19 @@ fn goes_again(listed: &Listed, database: &Lsdb, retransmit: u16, tick: u64) -> b
 // The last Database Description goes out again where it is due.
 fn repeat_dd(
     neighbour: &mut Neighbour,
-    at: &OnLink,
+    at: &LinkContext,
     retransmit: u16,
-    post: &mut Post,
+    outbox: &mut Outbox,
 ) -> Result<(), AllocError>
     ensures { OnOk result
-        (turn neighbour.new post.new
+        (turn neighbour.new outbox.new
         ≡ (if dd_due retransmit at.now.local.tick neighbour.old
-        then dd_repeated at.now.iface at.now.local (turn neighbour.old post.old)
-        else turn neighbour.old post.old)) }
+        then dd_repeated at.now.iface at.now.local (turn neighbour.old outbox.old)
+        else turn neighbour.old outbox.old)) }
 {
     if is_dd_due(neighbour, retransmit, at.local.tick) {
         dd_sent(neighbour, at.local.tick);
-        send_dd(neighbour, at, post)?;
+        send_dd(neighbour, at, outbox)?;
     }
     Ok(())
 }
@@ -101,23 +107,23 @@ fn repeat_dd(
 // The last Request goes out again where it is due.
 fn repeat_request(
     neighbour: &mut Neighbour,
-    at: &OnLink,
+    at: &LinkContext,
     retransmit: u16,
-    post: &mut Post,
+    outbox: &mut Outbox,
 ) -> Result<(), AllocError>
     ensures { let asked = asked_next at.now.local.mtu at.now.local.tick neighbour.old in
         OnOk result
-        (turn neighbour.new post.new
+        (turn neighbour.new outbox.new
         ≡ (if request_repeat_due retransmit at.now.local.tick neighbour.old
-        then record (turn neighbour.old post.old) {
+        then record (turn neighbour.old outbox.old) {
           neighbour = asked;
-          sent = post.old.sent ++ request_parcel at.now.iface asked ∷ [];
+          sent = outbox.old.sent ++ request_packet at.now.iface asked ∷ [];
         }
-        else turn neighbour.old post.old)) }
+        else turn neighbour.old outbox.old)) }
 {
     if is_request_repeat_due(neighbour, retransmit, at.local.tick) {
         next_request(neighbour, at.local.mtu, at.local.tick);
-        send_request(neighbour, at, post)?;
+        send_request(neighbour, at, outbox)?;
     }
     Ok(())
 }

@@ -2,11 +2,11 @@
 
 ghost use Rattle.std.specs.Prelude.{◌≡◌, ◌&&◌, ◌∷◌, [], not, nat_le, map, IfOk, OnOk};
 ghost use Rattle.ospf_iface.specs.Machine.{is_down};
-ghost use Rattle.ospf_area.specs.Packets.{parcel_if};
-ghost use Rattle.ospf_area.specs.Posting.{and_parcels};
-ghost use Rattle.ospf_adjacency.specs.Links.{hello_parcel, hello_ticked};
+ghost use Rattle.ospf_area.specs.Packets.{packet_if};
+ghost use Rattle.ospf_area.specs.Outboxes.{and_packets};
+ghost use Rattle.ospf_adjacency.specs.Links.{hello_packet, hello_ticked};
 
-use ospf_area::Post;
+use ospf_area::Outbox;
 use ospf_base::{ALL_SPF_ROUTERS, RouterId};
 use ospf_iface::Iface;
 use ospf_neighbour::Neighbour;
@@ -18,15 +18,15 @@ use std::alloc::{AllocError, Global};
 pub fn send_hello(
     iface: &Iface,
     neighbours: &[Neighbour],
-    post: &mut Post,
+    outbox: &mut Outbox,
 ) -> Result<(), AllocError>
-    ensures { OnOk result (post.new ≡ and_parcels post.old
-        (hello_parcel iface.now neighbours.now ∷ [])) }
+    ensures { OnOk result (outbox.new ≡ and_packets outbox.old
+        (hello_packet iface.now neighbours.now ∷ [])) }
 {
-    let alloc = post.alloc();
+    let alloc = outbox.alloc();
     let routers = routers_of(neighbours, alloc)?;
     let body = iface.hello(alloc, &routers)?;
-    post.put(ALL_SPF_ROUTERS, body)
+    outbox.put(ALL_SPF_ROUTERS, body)
 }
 
 /// A tick of a link's Hello timer: the Hello goes out where it is due (RFC 2328, section 9.5).
@@ -35,17 +35,17 @@ pub fn send_hello(
 pub fn send_due_hello(
     iface: &mut Iface,
     neighbours: &[Neighbour],
-    post: &mut Post,
+    outbox: &mut Outbox,
 ) -> Result<(), AllocError>
     ensures timer { iface.new ≡ hello_ticked iface.old }
     ensures sent { OnOk result
-        (post.new
-        ≡ and_parcels post.old
-        (parcel_if (not (is_down iface.old.state) && nat_le iface.old.hello_in 1)
-        (hello_parcel iface.old neighbours.now))) }
+        (outbox.new
+        ≡ and_packets outbox.old
+        (packet_if (not (is_down iface.old.state) && nat_le iface.old.hello_in 1)
+        (hello_packet iface.old neighbours.now))) }
 {
     if iface.hello_tick() {
-        send_hello(iface, neighbours, post)?;
+        send_hello(iface, neighbours, outbox)?;
     }
     Ok(())
 }

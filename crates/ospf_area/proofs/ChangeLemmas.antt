@@ -10,29 +10,29 @@ use Rattle.ospf_neighbour.proofs.KeyLemmas.{nowhere}
 use Rattle.ospf_area.specs.Changes.{changed_at, delayed_at, neighbour_changed}
 use Rattle.ospf_area.specs.State.{LinkValue}
 use Rattle.ospf_area.specs.declared.changes.AdjacencyChange.{AdjacencyChange}
-use Rattle.ospf_area.specs.declared.flooding.Origin.{Origin}
+use Rattle.ospf_area.specs.declared.flooding.PacketSource.{PacketSource}
 use Rattle.ospf_area.proofs.PlaceLemmas.{map_from_none, map_from_one}
 use Rattle.ospf_area.proofs.Words.{changed_link, changed_on, delayed_on, changed_if}
 
 -- ---- one link
 
-change_stays : (f : Origin) (change : AdjacencyChange) (tick l : ℕ) (link : LinkValue) → l ≢ f.link → changed_on f change tick l link ≡ link
+change_stays : (f : PacketSource) (change : AdjacencyChange) (tick l : ℕ) (link : LinkValue) → l ≢ f.link → changed_on f change tick l link ≡ link
 change_stays f change tick l link other =
     let apart : (l == f.link) ≡ false = grind arith in
     rw apart refl
 
-change_here : (f : Origin) (change : AdjacencyChange) (tick : ℕ) (link : LinkValue) → changed_link f.router change tick link ≡ changed_on f change tick f.link link
+change_here : (f : PacketSource) (change : AdjacencyChange) (tick : ℕ) (link : LinkValue) → changed_link f.router change tick link ≡ changed_on f change tick f.link link
 change_here f change tick link =
     let same : (f.link == f.link) ≡ true = grind arith in
     rw same refl
 
 -- the link of the origin changes
-pub changes_there : (f : Origin) (change : AdjacencyChange) (tick : ℕ) (links : List LinkValue) (x y : LinkValue) → f.link < length links → x ≡ get_or links f.link x → y ≡ changed_link f.router change tick (get_or links f.link x)
+pub changes_there : (f : PacketSource) (change : AdjacencyChange) (tick : ℕ) (links : List LinkValue) (x y : LinkValue) → f.link < length links → x ≡ get_or links f.link x → y ≡ changed_link f.router change tick (get_or links f.link x)
     → set links f.link y ≡ changed_at f change tick links
 changes_there f change tick links x y lt here is =
     map_from_one (changed_on f change tick) f.link links x y (change_stays f change tick) lt here (is ∙ ap (changed_link f.router change tick) (sym here) ∙ change_here f change tick x)
 
-pub changes_nowhere : (f : Origin) (change : AdjacencyChange) (tick : ℕ) (links : List LinkValue) → length links ≤ f.link → links ≡ changed_at f change tick links
+pub changes_nowhere : (f : PacketSource) (change : AdjacencyChange) (tick : ℕ) (links : List LinkValue) → length links ≤ f.link → links ≡ changed_at f change tick links
 changes_nowhere f change tick links past = map_from_none (changed_on f change tick) f.link links (change_stays f change tick) past
 
 delay_stays : (i : ℕ) (h : LsaHeader) (l : ℕ) (link : LinkValue) → l ≢ i → delayed_on i h l link ≡ link

@@ -17,8 +17,8 @@ use Rattle.ospf_area.specs.Laws.{changed_there, turned_there}
 use Rattle.ospf_area.specs.Places.{map_from}
 use Rattle.ospf_area.specs.State.{LinkValue, neighbour_at}
 use Rattle.ospf_area.specs.declared.changes.AdjacencyChange.{AdjacencyChange}
-use Rattle.ospf_area.specs.declared.flooding.Origin.{Origin}
-use Rattle.ospf_area.specs.declared.sending.Own.{Own}
+use Rattle.ospf_area.specs.declared.flooding.PacketSource.{PacketSource}
+use Rattle.ospf_area.specs.declared.sending.RouterContext.{RouterContext}
 use Rattle.ospf_area.proofs.NeighbourLemmas.{changed_if-router, flooded-router, turned-router}
 
 from_next : {X Y : Type 0} (f : ℕ → X → Y) (k : ℕ) (xs : List X) (l : ℕ) → slice_get (map_from f k xs) l ≡ option_map (f (k + l)) (slice_get xs l)
@@ -54,7 +54,7 @@ released_there key links l q =
     ∙ ap (λ (ns : List NeighbourValue). neighbour_of ns q) (neighbours_in-map (key_unlisted key) (slice_get links l))
     ∙ neighbour_of-map (key_unlisted key) (λ n. refl) (neighbours_in (slice_get links l)) q
 
-pub flooded_there : (key : LsaKey) (h : LsaHeader) (from : Option Origin) (tick : ℕ) (links : List LinkValue) (l : ℕ) (q : RouterId)
+pub flooded_there : (key : LsaKey) (h : LsaHeader) (from : Option PacketSource) (tick : ℕ) (links : List LinkValue) (l : ℕ) (q : RouterId)
     → neighbour_at (flooded_links key h from tick links) l q ≡ option_map (flooded_neighbour key h (on_link from l) tick) (neighbour_at links l q)
 flooded_there key h from tick links l q =
     let g = flooded_neighbour key h (on_link from l) tick in
@@ -62,12 +62,12 @@ flooded_there key h from tick links l q =
     ∙ ap (λ (ns : List NeighbourValue). neighbour_of ns q) (neighbours_in-map g (slice_get links l))
     ∙ neighbour_of-map g (λ n. flooded-router key h _ tick n) (neighbours_in (slice_get links l)) q
 
-on_turned_link : (own : Own) (o : Option LinkValue) (q : RouterId)
+on_turned_link : (own : RouterContext) (o : Option LinkValue) (q : RouterId)
     → neighbour_of (neighbours_in (option_map (turned_link own) o)) q ≡ option_map (turned_there own o) (neighbour_of (neighbours_in o) q)
 on_turned_link own None q = refl
 on_turned_link own (Some link) q = neighbour_of-map (turned_to_next link.settings.mtu own.tick) (λ n. turned-router link.settings.mtu own.tick n) link.neighbours q
 
-pub turns_there : (own : Own) (links : List LinkValue) (l : ℕ) (q : RouterId)
+pub turns_there : (own : RouterContext) (links : List LinkValue) (l : ℕ) (q : RouterId)
     → neighbour_at (map (turned_link own) links) l q ≡ option_map (turned_there own (slice_get links l)) (neighbour_at links l q)
 turns_there own links l q =
     ap (λ (o : Option LinkValue). neighbour_of (neighbours_in o) q) (slice_get-map (turned_link own) links l)
@@ -105,7 +105,7 @@ on_that_link true r change tick o q =
     ∙ neighbour_of-map (changed_if r change tick) (λ n. changed_if-router r change tick n) (neighbours_in o) q
 on_that_link false r change tick o q = ap (λ (ns : List NeighbourValue). neighbour_of ns q) (same_link o) ∙ same_option (neighbour_of (neighbours_in o) q)
 
-pub changes : (f : Origin) (change : AdjacencyChange) (tick : ℕ) (links : List LinkValue) (l : ℕ) (q : RouterId)
+pub changes : (f : PacketSource) (change : AdjacencyChange) (tick : ℕ) (links : List LinkValue) (l : ℕ) (q : RouterId)
     → neighbour_at (changed_at f change tick links) l q ≡ option_map (changed_there f change tick l) (neighbour_at links l q)
 changes f change tick links l q =
     ap (λ (o : Option LinkValue). neighbour_of (neighbours_in o) q) (slice_get-map_from (changed_on f change tick) links l)

@@ -1,7 +1,7 @@
 pub mod PlaceLemmas
 pub mod NeighbourLemmas
 pub mod SendingLemmas
-pub mod PostLemmas
+pub mod OutboxLemmas
 pub mod LawLemmas
 pub mod NumberLemmas
 pub mod WaitLemmas

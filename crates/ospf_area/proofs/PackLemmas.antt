@@ -10,11 +10,11 @@ use Rattle.ospf_exchange.proofs.Words.{request_room}
 use Rattle.ospf_area.specs.Laws.{RequestsAreFilled, request_for}
 use Rattle.ospf_area.specs.Packing.{IsFilled, ip_length}
 use Rattle.ospf_area.specs.Sending.{packet_from}
-use Rattle.ospf_area.specs.declared.sending.Own.{Own}
+use Rattle.ospf_area.specs.declared.sending.RouterContext.{RouterContext}
 use Rattle.ospf_area.proofs.Words.{entry_for}
 
 -- the datagram is its headers and the body
-pub ip_length-is : (own : Own) (body : BodyMeaning) → ip_length (packet_from own body) ≡ 44 + length (packet_body_bytes body)
+pub ip_length-is : (own : RouterContext) (body : BodyMeaning) → ip_length (packet_from own body) ≡ 44 + length (packet_body_bytes body)
 ip_length-is own body = omega arith
 
 -- as many of them as there is room for
@@ -51,7 +51,7 @@ length-map : {X Y : Type 0} (f : X → Y) (xs : List X) → length (map f xs) �
 length-map f [] = refl
 length-map f (x ∷ xs) = ap suc (length-map f xs)
 
-request_sized : (own : Own) (headers : List LsaHeader) → ip_length (packet_from own (request_for headers)) ≡ 44 + length headers * 12
+request_sized : (own : RouterContext) (headers : List LsaHeader) → ip_length (packet_from own (request_for headers)) ≡ 44 + length headers * 12
 request_sized own headers = omega (arith, ip_length-is own (request_for headers), request_length (map entry_for headers), ap (λ (n : ℕ). n * 12) (length-map entry_for headers))
 
 pub requests_are_filled : RequestsAreFilled

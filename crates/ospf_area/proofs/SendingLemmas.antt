@@ -15,7 +15,7 @@ use Rattle.ospf_area.specs.Sending.{and_sends, datagrams, packet_from, update_ou
 use Rattle.ospf_area.specs.Laws.{sent_as}
 use Rattle.ospf_packet.specs.Slices.{lsas_bytes}
 use Rattle.ospf_packet.specs.Meaning as meaning
-use Rattle.ospf_area.specs.declared.sending.Own.{Own}
+use Rattle.ospf_area.specs.declared.sending.RouterContext.{RouterContext}
 use Rattle.ospf_area.specs.declared.sending.Way.{Way}
 use Rattle.ospf_area.proofs.PlaceLemmas.{flat_map_step, flat_from_step}
 
@@ -73,7 +73,7 @@ read_again bytes m are again =
     subst (λ bs. read.packet_of bs ≡ Some (meaning_of bs)) (sym are) (again ∙ ap Some (sym (packet_said (packet_bytes m) m again)))
 
 -- an Update of one LSA
-pub lsa_out_short : (own : Own) (way : Way) (lsa : List ℕ) → length lsa ≤ largest_lsa
+pub lsa_out_short : (own : RouterContext) (way : Way) (lsa : List ℕ) → length lsa ≤ largest_lsa
     → update_out own way (lsa ∷ []) ≡ sent_as way (packet_from own (meaning.update (lsa ∷ []))) ∷ []
 lsa_out_short own way lsa fits =
     datagrams_short way (packet_from own (meaning.update (lsa ∷ []))) (λ long.

@@ -28,8 +28,8 @@ use Rattle.ospf_area.specs.Flooding.{came_from}
 use Rattle.ospf_area.specs.Laws.{IsSpared, turned_there}
 use Rattle.ospf_area.specs.Laws.IsSpared.{Came, Described}
 use Rattle.ospf_area.specs.State.{LinkValue, WaitsIn}
-use Rattle.ospf_area.specs.declared.flooding.Origin.{Origin}
-use Rattle.ospf_area.specs.declared.sending.Own.{Own}
+use Rattle.ospf_area.specs.declared.flooding.PacketSource.{PacketSource}
+use Rattle.ospf_area.specs.declared.sending.RouterContext.{RouterContext}
 use Rattle.ospf_area.proofs.Words.{loaded, flooded_neighbour}
 
 -- the old copy leaves
@@ -38,7 +38,7 @@ release_waits key None j waits = absurd waits
 release_waits key (Some n) j waits = takes_key key j n waits
 
 -- an LSA is flooded
-pub flood_waits : (key : LsaKey) (h : LsaHeader) (here : Option Origin) (tick : ℕ) (o : Option NeighbourValue) (j : Instance)
+pub flood_waits : (key : LsaKey) (h : LsaHeader) (here : Option PacketSource) (tick : ℕ) (o : Option NeighbourValue) (j : Instance)
     → WaitsIn o j → WaitsIn (option_map (flooded_neighbour key h here tick) o) j ⊎ (j.key ≡ key)
 flood_waits key h here tick None j waits = absurd waits
 flood_waits key h here tick (Some n) j waits = flood_takes key h (came_from here n) tick n j waits
@@ -77,7 +77,7 @@ turned_list mtu tick n = by_test (request_due (loaded n))
     by_test true = same
     by_test false = same
 
-pub turn_waits : (own : Own) (link : Option LinkValue) (o : Option NeighbourValue) (j : Instance) → WaitsIn (option_map (turned_there own link) o) j ↔ WaitsIn o j
+pub turn_waits : (own : RouterContext) (link : Option LinkValue) (o : Option NeighbourValue) (j : Instance) → WaitsIn (option_map (turned_there own link) o) j ↔ WaitsIn o j
 turn_waits own link None j = (λ w. w, λ w. w)
 turn_waits own None (Some n) j = (λ w. w, λ w. w)
 turn_waits own (Some link) (Some n) j =
@@ -109,12 +109,12 @@ offered h (Some e) came = by_recency (recency h e) refl came
     by_recency Newer is true = inr (Spares.FromIt refl)
     by_recency Newer is false = inl (ap (λ (r : Recency). offer_over r false) is)
 
-spared : (key : LsaKey) (h : LsaHeader) (here : Option Origin) (n : NeighbourValue) → Spares h (looked_at n.state (request_of key n.requests)) (came_from here n) → IsSpared key h here n
+spared : (key : LsaKey) (h : LsaHeader) (here : Option PacketSource) (n : NeighbourValue) → Spares h (looked_at n.state (request_of key n.requests)) (came_from here n) → IsSpared key h here n
 spared key h here n (Spares.FromIt is) = Came is
 spared key h here n (Spares.NotOlder entry is not) = Described entry (looked_is n.state (request_of key n.requests) entry is) not
 
 -- a neighbour in Exchange or above waits for it, or is spared
-pub reaches : (key : LsaKey) (h : LsaHeader) (here : Option Origin) (tick : ℕ) (n : NeighbourValue) → is_exchanging n.state ≡ true
+pub reaches : (key : LsaKey) (h : LsaHeader) (here : Option PacketSource) (tick : ℕ) (n : NeighbourValue) → is_exchanging n.state ≡ true
     → Waits (flooded_neighbour key h here tick n) (instance_with key h) ⊎ IsSpared key h here n
 reaches key h here tick n up = elim (offered h (looked_at n.state (request_of key n.requests)) (came_from here n)) [
   | inl is ↦ inl (flooded_is_put key h (came_from here n) tick n (ap (λ (b : Bool). if b then offer_by h (looked_at n.state (request_of key n.requests)) (came_from here n) else PassesOver) up ∙ is))

@@ -10,9 +10,9 @@ use Rattle.ospf_packet.specs.PacketOf as packets
 use Rattle.ospf_area.specs.Outputs.{SentValue, OutputsValue}
 use Rattle.ospf_iface.specs.declared.machine.Iface.{Iface}
 use Rattle.ospf_area.specs.Sending.{datagrams, packet_from, to_address, way_out, sent_lsa, update_out}
-use Rattle.ospf_area.specs.declared.sending.Own.{Own}
+use Rattle.ospf_area.specs.declared.sending.RouterContext.{RouterContext}
 use Rattle.ospf_area.specs.Asking.{request_body}
-use Rattle.ospf_area.specs.Packets.{Parcel}
+use Rattle.ospf_area.specs.Packets.{PendingPacket}
 use Rattle.ospf_exchange.specs.Requests.{asked_next, request_due}
 use Rattle.std.specs.List.{list_any}
 use Rattle.std.specs.Int.{int_max}
@@ -27,7 +27,7 @@ use Rattle.ospf_neighbour.specs.Lists.{key_unlisted, request_of, is_listed}
 use Rattle.ospf_packet.specs.declared.entry.RequestEntry.{RequestEntry}
 use Rattle.ospf_area.specs.Flooding.{came_from, goes_out, on_link}
 use Rattle.ospf_area.specs.declared.changes.AdjacencyChange.{AdjacencyChange}
-use Rattle.ospf_area.specs.declared.flooding.Origin.{Origin}
+use Rattle.ospf_area.specs.declared.flooding.PacketSource.{PacketSource}
 use Rattle.ospf_flood.proofs.Words.{lists}
 use Rattle.ospf_base.specs.declared.ids.Instance.{Instance}
 use Rattle.ospf_neighbour.specs.declared.machine.NbrEvent.TheVariants as event
@@ -43,7 +43,7 @@ abbrev pub changed_if : RouterId → AdjacencyChange → ℕ → NeighbourValue 
 changed_if q change tick n = if n.router.0 == q.0 then neighbour_changed change tick n else n
 
 -- a neighbour once the LSA was flooded to it, or past it
-abbrev pub flooded_neighbour : LsaKey → LsaHeader → Option Origin → ℕ → NeighbourValue → NeighbourValue
+abbrev pub flooded_neighbour : LsaKey → LsaHeader → Option PacketSource → ℕ → NeighbourValue → NeighbourValue
 flooded_neighbour key h here tick n = flooded key h (came_from here n) tick n
 
 -- the numbering is that of this key
@@ -84,14 +84,14 @@ kept_in floor (Some n) = n.kept
 abbrev pub IsReadAsSent : SentValue → Type 0
 IsReadAsSent d = packets.packet_of d.bytes ≡ Some d.packet
 
-abbrev pub request_to : Own → ℕ → Iface → NeighbourValue → List SentValue
+abbrev pub request_to : RouterContext → ℕ → Iface → NeighbourValue → List SentValue
 request_to own l i n = datagrams (way_out l i (to_address i n.address)) (packet_from own (request_body n))
 
 -- a packet that goes out of link l, as it is sent
-abbrev pub posted : Own → ℕ → Iface → Parcel → List SentValue
+abbrev pub posted : RouterContext → ℕ → Iface → PendingPacket → List SentValue
 posted own l i p = datagrams (way_out l i p.destination) (packet_from own p.body)
 
-abbrev pub turn_request : Own → ℕ → Iface → ℕ → NeighbourValue → List SentValue
+abbrev pub turn_request : RouterContext → ℕ → Iface → ℕ → NeighbourValue → List SentValue
 turn_request own l i mtu n = if request_due (loaded n) then request_to own l i (asked_next mtu own.tick (loaded n)) else []
 
 -- ---- one link, or one number, of a definition over all
@@ -100,7 +100,7 @@ turn_request own l i mtu n = if request_due (loaded n) then request_to own l i (
 abbrev pub changed_link : RouterId → AdjacencyChange → ℕ → LinkValue → LinkValue
 changed_link q change tick link = record link { neighbours = map (changed_if q change tick) link.neighbours }
 
-abbrev pub changed_on : Origin → AdjacencyChange → ℕ → ℕ → LinkValue → LinkValue
+abbrev pub changed_on : PacketSource → AdjacencyChange → ℕ → ℕ → LinkValue → LinkValue
 changed_on f change tick l link = if l == f.link then changed_link f.router change tick link else link
 
 -- the link that an acknowledgement waits on, or another
@@ -112,20 +112,20 @@ abbrev pub released_link : LsaKey → LinkValue → LinkValue
 released_link key link = record link { neighbours = map (key_unlisted key) link.neighbours }
 
 -- the link after a flood, the Update that goes out of it, and whether it went back
-abbrev pub flooded_link : LsaKey → LsaHeader → Option Origin → ℕ → ℕ → LinkValue → LinkValue
+abbrev pub flooded_link : LsaKey → LsaHeader → Option PacketSource → ℕ → ℕ → LinkValue → LinkValue
 flooded_link key h from tick l link = record link { neighbours = map (flooded_neighbour key h (on_link from l) tick) link.neighbours }
 
-abbrev pub flooding_update : Own → List ℕ → Option Origin → ℕ → LinkValue → List SentValue
+abbrev pub flooding_update : RouterContext → List ℕ → Option PacketSource → ℕ → LinkValue → List SentValue
 flooding_update own lsa from l link =
     if goes_out (key_of lsa) (header_of lsa) from l link
     then update_out own (way_out l link.iface (flooding_address link.iface)) (sent_lsa link.settings.transmit_delay lsa ∷ [])
     else []
 
-abbrev pub goes_back : LsaKey → LsaHeader → Option Origin → ℕ → LinkValue → Bool
+abbrev pub goes_back : LsaKey → LsaHeader → Option PacketSource → ℕ → LinkValue → Bool
 goes_back key h from l link = is_some (on_link from l) && goes_out key h from l link
 
 -- some neighbour waits for a flooded LSA
-abbrev pub some_listed : LsaKey → LsaHeader → Option Origin → List NeighbourValue → Bool
+abbrev pub some_listed : LsaKey → LsaHeader → Option PacketSource → List NeighbourValue → Bool
 some_listed key h here ns = list_any (λ n. lists (offer_to key h (came_from here n) n)) ns
 
 -- a number, and all numbers, once one was counted; and marks without one

@@ -29,8 +29,8 @@ use Rattle.ospf_area.specs.Sending.{datagrams, packet_from, update_out}
 use Rattle.ospf_lsdb.specs.Moments.{among}
 use Rattle.ospf_area.specs.State.{AreaValue, LinkValue, WaitsIn, kept_number, neighbour_at, numbering_of}
 use Rattle.ospf_area.specs.declared.changes.AdjacencyChange.{AdjacencyChange}
-use Rattle.ospf_area.specs.declared.flooding.Origin.{Origin}
-use Rattle.ospf_area.specs.declared.sending.Own.{Own}
+use Rattle.ospf_area.specs.declared.flooding.PacketSource.{PacketSource}
+use Rattle.ospf_area.specs.declared.sending.RouterContext.{RouterContext}
 use Rattle.ospf_area.specs.declared.sending.Way.{Way}
 
 -- ---- each neighbour
@@ -43,13 +43,13 @@ ReleasedNeighbours = (key : LsaKey) (links : List LinkValue) (l : ℕ) (q : Rout
 -- an LSA is flooded to each neighbour, or past it (13.3)
 abbrev pub FloodedNeighbours : Type 0
 FloodedNeighbours =
-    (key : LsaKey) (h : LsaHeader) (from : Option Origin) (tick : ℕ) (links : List LinkValue)
+    (key : LsaKey) (h : LsaHeader) (from : Option PacketSource) (tick : ℕ) (links : List LinkValue)
     (l : ℕ) (q : RouterId)
     → neighbour_at (flooded_links key h from tick links) l q
     ≡ option_map (λ n. flooded key h (came_from (on_link from l) n) tick n) (neighbour_at links l q)
 
 -- a change is one of the origin's neighbour alone
-abbrev pub changed_there : Origin → AdjacencyChange → ℕ → ℕ → NeighbourValue → NeighbourValue
+abbrev pub changed_there : PacketSource → AdjacencyChange → ℕ → ℕ → NeighbourValue → NeighbourValue
 changed_there f change tick l n =
     if l == f.link
     then (if n.router.0 == f.router.0 then neighbour_changed change tick n else n)
@@ -58,19 +58,19 @@ changed_there f change tick l n =
 -- the law: of all neighbours, that one alone is changed
 abbrev pub ChangesOne : Type 0
 ChangesOne =
-    (f : Origin) (change : AdjacencyChange) (tick : ℕ) (links : List LinkValue) (l : ℕ)
+    (f : PacketSource) (change : AdjacencyChange) (tick : ℕ) (links : List LinkValue) (l : ℕ)
     (q : RouterId)
     → neighbour_at (changed_at f change tick links) l q
     ≡ option_map (changed_there f change tick l) (neighbour_at links l q)
 
 -- each neighbour gets LoadingDone and its next Request, by the MTU of its link
-abbrev pub turned_there : Own → Option LinkValue → NeighbourValue → NeighbourValue
+abbrev pub turned_there : RouterContext → Option LinkValue → NeighbourValue → NeighbourValue
 turned_there own None n = n
 turned_there own (Some link) n = turned_to_next link.settings.mtu own.tick n
 
 -- the law: each neighbour is turned to its next Request by itself
 abbrev pub TurnedNeighbours : Type 0
-TurnedNeighbours = (own : Own) (links : List LinkValue) (l : ℕ) (q : RouterId)
+TurnedNeighbours = (own : RouterContext) (links : List LinkValue) (l : ℕ) (q : RouterId)
     → neighbour_at (map (turned_link own) links) l q
     ≡ option_map (turned_there own (slice_get links l)) (neighbour_at links l q)
 
@@ -92,20 +92,21 @@ pub record ReleaseTakesItsKey : Type 0 where
 -- a flood takes off instances of its own key alone (13.3)
 abbrev pub FloodsTakeTheirKey : Type 0
 FloodsTakeTheirKey =
-    (key : LsaKey) (h : LsaHeader) (from : Option Origin) (tick : ℕ) (links : List LinkValue)
+    (key : LsaKey) (h : LsaHeader) (from : Option PacketSource) (tick : ℕ) (links : List LinkValue)
     (l : ℕ) (q : RouterId) (j : Instance)
     → WaitsIn (neighbour_at links l q) j
     → WaitsIn (neighbour_at (flooded_links key h from tick links) l q) j ⊎ (j.key ≡ key)
 
 -- LoadingDone and Requests change nothing of what waits
 abbrev pub TurnsTakeNothing : Type 0
-TurnsTakeNothing = (own : Own) (links : List LinkValue) (l : ℕ) (q : RouterId) (j : Instance)
+TurnsTakeNothing = (own : RouterContext) (links : List LinkValue) (l : ℕ) (q : RouterId)
+    (j : Instance)
     → WaitsIn (neighbour_at (map (turned_link own) links) l q) j
     ↔ WaitsIn (neighbour_at links l q) j
 
 -- why a neighbour in Exchange or above need not acknowledge an LSA (13.3, step 1): it came from
 -- there, or it has described one that is not older
-pub data IsSpared (key : LsaKey) (h : LsaHeader) (here : Option Origin) (n : NeighbourValue)
+pub data IsSpared (key : LsaKey) (h : LsaHeader) (here : Option PacketSource) (n : NeighbourValue)
     : Type 0 where
   Came : came_from here n ≡ true → IsSpared key h here n
   Described : (entry : LsaHeader) → request_of key n.requests ≡ Some entry
@@ -114,7 +115,7 @@ pub data IsSpared (key : LsaKey) (h : LsaHeader) (here : Option Origin) (n : Nei
 -- each neighbour in Exchange or above waits for what is flooded, or is spared (13.3, step 1)
 abbrev pub FloodReaches : Type 0
 FloodReaches =
-    (key : LsaKey) (h : LsaHeader) (from : Option Origin) (tick : ℕ) (links : List LinkValue)
+    (key : LsaKey) (h : LsaHeader) (from : Option PacketSource) (tick : ℕ) (links : List LinkValue)
     (l : ℕ) (q : RouterId) (n : NeighbourValue)
     → neighbour_at links l q ≡ Some n → is_exchanging n.state ≡ true
     → WaitsIn (neighbour_at (flooded_links key h from tick links) l q) (instance_with key h)
@@ -156,7 +157,7 @@ ShortAreSent =
 
 -- and so does an LSA in an Update of its own
 abbrev pub LsasAreSent : Type 0
-LsasAreSent = (own : Own) (way : Way) (lsa : List ℕ) → length lsa ≤ largest_lsa
+LsasAreSent = (own : RouterContext) (way : Way) (lsa : List ℕ) → length lsa ≤ largest_lsa
     → update_out own way (lsa ∷ []) ≡ sent_as way (packet_from own (meaning.update (lsa ∷ []))) ∷ []
 
 -- ---- how Requests are filled
@@ -170,7 +171,7 @@ request_for headers =
 -- a Request asks for the first headers of the request list, as many as fit the MTU (10.9)
 abbrev pub RequestsAreFilled : Type 0
 RequestsAreFilled =
-    (own : Own) (mtu tick : ℕ) (n : NeighbourValue) → ip_header + packet_header ≤ mtu
+    (own : RouterContext) (mtu tick : ℕ) (n : NeighbourValue) → ip_header + packet_header ≤ mtu
     → (named rest : List LsaHeader) × (request_body (asked_next mtu tick n) ≡ request_for named)
     × IsFilled (λ headers. packet_from own (request_for headers)) mtu n.requests named rest
 

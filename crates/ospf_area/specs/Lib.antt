@@ -7,7 +7,7 @@ pub mod Flooding
 pub mod Changes
 pub mod Asking
 pub mod Packets
-pub mod Posting
+pub mod Outboxes
 pub mod Turns
 pub mod Numbers
 pub mod Standing

@@ -9,17 +9,17 @@ use Rattle.ospf_area.specs.Asking.{request_body}
 use Rattle.ospf_area.specs.Sending.{to_address}
 
 -- a packet that is to go out: where it goes, and what it says
-pub record Parcel : Type 0 where
+pub record PendingPacket : Type 0 where
   pub destination : Addr
   pub body : BodyMeaning
 
 -- a packet that goes out, or none
-abbrev pub parcel_if : Bool → Parcel → List Parcel
-parcel_if b p = if b then p ∷ [] else []
+abbrev pub packet_if : Bool → PendingPacket → List PendingPacket
+packet_if b p = if b then p ∷ [] else []
 
 -- the last DD packet sent to the neighbour, or to be sent to it (10.8)
-abbrev pub dd_parcel : Iface → ℕ → NeighbourValue → Parcel
-dd_parcel i mtu n = record {
+abbrev pub dd_packet : Iface → ℕ → NeighbourValue → PendingPacket
+dd_packet i mtu n = record {
   destination = to_address i n.address;
   body =
       description
@@ -32,9 +32,9 @@ dd_parcel i mtu n = record {
 }
 
 -- the last Request sent to the neighbour, or to be sent to it (10.9)
-abbrev pub request_parcel : Iface → NeighbourValue → Parcel
-request_parcel i n = record { destination = to_address i n.address; body = request_body n }
+abbrev pub request_packet : Iface → NeighbourValue → PendingPacket
+request_packet i n = record { destination = to_address i n.address; body = request_body n }
 
 -- an Update of one LSA
-abbrev pub lsa_parcel : Addr → List ℕ → Parcel
-lsa_parcel destination lsa = record { destination = destination; body = update (lsa ∷ []) }
+abbrev pub lsa_packet : Addr → List ℕ → PendingPacket
+lsa_packet destination lsa = record { destination = destination; body = update (lsa ∷ []) }

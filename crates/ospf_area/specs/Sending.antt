@@ -11,12 +11,13 @@ use Rattle.ospf_packet.specs.Meaning.{BodyMeaning, Meaning, packet_bytes}
 use Rattle.ospf_packet.specs.Meaning as meaning
 use Rattle.ospf_area.specs.Outputs.{SentValue, OutputsValue}
 use Rattle.ospf_area.specs.State.{AreaValue}
-use Rattle.ospf_area.specs.declared.sending.Own.{Own}
+use Rattle.ospf_area.specs.declared.sending.RouterContext.{RouterContext}
 use Rattle.ospf_area.specs.declared.sending.Way.{Way}
 
 -- what a call needs to know of the router
-abbrev pub own_of : AreaValue → Own
-own_of s = record { router = s.router; area = s.area; tick = s.tick; passes_over = s.passes_over }
+abbrev pub context_of : AreaValue → RouterContext
+context_of s =
+    record { router = s.router; area = s.area; tick = s.tick; passes_over = s.passes_over }
 
 -- the outputs, and then these datagrams
 abbrev pub and_sends : OutputsValue → List SentValue → OutputsValue
@@ -35,7 +36,7 @@ datagrams way m =
     } ∷ []
 
 -- a packet of the router's
-abbrev pub packet_from : Own → BodyMeaning → Meaning
+abbrev pub packet_from : RouterContext → BodyMeaning → Meaning
 packet_from own body = record { router = own.router; area = own.area; body = body }
 
 -- out of a link, from the interface's address
@@ -53,5 +54,5 @@ abbrev pub sent_lsa : ℕ → List ℕ → List ℕ
 sent_lsa delay lsa = with_age (min ((header_of lsa).age + delay) max_age) lsa
 
 -- an Update of these LSAs
-abbrev pub update_out : Own → Way → List (List ℕ) → List SentValue
+abbrev pub update_out : RouterContext → Way → List (List ℕ) → List SentValue
 update_out own way lsas = datagrams way (packet_from own (meaning.update lsas))

@@ -8,17 +8,17 @@ use Rattle.ospf_flood.specs.declared.acknowledgement.AcknowledgementCase.{Acknow
 use Rattle.ospf_lsa.specs.declared.header.LsaHeader.{LsaHeader}
 use Rattle.ospf_area.specs.Changes.{delayed_at}
 use Rattle.ospf_area.specs.State.{AreaValue, LinkValue}
-use Rattle.ospf_area.specs.declared.flooding.Origin.{Origin}
+use Rattle.ospf_area.specs.declared.flooding.PacketSource.{PacketSource}
 
 -- by the interface that the LSA came on (13.5)
-abbrev pub answer_at : AcknowledgementCase → Origin → List LinkValue → Acknowledgement
+abbrev pub answer_at : AcknowledgementCase → PacketSource → List LinkValue → Acknowledgement
 answer_at case f links = elim (slice_get links f.link) [
   | None ↦ answer.None
   | Some link ↦ acknowledgement case link.iface.state (sender_at link.iface f.address)
 ]
 
 -- a header that is acknowledged so
-abbrev pub acknowledging : Acknowledgement → Origin → LsaHeader → AreaValue → AreaValue
+abbrev pub acknowledging : Acknowledgement → PacketSource → LsaHeader → AreaValue → AreaValue
 acknowledging answer.None f h s = s
 acknowledging answer.Delayed f h s = record s { links = delayed_at f.link h s.links }
 acknowledging answer.Direct f h s = record s { direct = s.direct ++ h ∷ [] }

@@ -8,18 +8,18 @@ use Rattle.ospf_iface.specs.declared.machine.Iface.{Iface}
 use Rattle.ospf_neighbour.specs.Neighbour.{NeighbourValue}
 use Rattle.ospf_neighbour.specs.declared.machine.NbrEvent.TheVariants as event
 use Rattle.ospf_area.specs.Asking.{turned_to_next}
-use Rattle.ospf_area.specs.Packets.{Parcel, parcel_if, request_parcel}
-use Rattle.ospf_area.specs.Posting.{PostValue}
+use Rattle.ospf_area.specs.Packets.{PendingPacket, packet_if, request_packet}
+use Rattle.ospf_area.specs.Outboxes.{OutboxValue}
 use Rattle.ospf_area.specs.Changes.{after_event}
 
 -- where a neighbour stands in a part of a step: the router's next DD number, and what goes out
 pub record Turn : Type 0 where
   pub neighbour : NeighbourValue
   pub next : ℕ
-  pub sent : List Parcel
+  pub sent : List PendingPacket
 
 -- a neighbour, and what a part leaves beside it
-abbrev pub turn : NeighbourValue → PostValue → Turn
+abbrev pub turn : NeighbourValue → OutboxValue → Turn
 turn n p = record { neighbour = n; next = p.next; sent = p.sent }
 
 -- LoadingDone where nothing is left to request, and the next Request where one is due (10.3, 10.9)
@@ -30,13 +30,13 @@ request_turn i local t =
       neighbour = turned_to_next local.mtu local.tick t.neighbour;
       sent =
           t.sent
-          ++ parcel_if (request_due m) (request_parcel i (asked_next local.mtu local.tick m));
+          ++ packet_if (request_due m) (request_packet i (asked_next local.mtu local.tick m));
     }
 
 -- the next Request of a neighbour, where one is due (10.9)
-abbrev pub next_parcels : Iface → Local → NeighbourValue → List Parcel
-next_parcels i local n = (request_turn i local (record { neighbour = n; next = 0; sent = [] })).sent
+abbrev pub next_packets : Iface → Local → NeighbourValue → List PendingPacket
+next_packets i local n = (request_turn i local (record { neighbour = n; next = 0; sent = [] })).sent
 
 -- the next Requests of neighbours
-abbrev pub all_next_parcels : Iface → Local → List NeighbourValue → List Parcel
-all_next_parcels i local ns = flat_map (next_parcels i local) ns
+abbrev pub all_next_packets : Iface → Local → List NeighbourValue → List PendingPacket
+all_next_packets i local ns = flat_map (next_packets i local) ns

@@ -6,15 +6,15 @@ ghost use Rattle.ospf_neighbour.specs.Neighbours.{AreNeighbours};
 ghost use Rattle.ospf_exchange.specs.Requests.{request_due};
 ghost use Rattle.ospf_packet.specs.Said.{body_meant};
 ghost use Rattle.ospf_area.specs.Asking.{turned_to_next, request_body, turned_link, turn_requests_on};
-ghost use Rattle.ospf_area.specs.Posting.{and_parcels};
+ghost use Rattle.ospf_area.specs.Outboxes.{and_packets};
 ghost use Rattle.ospf_area.specs.Sending.{and_sends};
-ghost use Rattle.ospf_area.specs.Turns.{all_next_parcels, request_turn, turn};
+ghost use Rattle.ospf_area.specs.Turns.{all_next_packets, request_turn, turn};
 ghost use Rattle.ospf_area.specs.Changes.{after_event};
 
+use crate::outbox::{LinkContext, Outbox};
 use crate::outputs::Outputs;
 use crate::packets::send_request;
-use crate::post::{OnLink, Post};
-use crate::sending::Own;
+use crate::sending::RouterContext;
 use crate::state::AreaLink;
 use ospf_exchange::{is_request_due, next_request};
 use ospf_lsa::LsaHeader;
@@ -28,17 +28,17 @@ use std::alloc::{AllocError, Global};
 /// `AllocError` where memory runs out; then the router is to be stopped.
 pub fn request_turn(
     neighbour: &mut Neighbour,
-    at: &OnLink,
-    post: &mut Post,
+    at: &LinkContext,
+    outbox: &mut Outbox,
 ) -> Result<(), AllocError>
     ensures after { neighbour.new ≡ turned_to_next at.now.local.mtu at.now.local.tick
         neighbour.old }
     ensures turn { OnOk result
-        (turn neighbour.new post.new
-        ≡ request_turn at.now.iface at.now.local (turn neighbour.old post.old)) }
+        (turn neighbour.new outbox.new
+        ≡ request_turn at.now.iface at.now.local (turn neighbour.old outbox.old)) }
 {
     if turn_one(neighbour, at.local.mtu, at.local.tick) {
-        send_request(neighbour, at, post)?;
+        send_request(neighbour, at, outbox)?;
     }
     Ok(())
 }
@@ -49,7 +49,7 @@ pub fn request_turn(
 /// `AllocError` where memory runs out; then the router is to be stopped.
 pub fn turn_requests(
     links: &mut [AreaLink],
-    own: Own,
+    own: RouterContext,
     out: &mut Outputs,
     alloc: Global,
 ) -> Result<(), AllocError>
@@ -95,7 +95,7 @@ fn turn_one(neighbour: &mut Neighbour, mtu: u16, tick: u64) -> bool
 fn turn_link(
     link: &mut AreaLink,
     number: usize,
-    own: Own,
+    own: RouterContext,
     out: &mut Outputs,
     alloc: Global,
 ) -> Result<(), AllocError>
@@ -103,24 +103,28 @@ fn turn_link(
     ensures sent { OnOk result (out.new ≡ and_sends out.old
         (turn_requests_on own number link.old)) }
 {
-    let at = OnLink::of(own, link);
-    let mut post = Post::new(0, alloc);
+    let at = LinkContext::of(own, link);
+    let mut outbox = Outbox::new(0, alloc);
     let neighbours = &mut link.neighbours;
-    turn_all(&mut neighbours.all, &at, &mut post)?;
-    post.send_all(out, own, number, &at.iface)
+    turn_all(&mut neighbours.all, &at, &mut outbox)?;
+    outbox.send_all(out, own, number, &at.iface)
 }
 
 // LoadingDone and the next Requests of neighbours.
-fn turn_all(neighbours: &mut [Neighbour], at: &OnLink, post: &mut Post) -> Result<(), AllocError>
+fn turn_all(
+    neighbours: &mut [Neighbour],
+    at: &LinkContext,
+    outbox: &mut Outbox,
+) -> Result<(), AllocError>
     requires few { AreNeighbours neighbours.old }
     ensures after { OnOk result (neighbours.new
         ≡ map (turned_to_next at.now.local.mtu at.now.local.tick) neighbours.old) }
-    ensures sent { OnOk result (post.new
-        ≡ and_parcels post.old (all_next_parcels at.now.iface at.now.local neighbours.old)) }
+    ensures sent { OnOk result (outbox.new
+        ≡ and_packets outbox.old (all_next_packets at.now.iface at.now.local neighbours.old)) }
     ensures still { AreNeighbours neighbours.new }
 {
     for neighbour in neighbours.iter_mut() {
-        request_turn(neighbour, at, post)?;
+        request_turn(neighbour, at, outbox)?;
     }
     Ok(())
 }

@@ -9,16 +9,16 @@ mod flooding;
 mod laws;
 mod lists;
 mod numbers;
+mod outbox;
 mod outputs;
 mod packets;
-mod post;
 mod sending;
 mod standing;
 mod state;
 
 pub use crate::asking::{request_turn, turn_requests};
 pub use crate::changes::{AdjacencyChange, change_at, delay_at};
-pub use crate::flooding::{Flooded, Origin, flood};
+pub use crate::flooding::{Flooded, PacketSource, flood};
 pub use crate::laws::{
     changes_one, delayed_neighbours, flood_reaches, flood_takes_its_key, flooded_neighbours,
     keeps_greatest, lsas_are_sent, marks_one, release_takes_its_key, released_neighbours,
@@ -26,11 +26,11 @@ pub use crate::laws::{
 };
 pub use crate::lists::release;
 pub use crate::numbers::{count_number, is_numbered, is_own, is_self_originated, mark, was_sent};
+pub use crate::outbox::{LinkContext, Outbox, local_by, local_of};
 pub use crate::outputs::{Outputs, Sent};
 pub use crate::packets::{description_body, send_dd, send_lsa, send_request};
-pub use crate::post::{OnLink, Post, local_by, local_of};
-pub use crate::sending::{Own, Way, own_of, sent_lsa, to_address};
+pub use crate::sending::{RouterContext, Way, context_of, sent_lsa, to_address};
 pub use crate::standing::{
-    acknowledge_by, answer_at, is_awaited, is_requested, is_taken, origin_of, some_link_loading,
+    acknowledge_by, answer_at, is_awaited, is_requested, is_taken, some_link_loading, source_of,
 };
 pub use crate::state::{Area, AreaLink, LinkSettings, Numbering};

@@ -2,13 +2,13 @@
 
 ghost use Rattle.std.specs.Prelude.{◌≡◌, ◌∷◌, [], OnOk};
 ghost use Rattle.ospf_base.specs.Constants.{router_options};
-ghost use Rattle.ospf_area.specs.Packets.{dd_parcel, lsa_parcel, request_parcel};
-ghost use Rattle.ospf_area.specs.Posting.{and_parcels};
+ghost use Rattle.ospf_area.specs.Packets.{dd_packet, lsa_packet, request_packet};
+ghost use Rattle.ospf_area.specs.Outboxes.{and_packets};
 ghost use Rattle.ospf_packet.specs.Meaning as meaning;
 ghost use Rattle.ospf_packet.specs.Said.{body_meant};
 
 use crate::asking::request_body;
-use crate::post::{OnLink, Post};
+use crate::outbox::{LinkContext, Outbox};
 use crate::sending::to_address;
 use ospf_base::{Addr, OPTIONS};
 use ospf_lsa::{Lsa, LsaHeader};
@@ -40,35 +40,43 @@ pub fn description_body(mtu: u16, exchanging: Exchanging, headers: Vec<LsaHeader
 /// The last Database Description of a neighbour goes out to it (RFC 2328, section 10.8).
 ///
 /// `AllocError` where memory runs out; then the router is to be stopped.
-pub fn send_dd(neighbour: &Neighbour, at: &OnLink, post: &mut Post) -> Result<(), AllocError>
-    ensures next { post.new.next ≡ post.old.next }
+pub fn send_dd(
+    neighbour: &Neighbour,
+    at: &LinkContext,
+    outbox: &mut Outbox,
+) -> Result<(), AllocError>
+    ensures next { outbox.new.next ≡ outbox.old.next }
     ensures sent { OnOk result
-        (post.new
-        ≡ and_parcels post.old (dd_parcel at.now.iface at.now.local.mtu neighbour.now ∷ [])) }
+        (outbox.new
+        ≡ and_packets outbox.old (dd_packet at.now.iface at.now.local.mtu neighbour.now ∷ [])) }
 {
-    let headers = Vec::from_slice(post.alloc(), neighbour.last_dd())?;
+    let headers = Vec::from_slice(outbox.alloc(), neighbour.last_dd())?;
     let body = description_body(at.local.mtu, neighbour.exchanging(), headers);
-    post.put(to_address(&at.iface, neighbour.address()), body)
+    outbox.put(to_address(&at.iface, neighbour.address()), body)
 }
 
 /// The last Request of a neighbour goes out to it (RFC 2328, section 10.9).
 ///
 /// `AllocError` where memory runs out; then the router is to be stopped.
-pub fn send_request(neighbour: &Neighbour, at: &OnLink, post: &mut Post) -> Result<(), AllocError>
-    ensures { OnOk result (post.new ≡ and_parcels post.old
-        (request_parcel at.now.iface neighbour.now ∷ [])) }
+pub fn send_request(
+    neighbour: &Neighbour,
+    at: &LinkContext,
+    outbox: &mut Outbox,
+) -> Result<(), AllocError>
+    ensures { OnOk result (outbox.new ≡ and_packets outbox.old
+        (request_packet at.now.iface neighbour.now ∷ [])) }
 {
-    let body = request_body(neighbour, post.alloc())?;
-    post.put(to_address(&at.iface, neighbour.address()), body)
+    let body = request_body(neighbour, outbox.alloc())?;
+    outbox.put(to_address(&at.iface, neighbour.address()), body)
 }
 
 /// An LSA goes out in an Update of its own.
 ///
 /// `AllocError` where memory runs out; then the router is to be stopped.
-pub fn send_lsa(lsa: Lsa, destination: Addr, post: &mut Post) -> Result<(), AllocError>
-    ensures { OnOk result (post.new ≡ and_parcels post.old (lsa_parcel destination lsa ∷ [])) }
+pub fn send_lsa(lsa: Lsa, destination: Addr, outbox: &mut Outbox) -> Result<(), AllocError>
+    ensures { OnOk result (outbox.new ≡ and_packets outbox.old (lsa_packet destination lsa ∷ [])) }
 {
-    let mut lsas = Vec::new(post.alloc());
+    let mut lsas = Vec::new(outbox.alloc());
     lsas.push(lsa)?;
-    post.put(destination, BodyValue::Update(lsas))
+    outbox.put(destination, BodyValue::Update(lsas))
 }

@@ -2,7 +2,7 @@
 
 ghost use Rattle.std.specs.Prelude.{◌≡◌, IfOk, OnOk};
 ghost use Rattle.ospf_packet.specs.Said.{meant};
-ghost use Rattle.ospf_area.specs.Sending.{own_of, and_sends, datagrams, way_out, to_address, sent_lsa};
+ghost use Rattle.ospf_area.specs.Sending.{context_of, and_sends, datagrams, way_out, to_address, sent_lsa};
 
 use crate::outputs::{Outputs, Sent};
 use crate::state::{Area, LinkSettings};
@@ -14,7 +14,7 @@ use std::alloc::{AllocError, Global};
 
 /// What a call needs to know of the router.
 #[derive(Clone, Copy, Debug, PartialEq, Eq)]
-pub struct Own {
+pub struct RouterContext {
     pub router: RouterId,
     pub area: AreaId,
     /// The present tick.
@@ -32,10 +32,10 @@ pub struct Way {
 }
 
 /// What a call needs to know of the router.
-pub fn own_of(area: &Area) -> Own
-    ensures { result ≡ own_of area.now }
+pub fn context_of(area: &Area) -> RouterContext
+    ensures { result ≡ context_of area.now }
 {
-    Own {
+    RouterContext {
         router: area.router,
         area: area.area,
         tick: area.tick,

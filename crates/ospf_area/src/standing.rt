@@ -9,7 +9,7 @@ ghost use Rattle.ospf_neighbour.specs.Lists.{is_listed, request_of};
 ghost use Rattle.ospf_neighbour.specs.Machine.{is_exchanging};
 
 use crate::changes::delay_at;
-use crate::flooding::Origin;
+use crate::flooding::PacketSource;
 use crate::state::{Area, AreaLink};
 use ospf_base::{Instance, LsaKey};
 use ospf_flood::{Acknowledgement, AcknowledgementCase, acknowledge, sender_at};
@@ -18,7 +18,7 @@ use ospf_neighbour::Neighbour;
 use std::alloc::AllocError;
 
 /// The neighbour of the origin.
-pub fn origin_of(links: &[AreaLink], from: Origin) -> Option<&Neighbour>
+pub fn source_of(links: &[AreaLink], from: PacketSource) -> Option<&Neighbour>
     ensures { option_copied result ≡ neighbour_at links.now from.link from.router }
 {
     match links.get(from.link) {
@@ -28,37 +28,37 @@ pub fn origin_of(links: &[AreaLink], from: Origin) -> Option<&Neighbour>
 }
 
 /// Whether the neighbour of the origin is in Exchange or above.
-pub fn is_taken(links: &[AreaLink], from: Origin) -> bool
+pub fn is_taken(links: &[AreaLink], from: PacketSource) -> bool
     ensures { result
         ≡ is_exchanging (state_in (neighbour_at links.now from.link from.router)) }
 {
-    match origin_of(links, from) {
+    match source_of(links, from) {
         Some(neighbour) => neighbour.is_exchanging(),
         None => false,
     }
 }
 
 /// Whether the request list of the neighbour of the origin has an entry of the key.
-pub fn is_requested(links: &[AreaLink], from: Origin, key: &LsaKey) -> bool
+pub fn is_requested(links: &[AreaLink], from: PacketSource, key: &LsaKey) -> bool
     ensures { result ≡ (elim (neighbour_at links.now from.link from.router) [
       | None ↦ false
       | Some n ↦ is_some (request_of key.now n.requests)
     ]) }
 {
-    match origin_of(links, from) {
+    match source_of(links, from) {
         Some(neighbour) => neighbour.request_of(key).is_some(),
         None => false,
     }
 }
 
 /// Whether the instance waits for an acknowledgement by the neighbour of the origin.
-pub fn is_awaited(links: &[AreaLink], from: Origin, instance: &Instance) -> bool
+pub fn is_awaited(links: &[AreaLink], from: PacketSource, instance: &Instance) -> bool
     ensures { result ≡ (elim (neighbour_at links.now from.link from.router) [
       | None ↦ false
       | Some n ↦ is_listed instance.now n.retransmission
     ]) }
 {
-    match origin_of(links, from) {
+    match source_of(links, from) {
         Some(neighbour) => neighbour.is_listed(instance),
         None => false,
     }
@@ -73,7 +73,11 @@ pub fn some_link_loading(links: &[AreaLink]) -> bool
 }
 
 /// How an LSA that came from the origin is to be acknowledged (RFC 2328, section 13.5).
-pub fn answer_at(links: &[AreaLink], case: AcknowledgementCase, from: Origin) -> Acknowledgement
+pub fn answer_at(
+    links: &[AreaLink],
+    case: AcknowledgementCase,
+    from: PacketSource,
+) -> Acknowledgement
     ensures { result ≡ answer_at case from links.now }
 {
     match links.get(from.link) {
@@ -88,7 +92,7 @@ pub fn answer_at(links: &[AreaLink], case: AcknowledgementCase, from: Origin) ->
 pub fn acknowledge_by(
     area: &mut Area,
     answer: Acknowledgement,
-    from: Origin,
+    from: PacketSource,
     header: &LsaHeader,
 ) -> Result<(), AllocError>
     ensures { OnOk result (area.new ≡ acknowledging answer from header.now area.old) }

@@ -45,8 +45,8 @@ pub fn tables_are_exact()
 /// route's cost, and meets no router twice. It is enough that those do which the first
 /// router reaches in its listing.
 pub fn walks_arrive()
-    ensures listed { (is_dropped : Event → AreaValue → Bool) (events : List WorldEvent) (start end : World)
-        (a : RouterId) (x : Running) →
+    ensures listed { (is_dropped : Event → AreaValue → Bool) (events : List WorldEvent)
+        (start end : World) (a : RouterId) (x : Running) →
         IsNewWorld start → RunsEvents is_dropped events start end → NoCollision end.issued →
         router_at end a ≡ Some x → AllListedAgree end x → RunningWalksArrive end a x }
     ensures reached { (is_dropped : Event → AreaValue → Bool) (events : List WorldEvent)
@@ -59,8 +59,8 @@ pub fn walks_arrive()
 
 /// There each walk by choices arrives, and none turns.
 pub fn chosen_walks_arrive()
-    ensures listed { (is_dropped : Event → AreaValue → Bool) (events : List WorldEvent) (start end : World)
-        (a : RouterId) (x : Running) →
+    ensures listed { (is_dropped : Event → AreaValue → Bool) (events : List WorldEvent)
+        (start end : World) (a : RouterId) (x : Running) →
         IsNewWorld start → RunsEvents is_dropped events start end → NoCollision end.issued →
         router_at end a ≡ Some x → AllListedAgree end x → ChosenWalksArrive end a x }
     ensures reached { (is_dropped : Event → AreaValue → Bool) (events : List WorldEvent)

@@ -5,7 +5,7 @@ ghost use Rattle.ospf_step.specs.Step.Event.{Datagram};
 ghost use Rattle.ospf_journal.specs.Causes.{cause_of};
 ghost use Rattle.ospf_step.specs.Drops.{dropped_by};
 
-use ospf_area::{Area, local_of, own_of};
+use ospf_area::{Area, context_of, local_of};
 use ospf_base::Addr;
 use ospf_router::Router;
 use ospf_step::{Dropped, receive};
@@ -41,7 +41,7 @@ fn dropped_in(
     let Some(there) = area.links.get(link) else {
         return Some(Dropped::Packet);
     };
-    let local = local_of(own_of(area), there);
+    let local = local_of(context_of(area), there);
     let neighbours = there.neighbours.all();
     match receive(
         bytes,

@@ -105,7 +105,7 @@ pub(crate) fn push_own(
         ++ own_changes before.now now.now) }
 {
     for own in now {
-        push_own_of(changes, own_as(before, &own.key), own)?;
+        push_context_of(changes, own_as(before, &own.key), own)?;
     }
     Ok(())
 }
@@ -334,7 +334,7 @@ fn own_as<'a>(own: &'a [SeenOwn], key: &LsaKey) -> Option<&'a SeenOwn>
 }
 
 // Adds what changed of an own LSA.
-fn push_own_of(
+fn push_context_of(
     changes: &mut Vec<RouterChange>,
     before: Option<&SeenOwn>,
     own: &SeenOwn,

@@ -1,23 +1,23 @@
 -- The elections that end a step.
 use Rattle.std.proofs.Common.{◌≡◌, ◌∙◌, ℕ, zero, suc, Bool, true, false, List, [], ◌∷◌, Option, None, Some, set, slice_get, refl, sym, ap, subst, inl, inr, ◌⊎◌}
-use Rattle.ospf_area.specs.Packets.{Parcel}
-use Rattle.ospf_area.specs.Sending.{own_of}
+use Rattle.ospf_area.specs.Packets.{PendingPacket}
+use Rattle.ospf_area.specs.Sending.{context_of}
 use Rattle.ospf_area.specs.Outputs.{OutputsValue}
 use Rattle.ospf_area.specs.Sending.{and_sends}
 use Rattle.ospf_area.specs.State.{AreaValue, LinkValue}
-use Rattle.ospf_area.specs.declared.sending.Own.{Own}
-use Rattle.ospf_area.specs.Posting.{posted_all}
+use Rattle.ospf_area.specs.declared.sending.RouterContext.{RouterContext}
+use Rattle.ospf_area.specs.Outboxes.{posted_all}
 use Rattle.ospf_links.specs.Elections.{IsReady, AreReady, ElectsAt, ElectsFrom, ElectsIf}
 use Rattle.ospf_links.proofs.Words.{ElectsThere}
 
 -- the election of a link that is there
-pub elects_some : (now before after : AreaValue) (out out' : OutputsValue) (l : ℕ) (link link' : LinkValue) (next' : ℕ) (own : Own) (sent : List Parcel)
-    → before ≡ now → slice_get now.links l ≡ Some link → own ≡ own_of now → ElectsIf link.elects own before.next_dd link link' next' sent
+pub elects_some : (now before after : AreaValue) (out out' : OutputsValue) (l : ℕ) (link link' : LinkValue) (next' : ℕ) (own : RouterContext) (sent : List PendingPacket)
+    → before ≡ now → slice_get now.links l ≡ Some link → own ≡ context_of now → ElectsIf link.elects own before.next_dd link link' next' sent
     → after ≡ record before { links = set before.links l link'; next_dd = next' } → out' ≡ and_sends out (posted_all own l link.iface sent) → ElectsAt l now out out' after
 elects_some now before after out out' l link link' next' own sent same there is elects after_is out_is =
-    let own_elects : ElectsIf link.elects (own_of now) now.next_dd link link' next' sent = subst (λ (w : Own). ElectsIf link.elects w now.next_dd link link' next' sent) is (subst (λ (s : AreaValue). ElectsIf link.elects own s.next_dd link link' next' sent) same elects) in
+    let own_elects : ElectsIf link.elects (context_of now) now.next_dd link link' next' sent = subst (λ (w : RouterContext). ElectsIf link.elects w now.next_dd link link' next' sent) is (subst (λ (s : AreaValue). ElectsIf link.elects own s.next_dd link link' next' sent) same elects) in
     let after_now : after ≡ record now { links = set now.links l link'; next_dd = next' } = after_is ∙ ap (λ (s : AreaValue). record s { links = set s.links l link'; next_dd = next' }) same in
-    let out_now : out' ≡ and_sends out (posted_all (own_of now) l link.iface sent) = out_is ∙ ap (λ (w : Own). and_sends out (posted_all w l link.iface sent)) is in
+    let out_now : out' ≡ and_sends out (posted_all (context_of now) l link.iface sent) = out_is ∙ ap (λ (w : RouterContext). and_sends out (posted_all w l link.iface sent)) is in
     subst (λ (o : Option LinkValue). ElectsThere o l now out after out') (sym there) (link', next', sent, own_elects, after_now, out_now)
 
 -- of one that is not
@@ -45,7 +45,7 @@ from_keeps (suc l) before after out out' (mid, mid_out, first, next) =
 
 -- ---- a link that had its election is ready
 
-if_ready : (b : Bool) (own : Own) (next : ℕ) (link link' : LinkValue) (next' : ℕ) (sent : List Parcel) → ElectsIf b own next link link' next' sent → IsReady link → IsReady link'
+if_ready : (b : Bool) (own : RouterContext) (next : ℕ) (link link' : LinkValue) (next' : ℕ) (sent : List PendingPacket) → ElectsIf b own next link link' next' sent → IsReady link → IsReady link'
 if_ready false own next link link' next' sent e ready = subst IsReady (sym e.0) ready
 if_ready true own next link link' next' sent e ready =
     let off : link'.elects ≡ false = ap (λ (x : LinkValue). x.elects) e.1 in
@@ -63,7 +63,7 @@ there_ready : (o : Option LinkValue) (l : ℕ) (before after : AreaValue) (out o
 there_ready None l before after out out' at e ready = subst (λ (s : AreaValue). AreReady s.links) (sym e.0) ready
 there_ready (Some link) l before after out out' at (link', next', sent, elects, is, sends) ready = λ k x e.
     elim (got before.links l k link' x (ap (λ (s : AreaValue). slice_get s.links k) (sym is) ∙ e)) [
-      | inl same ↦ subst IsReady (sym same) (if_ready link.elects (own_of before) before.next_dd link link' next' sent elects (ready l link at))
+      | inl same ↦ subst IsReady (sym same) (if_ready link.elects (context_of before) before.next_dd link link' next' sent elects (ready l link at))
       | inr old ↦ ready k x old
     ]
 

@@ -6,7 +6,7 @@ use Rattle.ospf_base.specs.declared.ids.Addr.{Addr}
 use Rattle.ospf_base.specs.declared.ids.RouterId.{RouterId}
 use Rattle.ospf_iface.specs.Machine.{is_changed}
 use Rattle.ospf_adjacency.specs.Elections.{ElectsOn, adjusted}
-use Rattle.ospf_area.specs.Packets.{Parcel}
+use Rattle.ospf_area.specs.Packets.{PendingPacket}
 use Rattle.ospf_adjacency.proofs.ElectionLemmas.{length-adjusted}
 use Rattle.ospf_adjacency.proofs.StayLemmas.{adjusted_rises}
 use Rattle.std.proofs.Common.{if◌then◌else◌, true, false}
@@ -69,6 +69,6 @@ if_stays : (b : Bool) (xs ys : List NeighbourValue) → AreNeighbours xs → Are
 if_stays true xs ys p q = p
 if_stays false xs ys p q = q
 
-pub elected_stays : (mtu tick next next' : ℕ) (i i' : Iface) (ns ns' : List NeighbourValue) (sent : List Parcel) → ElectsOn mtu tick i ns next sent i' ns' next' → AreNeighbours ns → AreNeighbours ns'
+pub elected_stays : (mtu tick next next' : ℕ) (i i' : Iface) (ns ns' : List NeighbourValue) (sent : List PendingPacket) → ElectsOn mtu tick i ns next sent i' ns' next' → AreNeighbours ns → AreNeighbours ns'
 elected_stays mtu tick next next' i i' ns ns' sent elects are =
     subst AreNeighbours (sym elects.neighbours) (if_stays (is_changed i elects.result) (adjusted i' tick next ns) ns (adjusted_stays i' tick next ns are) are)

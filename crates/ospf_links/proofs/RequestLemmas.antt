@@ -8,7 +8,7 @@ use Rattle.ospf_neighbour.specs.Neighbours.{AreNeighbours, neighbour_of, place_f
 use Rattle.ospf_packet.specs.declared.entry.RequestEntry.{RequestEntry}
 use Rattle.ospf_exchange.specs.declared.rule.Local.{Local}
 use Rattle.ospf_area.specs.Turns.{Turn, turn}
-use Rattle.ospf_area.specs.Posting.{PostValue}
+use Rattle.ospf_area.specs.Outboxes.{OutboxValue}
 use Rattle.ospf_adjacency.specs.Heard.{Neighbourhood, neighbourhood, put_back, turn_of}
 use Rattle.ospf_adjacency.proofs.StayLemmas.{put_rises}
 use Rattle.ospf_adjacency.specs.Answers.{answer_turn}
@@ -21,7 +21,7 @@ use Rattle.ospf_links.proofs.WorkLemmas.{is_found, is_put, named_by}
 answered_router : (i : Iface) (local : Local) (delay : ℕ) (db : List Held) (es : List RequestEntry) (t : Turn) → (answer_turn i local delay db es t).neighbour.router ≡ t.neighbour.router
 answered_router i local delay db es t = (answers_are_quiet i local delay db es t).same.router
 
-pub requested_found : (i : Iface) (local : Local) (q : RouterId) (delay : ℕ) (db : List Held) (es : List RequestEntry) (ns : List NeighbourValue) (p p' : PostValue) (k : ℕ) (e m : NeighbourValue)
+pub requested_found : (i : Iface) (local : Local) (q : RouterId) (delay : ℕ) (db : List Held) (es : List RequestEntry) (ns : List NeighbourValue) (p p' : OutboxValue) (k : ℕ) (e m : NeighbourValue)
     → k ≡ place_for ns q.0 → slice_get ns k ≡ Some e → e.router ≡ q
     → turn m p' ≡ answer_turn i local delay db es (turn e p)
     → neighbourhood (set ns k m) false p' ≡ request_on i local q delay db es (neighbourhood ns false p)

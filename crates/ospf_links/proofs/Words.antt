@@ -3,13 +3,13 @@ use Rattle.std.specs.List.{flat_map}
 use Rattle.std.specs.Prelude.{ℕ, List, Option, None, Some, set, slice_get, false, ◌≡◌, []}
 use Rattle.ospf_area.specs.State.{LinkValue, AreaValue}
 use Rattle.ospf_adjacency.specs.Heard.{Neighbourhood, put_back, turn_of}
-use Rattle.ospf_adjacency.specs.Links.{hello_parcel, hello_ticked}
+use Rattle.ospf_adjacency.specs.Links.{hello_packet, hello_ticked}
 use Rattle.ospf_adjacency.specs.Repeats.{due_keys}
 use Rattle.ospf_adjacency.proofs.Words.{elects_by_change}
 use Rattle.ospf_area.specs.Outputs.{OutputsValue, SentValue}
-use Rattle.ospf_area.specs.declared.sending.Own.{Own}
+use Rattle.ospf_area.specs.declared.sending.RouterContext.{RouterContext}
 use Rattle.ospf_links.specs.Parts.{link_up, with_neighbourhood}
-use Rattle.ospf_area.specs.Posting.{posted_all}
+use Rattle.ospf_area.specs.Outboxes.{posted_all}
 use Rattle.ospf_base.specs.declared.ids.RouterId.{RouterId}
 use Rattle.ospf_iface.specs.declared.machine.Iface.{Iface}
 use Rattle.ospf_lsa.specs.declared.header.LsaHeader.{LsaHeader}
@@ -21,11 +21,11 @@ use Rattle.ospf_adjacency.specs.Descriptions.{description_turn}
 use Rattle.ospf_packet.specs.declared.entry.RequestEntry.{RequestEntry}
 use Rattle.ospf_adjacency.specs.Answers.{answer_turn, answered_keys}
 use Rattle.ospf_base.specs.declared.ids.LsaKey.{LsaKey}
-use Rattle.ospf_area.specs.Packets.{Parcel, parcel_if}
+use Rattle.ospf_area.specs.Packets.{PendingPacket, packet_if}
 use Rattle.ospf_area.specs.declared.state.LinkSettings.{LinkSettings}
 use Rattle.ospf_iface.specs.Machine.{is_down}
 use Rattle.ospf_links.specs.Repeats.{repeats_for}
-use Rattle.ospf_area.specs.Sending.{and_sends, own_of}
+use Rattle.ospf_area.specs.Sending.{and_sends, context_of}
 use Rattle.ospf_links.specs.Elections.{ElectsIf}
 
 -- the router after a part on a link that may not be there
@@ -39,13 +39,13 @@ abbrev pub worked : (LinkValue → Neighbourhood) → ℕ → AreaValue → Area
 worked part l s = worked_by (slice_get s.links l) part l s
 
 -- what goes out by it
-abbrev pub work_sent_on : Option LinkValue → (LinkValue → Neighbourhood) → Own → ℕ → List SentValue
+abbrev pub work_sent_on : Option LinkValue → (LinkValue → Neighbourhood) → RouterContext → ℕ → List SentValue
 work_sent_on o part own l = elim o [
   | None ↦ []
   | Some link ↦ posted_all own l link.iface (part link).sent
 ]
 
-abbrev pub work_sent : (LinkValue → Neighbourhood) → Own → ℕ → List LinkValue → List SentValue
+abbrev pub work_sent : (LinkValue → Neighbourhood) → RouterContext → ℕ → List LinkValue → List SentValue
 work_sent part own l links = work_sent_on (slice_get links l) part own l
 
 abbrev pub some_changed : Option LinkValue → (LinkValue → LinkValue) → ℕ → AreaValue → AreaValue
@@ -55,23 +55,23 @@ some_changed o change l s = elim o [
 ]
 
 -- the first Hello of a link that goes up (9.5)
-abbrev pub up_parcels : LinkValue → List Parcel
-up_parcels link = parcel_if (is_down link.iface.state) (hello_parcel (link_up link).iface link.neighbours)
+abbrev pub up_packets : LinkValue → List PendingPacket
+up_packets link = packet_if (is_down link.iface.state) (hello_packet (link_up link).iface link.neighbours)
 
 -- the Hello timer of a link, a tick later (9.5)
 abbrev pub hello_sent : LinkValue → LinkValue
 hello_sent link = record link { iface = hello_ticked link.iface }
 
 -- a neighbour after what is sent again to it
-abbrev pub neighbour_repeated : Own → Iface → LinkSettings → List Held → NeighbourValue → NeighbourValue
+abbrev pub neighbour_repeated : RouterContext → Iface → LinkSettings → List Held → NeighbourValue → NeighbourValue
 neighbour_repeated own i settings db n = (repeats_for own i settings db n).neighbour
 
 -- what goes out of link l to it
-abbrev pub repeats_to : Own → ℕ → Iface → LinkSettings → List Held → NeighbourValue → List SentValue
+abbrev pub repeats_to : RouterContext → ℕ → Iface → LinkSettings → List Held → NeighbourValue → List SentValue
 repeats_to own l i settings db n = posted_all own l i (repeats_for own i settings db n).sent
 
 -- the keys of the LSAs that are sent again on a link
-abbrev pub keys_out : Own → List Held → LinkValue → List LsaKey
+abbrev pub keys_out : RouterContext → List Held → LinkValue → List LsaKey
 keys_out own db link = flat_map (due_keys link.settings.retransmit own.tick db) link.neighbours
 
 -- a Database Description of a neighbour that may not be there; in Init it may bring an election about (10.6)
@@ -100,5 +100,5 @@ answered_by o db entries = elim o [
 abbrev pub ElectsThere : Option LinkValue → ℕ → AreaValue → OutputsValue → AreaValue → OutputsValue → Type 0
 ElectsThere o l before out after out' = elim o [
   | None ↦ (after ≡ before) × (out' ≡ out)
-  | Some link ↦ (link' : LinkValue) × (next' : ℕ) × (sent : List Parcel) × ElectsIf link.elects (own_of before) before.next_dd link link' next' sent × (after ≡ record before { links = set before.links l link'; next_dd = next' }) × (out' ≡ and_sends out (posted_all (own_of before) l link.iface sent))
+  | Some link ↦ (link' : LinkValue) × (next' : ℕ) × (sent : List PendingPacket) × ElectsIf link.elects (context_of before) before.next_dd link link' next' sent × (after ≡ record before { links = set before.links l link'; next_dd = next' }) × (out' ≡ and_sends out (posted_all (context_of before) l link.iface sent))
 ]

@@ -12,7 +12,7 @@ use Rattle.ospf_packet.specs.declared.entry.RequestEntry.{RequestEntry}
 use Rattle.ospf_exchange.specs.declared.rule.Local.{Local}
 use Rattle.ospf_adjacency.specs.Descriptions.{description_turn}
 use Rattle.ospf_area.specs.Turns.{Turn, turn}
-use Rattle.ospf_area.specs.Posting.{PostValue, posted_all, local_by}
+use Rattle.ospf_area.specs.Outboxes.{OutboxValue, posted_all, local_by}
 use Rattle.ospf_adjacency.proofs.SameLemmas.{description_keeps_router}
 use Rattle.ospf_adjacency.specs.Heard.{Neighbourhood, neighbourhood, turn_of, put_back, hello_on, put}
 use Rattle.ospf_adjacency.proofs.Words.{elects_by_change}
@@ -28,13 +28,13 @@ use Rattle.ospf_adjacency.proofs.PutLemmas.{found, not_found, put_found}
 use Rattle.ospf_area.specs.Outputs.{OutputsValue, SentValue}
 use Rattle.ospf_area.specs.Sending.{and_sends}
 use Rattle.ospf_area.specs.State.{LinkValue}
-use Rattle.ospf_area.specs.declared.flooding.Origin.{Origin}
-use Rattle.ospf_area.specs.declared.sending.Own.{Own}
+use Rattle.ospf_area.specs.declared.flooding.PacketSource.{PacketSource}
+use Rattle.ospf_area.specs.declared.sending.RouterContext.{RouterContext}
 use Rattle.ospf_exchange.specs.Laws.{KeepsRouter}
 use Rattle.ospf_links.specs.Parts.{description_comes, description_on, hello_comes, left_beside, request_at, request_on, with_neighbourhood}
 use Rattle.ospf_links.specs.Works.{WorksOn, up_out_on}
 use Rattle.ospf_links.proofs.Words.{description_by, request_by, work_sent, work_sent_on, worked_by}
-use Rattle.ospf_area.specs.Sending.{own_of}
+use Rattle.ospf_area.specs.Sending.{context_of}
 use Rattle.ospf_area.specs.State.{AreaValue}
 
 -- nothing is sent
@@ -50,22 +50,22 @@ is_past xs ys l r same none e =
       | inr w ↦ slice_get_past xs l (omega (arith, w.1))
     ]
 
-pub work_unsent : (links : List LinkValue) (l : ℕ) (part : LinkValue → Neighbourhood) (own : Own) (out : OutputsValue) → slice_get links l ≡ None → out ≡ and_sends out (work_sent part own l links)
+pub work_unsent : (links : List LinkValue) (l : ℕ) (part : LinkValue → Neighbourhood) (own : RouterContext) (out : OutputsValue) → slice_get links l ≡ None → out ≡ and_sends out (work_sent part own l links)
 work_unsent links l part own out none = none_sent out ∙ ap (λ o. and_sends out (work_sent_on o part own l)) (sym none)
 
 -- where there is no such link, a part on it does nothing
 pub works_nowhere : (part : LinkValue → Neighbourhood) (l : ℕ) (s after : AreaValue) (out : OutputsValue) → slice_get s.links l ≡ None → after ≡ s → WorksOn part l s out out after
 works_nowhere part l s after out none same = record {
   state = same ∙ ap (λ o. worked_by o part l s) (sym none);
-  outputs = work_unsent s.links l part (own_of s) out none;
+  outputs = work_unsent s.links l part (context_of s) out none;
 }
 
-pub up_unsent : (links : List LinkValue) (l : ℕ) (own : Own) (out : OutputsValue) → slice_get links l ≡ None → out ≡ and_sends out (up_out_on (slice_get links l) own l)
+pub up_unsent : (links : List LinkValue) (l : ℕ) (own : RouterContext) (out : OutputsValue) → slice_get links l ≡ None → out ≡ and_sends out (up_out_on (slice_get links l) own l)
 up_unsent links l own out none = none_sent out ∙ ap (λ o. and_sends out (up_out_on o own l)) (sym none)
 
 -- where there is one, it does what is done to its link, and sends what is left beside it
-pub works_there : (part : LinkValue → Neighbourhood) (now before after : AreaValue) (out out' : OutputsValue) (l : ℕ) (link link' : LinkValue) (next : ℕ) (x : Neighbourhood) (own : Own) (i : Iface) (p : PostValue)
-    → before ≡ now → slice_get now.links l ≡ Some link → own ≡ own_of now → i ≡ link.iface → x ≡ part link
+pub works_there : (part : LinkValue → Neighbourhood) (now before after : AreaValue) (out out' : OutputsValue) (l : ℕ) (link link' : LinkValue) (next : ℕ) (x : Neighbourhood) (own : RouterContext) (i : Iface) (p : OutboxValue)
+    → before ≡ now → slice_get now.links l ≡ Some link → own ≡ context_of now → i ≡ link.iface → x ≡ part link
     → link' ≡ with_neighbourhood x link → p ≡ left_beside x → next ≡ p.next
     → after ≡ record before { links = set before.links l link'; next_dd = next } → out' ≡ and_sends out (posted_all own l i p.sent)
     → WorksOn part l now out out' after
@@ -73,15 +73,15 @@ works_there part now before after out out' l link link' next x own i p same ther
   state =
       after_is ∙ ap (λ (s : AreaValue). record s { links = set s.links l link'; next_dd = next }) same
       ∙ ap (λ (a : LinkValue). record now { links = set now.links l a; next_dd = next }) link_is
-      ∙ ap (λ (n : ℕ). record now { links = set now.links l (with_neighbourhood x link); next_dd = n }) (next_is ∙ ap (λ (q : PostValue). q.next) p_is)
+      ∙ ap (λ (n : ℕ). record now { links = set now.links l (with_neighbourhood x link); next_dd = n }) (next_is ∙ ap (λ (q : OutboxValue). q.next) p_is)
       ∙ ap (λ (y : Neighbourhood). record now { links = set now.links l (with_neighbourhood y link); next_dd = y.next }) x_is
       ∙ ap (λ (o : Option LinkValue). worked_by o part l now) (sym there);
   outputs =
-      out_is ∙ ap (λ (w : Own). and_sends out (posted_all w l i p.sent)) own_is
-      ∙ ap (λ (j : Iface). and_sends out (posted_all (own_of now) l j p.sent)) i_is
-      ∙ ap (λ (q : PostValue). and_sends out (posted_all (own_of now) l link.iface q.sent)) p_is
-      ∙ ap (λ (y : Neighbourhood). and_sends out (posted_all (own_of now) l link.iface y.sent)) x_is
-      ∙ ap (λ (o : Option LinkValue). and_sends out (work_sent_on o part (own_of now) l)) (sym there);
+      out_is ∙ ap (λ (w : RouterContext). and_sends out (posted_all w l i p.sent)) own_is
+      ∙ ap (λ (j : Iface). and_sends out (posted_all (context_of now) l j p.sent)) i_is
+      ∙ ap (λ (q : OutboxValue). and_sends out (posted_all (context_of now) l link.iface q.sent)) p_is
+      ∙ ap (λ (y : Neighbourhood). and_sends out (posted_all (context_of now) l link.iface y.sent)) x_is
+      ∙ ap (λ (o : Option LinkValue). and_sends out (work_sent_on o part (context_of now) l)) (sym there);
 }
 
 -- the neighbour of q, once it has changed, is put where it stood
@@ -98,7 +98,7 @@ pub is_none : (ns : List NeighbourValue) (k : ℕ) (q : RouterId) → AreNeighbo
 is_none ns k q rises at other =
     not_found ns q rises (λ o there same. other o (ap (slice_get ns) at ∙ there) (λ j. record { 0 = same j }))
 
-pub described_found : (i : Iface) (local : Local) (q : RouterId) (d : Description) (hs : List LsaHeader) (db : List Held) (ns : List NeighbourValue) (p p' : PostValue) (k : ℕ) (e m : NeighbourValue) (elects : Bool)
+pub described_found : (i : Iface) (local : Local) (q : RouterId) (d : Description) (hs : List LsaHeader) (db : List Held) (ns : List NeighbourValue) (p p' : OutboxValue) (k : ℕ) (e m : NeighbourValue) (elects : Bool)
     → k ≡ place_for ns q.0 → slice_get ns k ≡ Some e → e.router ≡ q → m.router ≡ e.router
     → turn m p' ≡ description_turn i local q d hs db (turn e p) → elects ≡ elects_by_change i.state e m
     → neighbourhood (set ns k m) elects p' ≡ description_on i local q d hs db (neighbourhood ns false p)
@@ -119,22 +119,22 @@ or_false false = refl
 abbrev pub and_due : Bool → Neighbourhood → Neighbourhood
 and_due b x = record x { elects = b || x.elects }
 
-description_due : (i : Iface) (local : Local) (q : RouterId) (d : Description) (hs : List LsaHeader) (db : List Held) (ns : List NeighbourValue) (b : Bool) (p : PostValue) (o : Option NeighbourValue)
+description_due : (i : Iface) (local : Local) (q : RouterId) (d : Description) (hs : List LsaHeader) (db : List Held) (ns : List NeighbourValue) (b : Bool) (p : OutboxValue) (o : Option NeighbourValue)
     → and_due b (description_by o i local q d hs db (neighbourhood ns false p)) ≡ description_by o i local q d hs db (neighbourhood ns b p)
 description_due i local q d hs db ns b p None = ap (λ (c : Bool). neighbourhood ns c p) (sym (or_false b))
 description_due i local q d hs db ns b p (Some n) = refl
 
-request_due : (i : Iface) (local : Local) (q : RouterId) (delay : ℕ) (db : List Held) (es : List RequestEntry) (ns : List NeighbourValue) (b : Bool) (p : PostValue) (o : Option NeighbourValue)
+request_due : (i : Iface) (local : Local) (q : RouterId) (delay : ℕ) (db : List Held) (es : List RequestEntry) (ns : List NeighbourValue) (b : Bool) (p : OutboxValue) (o : Option NeighbourValue)
     → and_due b (request_by o i local delay db es (neighbourhood ns false p)) ≡ request_by o i local delay db es (neighbourhood ns b p)
 request_due i local q delay db es ns b p None = ap (λ (c : Bool). neighbourhood ns c p) (sym (or_false b))
 request_due i local q delay db es ns b p (Some n) = refl
 
 -- the link, and what is left beside it, once its neighbours are put back
-pub record PutBack (x : Neighbourhood) (link after : LinkValue) (p' : PostValue) : Type 0 where
+pub record PutBack (x : Neighbourhood) (link after : LinkValue) (p' : OutboxValue) : Type 0 where
   pub after_is : after ≡ with_neighbourhood x link
   pub left_is : p' ≡ left_beside x
 
-puts_back : (x : Neighbourhood) (link bare after : LinkValue) (ns : List NeighbourValue) (elects due : Bool) (p' : PostValue)
+puts_back : (x : Neighbourhood) (link bare after : LinkValue) (ns : List NeighbourValue) (elects due : Bool) (p' : OutboxValue)
     → bare ≡ record link { neighbours = [] } → after ≡ record bare { neighbours = ns; elects = due } → due ≡ bare.elects || elects
     → neighbourhood ns elects p' ≡ x → PutBack (and_due link.elects x) link after p'
 puts_back x link bare after ns elects due p' is_bare is_after is_due is = record {
@@ -145,13 +145,13 @@ puts_back x link bare after ns elects due p' is_bare is_after is_due is = record
   left_is = ap left_beside is;
 }
 
-pub hello_back : (own : Own) (f : Origin) (h : Hello) (named : Bool) (link bare after : LinkValue) (ns : List NeighbourValue) (elects due : Bool) (p p' : PostValue)
+pub hello_back : (own : RouterContext) (f : PacketSource) (h : Hello) (named : Bool) (link bare after : LinkValue) (ns : List NeighbourValue) (elects due : Bool) (p p' : OutboxValue)
     → bare ≡ record link { neighbours = [] } → after ≡ record bare { neighbours = ns; elects = due } → due ≡ bare.elects || elects
     → neighbourhood ns elects p' ≡ hello_on link.iface (local_by own link.settings) f.router f.address h named (neighbourhood link.neighbours false p)
     → PutBack (hello_comes own f h named p link) link after p'
 hello_back own f h named link bare after ns elects due p p' is_bare is_after is_due is = puts_back _ link bare after ns elects due p' is_bare is_after is_due is
 
-pub description_back : (own : Own) (f : Origin) (d : Description) (hs : List LsaHeader) (db : List Held) (link bare after : LinkValue) (ns : List NeighbourValue) (elects due : Bool) (p p' : PostValue)
+pub description_back : (own : RouterContext) (f : PacketSource) (d : Description) (hs : List LsaHeader) (db : List Held) (link bare after : LinkValue) (ns : List NeighbourValue) (elects due : Bool) (p p' : OutboxValue)
     → bare ≡ record link { neighbours = [] } → after ≡ record bare { neighbours = ns; elects = due } → due ≡ bare.elects || elects
     → neighbourhood ns elects p' ≡ description_on link.iface (local_by own link.settings) f.router d hs db (neighbourhood link.neighbours false p)
     → PutBack (description_comes own f d hs db p link) link after p'
@@ -160,7 +160,7 @@ description_back own f d hs db link bare after ns elects due p p' is_bare is_aft
     (description_due link.iface (local_by own link.settings) f.router d hs db link.neighbours link.elects p (neighbour_of link.neighbours f.router))
     (puts_back _ link bare after ns elects due p' is_bare is_after is_due is)
 
-pub request_back : (own : Own) (f : Origin) (db : List Held) (es : List RequestEntry) (link bare after : LinkValue) (ns : List NeighbourValue) (due : Bool) (p p' : PostValue)
+pub request_back : (own : RouterContext) (f : PacketSource) (db : List Held) (es : List RequestEntry) (link bare after : LinkValue) (ns : List NeighbourValue) (due : Bool) (p p' : OutboxValue)
     → bare ≡ record link { neighbours = [] } → after ≡ record bare { neighbours = ns; elects = due } → due ≡ bare.elects || false
     → neighbourhood ns false p' ≡ request_on link.iface (local_by own link.settings) f.router link.settings.transmit_delay db es (neighbourhood link.neighbours false p)
     → PutBack (request_at own f db es p link) link after p'

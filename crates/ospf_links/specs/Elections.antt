@@ -1,12 +1,12 @@
 -- The elections that end a step, with AdjOK? (RFC 2328, section 9.4).
 use Rattle.std.specs.Prelude.{◌≡◌, ℕ, zero, suc, Bool, true, false, List, [], None, Some, set, slice_get}
 use Rattle.ospf_adjacency.specs.Elections.{AreOfLink, ElectsOn, elects_in}
-use Rattle.ospf_area.specs.Packets.{Parcel}
+use Rattle.ospf_area.specs.Packets.{PendingPacket}
 use Rattle.ospf_area.specs.Outputs.{OutputsValue}
-use Rattle.ospf_area.specs.Sending.{and_sends, own_of}
+use Rattle.ospf_area.specs.Sending.{and_sends, context_of}
 use Rattle.ospf_area.specs.State.{AreaValue, LinkValue}
-use Rattle.ospf_area.specs.declared.sending.Own.{Own}
-use Rattle.ospf_area.specs.Posting.{posted_all}
+use Rattle.ospf_area.specs.declared.sending.RouterContext.{RouterContext}
+use Rattle.ospf_area.specs.Outboxes.{posted_all}
 
 -- where an election is due, one comes about
 pub record IsReady (link : LinkValue) : Type 0 where
@@ -18,7 +18,8 @@ abbrev pub AreReady : List LinkValue → Type 0
 AreReady links = (l : ℕ) (link : LinkValue) → slice_get links l ≡ Some link → IsReady link
 
 -- the election of a link, if one is due, with AdjOK?; then none is due any more (9.4)
-abbrev pub ElectsIf : Bool → Own → ℕ → LinkValue → LinkValue → ℕ → List Parcel → Type 0
+abbrev pub ElectsIf : Bool → RouterContext → ℕ → LinkValue → LinkValue → ℕ → List PendingPacket
+    → Type 0
 ElectsIf false own next link link' next' sent = (link' ≡ link) × (next' ≡ next) × (sent ≡ [])
 ElectsIf true own next link link' next' sent =
     ElectsOn link.settings.mtu own.tick link.iface link.neighbours next sent link'.iface
@@ -31,10 +32,10 @@ abbrev pub ElectsAt : ℕ → AreaValue → OutputsValue → OutputsValue → Ar
 ElectsAt l before out out' after = elim (slice_get before.links l) [
   | None ↦ (after ≡ before) × (out' ≡ out)
   | Some link ↦
-      (link' : LinkValue) × (next' : ℕ) × (sent : List Parcel)
-      × ElectsIf link.elects (own_of before) before.next_dd link link' next' sent
+      (link' : LinkValue) × (next' : ℕ) × (sent : List PendingPacket)
+      × ElectsIf link.elects (context_of before) before.next_dd link link' next' sent
       × (after ≡ record before { links = set before.links l link'; next_dd = next' })
-      × (out' ≡ and_sends out (posted_all (own_of before) l link.iface sent))
+      × (out' ≡ and_sends out (posted_all (context_of before) l link.iface sent))
 ]
 
 -- those of the first links, in their order

@@ -13,17 +13,17 @@ use Rattle.ospf_packet.specs.declared.entry.RequestEntry.{RequestEntry}
 use Rattle.ospf_exchange.specs.declared.rule.Local.{Local}
 use Rattle.ospf_area.specs.Outputs.{SentValue}
 use Rattle.ospf_area.specs.State.{LinkValue}
-use Rattle.ospf_area.specs.declared.flooding.Origin.{Origin}
-use Rattle.ospf_area.specs.declared.sending.Own.{Own}
+use Rattle.ospf_area.specs.declared.flooding.PacketSource.{PacketSource}
+use Rattle.ospf_area.specs.declared.sending.RouterContext.{RouterContext}
 use Rattle.ospf_adjacency.specs.Descriptions.{description_turn}
-use Rattle.ospf_area.specs.Packets.{parcel_if}
+use Rattle.ospf_area.specs.Packets.{packet_if}
 use Rattle.ospf_adjacency.specs.Heard.{Neighbourhood, is_settled, hello_on, neighbourhood, put_back, turn_of}
 use Rattle.ospf_iface.specs.Election.{differs}
 use Rattle.ospf_iface.specs.Machine.{is_down, started}
 use Rattle.ospf_neighbour.specs.Machine.{is_two_way}
-use Rattle.ospf_adjacency.specs.Links.{down, elects_by_timers, hello_parcel, hello_ticked, timed}
+use Rattle.ospf_adjacency.specs.Links.{down, elects_by_timers, hello_packet, hello_ticked, timed}
 use Rattle.ospf_adjacency.specs.Answers.{answer_turn, answered_keys}
-use Rattle.ospf_area.specs.Posting.{PostValue, posted_all, local_by}
+use Rattle.ospf_area.specs.Outboxes.{OutboxValue, posted_all, local_by}
 
 -- the link's neighbours as a part finds them: nothing has gone out yet
 abbrev pub neighbourhood_of : LinkValue → ℕ → Neighbourhood
@@ -31,7 +31,7 @@ neighbourhood_of link next =
     record { neighbours = link.neighbours; elects = link.elects; next = next; sent = [] }
 
 -- and where some has
-abbrev pub neighbourhood_at : LinkValue → PostValue → Neighbourhood
+abbrev pub neighbourhood_at : LinkValue → OutboxValue → Neighbourhood
 neighbourhood_at link p = neighbourhood link.neighbours link.elects p
 
 -- the link as a part leaves it
@@ -39,19 +39,20 @@ abbrev pub with_neighbourhood : Neighbourhood → LinkValue → LinkValue
 with_neighbourhood x link = record link { neighbours = x.neighbours; elects = x.elects }
 
 -- and what it leaves beside the link
-abbrev pub left_beside : Neighbourhood → PostValue
+abbrev pub left_beside : Neighbourhood → OutboxValue
 left_beside x = record { next = x.next; sent = x.sent }
 
 -- ---- packets that come
 
 -- a Hello of the router f that comes on a link, and names this router or does not (10.5)
-abbrev pub hello_comes : Own → Origin → Hello → Bool → PostValue → LinkValue → Neighbourhood
+abbrev pub hello_comes : RouterContext → PacketSource → Hello → Bool → OutboxValue → LinkValue
+    → Neighbourhood
 hello_comes own f h named p link =
     hello_on link.iface (local_by own link.settings) f.router f.address h named
     (neighbourhood_at link p)
 
 -- where nothing has gone out yet
-abbrev pub hello_part : Own → Origin → Hello → Bool → ℕ → LinkValue → Neighbourhood
+abbrev pub hello_part : RouterContext → PacketSource → Hello → Bool → ℕ → LinkValue → Neighbourhood
 hello_part own f h named next link =
     hello_on link.iface (local_by own link.settings) f.router f.address h named
     (neighbourhood_of link next)
@@ -69,7 +70,8 @@ description_on i local q d headers db x = elim (neighbour_of x.neighbours q) [
 ]
 
 -- a Database Description that comes on a link
-abbrev pub description_comes : Own → Origin → Description → List LsaHeader → List Held → PostValue
+abbrev pub description_comes : RouterContext → PacketSource → Description → List LsaHeader
+    → List Held → OutboxValue
     → LinkValue
     → Neighbourhood
 description_comes own f d headers db p link =
@@ -77,7 +79,8 @@ description_comes own f d headers db p link =
     (neighbourhood_at link p)
 
 -- where nothing has gone out yet
-abbrev pub description_part : Own → Origin → Description → List LsaHeader → List Held → ℕ
+abbrev pub description_part : RouterContext → PacketSource → Description → List LsaHeader
+    → List Held → ℕ
     → LinkValue → Neighbourhood
 description_part own f d headers db next link =
     description_on link.iface (local_by own link.settings) f.router d headers db
@@ -93,14 +96,16 @@ request_on i local q delay db entries x =
     ]
 
 -- a Request that comes on a link
-abbrev pub request_at : Own → Origin → List Held → List RequestEntry → PostValue → LinkValue
+abbrev pub request_at : RouterContext → PacketSource → List Held → List RequestEntry → OutboxValue
+    → LinkValue
     → Neighbourhood
 request_at own f db entries p link =
     request_on link.iface (local_by own link.settings) f.router link.settings.transmit_delay db
     entries (neighbourhood_at link p)
 
 -- where nothing has gone out yet
-abbrev pub request_part : Own → Origin → List Held → List RequestEntry → ℕ → LinkValue
+abbrev pub request_part : RouterContext → PacketSource → List Held → List RequestEntry → ℕ
+    → LinkValue
     → Neighbourhood
 request_part own f db entries next link =
     request_on link.iface (local_by own link.settings) f.router link.settings.transmit_delay db
@@ -139,8 +144,8 @@ link_timed link = record link {
 }
 
 -- the Hello that goes out of link l, if one is due: the link is up, and HelloInterval is over (9.5)
-abbrev pub hello_out : Own → ℕ → LinkValue → List SentValue
+abbrev pub hello_out : RouterContext → ℕ → LinkValue → List SentValue
 hello_out own l link =
     posted_all own l (hello_ticked link.iface)
-    (parcel_if (not (is_down link.iface.state) && nat_le link.iface.hello_in 1)
-    (hello_parcel link.iface link.neighbours))
+    (packet_if (not (is_down link.iface.state) && nat_le link.iface.hello_in 1)
+    (hello_packet link.iface link.neighbours))

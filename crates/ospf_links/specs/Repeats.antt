@@ -10,10 +10,10 @@ use Rattle.ospf_area.specs.Turns.{Turn}
 use Rattle.ospf_area.specs.Numbers.{marked}
 use Rattle.ospf_area.specs.Outputs.{SentValue}
 use Rattle.ospf_area.specs.State.{LinkValue}
-use Rattle.ospf_area.specs.declared.sending.Own.{Own}
+use Rattle.ospf_area.specs.declared.sending.RouterContext.{RouterContext}
 use Rattle.ospf_area.specs.declared.state.LinkSettings.{LinkSettings}
 use Rattle.ospf_adjacency.specs.Repeats.{repeats_turn}
-use Rattle.ospf_area.specs.Posting.{local_by, posted_all}
+use Rattle.ospf_area.specs.Outboxes.{local_by, posted_all}
 
 -- copies of these keys went out in Updates in this tick (13, step 8)
 abbrev pub marked_all : List LsaKey → List LsaKey → List LsaKey
@@ -22,7 +22,7 @@ marked_all keys sent = fold (λ sent key. marked key true sent) sent keys
 -- ---- one neighbour
 
 -- what is sent again to a neighbour, and the neighbour then
-abbrev pub repeats_for : Own → Iface → LinkSettings → List Held → NeighbourValue → Turn
+abbrev pub repeats_for : RouterContext → Iface → LinkSettings → List Held → NeighbourValue → Turn
 repeats_for own i settings db n =
     repeats_turn i (local_by own settings) settings.retransmit settings.transmit_delay db
     (record { neighbour = n; next = 0; sent = [] })
@@ -30,7 +30,7 @@ repeats_for own i settings db n =
 -- ---- one link
 
 -- the link's neighbours after what is sent again to each
-abbrev pub link_repeated : Own → List Held → LinkValue → LinkValue
+abbrev pub link_repeated : RouterContext → List Held → LinkValue → LinkValue
 link_repeated own db link =
     record link {
       neighbours =
@@ -38,7 +38,7 @@ link_repeated own db link =
     }
 
 -- what is sent again to the neighbours of link l
-abbrev pub link_repeats_out : Own → List Held → ℕ → LinkValue → List SentValue
+abbrev pub link_repeats_out : RouterContext → List Held → ℕ → LinkValue → List SentValue
 link_repeats_out own db l link =
     flat_map
     (λ n. posted_all own l link.iface (repeats_for own link.iface link.settings db n).sent)

@@ -2,15 +2,15 @@
 use Rattle.std.specs.Prelude.{ℕ, List, [], Option, None, Some, set, slice_get}
 use Rattle.ospf_area.specs.Acting.{Becomes}
 use Rattle.ospf_area.specs.Outputs.{OutputsValue, SentValue}
-use Rattle.ospf_area.specs.Sending.{and_sends, own_of}
+use Rattle.ospf_area.specs.Sending.{and_sends, context_of}
 use Rattle.ospf_area.specs.State.{AreaValue, LinkValue}
-use Rattle.ospf_area.specs.declared.sending.Own.{Own}
+use Rattle.ospf_area.specs.declared.sending.RouterContext.{RouterContext}
 use Rattle.ospf_adjacency.specs.Heard.{Neighbourhood}
-use Rattle.ospf_adjacency.specs.Links.{hello_parcel}
-use Rattle.ospf_area.specs.Packets.{parcel_if}
+use Rattle.ospf_adjacency.specs.Links.{hello_packet}
+use Rattle.ospf_area.specs.Packets.{packet_if}
 use Rattle.ospf_iface.specs.Machine.{is_down}
 use Rattle.ospf_links.specs.Parts.{link_up, with_neighbourhood}
-use Rattle.ospf_area.specs.Posting.{posted_all}
+use Rattle.ospf_area.specs.Outboxes.{posted_all}
 
 -- ---- parts on the neighbours of a link
 
@@ -30,7 +30,7 @@ WorksOn part l before out out' after =
     ])
     (and_sends out (elim (slice_get before.links l) [
       | None ↦ []
-      | Some link ↦ posted_all (own_of before) l link.iface (part link).sent
+      | Some link ↦ posted_all (context_of before) l link.iface (part link).sent
     ])) out' after
 
 -- ---- changes of a link
@@ -44,8 +44,8 @@ link_changed change l s =
     ]
 
 -- the first Hello of a link that goes up, if it is there and was down (9.5)
-abbrev pub up_out_on : Option LinkValue → Own → ℕ → List SentValue
+abbrev pub up_out_on : Option LinkValue → RouterContext → ℕ → List SentValue
 up_out_on None own l = []
 up_out_on (Some link) own l =
     let i = (link_up link).iface in
-    posted_all own l i (parcel_if (is_down link.iface.state) (hello_parcel i link.neighbours))
+    posted_all own l i (packet_if (is_down link.iface.state) (hello_packet i link.neighbours))

@@ -1,17 +1,17 @@
 //! Links that go up and down.
 
 ghost use Rattle.std.specs.Prelude.{◌≡◌, OnOk, slice_get};
-ghost use Rattle.ospf_area.specs.Sending.{and_sends, own_of};
+ghost use Rattle.ospf_area.specs.Sending.{and_sends, context_of};
 ghost use Rattle.ospf_iface.specs.Machine.{is_down};
-ghost use Rattle.ospf_adjacency.specs.Links.{hello_parcel};
-ghost use Rattle.ospf_area.specs.Packets.{parcel_if};
+ghost use Rattle.ospf_adjacency.specs.Links.{hello_packet};
+ghost use Rattle.ospf_area.specs.Packets.{packet_if};
 ghost use Rattle.ospf_links.specs.Parts.{link_down, link_up};
-ghost use Rattle.ospf_area.specs.Posting.{posted_all};
+ghost use Rattle.ospf_area.specs.Outboxes.{posted_all};
 ghost use Rattle.ospf_links.specs.Works.{link_changed, up_out_on};
 
 use crate::link::take_out;
 use ospf_adjacency::{go_down, go_up, send_hello};
-use ospf_area::{Area, AreaLink, Outputs, Own, Post, own_of};
+use ospf_area::{Area, AreaLink, Outbox, Outputs, RouterContext, context_of};
 use std::alloc::{AllocError, Global};
 
 /// A link of the router goes up (RFC 2328, section 9.3): where it was
@@ -26,9 +26,9 @@ pub fn take_up(
 ) -> Result<(), AllocError>
     ensures after { OnOk result (area.new ≡ link_changed link_up number area.old) }
     ensures sent { OnOk result (out.new ≡ and_sends out.old
-        (up_out_on (slice_get area.old.links number) (own_of area.old) number)) }
+        (up_out_on (slice_get area.old.links number) (context_of area.old) number)) }
 {
-    let own = own_of(area);
+    let own = context_of(area);
     match area.links.get_mut(number) {
         Some(link) => link_goes_up(link, number, own, out, alloc),
         None => Ok(()),
@@ -49,7 +49,7 @@ pub fn take_down(area: &mut Area, number: usize, alloc: Global)
 fn link_goes_up(
     link: &mut AreaLink,
     number: usize,
-    own: Own,
+    own: RouterContext,
     out: &mut Outputs,
     alloc: Global,
 ) -> Result<(), AllocError>
@@ -59,14 +59,14 @@ fn link_goes_up(
         (out.new
         ≡ and_sends out.old
         (posted_all own number i
-        (parcel_if (is_down link.old.iface.state) (hello_parcel i link.old.neighbours)))) }
+        (packet_if (is_down link.old.iface.state) (hello_packet i link.old.neighbours)))) }
 {
     if !go_up(&mut link.iface) {
         return Ok(());
     }
-    let mut post = Post::new(0, alloc);
-    send_hello(&link.iface, link.neighbours.all(), &mut post)?;
-    post.send_all(out, own, number, &link.iface)
+    let mut outbox = Outbox::new(0, alloc);
+    send_hello(&link.iface, link.neighbours.all(), &mut outbox)?;
+    outbox.send_all(out, own, number, &link.iface)
 }
 
 // A link goes down.

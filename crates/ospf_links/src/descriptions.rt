@@ -4,7 +4,7 @@ ghost use Rattle.std.specs.Prelude.{◌≡◌, ◌&&◌, false, IfOk, OnOk};
 ghost use Rattle.ospf_iface.specs.Election.{differs};
 ghost use Rattle.ospf_neighbour.specs.Machine.{is_two_way};
 ghost use Rattle.ospf_neighbour.specs.Neighbours.{AreNeighboursRising};
-ghost use Rattle.ospf_area.specs.Sending.{own_of};
+ghost use Rattle.ospf_area.specs.Sending.{context_of};
 ghost use Rattle.ospf_adjacency.specs.Descriptions.{description_turn};
 ghost use Rattle.ospf_area.specs.Turns.{turn};
 ghost use Rattle.ospf_adjacency.specs.Heard.{is_settled, neighbourhood};
@@ -13,7 +13,9 @@ ghost use Rattle.ospf_links.specs.Works.{WorksOn};
 
 use crate::link::{iface_of, is_due, put_back, take_out};
 use ospf_adjacency::{is_at, is_settled, take_description as describe_to};
-use ospf_area::{Area, AreaLink, OnLink, Origin, Outputs, Own, Post, own_of};
+use ospf_area::{
+    Area, AreaLink, LinkContext, Outbox, Outputs, PacketSource, RouterContext, context_of,
+};
 use ospf_lsdb::Lsdb;
 use ospf_neighbour::{Neighbour, place_for};
 use ospf_packet::{Description, Headers};
@@ -25,25 +27,33 @@ use std::alloc::{AllocError, Global};
 /// `AllocError` where memory runs out; then the router is to be stopped.
 pub fn take_description(
     area: &mut Area,
-    from: Origin,
+    from: PacketSource,
     fields: Description,
     headers: Headers<'_>,
     out: &mut Outputs,
     alloc: Global,
 ) -> Result<(), AllocError>
     ensures { OnOk result (WorksOn
-        (description_part (own_of area.old) from fields headers.entry area.old.database
+        (description_part (context_of area.old) from fields headers.entry area.old.database
         area.old.next_dd)
         from.link area.old out.old out.new area.new) }
 {
-    let own = own_of(area);
+    let own = context_of(area);
     match area.links.get_mut(from.link) {
         Some(link) => {
             let iface = iface_of(link);
-            let mut post = Post::new(area.next_dd, alloc);
-            description_comes(link, from, fields, headers, &area.database, own, &mut post)?;
-            area.next_dd = post.next();
-            post.send_all(out, own, from.link, &iface)
+            let mut outbox = Outbox::new(area.next_dd, alloc);
+            description_comes(
+                link,
+                from,
+                fields,
+                headers,
+                &area.database,
+                own,
+                &mut outbox,
+            )?;
+            area.next_dd = outbox.next();
+            outbox.send_all(out, own, from.link, &iface)
         }
         None => Ok(()),
     }
@@ -52,25 +62,25 @@ pub fn take_description(
 // A Database Description comes on a link.
 fn description_comes(
     link: &mut AreaLink,
-    from: Origin,
+    from: PacketSource,
     fields: Description,
     headers: Headers<'_>,
     database: &Lsdb,
-    own: Own,
-    post: &mut Post,
+    own: RouterContext,
+    outbox: &mut Outbox,
 ) -> Result<(), AllocError>
     ensures after { OnOk result
         (link.new
-        ≡ with_neighbourhood
-        (description_comes own from fields headers.entry database.now post.old link.old) link.old) }
+        ≡ with_neighbourhood (description_comes own from fields headers.entry database.now
+        outbox.old link.old) link.old) }
     ensures left { OnOk result
-        (post.new
-        ≡ left_beside (description_comes own from fields headers.entry database.now post.old
+        (outbox.new
+        ≡ left_beside (description_comes own from fields headers.entry database.now outbox.old
         link.old)) }
 {
-    let at = OnLink::of(own, link);
-    let mut all = take_out(link, post.alloc());
-    let elects = describe_in(&mut all, from, fields, headers, database, &at, post)?;
+    let at = LinkContext::of(own, link);
+    let mut all = take_out(link, outbox.alloc());
+    let elects = describe_in(&mut all, from, fields, headers, database, &at, outbox)?;
     let due = is_due(link, elects);
     put_back(link, all, due);
     Ok(())
@@ -79,50 +89,58 @@ fn description_comes(
 // Takes a Database Description from one of the neighbours that were taken out.
 fn describe_in(
     all: &mut Vec<Neighbour>,
-    from: Origin,
+    from: PacketSource,
     fields: Description,
     headers: Headers<'_>,
     database: &Lsdb,
-    at: &OnLink,
-    post: &mut Post,
+    at: &LinkContext,
+    outbox: &mut Outbox,
 ) -> Result<bool, AllocError>
     requires { AreNeighboursRising all.old.items }
     ensures { IfOk result
         (λ elects.
-        neighbourhood all.new.items elects post.new
+        neighbourhood all.new.items elects outbox.new
         ≡ description_on at.now.iface at.now.local from.router fields headers.entry database.now
-        (neighbourhood all.old.items false post.old)) }
+        (neighbourhood all.old.items false outbox.old)) }
 {
     let place = place_for(all, from.router);
     if !is_at(all, place, from.router) {
         return Ok(false);
     }
     let neighbour = &mut all[place];
-    let elects = describe(neighbour, from, fields, headers, database, at, post)?;
+    let elects = describe(neighbour, from, fields, headers, database, at, outbox)?;
     Ok(elects)
 }
 
 // Takes a Database Description from a neighbour. Answers whether an election is due by it.
 fn describe(
     neighbour: &mut Neighbour,
-    from: Origin,
+    from: PacketSource,
     fields: Description,
     headers: Headers<'_>,
     database: &Lsdb,
-    at: &OnLink,
-    post: &mut Post,
+    at: &LinkContext,
+    outbox: &mut Outbox,
 ) -> Result<bool, AllocError>
     ensures turn { OnOk result
-        (turn neighbour.new post.new
+        (turn neighbour.new outbox.new
         ≡ description_turn at.now.iface at.now.local from.router fields headers.entry database.now
-        (turn neighbour.old post.old)) }
+        (turn neighbour.old outbox.old)) }
     ensures elects { IfOk result
         (λ elects. elects
         ≡ (is_settled at.now.iface.state
         && differs (is_two_way neighbour.old.state) (is_two_way neighbour.new.state))) }
 {
     let before = neighbour.state().is_two_way();
-    describe_to(neighbour, from.router, fields, headers, database, at, post)?;
+    describe_to(
+        neighbour,
+        from.router,
+        fields,
+        headers,
+        database,
+        at,
+        outbox,
+    )?;
     let after = neighbour.state().is_two_way();
     Ok(is_settled(at.iface.state) && before != after)
 }

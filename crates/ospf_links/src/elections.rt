@@ -2,14 +2,14 @@
 
 ghost use Rattle.std.specs.Prelude.{◌≡◌, ◌++◌, true, false, List, OnOk, length};
 ghost use Rattle.ospf_adjacency.specs.Elections.{AreOfLink, ElectsOn, elects_in};
-ghost use Rattle.ospf_area.specs.Packets.{Parcel};
-ghost use Rattle.ospf_area.specs.Posting.{posted_all};
+ghost use Rattle.ospf_area.specs.Packets.{PendingPacket};
+ghost use Rattle.ospf_area.specs.Outboxes.{posted_all};
 ghost use Rattle.ospf_area.specs.Sending.{and_sends};
 ghost use Rattle.ospf_links.specs.Elections.{ElectsIf, AreReady, ElectsAt, ElectsFrom, IsReady};
 
 use crate::link::{iface_of, put_back, take_out};
 use ospf_adjacency::elect_on;
-use ospf_area::{Area, AreaLink, Outputs, Own, Post, local_of, own_of};
+use ospf_area::{Area, AreaLink, Outbox, Outputs, RouterContext, context_of, local_of};
 use ospf_exchange::Local;
 use ospf_neighbour::Neighbour;
 use std::alloc::{AllocError, Global};
@@ -38,7 +38,7 @@ fn elect_at(
     requires { AreReady area.old.links }
     ensures { OnOk result (ElectsAt number area.old out.old out.new area.new) }
 {
-    let own = own_of(area);
+    let own = context_of(area);
     match area.links.get_mut(number) {
         Some(link) => elect_link(link, number, own, &mut area.next_dd, out, alloc),
         None => Ok(()),
@@ -49,14 +49,14 @@ fn elect_at(
 fn elect_link(
     link: &mut AreaLink,
     number: usize,
-    own: Own,
+    own: RouterContext,
     next: &mut u32,
     out: &mut Outputs,
     alloc: Global,
 ) -> Result<(), AllocError>
     requires { IsReady link.old }
     ensures { OnOk result
-        ((sent : List Parcel)
+        ((sent : List PendingPacket)
         × ElectsIf link.old.elects own next.old link.old link.new next.new sent
         × (out.new ≡ and_sends out.old (posted_all own number link.old.iface sent))) }
 {
@@ -65,29 +65,29 @@ fn elect_link(
     }
     let local = local_of(own, link);
     let iface = iface_of(link);
-    let mut post = Post::new(*next, alloc);
-    link_election(link, local, &mut post)?;
-    *next = post.next();
-    post.send_all(out, own, number, &iface)
+    let mut outbox = Outbox::new(*next, alloc);
+    link_election(link, local, &mut outbox)?;
+    *next = outbox.next();
+    outbox.send_all(out, own, number, &iface)
 }
 
 // The election of a link on which one is due, and AdjOK?.
-fn link_election(link: &mut AreaLink, local: Local, post: &mut Post) -> Result<(), AllocError>
+fn link_election(link: &mut AreaLink, local: Local, outbox: &mut Outbox) -> Result<(), AllocError>
     requires electing { elects_in link.old.iface.state ≡ true }
     requires others { AreOfLink link.old.iface link.old.neighbours }
     ensures { OnOk result
-        ((sent : List Parcel)
-        × (ElectsOn local.mtu local.tick link.old.iface link.old.neighbours post.old.next sent
-        link.new.iface link.new.neighbours post.new.next
+        ((sent : List PendingPacket)
+        × (ElectsOn local.mtu local.tick link.old.iface link.old.neighbours outbox.old.next sent
+        link.new.iface link.new.neighbours outbox.new.next
         × (link.new ≡ record link.old {
           iface = link.new.iface;
           neighbours = link.new.neighbours;
           elects = false;
         }))
-        × (post.new.sent ≡ post.old.sent ++ sent)) }
+        × (outbox.new.sent ≡ outbox.old.sent ++ sent)) }
 {
-    let mut all = take_out(link, post.alloc());
-    elect_over(link, &mut all, local, post)?;
+    let mut all = take_out(link, outbox.alloc());
+    elect_over(link, &mut all, local, outbox)?;
     put_back(link, all, false);
     Ok(())
 }
@@ -97,16 +97,16 @@ fn elect_over(
     link: &mut AreaLink,
     all: &mut Vec<Neighbour>,
     local: Local,
-    post: &mut Post,
+    outbox: &mut Outbox,
 ) -> Result<(), AllocError>
     requires electing { elects_in link.old.iface.state ≡ true }
     requires link { AreOfLink link.old.iface all.old.items }
     ensures elects { OnOk result
-        ((sent : List Parcel)
-        × ElectsOn local.mtu local.tick link.old.iface all.old.items post.old.next sent
-        link.new.iface all.new.items post.new.next
-        × (post.new.sent ≡ post.old.sent ++ sent)) }
+        ((sent : List PendingPacket)
+        × ElectsOn local.mtu local.tick link.old.iface all.old.items outbox.old.next sent
+        link.new.iface all.new.items outbox.new.next
+        × (outbox.new.sent ≡ outbox.old.sent ++ sent)) }
     ensures rest { link.new ≡ record link.old { iface = link.new.iface } }
 {
-    elect_on(&mut link.iface, all, local, post)
+    elect_on(&mut link.iface, all, local, outbox)
 }

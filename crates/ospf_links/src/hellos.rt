@@ -2,7 +2,7 @@
 
 ghost use Rattle.std.specs.Prelude.{◌≡◌, ◌<◌, None, Some, OnOk, length, slice_get};
 ghost use Rattle.ospf_neighbour.specs.Neighbours.{max_neighbours, neighbour_of};
-ghost use Rattle.ospf_area.specs.Sending.{own_of};
+ghost use Rattle.ospf_area.specs.Sending.{context_of};
 ghost use Rattle.ospf_area.specs.State.{LinkValue};
 ghost use Rattle.ospf_adjacency.specs.Heard.{names};
 ghost use Rattle.ospf_links.specs.Parts.{hello_comes, hello_part, left_beside, with_neighbourhood};
@@ -10,7 +10,9 @@ ghost use Rattle.ospf_links.specs.Works.{WorksOn};
 
 use crate::link::{iface_of, is_due, put_back, take_out};
 use ospf_adjacency::{hello_on, is_named};
-use ospf_area::{Area, AreaLink, OnLink, Origin, Outputs, Own, Post, own_of};
+use ospf_area::{
+    Area, AreaLink, LinkContext, Outbox, Outputs, PacketSource, RouterContext, context_of,
+};
 use ospf_packet::{Hello, Neighbours};
 use std::alloc::{AllocError, Global};
 
@@ -21,7 +23,7 @@ use std::alloc::{AllocError, Global};
 /// `AllocError` where memory runs out; then the router is to be stopped.
 pub fn take_hello(
     area: &mut Area,
-    from: Origin,
+    from: PacketSource,
     hello: &Hello,
     neighbours: Neighbours<'_>,
     out: &mut Outputs,
@@ -31,19 +33,19 @@ pub fn take_hello(
         → neighbour_of link.neighbours from.router ≡ None
         → length link.neighbours < max_neighbours }
     ensures { OnOk result (WorksOn
-        (hello_part (own_of area.old) from hello.now (names neighbours.entry area.old.router)
+        (hello_part (context_of area.old) from hello.now (names neighbours.entry area.old.router)
         area.old.next_dd)
         from.link area.old out.old out.new area.new) }
 {
-    let own = own_of(area);
+    let own = context_of(area);
     let named = is_named(neighbours, area.router);
     match area.links.get_mut(from.link) {
         Some(link) => {
             let iface = iface_of(link);
-            let mut post = Post::new(area.next_dd, alloc);
-            hello_comes(link, from, hello, named, own, &mut post)?;
-            area.next_dd = post.next();
-            post.send_all(out, own, from.link, &iface)
+            let mut outbox = Outbox::new(area.next_dd, alloc);
+            hello_comes(link, from, hello, named, own, &mut outbox)?;
+            area.next_dd = outbox.next();
+            outbox.send_all(out, own, from.link, &iface)
         }
         None => Ok(()),
     }
@@ -52,23 +54,31 @@ pub fn take_hello(
 // Takes a Hello that comes on a link.
 fn hello_comes(
     link: &mut AreaLink,
-    from: Origin,
+    from: PacketSource,
     hello: &Hello,
     named: bool,
-    own: Own,
-    post: &mut Post,
+    own: RouterContext,
+    outbox: &mut Outbox,
 ) -> Result<(), AllocError>
     requires room { neighbour_of link.old.neighbours from.router ≡ None →
         length link.old.neighbours < max_neighbours }
     ensures after { OnOk result
         (link.new
-        ≡ with_neighbourhood (hello_comes own from hello.now named post.old link.old) link.old) }
-    ensures left { OnOk result (post.new
-        ≡ left_beside (hello_comes own from hello.now named post.old link.old)) }
+        ≡ with_neighbourhood (hello_comes own from hello.now named outbox.old link.old) link.old) }
+    ensures left { OnOk result (outbox.new
+        ≡ left_beside (hello_comes own from hello.now named outbox.old link.old)) }
 {
-    let at = OnLink::of(own, link);
-    let mut all = take_out(link, post.alloc());
-    let elects = hello_on(&mut all, from.router, from.address, hello, named, &at, post)?;
+    let at = LinkContext::of(own, link);
+    let mut all = take_out(link, outbox.alloc());
+    let elects = hello_on(
+        &mut all,
+        from.router,
+        from.address,
+        hello,
+        named,
+        &at,
+        outbox,
+    )?;
     let due = is_due(link, elects);
     put_back(link, all, due);
     Ok(())

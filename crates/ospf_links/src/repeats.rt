@@ -4,7 +4,7 @@ ghost use Rattle.std.specs.Prelude.{◌≡◌, OnOk, map};
 ghost use Rattle.std.specs.List.{flat_map};
 ghost use Rattle.ospf_adjacency.specs.Repeats.{due_keys};
 ghost use Rattle.ospf_area.specs.Sending.{and_sends};
-ghost use Rattle.ospf_area.specs.Posting.{local_by, posted_all};
+ghost use Rattle.ospf_area.specs.Outboxes.{local_by, posted_all};
 ghost use Rattle.ospf_area.specs.State.{LinkValue};
 ghost use Rattle.ospf_area.specs.Places.{flat_from};
 ghost use Rattle.ospf_links.specs.Repeats.{link_repeated, link_repeats_out, marked_all, repeats_for};
@@ -12,7 +12,7 @@ ghost use Rattle.ospf_links.specs.Repeats.{link_repeated, link_repeats_out, mark
 use crate::link::{put_back, take_out};
 use crate::marks::mark_all;
 use ospf_adjacency::repeat;
-use ospf_area::{AreaLink, LinkSettings, OnLink, Outputs, Own, Post, local_by};
+use ospf_area::{AreaLink, LinkContext, LinkSettings, Outbox, Outputs, RouterContext, local_by};
 use ospf_base::LsaKey;
 use ospf_iface::Iface;
 use ospf_lsdb::Lsdb;
@@ -28,7 +28,7 @@ use std::collections::BTreeSet;
 pub fn repeat_all(
     links: &mut [AreaLink],
     database: &Lsdb,
-    own: Own,
+    own: RouterContext,
     sent: &mut BTreeSet<LsaKey>,
     out: &mut Outputs,
     alloc: Global,
@@ -53,7 +53,7 @@ pub fn repeat_all(
 // A link out of which packets go again, by its number.
 #[derive(Clone, Copy)]
 struct Repeating {
-    own: Own,
+    own: RouterContext,
     number: usize,
     iface: Iface,
     settings: LinkSettings,
@@ -64,7 +64,7 @@ fn repeat_on(
     link: &mut AreaLink,
     number: usize,
     database: &Lsdb,
-    own: Own,
+    own: RouterContext,
     sent: &mut BTreeSet<LsaKey>,
     out: &mut Outputs,
     alloc: Global,
@@ -179,14 +179,14 @@ fn repeat_to(
         (due_keys on.now.settings.retransmit on.now.own.tick database.now neighbour.old)
         sent.old.keys) }
 {
-    let at = OnLink {
+    let at = LinkContext {
         iface: on.iface,
         local: local_by(on.own, on.settings),
     };
-    let mut post = Post::new(0, alloc);
+    let mut outbox = Outbox::new(0, alloc);
     let retransmit = on.settings.retransmit;
     let delay = on.settings.transmit_delay;
-    let keys = repeat(neighbour, database, &at, retransmit, delay, &mut post)?;
+    let keys = repeat(neighbour, database, &at, retransmit, delay, &mut outbox)?;
     mark_all(sent, &keys)?;
-    post.send_all(out, on.own, on.number, &on.iface)
+    outbox.send_all(out, on.own, on.number, &on.iface)
 }

@@ -5,7 +5,7 @@ ghost use Rattle.ospf_adjacency.specs.Answers.{answered_keys};
 ghost use Rattle.ospf_neighbour.specs.Machine.{is_exchanging};
 ghost use Rattle.ospf_neighbour.specs.Neighbour.{NeighbourValue};
 ghost use Rattle.ospf_neighbour.specs.Neighbours.{AreNeighboursRising, neighbour_of};
-ghost use Rattle.ospf_area.specs.Sending.{own_of};
+ghost use Rattle.ospf_area.specs.Sending.{context_of};
 ghost use Rattle.ospf_area.specs.State.{LinkValue};
 ghost use Rattle.ospf_adjacency.specs.Heard.{neighbourhood};
 ghost use Rattle.ospf_links.specs.Parts.{answered_on, left_beside, request_at, request_on, request_part, with_neighbourhood};
@@ -15,7 +15,9 @@ ghost use Rattle.ospf_links.specs.Works.{WorksOn};
 use crate::link::{iface_of, is_due, put_back, take_out};
 use crate::marks::mark_all;
 use ospf_adjacency::{is_at, take_request as answer_to};
-use ospf_area::{Area, AreaLink, OnLink, Origin, Outputs, Own, Post, own_of};
+use ospf_area::{
+    Area, AreaLink, LinkContext, Outbox, Outputs, PacketSource, RouterContext, context_of,
+};
 use ospf_base::LsaKey;
 use ospf_lsdb::Lsdb;
 use ospf_neighbour::{Neighbour, place_for};
@@ -30,7 +32,7 @@ use std::collections::BTreeSet;
 /// `AllocError` where memory runs out; then the router is to be stopped.
 pub fn take_request(
     area: &mut Area,
-    from: Origin,
+    from: PacketSource,
     requests: Requests<'_>,
     out: &mut Outputs,
     alloc: Global,
@@ -39,7 +41,7 @@ pub fn take_request(
         → (n : NeighbourValue) → neighbour_of link.neighbours from.router ≡ Some n
         → is_exchanging n.state ≡ true }
     ensures { OnOk result (WorksOn
-        (request_part (own_of area.old) from area.old.database requests.entry area.old.next_dd)
+        (request_part (context_of area.old) from area.old.database requests.entry area.old.next_dd)
         from.link
         (record area.old {
           sent = marked_all
@@ -49,15 +51,15 @@ pub fn take_request(
         })
         out.old out.new area.new) }
 {
-    let own = own_of(area);
+    let own = context_of(area);
     match area.links.get_mut(from.link) {
         Some(link) => {
             let iface = iface_of(link);
-            let mut post = Post::new(area.next_dd, alloc);
-            let keys = request_comes(link, from, requests, &area.database, own, &mut post)?;
+            let mut outbox = Outbox::new(area.next_dd, alloc);
+            let keys = request_comes(link, from, requests, &area.database, own, &mut outbox)?;
             mark_all(&mut area.sent, &keys)?;
-            area.next_dd = post.next();
-            post.send_all(out, own, from.link, &iface)
+            area.next_dd = outbox.next();
+            outbox.send_all(out, own, from.link, &iface)
         }
         None => Ok(()),
     }
@@ -66,11 +68,11 @@ pub fn take_request(
 // A Request comes on a link. Answers the keys whose copies go out.
 fn request_comes(
     link: &mut AreaLink,
-    from: Origin,
+    from: PacketSource,
     requests: Requests<'_>,
     database: &Lsdb,
-    own: Own,
-    post: &mut Post,
+    own: RouterContext,
+    outbox: &mut Outbox,
 ) -> Result<BTreeSet<LsaKey>, AllocError>
     requires exchanging { (n : NeighbourValue) →
         neighbour_of link.old.neighbours from.router ≡ Some n
@@ -78,9 +80,9 @@ fn request_comes(
     ensures after { OnOk result
         (link.new
         ≡ with_neighbourhood
-        (request_at own from database.now requests.entry post.old link.old) link.old) }
+        (request_at own from database.now requests.entry outbox.old link.old) link.old) }
     ensures left { OnOk result
-        (post.new ≡ left_beside (request_at own from database.now requests.entry post.old
+        (outbox.new ≡ left_beside (request_at own from database.now requests.entry outbox.old
         link.old)) }
     ensures keys { IfOk result
         (λ keys.
@@ -90,10 +92,10 @@ fn request_comes(
           | Some n ↦ answered_keys database.now requests.entry
         ])) }
 {
-    let at = OnLink::of(own, link);
+    let at = LinkContext::of(own, link);
     let delay = link.settings.transmit_delay;
-    let mut all = take_out(link, post.alloc());
-    let keys = answer_in(&mut all, from, requests, database, &at, delay, post)?;
+    let mut all = take_out(link, outbox.alloc());
+    let keys = answer_in(&mut all, from, requests, database, &at, delay, outbox)?;
     let due = is_due(link, false);
     put_back(link, all, due);
     Ok(keys)
@@ -102,20 +104,20 @@ fn request_comes(
 // Takes a Request from one of the neighbours that were taken out.
 fn answer_in(
     all: &mut Vec<Neighbour>,
-    from: Origin,
+    from: PacketSource,
     requests: Requests<'_>,
     database: &Lsdb,
-    at: &OnLink,
+    at: &LinkContext,
     delay: u16,
-    post: &mut Post,
+    outbox: &mut Outbox,
 ) -> Result<BTreeSet<LsaKey>, AllocError>
     requires rising { AreNeighboursRising all.old.items }
     requires exchanging { (n : NeighbourValue) → neighbour_of all.old.items from.router ≡ Some n
         → is_exchanging n.state ≡ true }
     ensures turn { OnOk result
-        (neighbourhood all.new.items false post.new
+        (neighbourhood all.new.items false outbox.new
         ≡ request_on at.now.iface at.now.local from.router delay database.now requests.entry
-        (neighbourhood all.old.items false post.old)) }
+        (neighbourhood all.old.items false outbox.old)) }
     ensures keys { IfOk result
         (λ keys.
         keys.keys
@@ -126,9 +128,9 @@ fn answer_in(
 {
     let place = place_for(all, from.router);
     if !is_at(all, place, from.router) {
-        return Ok(BTreeSet::new(post.alloc()));
+        return Ok(BTreeSet::new(outbox.alloc()));
     }
     let neighbour = &mut all[place];
-    let keys = answer_to(neighbour, requests, database, at, delay, post)?;
+    let keys = answer_to(neighbour, requests, database, at, delay, outbox)?;
     Ok(keys)
 }

@@ -9,7 +9,7 @@ ghost use Rattle.ospf_links.specs.Parts.{hello_out, link_timed};
 
 use crate::link::{put_back, take_out};
 use ospf_adjacency::{send_due_hello, tick_timers};
-use ospf_area::{AreaLink, Outputs, Own, Post};
+use ospf_area::{AreaLink, Outbox, Outputs, RouterContext};
 use ospf_neighbour::Neighbour;
 use std::alloc::{AllocError, Global};
 
@@ -28,7 +28,7 @@ pub fn count_timers(links: &mut [AreaLink], alloc: Global)
 /// `AllocError` where memory runs out; then the router is to be stopped.
 pub fn send_hellos(
     links: &mut [AreaLink],
-    own: Own,
+    own: RouterContext,
     out: &mut Outputs,
     alloc: Global,
 ) -> Result<(), AllocError>
@@ -67,7 +67,7 @@ fn count(link: &mut AreaLink, all: &mut Vec<Neighbour>) -> bool
 fn send_hello_on(
     link: &mut AreaLink,
     number: usize,
-    own: Own,
+    own: RouterContext,
     out: &mut Outputs,
     alloc: Global,
 ) -> Result<(), AllocError>
@@ -75,7 +75,7 @@ fn send_hello_on(
         ≡ record link.old { iface = hello_ticked link.old.iface }) }
     ensures sent { OnOk result (out.new ≡ and_sends out.old (hello_out own number link.old)) }
 {
-    let mut post = Post::new(0, alloc);
-    send_due_hello(&mut link.iface, link.neighbours.all(), &mut post)?;
-    post.send_all(out, own, number, &link.iface)
+    let mut outbox = Outbox::new(0, alloc);
+    send_due_hello(&mut link.iface, link.neighbours.all(), &mut outbox)?;
+    outbox.send_all(out, own, number, &link.iface)
 }

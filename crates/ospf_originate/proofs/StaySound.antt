@@ -33,13 +33,13 @@ use Rattle.ospf_area.specs.Flooding.{flooded_links, on_link, goes_anywhere, rele
 use Rattle.ospf_area.specs.Numbers.{counts, is_self_originated, marked}
 use Rattle.ospf_area.specs.Outputs.{OutputsValue}
 use Rattle.ospf_area.specs.Places.{map_from}
-use Rattle.ospf_area.specs.Sending.{own_of}
+use Rattle.ospf_area.specs.Sending.{context_of}
 use Rattle.ospf_area.specs.Standing.{acknowledging}
 use Rattle.ospf_area.specs.State.{AreaValue, LinkValue, database_entry, numbering_of}
 use Rattle.ospf_area.proofs.Words.{kept_in, changed_link, changed_on, delayed_on, flooded_link, released_link, changed_if, flooded_neighbour, greatest_after}
 use Rattle.ospf_area.specs.declared.changes.AdjacencyChange.{AdjacencyChange}
-use Rattle.ospf_area.specs.declared.flooding.Origin.{Origin}
-use Rattle.ospf_area.specs.declared.sending.Own.{Own}
+use Rattle.ospf_area.specs.declared.flooding.PacketSource.{PacketSource}
+use Rattle.ospf_area.specs.declared.sending.RouterContext.{RouterContext}
 use Rattle.ospf_area.specs.declared.state.Numbering.{Numbering}
 use Rattle.ospf_update.specs.Aging.{Flushes, TickAges, copy_flooded, turned_area}
 use Rattle.ospf_area.specs.Acting.{Becomes}
@@ -105,14 +105,14 @@ set_up_map g like xs up = subst (λ (ls : List LinkValue). AreSetUp ls) (map-map
 released_up : (key : LsaKey) (xs : List LinkValue) → AreSetUp xs → AreSetUp (released key xs)
 released_up key xs up = set_up_map (released_link key) (λ x. record { iface = refl; many = length-map x.neighbours (key_unlisted key) }) xs up
 
-flooded_up : (key : LsaKey) (h : LsaHeader) (from : Option Origin) (tick : ℕ) (xs : List LinkValue) → AreSetUp xs → AreSetUp (flooded_links key h from tick xs)
+flooded_up : (key : LsaKey) (h : LsaHeader) (from : Option PacketSource) (tick : ℕ) (xs : List LinkValue) → AreSetUp xs → AreSetUp (flooded_links key h from tick xs)
 flooded_up key h from tick xs up =
     set_up_from (flooded_link key h from tick) (λ l x. record { iface = refl; many = length-map x.neighbours (flooded_neighbour key h (on_link from l) tick) }) xs up
 
-turned_up : (own : Own) (xs : List LinkValue) → AreSetUp xs → AreSetUp (map (turned_link own) xs)
+turned_up : (own : RouterContext) (xs : List LinkValue) → AreSetUp xs → AreSetUp (map (turned_link own) xs)
 turned_up own xs up = set_up_map (turned_link own) (λ x. record { iface = refl; many = length-map x.neighbours (turned_to_next x.settings.mtu own.tick) }) xs up
 
-changed_up : (f : Origin) (change : AdjacencyChange) (tick : ℕ) (xs : List LinkValue) → AreSetUp xs → AreSetUp (changed_at f change tick xs)
+changed_up : (f : PacketSource) (change : AdjacencyChange) (tick : ℕ) (xs : List LinkValue) → AreSetUp xs → AreSetUp (changed_at f change tick xs)
 changed_up f change tick xs up = set_up_from (changed_on f change tick) (λ l x. by_test x (l == f.link)) xs up
   where
     by_test : (x : LinkValue) (b : Bool) → IsLike x (if b then changed_link f.router change tick x else x)
@@ -139,15 +139,15 @@ along : (s s' : AreaValue) → s' ≡ s → IsSound s → IsSound s'
 along s s' is sound = subst (λ (x : AreaValue). IsSound x) (sym is) sound
 
 pub turned_sound : (s : AreaValue) → IsSound s → IsSound (turned_area s)
-turned_sound s sound = relinked s (map (turned_link (own_of s)) s.links) (turned_up (own_of s) s.links sound.links) sound
+turned_sound s sound = relinked s (map (turned_link (context_of s)) s.links) (turned_up (context_of s) s.links sound.links) sound
 
 pub answered_sound : (s : AreaValue) → IsSound s → IsSound (record s { heard = [] })
 answered_sound s sound = rest s s.links s.direct s.tick s.next_dd s.sent [] sound.links sound
 
-changed_sound : (f : Origin) (change : AdjacencyChange) (s : AreaValue) → IsSound s → IsSound (record s { links = changed_at f change s.tick s.links })
+changed_sound : (f : PacketSource) (change : AdjacencyChange) (s : AreaValue) → IsSound s → IsSound (record s { links = changed_at f change s.tick s.links })
 changed_sound f change s sound = relinked s (changed_at f change s.tick s.links) (changed_up f change s.tick s.links sound.links) sound
 
-acknowledging_sound : (a : Acknowledgement) (f : Origin) (h : LsaHeader) (s : AreaValue) → IsSound s → IsSound (acknowledging a f h s)
+acknowledging_sound : (a : Acknowledgement) (f : PacketSource) (h : LsaHeader) (s : AreaValue) → IsSound s → IsSound (acknowledging a f h s)
 acknowledging_sound answer.None f h s sound = sound
 acknowledging_sound answer.Delayed f h s sound = relinked s (delayed_at f.link h s.links) (delayed_up f.link h s.links sound.links) sound
 acknowledging_sound answer.Direct f h s sound = rest s s.links (s.direct ++ h ∷ []) s.tick s.next_dd s.sent s.heard sound.links sound
@@ -176,7 +176,7 @@ stored_known lsa tick by_flooding db db' installs key =
     ∙ ap (λ (k : LsaKey). if same_key k key then Some (entry_from lsa tick by_flooding).contents else known db key) (sym (key-entry_from lsa tick by_flooding))
     ∙ ap (λ (c : List ℕ). if same_key (key_of lsa) key then Some c else known db key) (contents-entry_from lsa tick by_flooding)
 
-pub store_sound : (lsa : List ℕ) (from : Option Origin) (s s' : AreaValue) → Stores lsa from s s' → IsSound s → IsSound s'
+pub store_sound : (lsa : List ℕ) (from : Option PacketSource) (s s' : AreaValue) → Stores lsa from s s' → IsSound s → IsSound s'
 store_sound lsa from s s' stores sound =
     let key = key_of lsa in
     let h = header_of lsa in
@@ -195,17 +195,17 @@ store_sound lsa from s s' stores sound =
 
 -- ---- the rules of an Update
 
-replied_sound : (reply : Option (List ℕ)) (f : Origin) (key : LsaKey) (s : AreaValue) → IsSound s → IsSound (replied reply f key s)
+replied_sound : (reply : Option (List ℕ)) (f : PacketSource) (key : LsaKey) (s : AreaValue) → IsSound s → IsSound (replied reply f key s)
 replied_sound None f key s sound = sound
 replied_sound (Some lsa) f key s sound =
     let links = changed_at f (AdjacencyChange.IsSent (instance_of lsa)) s.tick s.links in
     rest s links s.direct s.tick s.next_dd (marked key true s.sent) s.heard (changed_up f (AdjacencyChange.IsSent (instance_of lsa)) s.tick s.links sound.links) sound
 
-restart_sound : (f : Origin) (s : AreaValue) (o o' : OutputsValue) (s' : AreaValue) → Becomes (restarted f s) o o' s' → IsSound s → IsSound s'
+restart_sound : (f : PacketSource) (s : AreaValue) (o o' : OutputsValue) (s' : AreaValue) → Becomes (restarted f s) o o' s' → IsSound s → IsSound s'
 restart_sound f s o o' s' is sound =
     along _ s' is.state (rest s (changed_at f (AdjacencyChange.Restarts s.next_dd) s.tick s.links) s.direct s.tick _ s.sent s.heard (changed_up f (AdjacencyChange.Restarts s.next_dd) s.tick s.links sound.links) sound)
 
-rule_sound : (r : Option LsaRule) (f : Origin) (lsa : List ℕ) (s : AreaValue) (o o' : OutputsValue) (s' : AreaValue) → MeetsRule r f lsa s o o' s' → IsSound s → IsSound s'
+rule_sound : (r : Option LsaRule) (f : PacketSource) (lsa : List ℕ) (s : AreaValue) (o o' : OutputsValue) (s' : AreaValue) → MeetsRule r f lsa s o o' s' → IsSound s → IsSound s'
 rule_sound None f lsa s o o' s' is sound = along s s' is.state sound
 rule_sound (Some AcknowledgesExpired) f lsa s o o' s' is sound = along _ s' is.state (acknowledging_sound _ f (header_of lsa) s sound)
 rule_sound (Some TooSoon) f lsa s o o' s' is sound = along s s' is.state sound
@@ -216,25 +216,25 @@ rule_sound (Some Duplicate) f lsa s o o' s' is sound =
     along _ s' is.state (acknowledging_sound _ f (header_of lsa) _ (changed_sound f (AdjacencyChange.Acknowledges (instance_of lsa)) s sound))
 rule_sound (Some Stale) f lsa s o o' s' is sound = along _ s' is.state (replied_sound (reply_to s (key_of lsa)) f (key_of lsa) s sound)
 
-met_sound : (f : Origin) (lsa : List ℕ) (s : AreaValue) (o o' : OutputsValue) (s' : AreaValue) → MeetsAndTurns f lsa s o o' s' → IsSound s → IsSound s'
+met_sound : (f : PacketSource) (lsa : List ℕ) (s : AreaValue) (o o' : OutputsValue) (s' : AreaValue) → MeetsAndTurns f lsa s o o' s' → IsSound s → IsSound s'
 met_sound f lsa s o o' s' is sound = along (turned_area is.mid) s' is.state (turned_sound is.mid (rule_sound _ f lsa s o is.so_far is.mid is.meets sound))
 
-slice_sound : (f : Origin) (bytes : List ℕ) (s : AreaValue) (o o' : OutputsValue) (s' : AreaValue) → TakesSlice f bytes s o o' s' → IsSound s → IsSound s'
+slice_sound : (f : PacketSource) (bytes : List ℕ) (s : AreaValue) (o o' : OutputsValue) (s' : AreaValue) → TakesSlice f bytes s o o' s' → IsSound s → IsSound s'
 slice_sound f bytes s o o' s' (Met is mid so_far meets state outputs) sound = met_sound f bytes s o o' s' (record { mid = mid; so_far = so_far; meets = meets; state = state; outputs = outputs }) sound
 slice_sound f bytes s o o' s' (PassedOver is_not passes outputs) sound =
     let p = passed s.passes_over f bytes s s' passes in
     along (record s { direct = p.direct }) s' p.state (rest s s.links p.direct s.tick s.next_dd s.sent s.heard sound.links sound)
 
-slices_sound : (f : Origin) (slices : List (List ℕ)) (s : AreaValue) (o o' : OutputsValue) (s' : AreaValue) → TakesSlices f slices s o o' s' → IsSound s → IsSound s'
+slices_sound : (f : PacketSource) (slices : List (List ℕ)) (s : AreaValue) (o o' : OutputsValue) (s' : AreaValue) → TakesSlices f slices s o o' s' → IsSound s → IsSound s'
 slices_sound f [] s o o' s' unchanged sound = along s s' unchanged.state sound
 slices_sound f (bytes ∷ slices) s o o' s' (mid, so_far, first, others) sound = slices_sound f slices mid so_far o' s' others (slice_sound f bytes s o so_far mid first sound)
 
-pub update_sound : (f : Origin) (slices : List (List ℕ)) (s : AreaValue) (o o' : OutputsValue) (s' : AreaValue) → TakesUpdate f slices s o o' s' → IsSound s → IsSound s'
+pub update_sound : (f : PacketSource) (slices : List (List ℕ)) (s : AreaValue) (o o' : OutputsValue) (s' : AreaValue) → TakesUpdate f slices s o o' s' → IsSound s → IsSound s'
 update_sound f slices s o o' s' is sound =
     let mid_sound = slices_sound f slices s o is.so_far is.mid is.takes sound in
     along (record is.mid { direct = [] }) s' is.state (rest is.mid is.mid.links [] is.mid.tick is.mid.next_dd is.mid.sent is.mid.heard mid_sound.links mid_sound)
 
-pub header_sound : (f : Origin) (h : LsaHeader) (s : AreaValue) → IsSound s → IsSound (header_met f h s)
+pub header_sound : (f : PacketSource) (h : LsaHeader) (s : AreaValue) → IsSound s → IsSound (header_met f h s)
 header_sound f h s sound = by_named (named_by h (copy_in_database s.database (key_of_header h)))
   where
     by_named : (i : Option Instance) → IsSound (taken_off f i s)
@@ -325,7 +325,7 @@ pub relinked_sound : (s : AreaValue) (links : List LinkValue) (tick : ℕ) → A
 relinked_sound s links tick up sound = rest s links s.direct tick s.next_dd s.sent s.heard up sound
 
 -- one LSA of an Update
-pub lsa_sound : (f : Origin) (lsa : List ℕ) (s : AreaValue) (o o' : OutputsValue) (s' : AreaValue) → MeetsLsa f lsa s o o' s' → IsSound s → IsSound s'
+pub lsa_sound : (f : PacketSource) (lsa : List ℕ) (s : AreaValue) (o o' : OutputsValue) (s' : AreaValue) → MeetsLsa f lsa s o o' s' → IsSound s → IsSound s'
 lsa_sound f lsa s o o' s' is sound = rule_sound (rule_met s f lsa) f lsa s o o' s' is sound
 
 -- ---- the parts of these calls

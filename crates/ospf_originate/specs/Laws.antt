@@ -20,8 +20,8 @@ use Rattle.ospf_area.specs.Outputs.{OutputsValue}
 use Rattle.ospf_area.specs.Standing.{acknowledging}
 use Rattle.ospf_area.specs.State.{AreaValue, LinkValue, kept_number, numbering_of}
 use Rattle.ospf_area.specs.declared.changes.AdjacencyChange.{AdjacencyChange}
-use Rattle.ospf_area.specs.declared.flooding.Origin.{Origin}
-use Rattle.ospf_area.specs.declared.sending.Own.{Own}
+use Rattle.ospf_area.specs.declared.flooding.PacketSource.{PacketSource}
+use Rattle.ospf_area.specs.declared.sending.RouterContext.{RouterContext}
 use Rattle.ospf_flood.specs.declared.acknowledgement.Acknowledgement.{Acknowledgement}
 use Rattle.ospf_update.specs.Aging.{Flushes, SendsCopy, TickAges, turned_area}
 use Rattle.ospf_update.specs.Laws.{IsShortLsa}
@@ -96,9 +96,9 @@ pub record OwnStaySound : Type 0 where
 
 -- an Update, a header that is acknowledged, the clock and LSAs that leave keep it
 pub record AreaStaysSound : Type 0 where
-  pub updated : (f : Origin) (slices : List (List ℕ)) (s : AreaValue) (o o' : OutputsValue)
+  pub updated : (f : PacketSource) (slices : List (List ℕ)) (s : AreaValue) (o o' : OutputsValue)
       (s' : AreaValue) → TakesUpdate f slices s o o' s' → IsSound s → IsSound s'
-  pub acknowledged : (f : Origin) (h : LsaHeader) (s : AreaValue) → IsSound s
+  pub acknowledged : (f : PacketSource) (h : LsaHeader) (s : AreaValue) → IsSound s
       → IsSound (header_met f h s)
   pub aged : (s : AreaValue) (o o' : OutputsValue) (s' : AreaValue) → TickAges s o o' s' → IsSound s
       → IsSound s'
@@ -109,11 +109,11 @@ pub record AreaStaysSound : Type 0 where
 pub record LinksStaySetUp : Type 0 where
   pub released : (key : LsaKey) (links : List LinkValue) → AreSetUp links
       → AreSetUp (released key links)
-  pub flooded : (key : LsaKey) (h : LsaHeader) (from : Option Origin) (tick : ℕ)
+  pub flooded : (key : LsaKey) (h : LsaHeader) (from : Option PacketSource) (tick : ℕ)
       (links : List LinkValue) → AreSetUp links → AreSetUp (flooded_links key h from tick links)
-  pub turned : (own : Own) (links : List LinkValue) → AreSetUp links
+  pub turned : (own : RouterContext) (links : List LinkValue) → AreSetUp links
       → AreSetUp (map (turned_link own) links)
-  pub changed : (f : Origin) (change : AdjacencyChange) (tick : ℕ) (links : List LinkValue)
+  pub changed : (f : PacketSource) (change : AdjacencyChange) (tick : ℕ) (links : List LinkValue)
       → AreSetUp links → AreSetUp (changed_at f change tick links)
   pub delayed : (number : ℕ) (h : LsaHeader) (links : List LinkValue) → AreSetUp links
       → AreSetUp (delayed_at number h links)
@@ -131,18 +131,19 @@ pub record PartsStaySound : Type 0 where
         numbering = counts key number s;
         greatest = if is_own s.router key then int_max s.greatest number else s.greatest;
       })
-  pub acknowledging : (a : Acknowledgement) (f : Origin) (h : LsaHeader) (s : AreaValue) → IsSound s
+  pub acknowledging : (a : Acknowledgement) (f : PacketSource) (h : LsaHeader) (s : AreaValue)
+      → IsSound s
       → IsSound (acknowledging a f h s)
-  pub stored : (lsa : List ℕ) (from : Option Origin) (s s' : AreaValue) → Stores lsa from s s'
+  pub stored : (lsa : List ℕ) (from : Option PacketSource) (s s' : AreaValue) → Stores lsa from s s'
       → IsSound s → IsSound s'
-  pub met : (f : Origin) (lsa : List ℕ) (s : AreaValue) (o o' : OutputsValue) (s' : AreaValue)
+  pub met : (f : PacketSource) (lsa : List ℕ) (s : AreaValue) (o o' : OutputsValue) (s' : AreaValue)
       → MeetsLsa f lsa s o o' s' → IsSound s → IsSound s'
-  pub begun_again : (f : Origin) (s : AreaValue) (o o' : OutputsValue) (s' : AreaValue)
+  pub begun_again : (f : PacketSource) (s : AreaValue) (o o' : OutputsValue) (s' : AreaValue)
       → Becomes (restarted f s) o o' s' → IsSound s → IsSound s'
   pub turned : (s : AreaValue) → IsSound s → IsSound (turned_area s)
   pub copied : (key : LsaKey) (s : AreaValue) (o o' : OutputsValue) (s' : AreaValue)
       → SendsCopy key s o o' s' → IsSound s → IsSound s'
-  pub flooded : (lsa : List ℕ) (from : Option Origin) (s : AreaValue) → IsSound s
+  pub flooded : (lsa : List ℕ) (from : Option PacketSource) (s : AreaValue) → IsSound s
       → IsSound
       (record s { links = flooded_links (key_of lsa) (header_of lsa) from s.tick s.links })
   pub answered : (s : AreaValue) → IsSound s → IsSound (record s { direct = [] })

@@ -11,7 +11,7 @@ use Rattle.ospf_lsdb.specs.Moments.{among}
 use Rattle.ospf_area.specs.Flooding.{flooding_updates, released}
 use Rattle.ospf_area.specs.Numbers.{is_own}
 use Rattle.ospf_area.specs.Outputs.{OutputsValue}
-use Rattle.ospf_area.specs.Sending.{and_sends, own_of}
+use Rattle.ospf_area.specs.Sending.{and_sends, context_of}
 use Rattle.ospf_area.specs.State.{AreaValue, database_entry, kept_number}
 use Rattle.ospf_area.specs.declared.state.Numbering.{Numbering}
 use Rattle.ospf_update.specs.Aging.{Flushes, turn_out, turned_area}
@@ -42,7 +42,7 @@ pub record Issues (w : WantedValue) (number : ℤ) (before : AreaValue) (out out
   pub outputs : out'
       ≡ record out {
         sent = out.sent
-            ++ flooding_updates (own_of before) lsa None (released (key_of lsa) before.links);
+            ++ flooding_updates (context_of before) lsa None (released (key_of lsa) before.links);
         issued = out.issued ++ lsa ∷ [];
       }
 

@@ -15,7 +15,7 @@ use Rattle.ospf_lsa.specs.declared.header.LsaHeader.{LsaHeader}
 use Rattle.ospf_exchange.specs.Exchange.{dd_answer}
 use Rattle.ospf_exchange.specs.declared.fault.ExchangeFault.TheVariants as exchange
 use Rattle.ospf_exchange.specs.declared.rule.Local.{Local}
-use Rattle.ospf_area.specs.Packets.{dd_parcel}
+use Rattle.ospf_area.specs.Packets.{dd_packet}
 use Rattle.ospf_adjacency.specs.Adjacency.{is_broadcast}
 use Rattle.ospf_step.specs.Receipt.{drop_of_description, drop_of_packet, is_destination}
 use Rattle.ospf_step.specs.declared.dropped.Dropped.{Dropped}
@@ -45,7 +45,7 @@ pub record IsRouterAt (e : LinkEnd) (local : Local) (a : AreaId) (i : Iface) : T
 pub data IsBodyFrom (d : LinkEnd) : BodyMeaning → Type 0 where
   a_hello : (j : Iface) (heard : List RouterId) → IsIfaceOf d j
       → IsBodyFrom d (hello (own_hello j) heard)
-  a_description : (j : Iface) (n : NeighbourValue) → IsBodyFrom d (dd_parcel j d.mtu n).body
+  a_description : (j : Iface) (n : NeighbourValue) → IsBodyFrom d (dd_packet j d.mtu n).body
   a_request : (entries : List RequestEntry) → IsBodyFrom d (request entries)
   an_update : (lsas : List (List ℕ)) → IsBodyFrom d (update lsas)
   an_acknowledgment : (headers : List LsaHeader) → IsBodyFrom d (acknowledgment headers)

@@ -19,7 +19,7 @@ use Rattle.ospf_area.specs.Numbers.{is_self_originated}
 use Rattle.ospf_area.specs.Outputs.{OutputsValue, no_outputs, then_outputs}
 use Rattle.ospf_area.specs.Standing.{acknowledging}
 use Rattle.ospf_area.specs.State.{AreaValue, database_entry}
-use Rattle.ospf_area.specs.declared.flooding.Origin.{Origin}
+use Rattle.ospf_area.specs.declared.flooding.PacketSource.{PacketSource}
 use Rattle.ospf_update.specs.Meets.{MeetsRule, heard_by, replied, rule_met}
 use Rattle.ospf_update.proofs.Words.{taken_off}
 use Rattle.ospf_update.proofs.PassLemmas.{passed}
@@ -106,16 +106,16 @@ times_keep (suc n) R s out t each both =
 
 -- ---- parts
 
-acknowledging_keeps : (a : Acknowledgement) (f : Origin) (h : LsaHeader) (s : AreaValue) → (acknowledging a f h s).database ≡ s.database
+acknowledging_keeps : (a : Acknowledgement) (f : PacketSource) (h : LsaHeader) (s : AreaValue) → (acknowledging a f h s).database ≡ s.database
 acknowledging_keeps answer.None f h s = refl
 acknowledging_keeps answer.Delayed f h s = refl
 acknowledging_keeps answer.Direct f h s = refl
 
-replied_keeps : (o : Option (List ℕ)) (f : Origin) (key : LsaKey) (s : AreaValue) → (replied o f key s).database ≡ s.database
+replied_keeps : (o : Option (List ℕ)) (f : PacketSource) (key : LsaKey) (s : AreaValue) → (replied o f key s).database ≡ s.database
 replied_keeps None f key s = refl
 replied_keeps (Some lsa) f key s = refl
 
-taken_off_keeps : (o : Option Instance) (f : Origin) (s : AreaValue) → (taken_off f o s).database ≡ s.database
+taken_off_keeps : (o : Option Instance) (f : PacketSource) (s : AreaValue) → (taken_off f o s).database ≡ s.database
 taken_off_keeps None f s = refl
 taken_off_keeps (Some i) f s = refl
 
@@ -142,7 +142,7 @@ stores_keep lsa tick by_flooding out s t stores brings key e at fresh = by (same
     by true one = inl (instance_of lsa, brings, key-entry_from lsa tick by_flooding ∙ same_key-eq _ key one)
     by false two = let there : database_entry s key ≡ Some e = simp two at (sym is ∙ at) in inr (e, there, fresh, refl)
 
-rule_keeps : (r : Option LsaRule) (f : Origin) (lsa : List ℕ) (s : AreaValue) (out : OutputsValue) (t : AreaValue) → MeetsRule r f lsa s no_outputs out t → KeepsBut out s t
+rule_keeps : (r : Option LsaRule) (f : PacketSource) (lsa : List ℕ) (s : AreaValue) (out : OutputsValue) (t : AreaValue) → MeetsRule r f lsa s no_outputs out t → KeepsBut out s t
 unfolding database_of
 rule_keeps None f lsa s out t is = by_state out s t is.state
 rule_keeps (Some rule.AcknowledgesExpired) f lsa s out t is = by_database out s t (ap database_of is.state ∙ acknowledging_keeps _ f _ s)
@@ -155,7 +155,7 @@ rule_keeps (Some rule.BadRequest) f lsa s out t is = by_database out s t (ap dat
 rule_keeps (Some rule.Duplicate) f lsa s out t is = by_database out s t (ap database_of is.state ∙ acknowledging_keeps _ f _ _)
 rule_keeps (Some rule.Stale) f lsa s out t is = by_database out s t (ap database_of is.state ∙ replied_keeps _ f _ s)
 
-lsa_keeps : (f : Origin) (lsa : List ℕ) (s : AreaValue) (out : OutputsValue) (t : AreaValue) → LsaPart f lsa s out t → KeepsBut out s t
+lsa_keeps : (f : PacketSource) (lsa : List ℕ) (s : AreaValue) (out : OutputsValue) (t : AreaValue) → LsaPart f lsa s out t → KeepsBut out s t
 lsa_keeps f lsa s out t (LsaPart.Meets is_lsa meets) = rule_keeps (rule_met s f lsa) f lsa s out t meets
 lsa_keeps f lsa s out t (LsaPart.PassedOver other passes outputs) = by_database out s t (ap (λ (x : AreaValue). x.database) (passed s.passes_over f lsa s t passes).state)
 

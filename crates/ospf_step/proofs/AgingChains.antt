@@ -13,7 +13,7 @@ use Rattle.ospf_exchange.proofs.LawLemmas.{of_copy}
 use Rattle.ospf_update.specs.Aging.{TickAges, Flushes, turn_out, copy_flooded}
 use Rattle.ospf_update.proofs.Words.{copy_flooded_by, copy_flood_out_by, copies_out, copies_sent, copy_out, copy_sent, noted, copy_flood_out, flooded_area}
 use Rattle.ospf_area.specs.Flooding.{flooded_links, flooding_updates, goes_anywhere}
-use Rattle.ospf_area.specs.Sending.{own_of}
+use Rattle.ospf_area.specs.Sending.{context_of}
 use Rattle.ospf_area.specs.Outputs.{no_outputs, sends, AreReadAsSent, OutputsValue}
 use Rattle.ospf_area.specs.State.{AreaValue, database_entry, kept_number}
 use Rattle.ospf_step.specs.Parts.{ExpiryPart, at_max_age}
@@ -38,7 +38,7 @@ at_its_age copy age = ap (set_age copy) (sym age)
 IsExpiring : AreaValue → LsaKey → Type 0
 IsExpiring s key = (copy : Entry) × (database_entry s key ≡ Some copy) × (copy.age ≡ max_age)
 
-noted-part : (key : LsaKey) (copy : Entry) (s : AreaValue) (b : Bool) → database_entry s key ≡ Some copy → copy.age ≡ max_age → ExpiryPart key copy s (sends (flooding_updates (own_of s) (lsa_of copy) None s.links)) (noted key b (flooded_area (lsa_of copy) None s))
+noted-part : (key : LsaKey) (copy : Entry) (s : AreaValue) (b : Bool) → database_entry s key ≡ Some copy → copy.age ≡ max_age → ExpiryPart key copy s (sends (flooding_updates (context_of s) (lsa_of copy) None s.links)) (noted key b (flooded_area (lsa_of copy) None s))
 noted-part key copy s b at age = go b
   where
     entries_same : (k : LsaKey) → database_entry s k ≡ (if same_key key k then Some (at_max_age copy) else database_entry s k)
@@ -53,10 +53,10 @@ noted-part key copy s b at age = go b
         ap (λ k. flooded_links k (header_of (lsa_of copy)) None s.tick s.links) (key_of-lsa_of copy ∙ entry_of-key s key copy at)
         ∙ ap (λ e. flooded_links key (header_of (lsa_of e)) None s.tick s.links) (sym (at_its_age copy age))
 
-    out_same : sends (flooding_updates (own_of s) (lsa_of copy) None s.links) ≡ sends (flooding_updates (own_of s) (lsa_of (at_max_age copy)) None s.links)
-    out_same = ap (λ e. sends (flooding_updates (own_of s) (lsa_of e) None s.links)) (sym (at_its_age copy age))
+    out_same : sends (flooding_updates (context_of s) (lsa_of copy) None s.links) ≡ sends (flooding_updates (context_of s) (lsa_of (at_max_age copy)) None s.links)
+    out_same = ap (λ e. sends (flooding_updates (context_of s) (lsa_of e) None s.links)) (sym (at_its_age copy age))
 
-    go : (b : Bool) → ExpiryPart key copy s (sends (flooding_updates (own_of s) (lsa_of copy) None s.links)) (noted key b (flooded_area (lsa_of copy) None s))
+    go : (b : Bool) → ExpiryPart key copy s (sends (flooding_updates (context_of s) (lsa_of copy) None s.links)) (noted key b (flooded_area (lsa_of copy) None s))
     go true = record { at = at; database = entries_same; links = links_same; same_router = refl; same_direct = refl; numbering = λ k. refl; outputs = out_same }
     go false = record { at = at; database = entries_same; links = links_same; same_router = refl; same_direct = refl; numbering = λ k. refl; outputs = out_same }
 
@@ -170,5 +170,5 @@ Flushes-is_part key copy before after out out' is at x read = record {
       same_router = part.same_router ∙ ap (λ m. m.router) x.rest;
       same_direct = part.same_direct ∙ ap (λ m. m.direct) x.rest;
       numbering = λ k. part.numbering k ∙ ap (λ m. kept_number m k) x.rest;
-      outputs = part.outputs ∙ ap (λ m. sends (flooding_updates (own_of m) (lsa_of (at_max_age copy)) None m.links)) x.rest;
+      outputs = part.outputs ∙ ap (λ m. sends (flooding_updates (context_of m) (lsa_of (at_max_age copy)) None m.links)) x.rest;
     }

@@ -21,12 +21,12 @@ use Rattle.ospf_area.specs.Changes.{changed_at, delayed_at}
 use Rattle.ospf_area.specs.Flooding.{came_from, flooded_links, on_link, goes_anywhere, released}
 use Rattle.ospf_area.specs.Numbers.{is_self_originated}
 use Rattle.ospf_area.specs.Outputs.{OutputsValue}
-use Rattle.ospf_area.specs.Sending.{own_of}
+use Rattle.ospf_area.specs.Sending.{context_of}
 use Rattle.ospf_area.specs.Standing.{acknowledging}
 use Rattle.ospf_area.specs.State.{AreaValue, LinkValue, database_entry}
 use Rattle.ospf_area.specs.declared.changes.AdjacencyChange.{AdjacencyChange}
-use Rattle.ospf_area.specs.declared.flooding.Origin.{Origin}
-use Rattle.ospf_area.specs.declared.sending.Own.{Own}
+use Rattle.ospf_area.specs.declared.flooding.PacketSource.{PacketSource}
+use Rattle.ospf_area.specs.declared.sending.RouterContext.{RouterContext}
 use Rattle.ospf_update.specs.Aging.{Flushes, TickAges, copy_flooded, turned_area}
 use Rattle.ospf_update.specs.Meets.{MeetsRule, Stores, header_met, heard_by, named_by, replied, reply_to, rule_met}
 use Rattle.ospf_update.proofs.Words.{taken_off, copy_flooded_by, RemovesAll, Removes, TakesSlices, copies_sent, copy_sent, noted, flooded_area}
@@ -51,15 +51,15 @@ module _ (r : RouterId) where
   released_fit : (key : LsaKey) (xs : List LinkValue) → AllFit r xs → AllFit r (released key xs)
   released_fit key xs fit = fit_map r (released_link key) (λ x. kin_fit r x (released_link key x) (record { iface = refl; elects = refl; same = ids_map (key_unlisted key) (λ n. refl) x.neighbours })) xs fit
 
-  flooded_fit : (key : LsaKey) (h : LsaHeader) (from : Option Origin) (tick : ℕ) (xs : List LinkValue) → AllFit r xs → AllFit r (flooded_links key h from tick xs)
+  flooded_fit : (key : LsaKey) (h : LsaHeader) (from : Option PacketSource) (tick : ℕ) (xs : List LinkValue) → AllFit r xs → AllFit r (flooded_links key h from tick xs)
   flooded_fit key h from tick xs fit = fit_from r (flooded_link key h from tick)
       (λ l x. record { iface = refl; elects = refl; same = ids_map (flooded_neighbour key h (on_link from l) tick) (λ n. flooded-router key h (came_from (on_link from l) n) tick n) x.neighbours }) 0 xs fit
 
-  turned_fit : (own : Own) (xs : List LinkValue) → AllFit r xs → AllFit r (map (turned_link own) xs)
+  turned_fit : (own : RouterContext) (xs : List LinkValue) → AllFit r xs → AllFit r (map (turned_link own) xs)
   turned_fit own xs fit = fit_map r (turned_link own)
       (λ x. kin_fit r x (turned_link own x) (record { iface = refl; elects = refl; same = ids_map (turned_to_next x.settings.mtu own.tick) (turned-router x.settings.mtu own.tick) x.neighbours })) xs fit
 
-  changed_fit : (f : Origin) (change : AdjacencyChange) (tick : ℕ) (xs : List LinkValue) → AllFit r xs → AllFit r (changed_at f change tick xs)
+  changed_fit : (f : PacketSource) (change : AdjacencyChange) (tick : ℕ) (xs : List LinkValue) → AllFit r xs → AllFit r (changed_at f change tick xs)
   changed_fit f change tick xs fit = fit_from r (changed_on f change tick) (λ l x. by_test x (l == f.link)) 0 xs fit
     where
       by_test : (x : LinkValue) (b : Bool) → IsKin x (if b then changed_link f.router change tick x else x)
@@ -76,9 +76,9 @@ module _ (r : RouterId) where
   -- ---- an LSA of an Update
 
   turned_for : (s : AreaValue) → IsFor r s → IsFor r (turned_area s)
-  turned_for s fit = record { own = fit.own; links = turned_fit (own_of s) s.links fit.links }
+  turned_for s fit = record { own = fit.own; links = turned_fit (context_of s) s.links fit.links }
 
-  acknowledging_for : (a : Acknowledgement) (f : Origin) (h : LsaHeader) (s : AreaValue) → IsFor r s → IsFor r (acknowledging a f h s)
+  acknowledging_for : (a : Acknowledgement) (f : PacketSource) (h : LsaHeader) (s : AreaValue) → IsFor r s → IsFor r (acknowledging a f h s)
   acknowledging_for answer.None f h s fit = fit
   acknowledging_for answer.Delayed f h s fit = record { own = fit.own; links = delayed_fit f.link h s.links fit.links }
   acknowledging_for answer.Direct f h s fit = record { own = fit.own; links = fit.links }
@@ -90,20 +90,20 @@ module _ (r : RouterId) where
       by_test true = record { own = fit.own; links = fit.links }
       by_test false = fit
 
-  pub store_for : (lsa : List ℕ) (from : Option Origin) (s s' : AreaValue) → Stores lsa from s s' → IsFor r s → IsFor r s'
+  pub store_for : (lsa : List ℕ) (from : Option PacketSource) (s s' : AreaValue) → Stores lsa from s s' → IsFor r s → IsFor r s'
   store_for lsa from s s' stores fit = record {
     own = ap (λ (x : AreaValue). x.router) stores.rest ∙ fit.own;
     links = subst (λ (xs : List LinkValue). AllFit r xs) (sym (ap (λ (x : AreaValue). x.links) stores.rest)) (flooded_fit (key_of lsa) (header_of lsa) from s.tick (released (key_of lsa) s.links) (released_fit (key_of lsa) s.links fit.links));
   }
 
-  replied_for : (reply : Option (List ℕ)) (f : Origin) (key : LsaKey) (s : AreaValue) → IsFor r s → IsFor r (replied reply f key s)
+  replied_for : (reply : Option (List ℕ)) (f : PacketSource) (key : LsaKey) (s : AreaValue) → IsFor r s → IsFor r (replied reply f key s)
   replied_for None f key s fit = fit
   replied_for (Some lsa) f key s fit = record { own = fit.own; links = changed_fit f (AdjacencyChange.IsSent (instance_of lsa)) s.tick s.links fit.links }
 
-  change_for : (f : Origin) (change : AdjacencyChange) (s : AreaValue) → IsFor r s → IsFor r (record s { links = changed_at f change s.tick s.links })
+  change_for : (f : PacketSource) (change : AdjacencyChange) (s : AreaValue) → IsFor r s → IsFor r (record s { links = changed_at f change s.tick s.links })
   change_for f change s fit = record { own = fit.own; links = changed_fit f change s.tick s.links fit.links }
 
-  rule_for : (rule : Option LsaRule) (f : Origin) (lsa : List ℕ) (s : AreaValue) (o o' : OutputsValue) (s' : AreaValue) → MeetsRule rule f lsa s o o' s' → IsFor r s → IsFor r s'
+  rule_for : (rule : Option LsaRule) (f : PacketSource) (lsa : List ℕ) (s : AreaValue) (o o' : OutputsValue) (s' : AreaValue) → MeetsRule rule f lsa s o o' s' → IsFor r s → IsFor r s'
   rule_for None f lsa s o o' s' is fit = along r s s' is.state fit
   rule_for (Some AcknowledgesExpired) f lsa s o o' s' is fit = along r _ s' is.state (acknowledging_for _ f (header_of lsa) s fit)
   rule_for (Some TooSoon) f lsa s o o' s' is fit = along r s s' is.state fit
@@ -113,31 +113,31 @@ module _ (r : RouterId) where
   rule_for (Some Duplicate) f lsa s o o' s' is fit = along r _ s' is.state (acknowledging_for _ f (header_of lsa) _ (change_for f (AdjacencyChange.Acknowledges (instance_of lsa)) s fit))
   rule_for (Some Stale) f lsa s o o' s' is fit = along r _ s' is.state (replied_for (reply_to s (key_of lsa)) f (key_of lsa) s fit)
 
-  slice_for : (f : Origin) (bytes : List ℕ) (s : AreaValue) (o o' : OutputsValue) (s' : AreaValue) → TakesSlice f bytes s o o' s' → IsFor r s → IsFor r s'
+  slice_for : (f : PacketSource) (bytes : List ℕ) (s : AreaValue) (o o' : OutputsValue) (s' : AreaValue) → TakesSlice f bytes s o o' s' → IsFor r s → IsFor r s'
   slice_for f bytes s o o' s' (Met is mid so_far meets state outputs) fit = along r (turned_area mid) s' state (turned_for mid (rule_for (rule_met s f bytes) f bytes s o so_far mid meets fit))
   slice_for f bytes s o o' s' (PassedOver is_not passes outputs) fit =
       let p = passed s.passes_over f bytes s s' passes in
       along r (record s { direct = p.direct }) s' p.state (record { own = fit.own; links = fit.links })
 
-  slices_for : (f : Origin) (slices : List (List ℕ)) (s : AreaValue) (o o' : OutputsValue) (s' : AreaValue) → TakesSlices f slices s o o' s' → IsFor r s → IsFor r s'
+  slices_for : (f : PacketSource) (slices : List (List ℕ)) (s : AreaValue) (o o' : OutputsValue) (s' : AreaValue) → TakesSlices f slices s o o' s' → IsFor r s → IsFor r s'
   slices_for f [] s o o' s' unchanged fit = along r s s' unchanged.state fit
   slices_for f (bytes ∷ slices) s o o' s' (mid, so_far, first, others) fit = slices_for f slices mid so_far o' s' others (slice_for f bytes s o so_far mid first fit)
 
-  pub update_for : (f : Origin) (slices : List (List ℕ)) (s : AreaValue) (o o' : OutputsValue) (s' : AreaValue) → TakesUpdate f slices s o o' s' → IsFor r s → IsFor r s'
+  pub update_for : (f : PacketSource) (slices : List (List ℕ)) (s : AreaValue) (o o' : OutputsValue) (s' : AreaValue) → TakesUpdate f slices s o o' s' → IsFor r s → IsFor r s'
   update_for f slices s o o' s' is fit =
       let mid = slices_for f slices s o is.so_far is.mid is.takes fit in
       along r (record is.mid { direct = [] }) s' is.state (record { own = mid.own; links = mid.links })
 
   -- ---- headers of an Acknowledgment
 
-  header_for : (f : Origin) (h : LsaHeader) (s : AreaValue) → IsFor r s → IsFor r (header_met f h s)
+  header_for : (f : PacketSource) (h : LsaHeader) (s : AreaValue) → IsFor r s → IsFor r (header_met f h s)
   header_for f h s fit = by_named (named_by h (copy_in_database s.database (key_of_header h)))
     where
       by_named : (i : Option Instance) → IsFor r (taken_off f i s)
       by_named None = fit
       by_named (Some i) = change_for f (AdjacencyChange.Acknowledges i) s fit
 
-  pub headers_for : (f : Origin) (hs : List LsaHeader) (s : AreaValue) → IsFor r s → IsFor r (headers_met f hs s)
+  pub headers_for : (f : PacketSource) (hs : List LsaHeader) (s : AreaValue) → IsFor r s → IsFor r (headers_met f hs s)
   headers_for f [] s fit = fit
   headers_for f (h ∷ hs) s fit = headers_for f hs (header_met f h s) (header_for f h s fit)
 

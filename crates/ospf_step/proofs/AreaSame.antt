@@ -21,11 +21,11 @@ use Rattle.ospf_area.specs.Changes.{changed_at}
 use Rattle.ospf_area.specs.Flooding.{goes_anywhere, released}
 use Rattle.ospf_area.specs.Numbers.{is_self_originated}
 use Rattle.ospf_area.specs.Outputs.{OutputsValue}
-use Rattle.ospf_area.specs.Sending.{own_of}
+use Rattle.ospf_area.specs.Sending.{context_of}
 use Rattle.ospf_area.specs.Standing.{acknowledging}
 use Rattle.ospf_area.specs.State.{AreaValue, LinkValue, database_entry}
 use Rattle.ospf_area.specs.declared.changes.AdjacencyChange.{AdjacencyChange}
-use Rattle.ospf_area.specs.declared.flooding.Origin.{Origin}
+use Rattle.ospf_area.specs.declared.flooding.PacketSource.{PacketSource}
 use Rattle.ospf_update.specs.Aging.{Flushes, TickAges, copy_flooded, turned_area}
 use Rattle.ospf_update.specs.Meets.{MeetsRule, Stores, header_met, heard_by, named_by, replied, reply_to, rule_met}
 use Rattle.ospf_update.proofs.Words.{taken_off, copy_flooded_by, RemovesAll, Removes, TakesSlices, copies_sent, copy_sent, noted, flooded_area}
@@ -55,9 +55,9 @@ module _ (r : RouterId) (n : ℕ) where
   -- ---- an LSA of an Update
 
   turned_as : (s : AreaValue) → IsAs r n s → IsAs r n (turned_area s)
-  turned_as s as_was = record { own = as_was.own; many = length-map s.links (turned_link (own_of s)) ∙ as_was.many }
+  turned_as s as_was = record { own = as_was.own; many = length-map s.links (turned_link (context_of s)) ∙ as_was.many }
 
-  acknowledging_as : (a : Acknowledgement) (f : Origin) (h : LsaHeader) (s : AreaValue) → IsAs r n s → IsAs r n (acknowledging a f h s)
+  acknowledging_as : (a : Acknowledgement) (f : PacketSource) (h : LsaHeader) (s : AreaValue) → IsAs r n s → IsAs r n (acknowledging a f h s)
   acknowledging_as answer.None f h s as_was = as_was
   acknowledging_as answer.Delayed f h s as_was = record { own = as_was.own; many = length-map_from (delayed_on f.link h) 0 s.links ∙ as_was.many }
   acknowledging_as answer.Direct f h s as_was = record { own = as_was.own; many = as_was.many }
@@ -69,20 +69,20 @@ module _ (r : RouterId) (n : ℕ) where
       by_test true = record { own = as_was.own; many = as_was.many }
       by_test false = as_was
 
-  pub store_as : (lsa : List ℕ) (from : Option Origin) (s s' : AreaValue) → Stores lsa from s s' → IsAs r n s → IsAs r n s'
+  pub store_as : (lsa : List ℕ) (from : Option PacketSource) (s s' : AreaValue) → Stores lsa from s s' → IsAs r n s → IsAs r n s'
   store_as lsa from s s' stores as_was = record {
     own = ap (λ (x : AreaValue). x.router) stores.rest ∙ as_was.own;
     many = ap (λ (x : AreaValue). length x.links) stores.rest ∙ (length-map_from (flooded_link (key_of lsa) (header_of lsa) from s.tick) 0 (released (key_of lsa) s.links) ∙ (length-map s.links (released_link (key_of lsa)) ∙ as_was.many));
   }
 
-  replied_as : (reply : Option (List ℕ)) (f : Origin) (key : LsaKey) (s : AreaValue) → IsAs r n s → IsAs r n (replied reply f key s)
+  replied_as : (reply : Option (List ℕ)) (f : PacketSource) (key : LsaKey) (s : AreaValue) → IsAs r n s → IsAs r n (replied reply f key s)
   replied_as None f key s as_was = as_was
   replied_as (Some lsa) f key s as_was = record { own = as_was.own; many = length-map_from (changed_on f (AdjacencyChange.IsSent (instance_of lsa)) s.tick) 0 s.links ∙ as_was.many }
 
-  change_as : (f : Origin) (change : AdjacencyChange) (s : AreaValue) → IsAs r n s → IsAs r n (record s { links = changed_at f change s.tick s.links })
+  change_as : (f : PacketSource) (change : AdjacencyChange) (s : AreaValue) → IsAs r n s → IsAs r n (record s { links = changed_at f change s.tick s.links })
   change_as f change s as_was = record { own = as_was.own; many = length-map_from (changed_on f change s.tick) 0 s.links ∙ as_was.many }
 
-  rule_as : (rule : Option LsaRule) (f : Origin) (lsa : List ℕ) (s : AreaValue) (o o' : OutputsValue) (s' : AreaValue) → MeetsRule rule f lsa s o o' s' → IsAs r n s → IsAs r n s'
+  rule_as : (rule : Option LsaRule) (f : PacketSource) (lsa : List ℕ) (s : AreaValue) (o o' : OutputsValue) (s' : AreaValue) → MeetsRule rule f lsa s o o' s' → IsAs r n s → IsAs r n s'
   rule_as None f lsa s o o' s' is as_was = along r n s s' is.state as_was
   rule_as (Some AcknowledgesExpired) f lsa s o o' s' is as_was = along r n _ s' is.state (acknowledging_as _ f (header_of lsa) s as_was)
   rule_as (Some TooSoon) f lsa s o o' s' is as_was = along r n s s' is.state as_was
@@ -92,31 +92,31 @@ module _ (r : RouterId) (n : ℕ) where
   rule_as (Some Duplicate) f lsa s o o' s' is as_was = along r n _ s' is.state (acknowledging_as _ f (header_of lsa) _ (change_as f (AdjacencyChange.Acknowledges (instance_of lsa)) s as_was))
   rule_as (Some Stale) f lsa s o o' s' is as_was = along r n _ s' is.state (replied_as (reply_to s (key_of lsa)) f (key_of lsa) s as_was)
 
-  slice_as : (f : Origin) (bytes : List ℕ) (s : AreaValue) (o o' : OutputsValue) (s' : AreaValue) → TakesSlice f bytes s o o' s' → IsAs r n s → IsAs r n s'
+  slice_as : (f : PacketSource) (bytes : List ℕ) (s : AreaValue) (o o' : OutputsValue) (s' : AreaValue) → TakesSlice f bytes s o o' s' → IsAs r n s → IsAs r n s'
   slice_as f bytes s o o' s' (Met is mid so_far meets state outputs) as_was = along r n (turned_area mid) s' state (turned_as mid (rule_as (rule_met s f bytes) f bytes s o so_far mid meets as_was))
   slice_as f bytes s o o' s' (PassedOver is_not passes outputs) as_was =
       let p = passed s.passes_over f bytes s s' passes in
       along r n (record s { direct = p.direct }) s' p.state (record { own = as_was.own; many = as_was.many })
 
-  slices_as : (f : Origin) (slices : List (List ℕ)) (s : AreaValue) (o o' : OutputsValue) (s' : AreaValue) → TakesSlices f slices s o o' s' → IsAs r n s → IsAs r n s'
+  slices_as : (f : PacketSource) (slices : List (List ℕ)) (s : AreaValue) (o o' : OutputsValue) (s' : AreaValue) → TakesSlices f slices s o o' s' → IsAs r n s → IsAs r n s'
   slices_as f [] s o o' s' unchanged as_was = along r n s s' unchanged.state as_was
   slices_as f (bytes ∷ slices) s o o' s' (mid, so_far, first, others) as_was = slices_as f slices mid so_far o' s' others (slice_as f bytes s o so_far mid first as_was)
 
-  pub update_as : (f : Origin) (slices : List (List ℕ)) (s : AreaValue) (o o' : OutputsValue) (s' : AreaValue) → TakesUpdate f slices s o o' s' → IsAs r n s → IsAs r n s'
+  pub update_as : (f : PacketSource) (slices : List (List ℕ)) (s : AreaValue) (o o' : OutputsValue) (s' : AreaValue) → TakesUpdate f slices s o o' s' → IsAs r n s → IsAs r n s'
   update_as f slices s o o' s' is as_was =
       let mid = slices_as f slices s o is.so_far is.mid is.takes as_was in
       along r n (record is.mid { direct = [] }) s' is.state (record { own = mid.own; many = mid.many })
 
   -- ---- headers of an Acknowledgment
 
-  header_as : (f : Origin) (h : LsaHeader) (s : AreaValue) → IsAs r n s → IsAs r n (header_met f h s)
+  header_as : (f : PacketSource) (h : LsaHeader) (s : AreaValue) → IsAs r n s → IsAs r n (header_met f h s)
   header_as f h s as_was = by_named (named_by h (copy_in_database s.database (key_of_header h)))
     where
       by_named : (i : Option Instance) → IsAs r n (taken_off f i s)
       by_named None = as_was
       by_named (Some i) = change_as f (AdjacencyChange.Acknowledges i) s as_was
 
-  pub headers_as : (f : Origin) (hs : List LsaHeader) (s : AreaValue) → IsAs r n s → IsAs r n (headers_met f hs s)
+  pub headers_as : (f : PacketSource) (hs : List LsaHeader) (s : AreaValue) → IsAs r n s → IsAs r n (headers_met f hs s)
   headers_as f [] s as_was = as_was
   headers_as f (h ∷ hs) s as_was = headers_as f hs (header_met f h s) (header_as f h s as_was)
 

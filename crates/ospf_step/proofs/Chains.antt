@@ -13,7 +13,7 @@ use Rattle.ospf_area.specs.Sending.{and_sends}
 use Rattle.ospf_area.specs.State.{AreaValue}
 use Rattle.ospf_update.specs.Updates.{TakesSlice, TakesUpdate}
 use Rattle.ospf_update.proofs.Words.{TakesSlices}
-use Rattle.ospf_area.specs.declared.flooding.Origin.{Origin}
+use Rattle.ospf_area.specs.declared.flooding.PacketSource.{PacketSource}
 use Rattle.ospf_step.specs.Neighbours.{Quiet}
 use Rattle.ospf_step.specs.Parts.{LsaPart}
 use Rattle.ospf_step.specs.Puts.{PutsOut}
@@ -74,7 +74,7 @@ read_own R out out' read p = AreRead-right out p.own (subst (λ o. AreReadAsSent
 
 -- ---- an LSA of an Update
 
-lsa_puts : (f : Origin) (lsa : List ℕ) (before : AreaValue) (out out' : OutputsValue) (after : AreaValue) → MeetsLsa f lsa before out out' after → PutsOut (λ o. MeetsLsa f lsa before no_outputs o after) out out'
+lsa_puts : (f : PacketSource) (lsa : List ℕ) (before : AreaValue) (out out' : OutputsValue) (after : AreaValue) → MeetsLsa f lsa before out out' after → PutsOut (λ o. MeetsLsa f lsa before no_outputs o after) out out'
 lsa_puts f lsa before out out' after m = by (rule_met before f lsa) m
   where
     unchanged : Becomes before out out' after → PutsOut (λ o. Becomes before no_outputs o after) out out'
@@ -101,7 +101,7 @@ read_before : (R : OutputsValue → Type 0) (out out' : OutputsValue) → AreRea
 read_before R out out' read p = AreRead-left out p.own (subst (λ o. AreReadAsSent o.sent) p.behind read)
 
 -- one slice, with the Requests that become due by it, in front of what follows
-slice_put : (f : Origin) (bytes : List ℕ) (parts : List Part) (s t u : AreaValue) (out mid_out out' : OutputsValue) → AreReadAsSent mid_out.sent → TakesSlice f bytes s out mid_out t → PutsOut (λ o. Chain parts t o u) mid_out out' → PutsOut (λ o. Chain (LsaComes f bytes ∷ Requests ∷ parts) s o u) out out'
+slice_put : (f : PacketSource) (bytes : List ℕ) (parts : List Part) (s t u : AreaValue) (out mid_out out' : OutputsValue) → AreReadAsSent mid_out.sent → TakesSlice f bytes s out mid_out t → PutsOut (λ o. Chain parts t o u) mid_out out' → PutsOut (λ o. Chain (LsaComes f bytes ∷ Requests ∷ parts) s o u) out out'
 slice_put f bytes parts s t u out mid_out out' read (TakesSlice.Met is mid so_far meets state outputs) next =
     let met = lsa_puts f bytes s out so_far mid meets in
     puts_more (LsaComes f bytes) (Requests ∷ parts) s mid u out so_far out' (record { own = met.own; is = LsaPart.Meets is met.is; behind = met.behind })
@@ -111,7 +111,7 @@ slice_put f bytes parts s t u out mid_out out' read (TakesSlice.PassedOver not_o
     puts_more (LsaComes f bytes) (Requests ∷ parts) s t u out out out' (record { own = no_outputs; is = LsaPart.PassedOver not_one passes refl; behind = sym (then_nothing out) })
     (puts_more Requests parts t t u out out out' (record { own = no_outputs; is = nothing-quiet t; behind = sym (then_nothing out) }) here)
 
-slices_put : (f : Origin) (slices : List (List ℕ)) (rest : List Part) (s t u : AreaValue) (out mid_out out' : OutputsValue) → AreReadAsSent out'.sent → TakesSlices f slices s out mid_out t → PutsOut (λ o. Chain rest t o u) mid_out out' → PutsOut (λ o. Chain (lsa_parts f slices ++ rest) s o u) out out'
+slices_put : (f : PacketSource) (slices : List (List ℕ)) (rest : List Part) (s t u : AreaValue) (out mid_out out' : OutputsValue) → AreReadAsSent out'.sent → TakesSlices f slices s out mid_out t → PutsOut (λ o. Chain rest t o u) mid_out out' → PutsOut (λ o. Chain (lsa_parts f slices ++ rest) s o u) out out'
 slices_put f [] rest s t u out mid_out out' read same next =
     subst (λ o. PutsOut (λ x. Chain rest s x u) o out') same.outputs (subst (λ t. PutsOut (λ x. Chain rest t x u) mid_out out') same.state next)
 slices_put f (bytes ∷ slices) rest s t u out mid_out out' read (m, so_far, slice, more) next =
@@ -119,7 +119,7 @@ slices_put f (bytes ∷ slices) rest s t u out mid_out out' read (m, so_far, sli
     slice_put f bytes (lsa_parts f slices ++ rest) s m u out so_far out' (read_before (λ o. Chain (lsa_parts f slices ++ rest) m o u) so_far out' read later) slice later
 
 -- an Update, and then what follows: the chain of its parts
-pub update_puts : (f : Origin) (slices : List (List ℕ)) (rest : List Part) (s t u : AreaValue) (out mid_out out' : OutputsValue) → AreReadAsSent out'.sent → TakesUpdate f slices s out mid_out t → PutsOut (λ o. Chain rest t o u) mid_out out' → PutsOut (λ o. Chain ((lsa_parts f slices ++ DirectAcknowledgements f ∷ []) ++ rest) s o u) out out'
+pub update_puts : (f : PacketSource) (slices : List (List ℕ)) (rest : List Part) (s t u : AreaValue) (out mid_out out' : OutputsValue) → AreReadAsSent out'.sent → TakesUpdate f slices s out mid_out t → PutsOut (λ o. Chain rest t o u) mid_out out' → PutsOut (λ o. Chain ((lsa_parts f slices ++ DirectAcknowledgements f ∷ []) ++ rest) s o u) out out'
 update_puts f slices rest s t u out mid_out out' read update next =
     subst (λ parts. PutsOut (λ o. Chain parts s o u) out out') (sym (append_assoc (lsa_parts f slices) (DirectAcknowledgements f ∷ []) rest))
     (slices_put f slices (DirectAcknowledgements f ∷ rest) s update.mid u out update.so_far out' read update.takes

@@ -14,7 +14,7 @@ use Rattle.ospf_neighbour.specs.Neighbour.{NeighbourValue, is_empty}
 use Rattle.ospf_neighbour.specs.Neighbours.{at_address, neighbour_of}
 use Rattle.ospf_packet.specs.Meaning.{BodyMeaning, Meaning, hello, description, request, update, acknowledgment}
 use Rattle.ospf_adjacency.specs.Adjacency.{is_broadcast}
-use Rattle.ospf_area.specs.Sending.{own_of}
+use Rattle.ospf_area.specs.Sending.{context_of}
 use Rattle.ospf_area.specs.State.{AreaValue, LinkValue}
 use Rattle.ospf_iface.specs.Hello.{agrees}
 use Rattle.ospf_step.specs.Receipt.{drop_by_body, drop_of_hello, drop_of_packet, is_destination, sender_in}
@@ -24,10 +24,10 @@ use Rattle.ospf_step.specs.declared.dropped.Dropped.TheVariants as dropped
 use Rattle.ospf_iface.specs.Machine.{is_down}
 use Rattle.ospf_step.specs.Fit.{IsFitRouter, IsFitLink}
 use Rattle.ospf_step.specs.Ready.{CanTakePacket, CanTakeOn}
-use Rattle.ospf_step.specs.Takes.{origin_of}
+use Rattle.ospf_step.specs.Takes.{source_of}
 use Rattle.ospf_step.proofs.FitLemmas.{eq_false, all_at}
 use Rattle.ospf_step.proofs.StepFit.{CanCome}
-use Rattle.ospf_area.specs.Posting.{local_by}
+use Rattle.ospf_area.specs.Outboxes.{local_by}
 
 -- a cause that does not apply
 peel : (b : Bool) (d : Dropped) (rest : Option Dropped) → (if b then Some d else rest) ≡ None → (b ≡ false) × (rest ≡ None)
@@ -75,7 +75,7 @@ drop_on o s source destination packet = elim o [
   | None ↦ Some dropped.Packet
   | Some there ↦ elim packet [
     | None ↦ Some dropped.Packet
-    | Some m ↦ drop_of_packet (local_by (own_of s) there.settings) there.iface there.neighbours s.area source destination m
+    | Some m ↦ drop_of_packet (local_by (context_of s) there.settings) there.iface there.neighbours s.area source destination m
   ]
 ]
 
@@ -85,29 +85,29 @@ pub not_dropped_as : (s : AreaValue) (link : ℕ) (source destination : Addr) (o
 not_dropped_as s link source destination o m is taken = subst (λ (x : Option Meaning). drop_on (slice_get s.links link) s source destination x ≡ None) is taken
 
 module _ (law : NotDroppedIsTaken) (s : AreaValue) (link : ℕ) (source destination : Addr) (m : Meaning) (fit : IsFitRouter s) (is : drop_on (slice_get s.links link) s source destination (Some m) ≡ None) where
-  packet_is : (a : LinkValue) → slice_get s.links link ≡ Some a → drop_of_packet (local_by (own_of s) a.settings) a.iface a.neighbours s.area source destination m ≡ None
+  packet_is : (a : LinkValue) → slice_get s.links link ≡ Some a → drop_of_packet (local_by (context_of s) a.settings) a.iface a.neighbours s.area source destination m ≡ None
   packet_is a at = subst (λ (o : Option LinkValue). drop_on o s source destination (Some m) ≡ None) at is
 
-  taken : (a : LinkValue) → slice_get s.links link ≡ Some a → CanBeTaken (local_by (own_of s) a.settings) a.neighbours m.router m.body
-  taken a at = law (local_by (own_of s) a.settings) a.iface a.neighbours s.area source destination m (all_at (IsFitLink s.router) s.links link a fit.links at).neighbours.rising (packet_is a at)
+  taken : (a : LinkValue) → slice_get s.links link ≡ Some a → CanBeTaken (local_by (context_of s) a.settings) a.neighbours m.router m.body
+  taken a at = law (local_by (context_of s) a.settings) a.iface a.neighbours s.area source destination m (all_at (IsFitLink s.router) s.links link a fit.links at).neighbours.rising (packet_is a at)
 
-  pub can_take : CanTakePacket (origin_of link source m) m.body s
+  pub can_take : CanTakePacket (source_of link source m) m.body s
   can_take a at = by_body m.body (taken a at)
     where
-      by_body : (b : BodyMeaning) → CanBeTaken (local_by (own_of s) a.settings) a.neighbours m.router b → CanTakeOn b (origin_of link source m) a
+      by_body : (b : BodyMeaning) → CanBeTaken (local_by (context_of s) a.settings) a.neighbours m.router b → CanTakeOn b (source_of link source m) a
       by_body (hello fields names) can = can
       by_body (description fields headers) can = tt
       by_body (request entries) (n, found, exchanging) = λ other there. subst (λ (x : NeighbourValue). is_exchanging x.state ≡ true) (same_Some n other (sym found ∙ there)) exchanging
       by_body (update lsas) can = tt
       by_body (acknowledgment headers) can = tt
 
-  pub can_come : (a : LinkValue) → slice_get s.links link ≡ Some a → CanCome m.body (origin_of link source m) a
-  can_come a at = by_body m.body (heard (local_by (own_of s) a.settings) a.iface a.neighbours s.area source destination m (packet_is a at)).body (taken a at)
+  pub can_come : (a : LinkValue) → slice_get s.links link ≡ Some a → CanCome m.body (source_of link source m) a
+  can_come a at = by_body m.body (heard (local_by (context_of s) a.settings) a.iface a.neighbours s.area source destination m (packet_is a at)).body (taken a at)
     where
-      by_body : (b : BodyMeaning) → drop_by_body (local_by (own_of s) a.settings) b a.iface a.neighbours m.router (sender_in a.iface a.neighbours m.router source) ≡ None → CanBeTaken (local_by (own_of s) a.settings) a.neighbours m.router b
-          → CanCome b (origin_of link source m) a
+      by_body : (b : BodyMeaning) → drop_by_body (local_by (context_of s) a.settings) b a.iface a.neighbours m.router (sender_in a.iface a.neighbours m.router source) ≡ None → CanBeTaken (local_by (context_of s) a.settings) a.neighbours m.router b
+          → CanCome b (source_of link source m) a
       by_body (hello fields names) none can = record {
-        other = (heard (local_by (own_of s) a.settings) a.iface a.neighbours s.area source destination m (packet_is a at)).other;
+        other = (heard (local_by (context_of s) a.settings) a.iface a.neighbours s.area source destination m (packet_is a at)).other;
         room = can;
         alone = λ kind unknown. alone a.iface a.neighbours m.router source kind unknown (holds (agrees a.iface fields) dropped.HelloMismatch _ none).1;
       }

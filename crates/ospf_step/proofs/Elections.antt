@@ -8,11 +8,11 @@ use Rattle.ospf_iface.specs.declared.machine.Iface.{Iface}
 use Rattle.ospf_neighbour.specs.Neighbour.{NeighbourValue}
 use Rattle.ospf_neighbour.specs.Neighbours.{neighbour_of}
 use Rattle.ospf_adjacency.specs.Elections.{adjusted, first_dds}
-use Rattle.ospf_area.specs.Packets.{Parcel}
+use Rattle.ospf_area.specs.Packets.{PendingPacket}
 use Rattle.ospf_adjacency.specs.HelloLaws as hellos
 use Rattle.ospf_adjacency.proofs.GoLemmas.{adj_ok_goes}
 use Rattle.ospf_area.specs.Outputs.{AreReadAsSent, OutputsValue, SentValue, sends}
-use Rattle.ospf_area.specs.Sending.{and_sends, own_of}
+use Rattle.ospf_area.specs.Sending.{and_sends, context_of}
 use Rattle.ospf_area.specs.State.{AreaValue, LinkValue}
 use Rattle.ospf_step.specs.Links.{AllEach, AreKnown, ChangesLinks, Each, LinkQuiet}
 use Rattle.ospf_step.specs.Neighbours.{Quiet}
@@ -22,7 +22,7 @@ use Rattle.ospf_step.proofs.StateFacts.{Contains-nil}
 use Rattle.ospf_step.proofs.PutParts.{puts_sent}
 use Rattle.ospf_links.specs.Elections.{ElectsFrom, ElectsIf}
 use Rattle.ospf_links.proofs.Words.{ElectsThere}
-use Rattle.ospf_area.specs.Posting.{posted_all}
+use Rattle.ospf_area.specs.Outboxes.{posted_all}
 use Rattle.ospf_step.proofs.Known.{AreBare, bare_known, first_bare, link_quiet, same_goes, both_known, none_known}
 use Rattle.ospf_step.proofs.Works.{read_sent}
 
@@ -37,14 +37,14 @@ elected_bare true i mtu tick next ns = first_bare i mtu tick next ns
 elected_bare false i mtu tick next ns = λ p c. absurd (Contains-nil p c)
 
 -- what it does, and what goes out
-record ElectsQuietly (s : AreaValue) (l : ℕ) (link link' : LinkValue) (sent : List Parcel) : Type 0 where
+record ElectsQuietly (s : AreaValue) (l : ℕ) (link link' : LinkValue) (sent : List PendingPacket) : Type 0 where
   quiet : LinkQuiet s link link'
-  known : AreKnown s (posted_all (own_of s) l link.iface sent)
+  known : AreKnown s (posted_all (context_of s) l link.iface sent)
 
-quietly : (s : AreaValue) (l n n' : ℕ) (b : Bool) (link link' : LinkValue) (sent : List Parcel) → ElectsIf b (own_of s) n link link' n' sent → ElectsQuietly s l link link' sent
+quietly : (s : AreaValue) (l n n' : ℕ) (b : Bool) (link link' : LinkValue) (sent : List PendingPacket) → ElectsIf b (context_of s) n link link' n' sent → ElectsQuietly s l link link' sent
 quietly s l n n' false link link' sent (same, number, none) = record {
   quiet = subst (λ a. LinkQuiet s link a) (sym same) (quiet_same s link);
-  known = subst (λ ps. AreKnown s (posted_all (own_of s) l link.iface ps)) (sym none) (none_known s);
+  known = subst (λ ps. AreKnown s (posted_all (context_of s) l link.iface ps)) (sym none) (none_known s);
 }
 quietly s l n n' true link link' sent e =
     let changed = is_changed link.iface e.0.result in
@@ -97,8 +97,8 @@ sends_more : (out : OutputsValue) (a b : List SentValue) → and_sends (and_send
 unfolding outputs_made
 sends_more out a b = ap (outputs_made out) (append_assoc out.sent a b)
 
-own_same : (s t : AreaValue) → ChangesLinks s t → own_of t ≡ own_of s
-own_same s t rest = ap own_of rest
+own_same : (s t : AreaValue) → ChangesLinks s t → context_of t ≡ context_of s
+own_same s t rest = ap context_of rest
 
 one_more : (s mid t : AreaValue) (l : ℕ) (out mid_out out' : OutputsValue) → IsDone s l out mid mid_out → (o : Option LinkValue) → slice_get mid.links l ≡ o → ElectsThere o l mid mid_out t out' → IsDone s (suc l) out t out'
 one_more s mid t l out mid_out out' d None at (same, none) =
@@ -112,9 +112,9 @@ one_more s mid t l out mid_out out' d None at (same, none) =
     }))
 one_more s mid t l out mid_out out' d (Some link) at (link', next', sent, elects, state, outputs) =
     let here : slice_get s.links l ≡ Some link = sym (d.ahead l (omega arith)) ∙ at in
-    let own : own_of mid ≡ own_of s = own_same s mid d.rest in
+    let own : context_of mid ≡ context_of s = own_same s mid d.rest in
     let one = quietly s l mid.next_dd next' link.elects link link' sent (subst (λ w. ElectsIf link.elects w mid.next_dd link link' next' sent) own elects) in
-    let ds = posted_all (own_of s) l link.iface sent in
+    let ds = posted_all (context_of s) l link.iface sent in
     let links : t.links ≡ set mid.links l link' = ap (λ (a : AreaValue). a.links) state in
     record {
       sent = d.sent ++ ds;

@@ -13,7 +13,7 @@ use Rattle.ospf_lsdb.proofs.MapLaws.{ages}
 use Rattle.ospf_area.specs.Outputs.{OutputsValue, no_outputs, then_outputs}
 use Rattle.ospf_area.specs.Standing.{acknowledging}
 use Rattle.ospf_area.specs.State.{AreaValue, database_entry}
-use Rattle.ospf_area.specs.declared.flooding.Origin.{Origin}
+use Rattle.ospf_area.specs.declared.flooding.PacketSource.{PacketSource}
 use Rattle.ospf_update.specs.Meets.{MeetsRule, replied, rule_met}
 use Rattle.ospf_update.proofs.Words.{taken_off}
 use Rattle.ospf_step.specs.Parts.{AgesPart, ExpiryPart, LsaPart, RemovalPart, leaves_if}
@@ -101,23 +101,23 @@ times_keep (suc n) R s out t each both none =
 
 -- ---- parts
 
-acknowledging_keeps : (a : Acknowledgement) (f : Origin) (h : LsaHeader) (s : AreaValue) → (acknowledging a f h s).database ≡ s.database
+acknowledging_keeps : (a : Acknowledgement) (f : PacketSource) (h : LsaHeader) (s : AreaValue) → (acknowledging a f h s).database ≡ s.database
 acknowledging_keeps answer.None f h s = refl
 acknowledging_keeps answer.Delayed f h s = refl
 acknowledging_keeps answer.Direct f h s = refl
 
-replied_keeps : (o : Option (List ℕ)) (f : Origin) (key : LsaKey) (s : AreaValue) → (replied o f key s).database ≡ s.database
+replied_keeps : (o : Option (List ℕ)) (f : PacketSource) (key : LsaKey) (s : AreaValue) → (replied o f key s).database ≡ s.database
 replied_keeps None f key s = refl
 replied_keeps (Some lsa) f key s = refl
 
-taken_off_keeps : (o : Option Instance) (f : Origin) (s : AreaValue) → (taken_off f o s).database ≡ s.database
+taken_off_keeps : (o : Option Instance) (f : PacketSource) (s : AreaValue) → (taken_off f o s).database ≡ s.database
 taken_off_keeps None f s = refl
 taken_off_keeps (Some i) f s = refl
 
 database_of : AreaValue → List Held
 database_of s = s.database
 
-rule_keeps : (r : Option LsaRule) (f : Origin) (lsa : List ℕ) (s : AreaValue) (out : OutputsValue) (t : AreaValue) → MeetsRule r f lsa s no_outputs out t → BringsNone out → Keeps s t
+rule_keeps : (r : Option LsaRule) (f : PacketSource) (lsa : List ℕ) (s : AreaValue) (out : OutputsValue) (t : AreaValue) → MeetsRule r f lsa s no_outputs out t → BringsNone out → Keeps s t
 unfolding database_of
 rule_keeps None f lsa s out t is none = by_state s t is.state
 rule_keeps (Some rule.AcknowledgesExpired) f lsa s out t is none = absurd (some_taken no_outputs.taken _ (sym (ap (λ (o : OutputsValue). o.taken) is.outputs) ∙ none.0))
@@ -127,7 +127,7 @@ rule_keeps (Some rule.BadRequest) f lsa s out t is none = by_database s t (ap da
 rule_keeps (Some rule.Duplicate) f lsa s out t is none = by_database s t (ap database_of is.state ∙ acknowledging_keeps _ f _ _)
 rule_keeps (Some rule.Stale) f lsa s out t is none = by_database s t (ap database_of is.state ∙ replied_keeps _ f _ s)
 
-lsa_keeps : (f : Origin) (lsa : List ℕ) (s : AreaValue) (out : OutputsValue) (t : AreaValue) → LsaPart f lsa s out t → BringsNone out → Keeps s t
+lsa_keeps : (f : PacketSource) (lsa : List ℕ) (s : AreaValue) (out : OutputsValue) (t : AreaValue) → LsaPart f lsa s out t → BringsNone out → Keeps s t
 lsa_keeps f lsa s out t (LsaPart.Meets is_lsa meets) none = rule_keeps (rule_met s f lsa) f lsa s out t meets none
 lsa_keeps f lsa s out t (LsaPart.PassedOver other passes outputs) none = by_database s t (ap (λ (x : AreaValue). x.database) (passed s.passes_over f lsa s t passes).state)
 

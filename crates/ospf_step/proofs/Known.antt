@@ -12,10 +12,10 @@ use Rattle.ospf_neighbour.specs.Neighbour.{NeighbourValue}
 use Rattle.ospf_packet.specs.Meaning.{BodyMeaning, hello, description, request, update, acknowledgment}
 use Rattle.ospf_exchange.specs.Laws.{HasHeader}
 use Rattle.ospf_adjacency.specs.Laws.{SaysOnly, KeepsLists}
-use Rattle.ospf_area.specs.Packets.{Parcel, dd_parcel, parcel_if}
+use Rattle.ospf_area.specs.Packets.{PendingPacket, dd_packet, packet_if}
 use Rattle.ospf_area.specs.Outputs.{SentValue}
 use Rattle.ospf_area.specs.Places.{flat_from}
-use Rattle.ospf_area.specs.Sending.{own_of, packet_from, way_out}
+use Rattle.ospf_area.specs.Sending.{context_of, packet_from, way_out}
 use Rattle.ospf_area.specs.State.{AreaValue, LinkValue, neighbour}
 use Rattle.ospf_step.specs.Accounts.{WasHeld}
 use Rattle.ospf_step.specs.Headers.{IsOfInstance, Lists}
@@ -24,7 +24,7 @@ use Rattle.ospf_step.specs.Packets.{lsas_of, headers_in_body}
 use Rattle.ospf_step.specs.Words.{CanName, HoldsInstance}
 use Rattle.ospf_step.proofs.SentFacts.{flat_map-members, datagrams-packet}
 use Rattle.ospf_step.proofs.StateFacts.{HasHeader-held, Contains-nil, HasInstance-held, list_in}
-use Rattle.ospf_area.specs.Posting.{posted_all}
+use Rattle.ospf_area.specs.Outboxes.{posted_all}
 use Rattle.ospf_area.proofs.Words.{posted}
 use Rattle.std.proofs.lemmas.Grind.{common_steps}
 use Rattle.ospf_neighbour.specs.declared.machine.NbrEvent.{NbrEvent}
@@ -59,10 +59,10 @@ says_nothing s b no_lsas no_headers = record {
 }
 
 -- the datagrams of known packets
-pub posted_known : (s : AreaValue) (l : ℕ) (i : Iface) (ps : List Parcel) → ((p : Parcel) → Contains ps p → SaysKnown s p.body) → AreKnown s (posted_all (own_of s) l i ps)
+pub posted_known : (s : AreaValue) (l : ℕ) (i : Iface) (ps : List PendingPacket) → ((p : PendingPacket) → Contains ps p → SaysKnown s p.body) → AreKnown s (posted_all (context_of s) l i ps)
 posted_known s l i ps known d c =
-    let (p, inside, sent) = flat_map-members (posted (own_of s) l i) ps d c in
-    let is : d.packet ≡ packet_from (own_of s) p.body = datagrams-packet (way_out l i p.destination) (packet_from (own_of s) p.body) d sent in
+    let (p, inside, sent) = flat_map-members (posted (context_of s) l i) ps d c in
+    let is : d.packet ≡ packet_from (context_of s) p.body = datagrams-packet (way_out l i p.destination) (packet_from (context_of s) p.body) d sent in
     let says = known p inside in
     subst (λ m. IsKnownPacket s m) (sym is) (record { router = refl; lsas = says.lsas; names = says.names })
 
@@ -114,15 +114,15 @@ says_known s l q n at is (description fields headers) says = record {
 abbrev pub IsBare : BodyMeaning → Type 0
 IsBare b = (lsas_of b ≡ []) × (headers_in_body b ≡ [])
 
-abbrev pub AreBare : List Parcel → Type 0
-AreBare ps = (p : Parcel) → Contains ps p → IsBare p.body
+abbrev pub AreBare : List PendingPacket → Type 0
+AreBare ps = (p : PendingPacket) → Contains ps p → IsBare p.body
 
 -- bare packets are known
-pub bare_known : (s : AreaValue) (l : ℕ) (i : Iface) (ps : List Parcel) → AreBare ps → AreKnown s (posted_all (own_of s) l i ps)
+pub bare_known : (s : AreaValue) (l : ℕ) (i : Iface) (ps : List PendingPacket) → AreBare ps → AreKnown s (posted_all (context_of s) l i ps)
 bare_known s l i ps bare = posted_known s l i ps (λ p inside. says_nothing s p.body (bare p inside).0 (bare p inside).1)
 
-pub bare_if : (b : Bool) (p : Parcel) → (b ≡ true → IsBare p.body) → AreBare (parcel_if b p)
-bare_if true p bare q c = elim (cons_cases p [] q c) [ inl is ↦ subst (λ (x : Parcel). IsBare x.body) is (bare refl) | inr none ↦ absurd (Contains-nil q none) ]
+pub bare_if : (b : Bool) (p : PendingPacket) → (b ≡ true → IsBare p.body) → AreBare (packet_if b p)
+bare_if true p bare q c = elim (cons_cases p [] q c) [ inl is ↦ subst (λ (x : PendingPacket). IsBare x.body) is (bare refl) | inr none ↦ absurd (Contains-nil q none) ]
 bare_if false p bare q c = absurd (Contains-nil q c)
 
 -- an adjacency that begins has no headers yet
@@ -130,12 +130,12 @@ begun_bare : (e : NbrEvent) (dead next tick : ℕ) (n : NeighbourValue) → begi
 begun_bare e dead next tick n is = first_of (search rules, grind (arith, common_steps))
 
 -- by an event there goes out a bare packet at most
-pub event_bare : (i : Iface) (local : Local) (e : NbrEvent) (t : Turn) → (p : Parcel) → Contains (event_turn i local e t).sent p → Contains t.sent p ⊎ IsBare p.body
+pub event_bare : (i : Iface) (local : Local) (e : NbrEvent) (t : Turn) → (p : PendingPacket) → Contains (event_turn i local e t).sent p → Contains t.sent p ⊎ IsBare p.body
 event_bare i local e t p c =
     let m = event_taken e i.settings.dead t.next local.tick t.neighbour in
-    elim (Contains-append_cases t.sent (parcel_if (begins_by e t.neighbour) (dd_parcel i local.mtu m)) p c) [
+    elim (Contains-append_cases t.sent (packet_if (begins_by e t.neighbour) (dd_packet i local.mtu m)) p c) [
       | inl old ↦ inl old
-      | inr new ↦ inr (bare_if (begins_by e t.neighbour) (dd_parcel i local.mtu m) (λ is. (refl, begun_bare e i.settings.dead t.next local.tick t.neighbour is)) p new)
+      | inr new ↦ inr (bare_if (begins_by e t.neighbour) (dd_packet i local.mtu m) (λ is. (refl, begun_bare e i.settings.dead t.next local.tick t.neighbour is)) p new)
     ]
 
 -- and by AdjOK?
@@ -144,8 +144,8 @@ first_bare i mtu tick next [] p c = absurd (Contains-nil p c)
 first_bare i mtu tick next (n ∷ ns) p c =
     let e = adj_ok_for i n in
     let m = event_taken e i.settings.dead next tick n in
-    elim (Contains-append_cases (parcel_if (begins_by e n) (dd_parcel i mtu m)) (first_dds i mtu tick (number_by e n next) ns) p c) [
-      | inl here ↦ bare_if (begins_by e n) (dd_parcel i mtu m) (λ is. (refl, begun_bare e i.settings.dead next tick n is)) p here
+    elim (Contains-append_cases (packet_if (begins_by e n) (dd_packet i mtu m)) (first_dds i mtu tick (number_by e n next) ns) p c) [
+      | inl here ↦ bare_if (begins_by e n) (dd_packet i mtu m) (λ is. (refl, begun_bare e i.settings.dead next tick n is)) p here
       | inr later ↦ first_bare i mtu tick (number_by e n next) ns p later
     ]
 

@@ -12,16 +12,16 @@ use Rattle.ospf_lsdb.specs.Database.{Held}
 use Rattle.ospf_neighbour.specs.Neighbour.{NeighbourValue, new_neighbour}
 use Rattle.ospf_adjacency.specs.Adjacency.{number_by}
 use Rattle.ospf_adjacency.specs.Elections.{AreOfLink, adjusted, elects_in}
-use Rattle.ospf_area.specs.Packets.{Parcel}
+use Rattle.ospf_area.specs.Packets.{PendingPacket}
 use Rattle.ospf_area.specs.State.{LinkValue}
-use Rattle.ospf_area.specs.declared.sending.Own.{Own}
+use Rattle.ospf_area.specs.declared.sending.RouterContext.{RouterContext}
 use Rattle.ospf_adjacency.specs.HelloLaws.{ElectionsComeAbout, NeighboursStayOfLink}
 use Rattle.ospf_adjacency.specs.Links.{elects_by_timers, hello_ticked, timed}
 use Rattle.ospf_adjacency.proofs.Words.{adj_ok_for, inactivity_ticked, is_inactive}
 use Rattle.ospf_links.specs.Elections.{AreReady, ElectsIf}
 use Rattle.ospf_links.specs.Parts.{link_down, link_timed, link_up}
 use Rattle.ospf_links.proofs.Words.{hello_sent, neighbour_repeated}
-use Rattle.ospf_area.specs.Posting.{local_by}
+use Rattle.ospf_area.specs.Outboxes.{local_by}
 use Rattle.ospf_links.specs.Repeats.{link_repeated}
 use Rattle.ospf_adjacency.specs.ResendLaws.{RepeatsAreQuiet}
 use Rattle.ospf_update.proofs.Words.{undelayed_link}
@@ -142,7 +142,7 @@ undelayed_fit r a fit = record { own = fit.own; neighbours = fit.neighbours; ele
 pub undelayed_set_up : (a : LinkValue) → IsSetUp a → IsSetUp (undelayed_link a)
 undelayed_set_up a up = record { mask = up.mask; few = up.few; two_ends = up.two_ends }
 
-module _ (quiet : RepeatsAreQuiet) (own : Own) (db : List Held) where
+module _ (quiet : RepeatsAreQuiet) (own : RouterContext) (db : List Held) where
   repeated_ids : (a : LinkValue) → ids (link_repeated own db a).neighbours ≡ ids a.neighbours
   repeated_ids a = ids_map (neighbour_repeated own a.iface a.settings db)
       (λ n. (quiet a.iface (local_by own a.settings) a.settings.retransmit a.settings.transmit_delay db (record { neighbour = n; next = 0; sent = [] })).same.router) a.neighbours
@@ -169,7 +169,7 @@ module _ (stay : NeighboursStayOfLink) where
   adjusts i j true tick next ns of = ((stay i ns of).adj_ok j tick next, subst (λ (n : ℕ). n ≤ length ns) (sym (adjusted_many j tick next ns)) (no_more (length ns)))
   adjusts i j false tick next ns of = (of, no_more (length ns))
 
-  elected_stays : (r : RouterId) (own : Own) (next : ℕ) (a b : LinkValue) (next' : ℕ) (sent : List Parcel) → ElectsIf true own next a b next' sent → IsFitLink r a → IsSetUp a → Stays r a b
+  elected_stays : (r : RouterId) (own : RouterContext) (next : ℕ) (a b : LinkValue) (next' : ℕ) (sent : List PendingPacket) → ElectsIf true own next a b next' sent → IsFitLink r a → IsSetUp a → Stays r a b
   elected_stays r own next a b next' sent is fit up =
       let e = is.0 in
       let settings : b.iface.settings ≡ a.iface.settings = ap (λ (i : Iface). i.settings) e.interface in
@@ -186,7 +186,7 @@ module _ (stay : NeighboursStayOfLink) where
         set_up = fewer_set_up a b settings fewer up;
       }
 
-  pub elects_stays : (r : RouterId) (due : Bool) (own : Own) (next : ℕ) (a b : LinkValue) (next' : ℕ) (sent : List Parcel) → ElectsIf due own next a b next' sent → IsFitLink r a → IsSetUp a → Stays r a b
+  pub elects_stays : (r : RouterId) (due : Bool) (own : RouterContext) (next : ℕ) (a b : LinkValue) (next' : ℕ) (sent : List PendingPacket) → ElectsIf due own next a b next' sent → IsFitLink r a → IsSetUp a → Stays r a b
   elects_stays r false own next a b next' sent is fit up =
       record { settings = ap (λ (x : LinkValue). x.iface.settings) is.0; fit = subst (λ (x : LinkValue). IsFitLink r x) (sym is.0) fit; set_up = subst (λ (x : LinkValue). IsSetUp x) (sym is.0) up }
   elects_stays r true own next a b next' sent is fit up = elected_stays r own next a b next' sent is fit up

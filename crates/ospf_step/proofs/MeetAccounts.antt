@@ -26,7 +26,7 @@ use Rattle.ospf_neighbour.specs.Neighbour.{NeighbourValue}
 use Rattle.ospf_area.specs.Acting.{Becomes}
 use Rattle.ospf_update.specs.Meets.{MeetsRule, MeetsLsa, Admits, duplicated, header_met, reply_to, reply_out, heard_by, first_dd_on, restarted, replied, named_by}
 use Rattle.ospf_update.proofs.Words.{reply_of, lsa_out, taken_off, first_dd, first_description, lsa_out_on}
-use Rattle.ospf_area.specs.Sending.{own_of, and_sends, packet_from, sent_lsa}
+use Rattle.ospf_area.specs.Sending.{context_of, and_sends, packet_from, sent_lsa}
 use Rattle.ospf_area.specs.Numbers.{is_self_originated}
 use Rattle.ospf_area.specs.Outputs.{OutputsValue, SentValue, no_outputs, AreReadAsSent}
 use Rattle.ospf_area.specs.Places.{map_from}
@@ -39,7 +39,7 @@ use Rattle.ospf_area.specs.State.{AreaValue, LinkValue, database_entry, copy_of,
 use Rattle.ospf_area.proofs.Words.{copy_in, kept_in, changed_on, delayed_on, is_requested_of, and_takes, is_awaited_of}
 use Rattle.ospf_area.specs.declared.changes.AdjacencyChange.{AdjacencyChange}
 use Rattle.ospf_area.specs.declared.changes.AdjacencyChange.TheVariants as change
-use Rattle.ospf_area.specs.declared.flooding.Origin.{Origin}
+use Rattle.ospf_area.specs.declared.flooding.PacketSource.{PacketSource}
 use Rattle.ospf_step.specs.Links.{AreKnown, IsKnownPacket}
 use Rattle.ospf_step.specs.Headers.{IsOfInstance}
 use Rattle.ospf_step.specs.Packets.{Received, lsas_of, acknowledging_headers_of}
@@ -124,7 +124,7 @@ shrink_by heard out s after f g links router database numbering floor direct eac
 }
 
 -- the header is acknowledged, and a key may be noted to be answered
-ack-accountable : (heard : Option Received) (out : OutputsValue) (a : Acknowledgement) (f : Origin) (h : LsaHeader) (key : LsaKey) (noted : Bool) (s : AreaValue) → OnlySendsKnown s out → IsNamed s out h → IsAccountable heard s out (cond noted (record (acknowledging a f h s) { heard = (acknowledging a f h s).heard ++ key ∷ [] }) (acknowledging a f h s))
+ack-accountable : (heard : Option Received) (out : OutputsValue) (a : Acknowledgement) (f : PacketSource) (h : LsaHeader) (key : LsaKey) (noted : Bool) (s : AreaValue) → OnlySendsKnown s out → IsNamed s out h → IsAccountable heard s out (cond noted (record (acknowledging a f h s) { heard = (acknowledging a f h s).heard ++ key ∷ [] }) (acknowledging a f h s))
 ack-accountable heard out a f h key noted s sends known = by a noted
   where
     still : ℕ → LinkValue → LinkValue
@@ -152,10 +152,10 @@ ack-accountable heard out a f h key noted s sends known = by a noted
 
 -- ---- changes of the sender
 
-abbrev changed_area : Origin → AdjacencyChange → AreaValue → AreaValue
+abbrev changed_area : PacketSource → AdjacencyChange → AreaValue → AreaValue
 changed_area f c s = record s { links = map_from (changed_on f c s.tick) 0 s.links }
 
-change_by : (heard : Option Received) (out : OutputsValue) (f : Origin) (c : AdjacencyChange) (s after : AreaValue) → after.links ≡ map_from (changed_on f c s.tick) 0 s.links → after.router ≡ s.router → after.database ≡ s.database → after.numbering ≡ s.numbering → after.floor ≡ s.floor → after.direct ≡ s.direct → ((n : NeighbourValue) → n.router ≡ f.router → IsTold heard f.link n c) → ShrinkBy heard s out (changed_on f c s.tick) (change_of f c s.tick) after
+change_by : (heard : Option Received) (out : OutputsValue) (f : PacketSource) (c : AdjacencyChange) (s after : AreaValue) → after.links ≡ map_from (changed_on f c s.tick) 0 s.links → after.router ≡ s.router → after.database ≡ s.database → after.numbering ≡ s.numbering → after.floor ≡ s.floor → after.direct ≡ s.direct → ((n : NeighbourValue) → n.router ≡ f.router → IsTold heard f.link n c) → ShrinkBy heard s out (changed_on f c s.tick) (change_of f c s.tick) after
 change_by heard out f c s after links router database numbering floor direct told =
     shrink_by heard out s after (changed_on f c s.tick) (change_of f c s.tick) links router database numbering floor
     (λ h x. inl (subst (λ hs. Contains hs h) direct x))
@@ -211,7 +211,7 @@ as_state heard s t u a same x = subst (λ v. IsAccountable heard s a v) (sym sam
 
 -- ---- the rules of an Update
 
-module _ (heard : Option Received) (p : Meaning) (f : Origin) (lsa : List ℕ) (before : AreaValue) (out : OutputsValue) (after : AreaValue) (is_lsa : IsLsa lsa) (sound : IsSoundState before) (hears : heard ≡ Some (record { link = f.link; packet = p })) (from : p.router ≡ f.router) (in_p : Contains (lsas_of p.body) lsa) (read : AreReadAsSent out.sent) where
+module _ (heard : Option Received) (p : Meaning) (f : PacketSource) (lsa : List ℕ) (before : AreaValue) (out : OutputsValue) (after : AreaValue) (is_lsa : IsLsa lsa) (sound : IsSoundState before) (hears : heard ≡ Some (record { link = f.link; packet = p })) (from : p.router ≡ f.router) (in_p : Contains (lsas_of p.body) lsa) (read : AreReadAsSent out.sent) where
   received : Received
   received = record { link = f.link; packet = p }
 
@@ -304,9 +304,9 @@ module _ (heard : Option Received) (p : Meaning) (f : Origin) (lsa : List ℕ) (
       (change_by heard (and_sends no_outputs (first_dd f before)) f (change.Restarts before.next_dd) before (restarted f before) refl refl refl refl refl refl (λ n same. tt))
       (sends_known before (first_dd f before) (subst (λ o. AreReadAsSent o.sent) r.outputs read) first)))
     where
-      by : (o : Option LinkValue) (d : SentValue) → Contains (first_dd_on (own_of before) f before.next_dd o) d → IsKnownPacket before d.packet
+      by : (o : Option LinkValue) (d : SentValue) → Contains (first_dd_on (context_of before) f before.next_dd o) d → IsKnownPacket before d.packet
       by None d c = absurd (Contains-nil d c)
-      by (Some link) d c = subst (λ m. IsKnownPacket before m) (sym (datagrams-packet _ (packet_from (own_of before) (description (first_description link.settings.mtu before.next_dd) [])) d c)) (record {
+      by (Some link) d c = subst (λ m. IsKnownPacket before m) (sym (datagrams-packet _ (packet_from (context_of before) (description (first_description link.settings.mtu before.next_dd) [])) d c)) (record {
         router = refl;
         lsas = λ lsa c. absurd (Contains-nil lsa c);
         names = λ i lists. absurd (Contains-nil lists.0 lists.1);
@@ -357,9 +357,9 @@ module _ (heard : Option Received) (p : Meaning) (f : Origin) (lsa : List ℕ) (
       is_copy : (l : List ℕ) → reply_to before (key_of lsa) ≡ Some l → HasCopy before l
       is_copy l is = by (database_entry before (key_of lsa)) (among before.sent (key_of lsa)) refl l is
 
-      link_sends : (l : List ℕ) (o : Option LinkValue) (d : SentValue) → HasCopy before l → Contains (lsa_out_on (own_of before) f l o) d → IsKnownPacket before d.packet
+      link_sends : (l : List ℕ) (o : Option LinkValue) (d : SentValue) → HasCopy before l → Contains (lsa_out_on (context_of before) f l o) d → IsKnownPacket before d.packet
       link_sends l None d has c = absurd (Contains-nil d c)
-      link_sends l (Some link) d has c = subst (λ m. IsKnownPacket before m) (sym (datagrams-packet _ (packet_from (own_of before) (update (sent_lsa link.settings.transmit_delay l ∷ []))) d c)) (record {
+      link_sends l (Some link) d has c = subst (λ m. IsKnownPacket before m) (sym (datagrams-packet _ (packet_from (context_of before) (update (sent_lsa link.settings.transmit_delay l ∷ []))) d c)) (record {
         router = refl;
         lsas = λ one c. record { lsa = l; copy = has; same = ap contents (sym (one_of (sent_lsa link.settings.transmit_delay l) one c)) };
         names = λ i lists. CanName.InDatabase (
@@ -398,7 +398,7 @@ module _ (heard : Option Received) (p : Meaning) (f : Origin) (lsa : List ℕ) (
 
 -- ---- a header of an Acknowledgment
 
-module _ (heard : Option Received) (p : Meaning) (f : Origin) (h : LsaHeader) (before : AreaValue) (out : OutputsValue) (after : AreaValue) (sound : IsSoundState before) (hears : heard ≡ Some (record { link = f.link; packet = p })) (from : p.router ≡ f.router) (in_p : Contains (acknowledging_headers_of p.body) h) where
+module _ (heard : Option Received) (p : Meaning) (f : PacketSource) (h : LsaHeader) (before : AreaValue) (out : OutputsValue) (after : AreaValue) (sound : IsSoundState before) (hears : heard ≡ Some (record { link = f.link; packet = p })) (from : p.router ≡ f.router) (in_p : Contains (acknowledging_headers_of p.body) h) where
   -- where it is the same as the copy, it names the copy's instance
   names_copy : (o : Option LsaKey) → key_of_header h ≡ o → (copy : Entry) → exchange.copy_in_database before.database o ≡ Some copy → recency h (header_at copy) ≡ Same → IsOfInstance h (instance_at copy)
   names_copy None key copy at same = absurd (none-some copy at)
@@ -450,7 +450,7 @@ passed-accountable heard s t p = subst (λ x. IsAccountable heard s no_outputs x
     shrinks = shrink_by heard no_outputs s after still alone (map_from-id 0 s.links) refl refl refl refl now (λ l link. map-id link.neighbours) (λ l link x c. inl c) (λ l n. same-shrinks heard l n)
 
 -- one LSA of an Update, or what is passed over
-pub LsaPart-accountable : (heard : Option Received) (p : Meaning) (f : Origin) (lsa : List ℕ) (before : AreaValue) (out : OutputsValue) (after : AreaValue) → IsSoundState before → heard ≡ Some (record { link = f.link; packet = p }) → p.router ≡ f.router → Contains (lsas_of p.body) lsa → AreReadAsSent out.sent → LsaPart f lsa before out after → IsAccountable heard before out after
+pub LsaPart-accountable : (heard : Option Received) (p : Meaning) (f : PacketSource) (lsa : List ℕ) (before : AreaValue) (out : OutputsValue) (after : AreaValue) → IsSoundState before → heard ≡ Some (record { link = f.link; packet = p }) → p.router ≡ f.router → Contains (lsas_of p.body) lsa → AreReadAsSent out.sent → LsaPart f lsa before out after → IsAccountable heard before out after
 LsaPart-accountable heard p f lsa before out after sound hears from in_p read (LsaPart.Meets is m) = MeetsLsa-accountable heard p f lsa before out after is sound hears from in_p read m
 LsaPart-accountable heard p f lsa before out after sound hears from in_p read (LsaPart.PassedOver not_one passes outputs) =
     subst (λ o. IsAccountable heard before o after) (sym outputs) (passed-accountable heard before after (passed before.passes_over f lsa before after passes))

@@ -19,7 +19,7 @@ use Rattle.ospf_lsdb.proofs.EntryLemmas.{key-entry_from}
 use Rattle.ospf_area.specs.Flooding.{flooded_links, flooding_updates, goes_anywhere}
 use Rattle.ospf_area.specs.Numbers.{counts, is_own}
 use Rattle.ospf_area.specs.Outputs.{AreReadAsSent, OutputsValue, SentValue, sends, then_outputs}
-use Rattle.ospf_area.specs.Sending.{own_of}
+use Rattle.ospf_area.specs.Sending.{context_of}
 use Rattle.ospf_area.specs.State.{AreaValue, database_entry, kept_number, numbering_of}
 use Rattle.ospf_area.proofs.Words.{kept_in}
 use Rattle.ospf_area.proofs.NumberLemmas.{own_counted}
@@ -124,8 +124,8 @@ module _ (key : LsaKey) (copy : Entry) (s : AreaValue) (out out' : OutputsValue)
   flush_is : ExpiryPart key copy s (sends (copy_flood_out key x.mid)) (copy_flooded key x.mid)
   flush_is = subst (λ o. ExpiryPart key copy s (sends (copy_flood_out_by o x.mid)) (copy_flooded_by o key x.mid)) (sym at_mid) (go (goes_anywhere (key_of (lsa_of (at_max_age copy))) (header_of (lsa_of (at_max_age copy))) None x.mid.links))
     where
-      out_is : sends (flooding_updates (own_of x.mid) (lsa_of (at_max_age copy)) None x.mid.links) ≡ sends (flooding_updates (own_of s) (lsa_of (at_max_age copy)) None s.links)
-      out_is = ap (λ (m : AreaValue). sends (flooding_updates (own_of m) (lsa_of (at_max_age copy)) None m.links)) x.rest
+      out_is : sends (flooding_updates (context_of x.mid) (lsa_of (at_max_age copy)) None x.mid.links) ≡ sends (flooding_updates (context_of s) (lsa_of (at_max_age copy)) None s.links)
+      out_is = ap (λ (m : AreaValue). sends (flooding_updates (context_of m) (lsa_of (at_max_age copy)) None m.links)) x.rest
 
       router_is : x.mid.router ≡ s.router
       router_is = ap (λ (m : AreaValue). m.router) x.rest
@@ -136,7 +136,7 @@ module _ (key : LsaKey) (copy : Entry) (s : AreaValue) (out out' : OutputsValue)
       kept_is : (k : LsaKey) → kept_number x.mid k ≡ kept_number s k
       kept_is k = ap (λ (m : AreaValue). kept_number m k) x.rest
 
-      go : (b : Bool) → ExpiryPart key copy s (sends (flooding_updates (own_of x.mid) (lsa_of (at_max_age copy)) None x.mid.links)) (noted key b (flooded_area (lsa_of (at_max_age copy)) None x.mid))
+      go : (b : Bool) → ExpiryPart key copy s (sends (flooding_updates (context_of x.mid) (lsa_of (at_max_age copy)) None x.mid.links)) (noted key b (flooded_area (lsa_of (at_max_age copy)) None x.mid))
       go true = record { at = at; database = entries_mid; links = links_is; same_router = router_is; same_direct = direct_is; numbering = kept_is; outputs = out_is }
       go false = record { at = at; database = entries_mid; links = links_is; same_router = router_is; same_direct = direct_is; numbering = kept_is; outputs = out_is }
 

@@ -29,11 +29,11 @@ use Rattle.ospf_neighbour.specs.Neighbours.{neighbour_of}
 use Rattle.ospf_base.proofs.SameKeys.{same_instance-refl}
 use Rattle.ospf_flood.specs.Offers.{flooded, instance_with}
 use Rattle.ospf_update.specs.Acks.{direct_out}
-use Rattle.ospf_area.specs.Sending.{own_of}
+use Rattle.ospf_area.specs.Sending.{context_of}
 use Rattle.ospf_area.specs.Outputs.{OutputsValue, SentValue, no_outputs, sends, AreReadAsSent}
 use Rattle.ospf_area.specs.State.{AreaValue, LinkValue, neighbour, database_entry, copy_of, kept_number, some_link_loading, Awaits, WaitsIn, state_in}
 use Rattle.ospf_area.proofs.Words.{copy_in, neighbours_in, flooded_link}
-use Rattle.ospf_area.specs.declared.flooding.Origin.{Origin}
+use Rattle.ospf_area.specs.declared.flooding.PacketSource.{PacketSource}
 use Rattle.ospf_area.specs.Acting.{Becomes}
 use Rattle.ospf_step.specs.Headers.{IsOfInstance, Lists}
 use Rattle.ospf_step.specs.Packets.{Received, lsas_of, headers_in_body}
@@ -65,7 +65,7 @@ one_of x y (suc k, within, is) = absurd (omega arith)
 
 -- ---- direct acknowledgements
 
-pub DirectPart-accountable : (heard : Option Received) (f : Origin) (before : AreaValue) (out : OutputsValue) (after : AreaValue) → AreReadAsSent out.sent → Becomes (record before { direct = [] }) (sends (direct_out f before)) out after → IsAccountable heard before out after
+pub DirectPart-accountable : (heard : Option Received) (f : PacketSource) (before : AreaValue) (out : OutputsValue) (after : AreaValue) → AreReadAsSent out.sent → Becomes (record before { direct = [] }) (sends (direct_out f before)) out after → IsAccountable heard before out after
 DirectPart-accountable heard f before out after read d =
     subst (λ o. IsAccountable heard before o after) (sym d.outputs)
     (subst (λ s. IsAccountable heard before (sends (direct_out f before)) s) (sym d.state)
@@ -86,7 +86,7 @@ DirectPart-accountable heard f before out after read d =
 
     known : (x : SentValue) → Contains (direct_out f before) x → IsKnownPacket before x.packet
     known x c =
-        let a = direct-packets (own_of before) f before.direct (slice_get before.links f.link) x c in
+        let a = direct-packets (context_of before) f before.direct (slice_get before.links f.link) x c in
         record {
           router = ap (λ m. m.router) a.packet;
           lsas = λ lsa m. absurd (Contains-nil lsa (subst (λ m. Contains (lsas_of m.body) lsa) a.packet m));
@@ -195,10 +195,10 @@ module _ (heard : Option Received) (key : LsaKey) (copy : Entry) (before : AreaV
   nothing : (i : Instance) → Brings out i → ⊥
   nothing i b = brings_none out i (ap (λ o. o.taken) x.outputs) (ap (λ o. o.issued) x.outputs) b
 
-  an_update : (p : Meaning) → Sends out p → IsUpdateOf (own_of before) (lsa_of (at_max_age copy)) p
-  an_update p s = subst (λ m. IsUpdateOf (own_of before) (lsa_of (at_max_age copy)) m) (sent_packet out p read s) (flooding-packets (own_of before) (lsa_of (at_max_age copy)) None before.links s.datagram (subst (λ o. Contains o.sent s.datagram) x.outputs s.sent))
+  an_update : (p : Meaning) → Sends out p → IsUpdateOf (context_of before) (lsa_of (at_max_age copy)) p
+  an_update p s = subst (λ m. IsUpdateOf (context_of before) (lsa_of (at_max_age copy)) m) (sent_packet out p read s) (flooding-packets (context_of before) (lsa_of (at_max_age copy)) None before.links s.datagram (subst (λ o. Contains o.sent s.datagram) x.outputs s.sent))
 
-  names_it : (p : Meaning) (i : Instance) → IsUpdateOf (own_of before) (lsa_of (at_max_age copy)) p → Lists (headers_in_body p.body) i → i ≡ instance_at (at_max_age copy)
+  names_it : (p : Meaning) (i : Instance) → IsUpdateOf (context_of before) (lsa_of (at_max_age copy)) p → Lists (headers_in_body p.body) i → i ≡ instance_at (at_max_age copy)
   names_it p i u (h, c, is) =
       let it = one_of (header_of u.one) h (subst (λ m. Contains (headers_in_body m.body) h) u.packet c) in
       sym (header_names u.one i (subst (λ h. IsOfInstance h i) it is)) ∙ same_contents u.one (lsa_of (at_max_age copy)) u.same

@@ -11,8 +11,8 @@ use Rattle.ospf_packet.specs.declared.body.Hello.{Hello}
 use Rattle.ospf_packet.specs.declared.entry.RequestEntry.{RequestEntry}
 use Rattle.ospf_exchange.specs.declared.rule.Local.{Local}
 use Rattle.ospf_area.specs.State.{LinkValue}
-use Rattle.ospf_area.specs.declared.flooding.Origin.{Origin}
-use Rattle.ospf_area.specs.declared.sending.Own.{Own}
+use Rattle.ospf_area.specs.declared.flooding.PacketSource.{PacketSource}
+use Rattle.ospf_area.specs.declared.sending.RouterContext.{RouterContext}
 use Rattle.ospf_adjacency.specs.Elections.{AreOfLink, elects_in}
 use Rattle.ospf_adjacency.specs.Laws.{DescriptionKeepsRouter}
 use Rattle.ospf_adjacency.specs.Heard.{Neighbourhood, elects_by_hello, hello_turn, turn_of}
@@ -27,7 +27,7 @@ use Rattle.ospf_adjacency.specs.Descriptions.{description_turn}
 use Rattle.ospf_originate.specs.Sound.{IsSetUp}
 use Rattle.ospf_step.specs.Fit.{IsFitLink}
 use Rattle.ospf_step.proofs.FitLemmas.{ids, of_link, as_many, found_router, put_many, put_same, Stays}
-use Rattle.ospf_area.specs.Posting.{local_by}
+use Rattle.ospf_area.specs.Outboxes.{local_by}
 
 -- ---- a link with other neighbours, whose election may be due
 
@@ -59,7 +59,7 @@ pub record CanGreet (q : RouterId) (a : LinkValue) : Type 0 where
   pub alone : a.iface.settings.kind ≡ PointToPoint → neighbour_of a.neighbours q ≡ None → length a.neighbours ≡ 0
 
 module _ (stay : NeighboursStayOfLink) (come : ElectionsComeAbout) where
-  pub hello_stays : (r : RouterId) (own : Own) (f : Origin) (h : Hello) (named : Bool) (next : ℕ) (a : LinkValue) → CanGreet f.router a → IsFitLink r a → IsSetUp a → Stays r a (with_neighbourhood (hello_part own f h named next a) a)
+  pub hello_stays : (r : RouterId) (own : RouterContext) (f : PacketSource) (h : Hello) (named : Bool) (next : ℕ) (a : LinkValue) → CanGreet f.router a → IsFitLink r a → IsSetUp a → Stays r a (with_neighbourhood (hello_part own f h named next a) a)
   hello_stays r own f h named next a can fit up = by_found (neighbour_of a.neighbours f.router) refl
     where
       q : RouterId
@@ -111,7 +111,7 @@ module _ (stay : NeighboursStayOfLink) (come : ElectionsComeAbout) where
 -- ---- Database Descriptions
 
 module _ (keeps : DescriptionKeepsRouter) (come : ElectionsComeAbout) where
-  pub description_stays : (r : RouterId) (own : Own) (f : Origin) (d : Description) (headers : List LsaHeader) (db : List Held) (next : ℕ) (a : LinkValue) → IsFitLink r a → IsSetUp a
+  pub description_stays : (r : RouterId) (own : RouterContext) (f : PacketSource) (d : Description) (headers : List LsaHeader) (db : List Held) (next : ℕ) (a : LinkValue) → IsFitLink r a → IsSetUp a
       → Stays r a (with_neighbourhood (description_part own f d headers db next a) a)
   description_stays r own f d headers db next a fit up = by_found (neighbour_of a.neighbours f.router) refl
     where
@@ -132,7 +132,7 @@ module _ (keeps : DescriptionKeepsRouter) (come : ElectionsComeAbout) where
 -- ---- Requests
 
 module _ (quiet : AnswersAreQuiet) where
-  pub request_stays : (r : RouterId) (own : Own) (f : Origin) (db : List Held) (entries : List RequestEntry) (next : ℕ) (a : LinkValue) → IsFitLink r a → IsSetUp a
+  pub request_stays : (r : RouterId) (own : RouterContext) (f : PacketSource) (db : List Held) (entries : List RequestEntry) (next : ℕ) (a : LinkValue) → IsFitLink r a → IsSetUp a
       → Stays r a (with_neighbourhood (request_part own f db entries next a) a)
   request_stays r own f db entries next a fit up = by_found (neighbour_of a.neighbours f.router) refl
     where

@@ -11,9 +11,9 @@ use Rattle.ospf_lsdb.specs.Database.{Entry, IsDatabase, reached_at}
 use Rattle.ospf_area.specs.Acting.{OnEachLink}
 use Rattle.ospf_area.specs.Outputs.{AreReadAsSent, OutputsValue, SentValue, no_outputs, sends, then_outputs}
 use Rattle.ospf_area.specs.Places.{flat_from}
-use Rattle.ospf_area.specs.Sending.{and_sends, own_of}
+use Rattle.ospf_area.specs.Sending.{and_sends, context_of}
 use Rattle.ospf_area.specs.State.{AreaValue, LinkValue, database_entry}
-use Rattle.ospf_area.specs.declared.flooding.Origin.{Origin}
+use Rattle.ospf_area.specs.declared.flooding.PacketSource.{PacketSource}
 use Rattle.ospf_update.specs.Acks.{delayed_out_on}
 use Rattle.ospf_update.specs.Aging.{Flushes, TickAges}
 use Rattle.ospf_update.specs.Meets.{header_met}
@@ -46,7 +46,7 @@ read_own out out' ds outputs read = AreRead-right out (sends ds) (subst (λ o. A
 
 -- ---- headers of an Acknowledgment
 
-pub headers_put : (f : Origin) (hs : List LsaHeader) (rest : List Part) (s t u : AreaValue) (out out' : OutputsValue) → t ≡ headers_met f hs s → PutsOut (λ o. Chain rest t o u) out out' → PutsOut (λ o. Chain (map (λ h. HeaderComes f h) hs ++ rest) s o u) out out'
+pub headers_put : (f : PacketSource) (hs : List LsaHeader) (rest : List Part) (s t u : AreaValue) (out out' : OutputsValue) → t ≡ headers_met f hs s → PutsOut (λ o. Chain rest t o u) out out' → PutsOut (λ o. Chain (map (λ h. HeaderComes f h) hs ++ rest) s o u) out out'
 headers_put f [] rest s t u out out' state next = subst (λ t. PutsOut (λ o. Chain rest t o u) out out') state next
 headers_put f (h ∷ hs) rest s t u out out' state next =
     puts_more (HeaderComes f h) (map (λ h. HeaderComes f h) hs ++ rest) s (header_met f h s) u out out out'
@@ -85,25 +85,25 @@ undelayed_quiet s link = record {
   enters = λ q up. up;
 }
 
-acks_known : (s : AreaValue) (link : LinkValue) → IsLinkIn s link → (k : ℕ) → AreKnown s (delayed_out_on (own_of s) k link)
+acks_known : (s : AreaValue) (link : LinkValue) → IsLinkIn s link → (k : ℕ) → AreKnown s (delayed_out_on (context_of s) k link)
 acks_known s link (l, at) k d c =
-    let is = acks-packets (own_of s) _ link.settings.mtu link.delayed d c in
+    let is = acks-packets (context_of s) _ link.settings.mtu link.delayed d c in
     subst (λ m. IsKnownPacket s m) (sym is.packet) (record {
       router = refl;
       lsas = λ lsa none. absurd (Contains-nil lsa none);
       names = λ i lists. let (h, inside, of) = lists in CanName.ToAcknowledge l (h, subst (λ o. Contains (delayed_in o) h) (sym at) (is.within h inside), of);
     })
 
-all_acks_known : (s : AreaValue) (k : ℕ) (links : List LinkValue) → ((l : ℕ) (link : LinkValue) → slice_get links l ≡ Some link → IsLinkIn s link) → AreKnown s (flat_from (delayed_out_on (own_of s)) k links)
+all_acks_known : (s : AreaValue) (k : ℕ) (links : List LinkValue) → ((l : ℕ) (link : LinkValue) → slice_get links l ≡ Some link → IsLinkIn s link) → AreKnown s (flat_from (delayed_out_on (context_of s)) k links)
 all_acks_known s k [] within d c = absurd (Contains-nil d c)
-all_acks_known s k (link ∷ links) within d c = elim (Contains-append_cases (delayed_out_on (own_of s) k link) (flat_from (delayed_out_on (own_of s)) (suc k) links) d c) [
+all_acks_known s k (link ∷ links) within d c = elim (Contains-append_cases (delayed_out_on (context_of s) k link) (flat_from (delayed_out_on (context_of s)) (suc k) links) d c) [
   | inl here ↦ acks_known s link (within 0 link refl) k d here
   | inr later ↦ all_acks_known s (suc k) links (λ l link at. within (suc l) link at) d later
 ]
 
-pub acknowledgements_put : (s t : AreaValue) (out out' : OutputsValue) → AreReadAsSent out'.sent → OnEachLink undelayed_link (delayed_out_on (own_of s)) s out out' t → PutsOut (λ o. Quiet s o t) out out'
+pub acknowledgements_put : (s t : AreaValue) (out out' : OutputsValue) → AreReadAsSent out'.sent → OnEachLink undelayed_link (delayed_out_on (context_of s)) s out out' t → PutsOut (λ o. Quiet s o t) out out'
 acknowledgements_put s t out out' read is =
-    let ds = flat_from (delayed_out_on (own_of s)) 0 s.links in
+    let ds = flat_from (delayed_out_on (context_of s)) 0 s.links in
     let links : t.links ≡ map undelayed_link s.links = ap (λ s. s.links) is.state in
     let rest : ChangesLinks s t = subst (λ a. ChangesLinks s a) (sym is.state) refl in
     puts_sent (λ o. Quiet s o t) out out' ds

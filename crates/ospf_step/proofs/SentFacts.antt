@@ -13,8 +13,8 @@ use Rattle.ospf_area.specs.Outputs.{SentValue}
 use Rattle.ospf_area.specs.Places.{flat_from}
 use Rattle.ospf_area.specs.Sending.{datagrams, packet_from, sent_lsa}
 use Rattle.ospf_area.specs.State.{LinkValue}
-use Rattle.ospf_area.specs.declared.flooding.Origin.{Origin}
-use Rattle.ospf_area.specs.declared.sending.Own.{Own}
+use Rattle.ospf_area.specs.declared.flooding.PacketSource.{PacketSource}
+use Rattle.ospf_area.specs.declared.sending.RouterContext.{RouterContext}
 use Rattle.ospf_area.specs.declared.sending.Way.{Way}
 use Rattle.ospf_step.proofs.StateFacts.{Contains-nil}
 use Rattle.std.proofs.lemmas.List.{take-append-drop}
@@ -43,26 +43,26 @@ pub contents-with_age : (age : ℕ) (lsa : List ℕ) → contents (with_age age 
 contents-with_age age lsa = refl
 
 -- an Update of one LSA of these contents
-pub record IsUpdateOf (own : Own) (lsa : List ℕ) (m : Meaning) : Type 0 where
+pub record IsUpdateOf (own : RouterContext) (lsa : List ℕ) (m : Meaning) : Type 0 where
   pub one : List ℕ
   pub packet : m ≡ packet_from own (update (one ∷ []))
   pub same : contents one ≡ contents lsa
 
-flooding_update-packet : (own : Own) (lsa : List ℕ) (from : Option Origin) (l : ℕ) (link : LinkValue) (d : SentValue) → Contains (flooding_update own lsa from l link) d → IsUpdateOf own lsa d.packet
+flooding_update-packet : (own : RouterContext) (lsa : List ℕ) (from : Option PacketSource) (l : ℕ) (link : LinkValue) (d : SentValue) → Contains (flooding_update own lsa from l link) d → IsUpdateOf own lsa d.packet
 flooding_update-packet own lsa from l link d c = go (goes_out (key_of lsa) (header_of lsa) from l link) _ c
   where
     go : (b : Bool) (way : Way) → Contains (cond b (datagrams way (packet_from own (update (sent_lsa link.settings.transmit_delay lsa ∷ [])))) []) d → IsUpdateOf own lsa d.packet
     go true way c = record { one = sent_lsa link.settings.transmit_delay lsa; packet = datagrams-packet way (packet_from own (update (sent_lsa link.settings.transmit_delay lsa ∷ []))) d c; same = refl }
     go false way c = absurd (Contains-nil d c)
 
-from-packets : (own : Own) (lsa : List ℕ) (from : Option Origin) (k : ℕ) (links : List LinkValue) (d : SentValue) → Contains (flat_from (flooding_update own lsa from) k links) d → IsUpdateOf own lsa d.packet
+from-packets : (own : RouterContext) (lsa : List ℕ) (from : Option PacketSource) (k : ℕ) (links : List LinkValue) (d : SentValue) → Contains (flat_from (flooding_update own lsa from) k links) d → IsUpdateOf own lsa d.packet
 from-packets own lsa from k [] d c = absurd (Contains-nil d c)
 from-packets own lsa from k (link ∷ links) d c = elim (Contains-append_cases (flooding_update own lsa from k link) (flat_from (flooding_update own lsa from) (suc k) links) d c) [
   | inl here ↦ flooding_update-packet own lsa from k link d here
   | inr later ↦ from-packets own lsa from (suc k) links d later
 ]
 
-pub flooding-packets : (own : Own) (lsa : List ℕ) (from : Option Origin) (links : List LinkValue) (d : SentValue) → Contains (flooding_updates own lsa from links) d → IsUpdateOf own lsa d.packet
+pub flooding-packets : (own : RouterContext) (lsa : List ℕ) (from : Option PacketSource) (links : List LinkValue) (d : SentValue) → Contains (flooding_updates own lsa from links) d → IsUpdateOf own lsa d.packet
 flooding-packets own lsa from links d c = from-packets own lsa from 0 links d c
 
 -- What the acknowledgements that are sent name (RFC 2328, section 13.5).
@@ -117,12 +117,12 @@ flat_map-members f (x ∷ xs) y c = elim (Contains-append_cases (f x) (flat_map 
 ]
 
 -- an Acknowledgment of some of these headers
-pub record IsAcknowledgmentOf (own : Own) (hs : List LsaHeader) (m : Meaning) : Type 0 where
+pub record IsAcknowledgmentOf (own : RouterContext) (hs : List LsaHeader) (m : Meaning) : Type 0 where
   pub some : List LsaHeader
   pub packet : m ≡ packet_from own (acknowledgment some)
   pub within : (h : LsaHeader) → Contains some h → Contains hs h
 
-pub acks-packets : (own : Own) (way : Way) (mtu : ℕ) (hs : List LsaHeader) (d : SentValue) → Contains (acks_out own way mtu hs) d → IsAcknowledgmentOf own hs d.packet
+pub acks-packets : (own : RouterContext) (way : Way) (mtu : ℕ) (hs : List LsaHeader) (d : SentValue) → Contains (acks_out own way mtu hs) d → IsAcknowledgmentOf own hs d.packet
 acks-packets own way mtu hs d c =
     let (chunk, inside, sent) = flat_map-members (ack_out own way) (packets (ack_room mtu) (in_order hs)) d c in
     record {
@@ -131,6 +131,6 @@ acks-packets own way mtu hs d c =
       within = λ h m. in_order-members hs h (cut-members (length (in_order hs)) (ack_room mtu) (in_order hs) chunk h inside m);
     }
 
-pub direct-packets : (own : Own) (f : Origin) (hs : List LsaHeader) (o : Option LinkValue) (d : SentValue) → Contains (direct_out_on own f hs o) d → IsAcknowledgmentOf own hs d.packet
+pub direct-packets : (own : RouterContext) (f : PacketSource) (hs : List LsaHeader) (o : Option LinkValue) (d : SentValue) → Contains (direct_out_on own f hs o) d → IsAcknowledgmentOf own hs d.packet
 direct-packets own f hs None d c = absurd (Contains-nil d c)
 direct-packets own f hs (Some link) d c = acks-packets own _ link.settings.mtu hs d c

@@ -23,7 +23,7 @@ use Rattle.ospf_area.specs.Places.{map_from}
 use Rattle.ospf_area.specs.State.{AreaValue, LinkValue, neighbour, database_entry, kept_number, state_in}
 use Rattle.ospf_area.specs.declared.changes.AdjacencyChange.{AdjacencyChange}
 use Rattle.ospf_area.specs.declared.changes.AdjacencyChange.TheVariants.{Acknowledges, IsSent, Restarts}
-use Rattle.ospf_area.specs.declared.flooding.Origin.{Origin}
+use Rattle.ospf_area.specs.declared.flooding.PacketSource.{PacketSource}
 use Rattle.ospf_step.specs.Packets.{Received}
 use Rattle.ospf_step.specs.Accounts.{IsAcknowledged}
 use Rattle.ospf_step.proofs.Accountable.{IsAccountable, Adjusts-accountable}
@@ -152,10 +152,10 @@ map_from-id k [] = refl
 map_from-id k (x ∷ xs) = ap (λ ys. x ∷ ys) (map_from-id (suc k) xs)
 
 -- the change of the origin's neighbour
-pub change_of : Origin → AdjacencyChange → ℕ → ℕ → NeighbourValue → NeighbourValue
+pub change_of : PacketSource → AdjacencyChange → ℕ → ℕ → NeighbourValue → NeighbourValue
 change_of f change tick l n = cond (l == f.link) (changed_if f.router change tick n) n
 
-pub change-each : (f : Origin) (change : AdjacencyChange) (tick l : ℕ) (link : LinkValue) → (changed_on f change tick l link).neighbours ≡ map (change_of f change tick l) link.neighbours
+pub change-each : (f : PacketSource) (change : AdjacencyChange) (tick l : ℕ) (link : LinkValue) → (changed_on f change tick l link).neighbours ≡ map (change_of f change tick l) link.neighbours
 unfolding change_of
 change-each f change tick l link = go (l == f.link)
   where
@@ -163,14 +163,14 @@ change-each f change tick l link = go (l == f.link)
     go true = refl
     go false = map-id link.neighbours
 
-pub change-waiting : (f : Origin) (change : AdjacencyChange) (tick l : ℕ) (link : LinkValue) → (changed_on f change tick l link).delayed ≡ link.delayed
+pub change-waiting : (f : PacketSource) (change : AdjacencyChange) (tick l : ℕ) (link : LinkValue) → (changed_on f change tick l link).delayed ≡ link.delayed
 change-waiting f change tick l link = go (l == f.link)
   where
     go : (b : Bool) → (cond b (changed_link f.router change tick link) link).delayed ≡ link.delayed
     go true = refl
     go false = refl
 
-pub change-shrinks : (heard : Option Received) (f : Origin) (change : AdjacencyChange) (tick l : ℕ) (n : NeighbourValue) → (n.router ≡ f.router → IsTold heard f.link n change) → ShrinksTo heard l n (change_of f change tick l n)
+pub change-shrinks : (heard : Option Received) (f : PacketSource) (change : AdjacencyChange) (tick l : ℕ) (n : NeighbourValue) → (n.router ≡ f.router → IsTold heard f.link n change) → ShrinksTo heard l n (change_of f change tick l n)
 unfolding change_of
 change-shrinks heard f change tick l n told =
     cond-shrinks heard l (l == f.link) n (changed_if f.router change tick n) (λ here.

@@ -9,7 +9,7 @@ use Rattle.ospf_packet.specs.Meaning.{BodyMeaning, hello, description, request, 
 use Rattle.ospf_packet.specs.PacketOf.{packet_of}
 use Rattle.ospf_area.specs.Outputs.{OutputsValue, then_outputs, AreReadAsSent}
 use Rattle.ospf_area.specs.State.{AreaValue}
-use Rattle.ospf_area.specs.declared.flooding.Origin.{Origin}
+use Rattle.ospf_area.specs.declared.flooding.PacketSource.{PacketSource}
 use Rattle.ospf_step.specs.Accounts.{Accounts, NoneEntersExchange}
 use Rattle.ospf_step.specs.Neighbours.{Quiet}
 use Rattle.ospf_step.specs.Packets.{Received, lsas_of, acknowledging_headers_of}
@@ -147,11 +147,11 @@ chain_ends : (heard : Option Received) (parts : List Part) (before : AreaValue) 
 chain_ends heard [] before out after sound read b t = last_end heard before out after sound read t
 chain_ends heard (part ∷ parts) before out after sound read (b, bs) t = one_more heard part (parts ++ last_parts) before out after sound read b (λ mid o sound read rest. chain_ends heard parts mid o after sound read bs rest) t
 
-between_lsas : (heard : Option Received) (f : Origin) (p : Meaning) (lsas : List (List ℕ)) → heard ≡ Some (record { link = f.link; packet = p }) → p.router ≡ f.router → ((lsa : List ℕ) → Contains lsas lsa → Contains (lsas_of p.body) lsa) → AllBetween heard (lsa_parts f lsas ++ DirectAcknowledgements f ∷ [])
+between_lsas : (heard : Option Received) (f : PacketSource) (p : Meaning) (lsas : List (List ℕ)) → heard ≡ Some (record { link = f.link; packet = p }) → p.router ≡ f.router → ((lsa : List ℕ) → Contains lsas lsa → Contains (lsas_of p.body) lsa) → AllBetween heard (lsa_parts f lsas ++ DirectAcknowledgements f ∷ [])
 between_lsas heard f p [] h from within = (tt, tt)
 between_lsas heard f p (lsa ∷ lsas) h from within = ((p, h, from, within lsa (0, omega arith, refl)), (tt, between_lsas heard f p lsas h from (λ x c. let (k, inside, is) = c in within x (suc k, omega arith, is))))
 
-between_headers : (heard : Option Received) (f : Origin) (p : Meaning) (hs : List LsaHeader) → heard ≡ Some (record { link = f.link; packet = p }) → p.router ≡ f.router → ((h : LsaHeader) → Contains hs h → Contains (acknowledging_headers_of p.body) h) → AllBetween heard (map (λ h. HeaderComes f h) hs)
+between_headers : (heard : Option Received) (f : PacketSource) (p : Meaning) (hs : List LsaHeader) → heard ≡ Some (record { link = f.link; packet = p }) → p.router ≡ f.router → ((h : LsaHeader) → Contains hs h → Contains (acknowledging_headers_of p.body) h) → AllBetween heard (map (λ h. HeaderComes f h) hs)
 between_headers heard f p [] h from within = tt
 between_headers heard f p (x ∷ xs) h from within = ((p, h, from, within x (0, omega arith, refl)), between_headers heard f p xs h from (λ y c. let (k, inside, is) = c in within y (suc k, omega arith, is)))
 
@@ -163,7 +163,7 @@ pub record IsAnswered (heard : Option Received) (before : AreaValue) (out : Outp
 answered : (heard : Option Received) (before : AreaValue) (out : OutputsValue) (after : AreaValue) → EndsWell heard before out after → IsAnswered heard before out after
 answered heard before out after e = record { accounts = e.accounts; sound = e.sound }
 
-packet_ends : (heard : Option Received) (f : Origin) (p : Meaning) (before : AreaValue) (out : OutputsValue) (after : AreaValue) → IsSoundState before → AreReadAsSent out.sent → heard ≡ Some (record { link = f.link; packet = p }) → p.router ≡ f.router → (b : BodyMeaning) → p.body ≡ b → Chain (parts_of_packet f p b ++ last_parts) before out after → IsAnswered heard before out after
+packet_ends : (heard : Option Received) (f : PacketSource) (p : Meaning) (before : AreaValue) (out : OutputsValue) (after : AreaValue) → IsSoundState before → AreReadAsSent out.sent → heard ≡ Some (record { link = f.link; packet = p }) → p.router ≡ f.router → (b : BodyMeaning) → p.body ≡ b → Chain (parts_of_packet f p b ++ last_parts) before out after → IsAnswered heard before out after
 packet_ends heard f p before out after sound read h from (hello fields neighbours) is t = answered heard before out after (chain_ends heard (HelloComes f p ∷ []) before out after sound read (tt, tt) t)
 packet_ends heard f p before out after sound read h from (description fields headers) is t = record {
   accounts = subst (λ out. Accounts heard before out after) (sym t.both) (Accounts-then heard before t.mid after t.first_out t.next_out (Adjusts-accounts heard before t.first_out t.mid first) rest.accounts rest.none_enters t.first.ended);

@@ -3,7 +3,7 @@ use Rattle.std.proofs.Common.{◌≡◌, ◌++◌, List, ◌∷◌, refl, subst,
 use Rattle.ospf_base.specs.declared.ids.LsaKey.{LsaKey}
 use Rattle.ospf_lsdb.specs.Database.{IsDatabase}
 use Rattle.ospf_area.specs.Outputs.{AreReadAsSent, OutputsValue}
-use Rattle.ospf_area.specs.Sending.{and_sends, own_of}
+use Rattle.ospf_area.specs.Sending.{and_sends, context_of}
 use Rattle.ospf_area.specs.State.{AreaValue}
 use Rattle.ospf_step.specs.Begins.{BeginsChain, BeginsWork, IsArrival}
 use Rattle.ospf_step.specs.Puts.{PutsOut, headers_met}
@@ -30,7 +30,7 @@ use Rattle.ospf_update.specs.Updates.{TakesUpdate}
 use Rattle.ospf_step.specs.Packets.{dd_headers_of}
 use Rattle.ospf_links.specs.Parts.{description_part, hello_part, link_down, link_up, request_part}
 use Rattle.ospf_links.specs.Works.{WorksOn, link_changed, up_out_on}
-use Rattle.ospf_step.specs.Takes.{origin_of}
+use Rattle.ospf_step.specs.Takes.{source_of}
 use Rattle.ospf_update.proofs.Words.{Removes}
 use Rattle.ospf_links.specs.Elections.{ElectsFrom}
 use Rattle.ospf_originate.specs.Steps.{OwnLsas}
@@ -73,34 +73,34 @@ tick_puts rest s t u out mid_out out' is db aged_rise ticked_rise read next =
 
 module _ (link : ℕ) (source destination : Addr) (bytes : List ℕ) (p : Meaning) (at : packet_of bytes ≡ Some p) (rest : List Part) (s t u : AreaValue) (out mid_out out' : OutputsValue) where
   -- the parts of a packet that says this are those of the datagram
-  of_packet : (body : BodyMeaning) → p.body ≡ body → PutsOut (λ o. Chain (parts_of_packet (origin_of link source p) p body ++ rest) s o u) out out' → PutsOut (λ o. Chain (first_parts (Event.Datagram link source destination bytes) ++ rest) s o u) out out'
+  of_packet : (body : BodyMeaning) → p.body ≡ body → PutsOut (λ o. Chain (parts_of_packet (source_of link source p) p body ++ rest) s o u) out out' → PutsOut (λ o. Chain (first_parts (Event.Datagram link source destination bytes) ++ rest) s o u) out out'
   of_packet body says puts =
-      let is : first_parts (Event.Datagram link source destination bytes) ≡ parts_of_packet (origin_of link source p) p body = ap (parts_of_datagram link source) at ∙ ap (parts_of_packet (origin_of link source p) p) says in
+      let is : first_parts (Event.Datagram link source destination bytes) ≡ parts_of_packet (source_of link source p) p body = ap (parts_of_datagram link source) at ∙ ap (parts_of_packet (source_of link source p) p) says in
       subst (λ parts. PutsOut (λ o. Chain (parts ++ rest) s o u) out out') (sym is) puts
 
   module _ (read : AreReadAsSent out'.sent) (next : PutsOut (λ o. Chain rest t o u) mid_out out') where
     read_mid : AreReadAsSent mid_out.sent
     read_mid = read_before (λ o. Chain rest t o u) mid_out out' next read
 
-    pub hello_chain : (h : Hello) (heard : List RouterId) (named : Bool) → p.body ≡ hello h heard → WorksOn (hello_part (own_of s) (origin_of link source p) h named s.next_dd) link s out mid_out t → PutsOut (λ o. Chain (first_parts (Event.Datagram link source destination bytes) ++ rest) s o u) out out'
+    pub hello_chain : (h : Hello) (heard : List RouterId) (named : Bool) → p.body ≡ hello h heard → WorksOn (hello_part (context_of s) (source_of link source p) h named s.next_dd) link s out mid_out t → PutsOut (λ o. Chain (first_parts (Event.Datagram link source destination bytes) ++ rest) s o u) out out'
     hello_chain h heard named says works =
-        of_packet (hello h heard) says (puts_more (HelloComes (origin_of link source p) p) rest s t u out mid_out out' (hello_puts (origin_of link source p) h named s t out mid_out read_mid works) next)
+        of_packet (hello h heard) says (puts_more (HelloComes (source_of link source p) p) rest s t u out mid_out out' (hello_puts (source_of link source p) h named s t out mid_out read_mid works) next)
 
-    pub description_chain : (d : Description) (headers : List LsaHeader) → IsDatabase s.database → NoneWaitsBelow s link p.router → p.body ≡ description d headers → WorksOn (description_part (own_of s) (origin_of link source p) d headers s.database s.next_dd) link s out mid_out t → PutsOut (λ o. Chain (first_parts (Event.Datagram link source destination bytes) ++ rest) s o u) out out'
+    pub description_chain : (d : Description) (headers : List LsaHeader) → IsDatabase s.database → NoneWaitsBelow s link p.router → p.body ≡ description d headers → WorksOn (description_part (context_of s) (source_of link source p) d headers s.database s.next_dd) link s out mid_out t → PutsOut (λ o. Chain (first_parts (Event.Datagram link source destination bytes) ++ rest) s o u) out out'
     description_chain d headers is below says works =
         of_packet (description d headers) says
-        (puts_more (DdComes (origin_of link source p) p) rest s t u out mid_out out' (description_told (origin_of link source p) p d headers s t out mid_out is below refl (sym (ap dd_headers_of says)) read_mid works) next)
+        (puts_more (DdComes (source_of link source p) p) rest s t u out mid_out out' (description_told (source_of link source p) p d headers s t out mid_out is below refl (sym (ap dd_headers_of says)) read_mid works) next)
 
-    pub request_chain : (entries : List RequestEntry) (marks : List LsaKey) → IsDatabase s.database → p.body ≡ request entries → WorksOn (request_part (own_of s) (origin_of link source p) s.database entries s.next_dd) link (record s { sent = marks }) out mid_out t → PutsOut (λ o. Chain (first_parts (Event.Datagram link source destination bytes) ++ rest) s o u) out out'
+    pub request_chain : (entries : List RequestEntry) (marks : List LsaKey) → IsDatabase s.database → p.body ≡ request entries → WorksOn (request_part (context_of s) (source_of link source p) s.database entries s.next_dd) link (record s { sent = marks }) out mid_out t → PutsOut (λ o. Chain (first_parts (Event.Datagram link source destination bytes) ++ rest) s o u) out out'
     request_chain entries marks is says works =
-        of_packet (request entries) says (puts_more (RequestComes (origin_of link source p) p) rest s t u out mid_out out' (request_puts (origin_of link source p) entries marks s t out mid_out is read_mid works) next)
+        of_packet (request entries) says (puts_more (RequestComes (source_of link source p) p) rest s t u out mid_out out' (request_puts (source_of link source p) entries marks s t out mid_out is read_mid works) next)
 
-    pub update_chain : (lsas : List (List ℕ)) → p.body ≡ update lsas → TakesUpdate (origin_of link source p) lsas s out mid_out t → PutsOut (λ o. Chain (first_parts (Event.Datagram link source destination bytes) ++ rest) s o u) out out'
-    update_chain lsas says takes = of_packet (update lsas) says (update_puts (origin_of link source p) lsas rest s t u out mid_out out' read takes next)
+    pub update_chain : (lsas : List (List ℕ)) → p.body ≡ update lsas → TakesUpdate (source_of link source p) lsas s out mid_out t → PutsOut (λ o. Chain (first_parts (Event.Datagram link source destination bytes) ++ rest) s o u) out out'
+    update_chain lsas says takes = of_packet (update lsas) says (update_puts (source_of link source p) lsas rest s t u out mid_out out' read takes next)
 
-    pub acknowledgment_chain : (headers : List LsaHeader) → p.body ≡ acknowledgment headers → t ≡ headers_met (origin_of link source p) headers s → mid_out ≡ out → PutsOut (λ o. Chain (first_parts (Event.Datagram link source destination bytes) ++ rest) s o u) out out'
+    pub acknowledgment_chain : (headers : List LsaHeader) → p.body ≡ acknowledgment headers → t ≡ headers_met (source_of link source p) headers s → mid_out ≡ out → PutsOut (λ o. Chain (first_parts (Event.Datagram link source destination bytes) ++ rest) s o u) out out'
     acknowledgment_chain headers says state same =
-        of_packet (acknowledgment headers) says (headers_put (origin_of link source p) headers rest s t u out out' state (subst (λ o. PutsOut (λ x. Chain rest t x u) o out') same next))
+        of_packet (acknowledgment headers) says (headers_put (source_of link source p) headers rest s t u out out' state (subst (λ o. PutsOut (λ x. Chain rest t x u) o out') same next))
 
 -- ---- what comes in on a link
 
@@ -111,36 +111,36 @@ module _ (e : Event) (link : ℕ) (source : Addr) (p : Meaning) (is : IsArrival 
   as_datagram s out t mid_out begins = subst (λ (x : Event). BeginsChain x s out t mid_out) (sym is.2) begins
 
   pub arrival_hello : (h : Hello) (heard : List RouterId) (named : Bool) → p.body ≡ hello h heard → (s : AreaValue) (out : OutputsValue)
-      → BeginsWork e (hello_part (own_of s) (origin_of link source p) h named s.next_dd) link s out
+      → BeginsWork e (hello_part (context_of s) (source_of link source p) h named s.next_dd) link s out
   arrival_hello h heard named says s out t mid_out works =
       as_datagram s out t mid_out (λ rest u out' read next. hello_chain link source is.0 is.1 p is.3 rest s t u out mid_out out' read next h heard named says works)
 
   pub arrival_description : (d : Description) (headers : List LsaHeader) → p.body ≡ description d headers → (s : AreaValue) (out : OutputsValue)
       → IsDatabase s.database → NoneWaitsBelow s link p.router
-      → BeginsWork e (description_part (own_of s) (origin_of link source p) d headers s.database s.next_dd) link s out
+      → BeginsWork e (description_part (context_of s) (source_of link source p) d headers s.database s.next_dd) link s out
   arrival_description d headers says s out db below t mid_out works =
       as_datagram s out t mid_out (λ rest u out' read next. description_chain link source is.0 is.1 p is.3 rest s t u out mid_out out' read next d headers db below says works)
 
   pub arrival_request : (entries : List RequestEntry) (marks : List LsaKey) → p.body ≡ request entries → (s : AreaValue) (out : OutputsValue) → IsDatabase s.database
-      → let part = request_part (own_of s) (origin_of link source p) s.database entries s.next_dd in
+      → let part = request_part (context_of s) (source_of link source p) s.database entries s.next_dd in
       (t : AreaValue) (mid_out : OutputsValue) → WorksOn part link (record s { sent = marks }) out mid_out t → BeginsChain e s out t mid_out
   arrival_request entries marks says s out db t mid_out works =
       as_datagram s out t mid_out (λ rest u out' read next. request_chain link source is.0 is.1 p is.3 rest s t u out mid_out out' read next entries marks db says works)
 
-  pub arrival_update : (lsas : List (List ℕ)) → p.body ≡ update lsas → (s t : AreaValue) (out mid_out : OutputsValue) → TakesUpdate (origin_of link source p) lsas s out mid_out t
+  pub arrival_update : (lsas : List (List ℕ)) → p.body ≡ update lsas → (s t : AreaValue) (out mid_out : OutputsValue) → TakesUpdate (source_of link source p) lsas s out mid_out t
       → BeginsChain e s out t mid_out
   arrival_update lsas says s t out mid_out takes =
       as_datagram s out t mid_out (λ rest u out' read next. update_chain link source is.0 is.1 p is.3 rest s t u out mid_out out' read next lsas says takes)
 
   pub arrival_acknowledgment : (headers : List LsaHeader) → p.body ≡ acknowledgment headers → (s : AreaValue) (out : OutputsValue)
-      → BeginsChain e s out (headers_met (origin_of link source p) headers s) out
+      → BeginsChain e s out (headers_met (source_of link source p) headers s) out
   arrival_acknowledgment headers says s out =
       as_datagram s out _ out (λ rest u out' read next. acknowledgment_chain link source is.0 is.1 p is.3 rest s _ u out out out' read next headers says refl refl)
 
 -- ---- links that go up and down
 
 module _ (l : ℕ) (rest : List Part) (s t u : AreaValue) (out mid_out out' : OutputsValue) (next : PutsOut (λ o. Chain rest t o u) mid_out out') where
-  pub up_chain : AreReadAsSent out'.sent → t ≡ link_changed link_up l s → mid_out ≡ and_sends out (up_out_on (slice_get s.links l) (own_of s) l) → PutsOut (λ o. Chain (first_parts (Event.LinkUp l) ++ rest) s o u) out out'
+  pub up_chain : AreReadAsSent out'.sent → t ≡ link_changed link_up l s → mid_out ≡ and_sends out (up_out_on (slice_get s.links l) (context_of s) l) → PutsOut (λ o. Chain (first_parts (Event.LinkUp l) ++ rest) s o u) out out'
   up_chain read state outputs = puts_more (LinkChanges l true) rest s t u out mid_out out' (up_puts l s t out mid_out (read_before (λ o. Chain rest t o u) mid_out out' next read) state outputs) next
 
   pub down_chain : t ≡ link_changed link_down l s → mid_out ≡ out → PutsOut (λ o. Chain (first_parts (Event.LinkDown l) ++ rest) s o u) out out'

@@ -9,9 +9,9 @@ use Rattle.ospf_adjacency.specs.HelloLaws.{ElectionsComeAbout, NeighboursStayOfL
 use Rattle.ospf_adjacency.specs.Laws.{DescriptionKeepsRouter}
 use Rattle.ospf_adjacency.specs.ResendLaws.{AnswersAreQuiet, RepeatsAreQuiet}
 use Rattle.ospf_area.specs.Outputs.{OutputsValue}
-use Rattle.ospf_area.specs.Sending.{own_of}
+use Rattle.ospf_area.specs.Sending.{context_of}
 use Rattle.ospf_area.specs.State.{AreaValue, LinkValue}
-use Rattle.ospf_area.specs.declared.flooding.Origin.{Origin}
+use Rattle.ospf_area.specs.declared.flooding.PacketSource.{PacketSource}
 use Rattle.ospf_links.specs.Elections.{ElectsAt, ElectsFrom}
 use Rattle.ospf_links.specs.Parts.{description_part, hello_part, link_down, link_timed, link_up, request_part, with_neighbourhood}
 use Rattle.ospf_links.specs.Repeats.{link_repeated}
@@ -71,7 +71,7 @@ changed_fit change l s stays fit = by_link (slice_get s.links l) refl
 -- ---- packets
 
 -- what the sender of a packet finds on its link
-abbrev pub CanCome : BodyMeaning → Origin → LinkValue → Type 0
+abbrev pub CanCome : BodyMeaning → PacketSource → LinkValue → Type 0
 CanCome (hello fields heard) f a = CanGreet f.router a
 CanCome (description fields headers) f a = Unit {0}
 CanCome (request entries) f a = Unit {0}
@@ -79,21 +79,21 @@ CanCome (update lsas) f a = Unit {0}
 CanCome (acknowledgment headers) f a = Unit {0}
 
 module _ (stay : NeighboursStayOfLink) (come : ElectionsComeAbout) (keeps : DescriptionKeepsRouter) (answers : AnswersAreQuiet) (area : AreaStaysSound) where
-  headers_sound : (f : Origin) (hs : List LsaHeader) (s : AreaValue) → IsSound s → IsSound (headers_met f hs s)
+  headers_sound : (f : PacketSource) (hs : List LsaHeader) (s : AreaValue) → IsSound s → IsSound (headers_met f hs s)
   headers_sound f [] s sound = sound
   headers_sound f (h ∷ hs) s sound = headers_sound f hs (header_met f h s) (area.acknowledged f h s sound)
 
-  pub body_fit : (body : BodyMeaning) (f : Origin) (s : AreaValue) (out out' : OutputsValue) (s' : AreaValue)
+  pub body_fit : (body : BodyMeaning) (f : PacketSource) (s : AreaValue) (out out' : OutputsValue) (s' : AreaValue)
       → ((a : LinkValue) → slice_get s.links f.link ≡ Some a → CanCome body f a) → TakesBody body f s out out' s' → IsFitRouter s → IsFitRouter s'
   body_fit (hello fields heard) f s out out' s' can is fit =
-      moved _ s' is.state (worked_fit (hello_part (own_of s) f fields (names heard s.router) s.next_dd) f.link s.sent s
-      (λ a at. hello_stays stay come s.router (own_of s) f fields (names heard s.router) s.next_dd a (can a at) (link_fit s f.link a at fit) (link_set_up s f.link a at fit)) fit)
+      moved _ s' is.state (worked_fit (hello_part (context_of s) f fields (names heard s.router) s.next_dd) f.link s.sent s
+      (λ a at. hello_stays stay come s.router (context_of s) f fields (names heard s.router) s.next_dd a (can a at) (link_fit s f.link a at fit) (link_set_up s f.link a at fit)) fit)
   body_fit (description fields headers) f s out out' s' can is fit =
-      moved _ s' is.state (worked_fit (description_part (own_of s) f fields headers s.database s.next_dd) f.link s.sent s
-      (λ a at. description_stays keeps come s.router (own_of s) f fields headers s.database s.next_dd a (link_fit s f.link a at fit) (link_set_up s f.link a at fit)) fit)
+      moved _ s' is.state (worked_fit (description_part (context_of s) f fields headers s.database s.next_dd) f.link s.sent s
+      (λ a at. description_stays keeps come s.router (context_of s) f fields headers s.database s.next_dd a (link_fit s f.link a at fit) (link_set_up s f.link a at fit)) fit)
   body_fit (request entries) f s out out' s' can is fit =
-      moved _ s' is.state (worked_fit (request_part (own_of s) f s.database entries s.next_dd) f.link _ s
-      (λ a at. request_stays answers s.router (own_of s) f s.database entries s.next_dd a (link_fit s f.link a at fit) (link_set_up s f.link a at fit)) fit)
+      moved _ s' is.state (worked_fit (request_part (context_of s) f s.database entries s.next_dd) f.link _ s
+      (λ a at. request_stays answers s.router (context_of s) f s.database entries s.next_dd a (link_fit s f.link a at fit) (link_set_up s f.link a at fit)) fit)
   body_fit (update lsas) f s out out' s' can is fit =
       fit_for s s' (update_for s.router f lsas s out out' s' is (for_itself s fit)) (area.updated f lsas s out out' s' is fit.sound)
   body_fit (acknowledgment headers) f s out out' s' can is fit =
@@ -118,7 +118,7 @@ module _ (stay : NeighboursStayOfLink) (come : ElectionsComeAbout) (repeats : Re
   tick_fit s out out' s' is fit =
       let k = acknowledged_area (helloed_area (timed_area is.aged)) in
       let told : IsFitRouter k = ticked_fit is.aged (aged_fit s out is.aged_out is.aged is.ages fit) in
-      moved (repeated k) s' (tick_state s out out' s' is) (map_fit k (link_repeated (own_of k) k.database) _ (λ x. refl) (repeats_fit repeats (own_of k) k.database k.router) (repeats_set_up repeats (own_of k) k.database) told)
+      moved (repeated k) s' (tick_state s out out' s' is) (map_fit k (link_repeated (context_of k) k.database) _ (λ x. refl) (repeats_fit repeats (context_of k) k.database k.router) (repeats_set_up repeats (context_of k) k.database) told)
 
 -- ---- links
 
@@ -137,7 +137,7 @@ module _ (stay : NeighboursStayOfLink) where
       by_link : (o : Option LinkValue) → slice_get s.links l ≡ o → ElectsThere o l s out s' out' → IsFitRouter s'
       by_link None at is = moved s s' is.0 fit
       by_link (Some a) at (b, next, sent, elects, state, outputs) =
-          moved _ s' state (set_fit s l a b next s.sent at (elects_stays stay s.router a.elects (own_of s) s.next_dd a b next sent elects (link_fit s l a at fit) (link_set_up s l a at fit)) fit)
+          moved _ s' state (set_fit s l a b next s.sent at (elects_stays stay s.router a.elects (context_of s) s.next_dd a b next sent elects (link_fit s l a at fit) (link_set_up s l a at fit)) fit)
 
   elects_from_fit : (l : ℕ) (s : AreaValue) (out : OutputsValue) (s' : AreaValue) (out' : OutputsValue) → ElectsFrom l s out out' s' → IsFitRouter s → IsFitRouter s'
   elects_from_fit zero s out s' out' is fit = moved s s' is.0 fit

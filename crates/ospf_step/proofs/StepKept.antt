@@ -18,7 +18,7 @@ use Rattle.ospf_step.specs.Senders.{NotDroppedIsTaken}
 use Rattle.ospf_step.specs.Step.{Event}
 use Rattle.ospf_step.specs.Step.Event.{Datagram, Tick, LinkUp, LinkDown}
 use Rattle.ospf_step.specs.Steps.{StepsArea, Takes}
-use Rattle.ospf_step.specs.Takes.{TakesDatagram, TakesEvent, origin_of}
+use Rattle.ospf_step.specs.Takes.{TakesDatagram, TakesEvent, source_of}
 use Rattle.ospf_step.proofs.DropFacts.{can_come, not_dropped_as}
 use Rattle.ospf_step.proofs.StepAccounts.{StepLaws-sound}
 use Rattle.ospf_step.proofs.StepFit.{body_fit, down_fit, elects_fit, own_fit, removes_fit, tick_fit, up_fit}
@@ -29,7 +29,7 @@ module _ (taken : NotDroppedIsTaken) (stay : NeighboursStayOfLink) (come : Elect
       → dropped_by (Datagram link source destination bytes) s ≡ None → TakesDatagram link source o s out out' s' → IsFitRouter s → IsFitRouter s'
   datagram_fit link source destination bytes s out out' s' None at none is fit = absurd is
   datagram_fit link source destination bytes s out out' s' (Some m) at none is fit =
-      body_fit stay come keeps answers area m.body (origin_of link source m) s out out' s'
+      body_fit stay come keeps answers area m.body (source_of link source m) s out out' s'
       (can_come taken s link source destination m fit (not_dropped_as s link source destination _ m at none)) is fit
 
   event_fit : (e : Event) (s : AreaValue) (out out' : OutputsValue) (s' : AreaValue) → dropped_by e s ≡ None → TakesEvent e s out out' s' → IsFitRouter s → IsFitRouter s'

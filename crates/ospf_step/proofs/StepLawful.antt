@@ -31,7 +31,7 @@ use Rattle.ospf_step.specs.Ready.{IsReadyFor}
 use Rattle.ospf_step.specs.Steps.{StepsArea, Takes}
 use Rattle.ospf_step.specs.Ticks.{TakesTick}
 use Rattle.ospf_step.proofs.Works.{acknowledged_is, tick_state}
-use Rattle.ospf_step.specs.Takes.{TakesBody, TakesDatagram, TakesEvent, origin_of}
+use Rattle.ospf_step.specs.Takes.{TakesBody, TakesDatagram, TakesEvent, source_of}
 use Rattle.ospf_step.specs.declared.steps.StepResult.{StepResult}
 use Rattle.ospf_step.proofs.FitLemmas.{all_at}
 use Rattle.ospf_step.proofs.StepFit.{aged_fit, ticked_fit}
@@ -51,7 +51,7 @@ module _ (stay : NeighboursStayOfLink) (come : ElectionsComeAbout) (repeats : Re
   datagram_puts link source destination bytes None at ready is = absurd is
   datagram_puts link source destination bytes (Some m) at ready is = by_body m.body refl is
     where
-      by_body : (b : BodyMeaning) → m.body ≡ b → TakesBody b (origin_of link source m) s out mid_out t → PutsOut (λ o. Chain (first_parts (Datagram link source destination bytes) ++ rest) s o u) out out'
+      by_body : (b : BodyMeaning) → m.body ≡ b → TakesBody b (source_of link source m) s out mid_out t → PutsOut (λ o. Chain (first_parts (Datagram link source destination bytes) ++ rest) s o u) out out'
       by_body (hello fields heard) says is = hello_chain link source destination bytes m at rest s t u out mid_out out' read next fields heard (names heard s.router) says is
       by_body (description fields headers) says is = description_chain link source destination bytes m at rest s t u out mid_out out' read next fields headers (ready m refl).0 (ready m refl).1 says is
       by_body (request entries) says is = request_chain link source destination bytes m at rest s t u out mid_out out' read next entries _ (ready m refl).0 says is

@@ -5,9 +5,9 @@ use Rattle.ospf_base.specs.declared.ids.Addr.{Addr}
 use Rattle.ospf_base.specs.declared.ids.LsaKey.{LsaKey}
 use Rattle.ospf_adjacency.specs.Heard.{Neighbourhood, names}
 use Rattle.ospf_area.specs.Outputs.{OutputsValue, no_outputs}
-use Rattle.ospf_area.specs.Sending.{own_of}
+use Rattle.ospf_area.specs.Sending.{context_of}
 use Rattle.ospf_area.specs.State.{AreaValue, LinkValue}
-use Rattle.ospf_area.specs.declared.flooding.Origin.{Origin}
+use Rattle.ospf_area.specs.declared.flooding.PacketSource.{PacketSource}
 use Rattle.ospf_step.specs.Step.{Event}
 use Rattle.ospf_step.specs.Step.Event.{Datagram, Tick, LinkUp, LinkDown}
 use Rattle.ospf_links.specs.Elections.{ElectsAt, ElectsFrom}
@@ -28,7 +28,7 @@ use Rattle.ospf_step.specs.declared.steps.StepResult.{StepResult}
 use Rattle.std.specs.declared.alloc.AllocError.{AllocError}
 use Rattle.std.proofs.lemmas.Option.{none-some}
 use Rattle.ospf_step.proofs.Works.{tick_state}
-use Rattle.ospf_step.specs.Takes.{TakesBody, TakesDatagram, TakesEvent, origin_of}
+use Rattle.ospf_step.specs.Takes.{TakesBody, TakesDatagram, TakesEvent, source_of}
 use Rattle.ospf_step.specs.Ticks.{TakesTick}
 use Rattle.ospf_step.proofs.AreaSame.{IsAs, age_as, headers_as, own_as, removes_as, update_as}
 
@@ -58,10 +58,10 @@ changed_as change l s = by_link (slice_get s.links l)
     by_link None = itself s
     by_link (Some a) = record { own = refl; many = length-set s.links l (change a) }
 
-body_as : (body : BodyMeaning) (f : Origin) (s : AreaValue) (out out' : OutputsValue) (s' : AreaValue) → TakesBody body f s out out' s' → IsStill s s'
-body_as (hello fields heard) f s out out' s' is = moved s _ s' is.state (worked_as (hello_part (own_of s) f fields (names heard s.router) s.next_dd) f.link s.sent s)
-body_as (description fields headers) f s out out' s' is = moved s _ s' is.state (worked_as (description_part (own_of s) f fields headers s.database s.next_dd) f.link s.sent s)
-body_as (request entries) f s out out' s' is = moved s _ s' is.state (worked_as (request_part (own_of s) f s.database entries s.next_dd) f.link _ s)
+body_as : (body : BodyMeaning) (f : PacketSource) (s : AreaValue) (out out' : OutputsValue) (s' : AreaValue) → TakesBody body f s out out' s' → IsStill s s'
+body_as (hello fields heard) f s out out' s' is = moved s _ s' is.state (worked_as (hello_part (context_of s) f fields (names heard s.router) s.next_dd) f.link s.sent s)
+body_as (description fields headers) f s out out' s' is = moved s _ s' is.state (worked_as (description_part (context_of s) f fields headers s.database s.next_dd) f.link s.sent s)
+body_as (request entries) f s out out' s' is = moved s _ s' is.state (worked_as (request_part (context_of s) f s.database entries s.next_dd) f.link _ s)
 body_as (update lsas) f s out out' s' is = update_as s.router (length s.links) f lsas s out out' s' is (itself s)
 body_as (acknowledgment headers) f s out out' s' is = moved s _ s' is.state (headers_as s.router (length s.links) f headers s (itself s))
 
@@ -71,12 +71,12 @@ tick_as s out out' s' is =
     let aged : IsStill s a = age_as s.router (length s.links) s out is.aged_out a is.ages (itself s) in
     moved s _ s' (tick_state s out out' s' is) (record {
       own = aged.own;
-      many = length-map _ (link_repeated (own_of a) a.database) ∙ (length-map (map hello_sent (map link_timed a.links)) undelayed_link ∙ (length-map (map link_timed a.links) hello_sent ∙ (length-map a.links link_timed ∙ aged.many)));
+      many = length-map _ (link_repeated (context_of a) a.database) ∙ (length-map (map hello_sent (map link_timed a.links)) undelayed_link ∙ (length-map (map link_timed a.links) hello_sent ∙ (length-map a.links link_timed ∙ aged.many)));
     })
 
 datagram_as : (link : ℕ) (source : Addr) (o : Option Meaning) (s : AreaValue) (out out' : OutputsValue) (s' : AreaValue) → TakesDatagram link source o s out out' s' → IsStill s s'
 datagram_as link source None s out out' s' is = absurd is
-datagram_as link source (Some m) s out out' s' is = body_as m.body (origin_of link source m) s out out' s' is
+datagram_as link source (Some m) s out out' s' is = body_as m.body (source_of link source m) s out out' s' is
 
 event_as : (e : Event) (s : AreaValue) (out out' : OutputsValue) (s' : AreaValue) → TakesEvent e s out out' s' → IsStill s s'
 event_as (Datagram link source destination bytes) s out out' s' is = datagram_as link source (packet_of bytes) s out out' s' is

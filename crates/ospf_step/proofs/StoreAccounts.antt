@@ -23,12 +23,12 @@ use Rattle.ospf_neighbour.specs.Neighbour.{NeighbourValue}
 use Rattle.ospf_area.specs.Flooding.{on_link, came_from, flooded_links, released}
 use Rattle.ospf_update.specs.Meets.{Stores}
 use Rattle.ospf_update.proofs.Words.{store_updates}
-use Rattle.ospf_area.specs.Sending.{own_of}
+use Rattle.ospf_area.specs.Sending.{context_of}
 use Rattle.ospf_area.specs.Outputs.{OutputsValue, AreReadAsSent}
 use Rattle.ospf_area.specs.Places.{map_from}
 use Rattle.ospf_area.specs.State.{AreaValue, LinkValue, database_entry, copy_of, kept_number}
 use Rattle.ospf_area.proofs.Words.{copy_in, flooded_link, released_link, flooded_neighbour}
-use Rattle.ospf_area.specs.declared.flooding.Origin.{Origin}
+use Rattle.ospf_area.specs.declared.flooding.PacketSource.{PacketSource}
 use Rattle.ospf_step.specs.Headers.{IsOfInstance, Lists}
 use Rattle.ospf_step.specs.Packets.{Received, lsas_of, headers_in_body}
 use Rattle.ospf_step.specs.Words.{HoldsInstance, Brings}
@@ -54,10 +54,10 @@ one_of x y (zero, within, is) = sym is
 one_of x y (suc k, within, is) = absurd (omega arith)
 
 -- what the packets of the Updates say
-sent_one : (out : OutputsValue) (s : AreaValue) (lsa : List ℕ) (p : Meaning) → IsUpdateOf (own_of s) lsa p → (one : List ℕ) → Contains (lsas_of p.body) one → contents one ≡ contents lsa
+sent_one : (out : OutputsValue) (s : AreaValue) (lsa : List ℕ) (p : Meaning) → IsUpdateOf (context_of s) lsa p → (one : List ℕ) → Contains (lsas_of p.body) one → contents one ≡ contents lsa
 sent_one out s lsa p u one c = ap contents (one_of u.one one (subst (λ m. Contains (lsas_of m.body) one) u.packet c)) ∙ u.same
 
-names_one : (s : AreaValue) (lsa : List ℕ) (p : Meaning) (i : Instance) → IsUpdateOf (own_of s) lsa p → Lists (headers_in_body p.body) i → i ≡ instance_of lsa
+names_one : (s : AreaValue) (lsa : List ℕ) (p : Meaning) (i : Instance) → IsUpdateOf (context_of s) lsa p → Lists (headers_in_body p.body) i → i ≡ instance_of lsa
 names_one s lsa p i u (h, c, is) =
     let it = one_of (header_of u.one) h (subst (λ m. Contains (headers_in_body m.body) h) u.packet c) in
     sym (header_names u.one i (subst (λ h. IsOfInstance h i) it is)) ∙ same_contents u.one lsa u.same
@@ -82,13 +82,13 @@ unfolding key_in
 stored_key lsa tick b = ap (λ c. key_of (0 ∷ 0 ∷ c)) (stored_contents lsa tick b) ∙ ap (λ i. i.key) (same_contents (0 ∷ 0 ∷ contents lsa) lsa refl)
 
 -- the LSA is stored in its key's place, its old copy is off all lists, and it is flooded
-pub record StoresBy (lsa : List ℕ) (from : Option Origin) (by_flooding : Bool) (before after : AreaValue) : Type 0 where
+pub record StoresBy (lsa : List ℕ) (from : Option PacketSource) (by_flooding : Bool) (before after : AreaValue) : Type 0 where
   pub database : Installs (entry_from lsa before.tick by_flooding) before.database after.database
   pub links : after.links ≡ flooded_links (key_of lsa) (header_of lsa) from before.tick (released (key_of lsa) before.links)
   pub same_router : after.router ≡ before.router
   pub same_direct : after.direct ≡ before.direct
 
-pub Stores-by : (lsa : List ℕ) (from : Option Origin) (before after : AreaValue) → Stores lsa from before after → StoresBy lsa from (is_some from) before after
+pub Stores-by : (lsa : List ℕ) (from : Option PacketSource) (before after : AreaValue) → Stores lsa from before after → StoresBy lsa from (is_some from) before after
 Stores-by lsa from before after stores = record {
   database = stores.database;
   links = ap (λ s. s.links) stores.rest;
@@ -96,7 +96,7 @@ Stores-by lsa from before after stores = record {
   same_direct = ap (λ s. s.direct) stores.rest;
 }
 
-module _ (heard : Option Received) (lsa : List ℕ) (from : Option Origin) (by_flooding : Bool) (before : AreaValue) (out : OutputsValue) (after : AreaValue) (stores : StoresBy lsa from by_flooding before after) (is_lsa : IsLsa lsa) (newer : (copy : List ℕ) → copy_of before (key_of lsa) ≡ Some copy → recency (header_of lsa) (header_of copy) ≡ Newer) (stored : (copy : List ℕ) → copy_of before (key_of lsa) ≡ Some copy → TakesItsPlace heard out copy lsa) (brings : Brings out (instance_of lsa)) (brings_only : (i : Instance) → Brings out i → i ≡ instance_of lsa) (has : HasContents heard before out (contents lsa)) (told : (f : Origin) → from ≡ Some f → IsAcknowledged heard f.link f.router (instance_of lsa)) (sent : out.sent ≡ store_updates lsa from before) (read : AreReadAsSent out.sent) (numbers : Numbers heard before out after) (counted : (key_of lsa).router ≡ before.router → (instance_of lsa).number ≤ℤ kept_number after (key_of lsa)) (none_ended : out.ended ≡ []) where
+module _ (heard : Option Received) (lsa : List ℕ) (from : Option PacketSource) (by_flooding : Bool) (before : AreaValue) (out : OutputsValue) (after : AreaValue) (stores : StoresBy lsa from by_flooding before after) (is_lsa : IsLsa lsa) (newer : (copy : List ℕ) → copy_of before (key_of lsa) ≡ Some copy → recency (header_of lsa) (header_of copy) ≡ Newer) (stored : (copy : List ℕ) → copy_of before (key_of lsa) ≡ Some copy → TakesItsPlace heard out copy lsa) (brings : Brings out (instance_of lsa)) (brings_only : (i : Instance) → Brings out i → i ≡ instance_of lsa) (has : HasContents heard before out (contents lsa)) (told : (f : PacketSource) → from ≡ Some f → IsAcknowledged heard f.link f.router (instance_of lsa)) (sent : out.sent ≡ store_updates lsa from before) (read : AreReadAsSent out.sent) (numbers : Numbers heard before out after) (counted : (key_of lsa).router ≡ before.router → (instance_of lsa).number ≤ℤ kept_number after (key_of lsa)) (none_ended : out.ended ≡ []) where
   key : LsaKey
   key = key_of lsa
 
@@ -115,7 +115,7 @@ module _ (heard : Option Received) (lsa : List ℕ) (from : Option Origin) (by_f
   no_acks : ℕ → List LsaHeader
   no_acks l = []
 
-  came_same : (here : Option Origin) (n : NeighbourValue) → came_from here (key_unlisted (key_of lsa) n) ≡ came_from here n
+  came_same : (here : Option PacketSource) (n : NeighbourValue) → came_from here (key_unlisted (key_of lsa) n) ≡ came_from here n
   came_same None n = refl
   came_same (Some f) n = refl
 
@@ -137,7 +137,7 @@ module _ (heard : Option Received) (lsa : List ℕ) (from : Option Origin) (by_f
     direct = λ h c. subst (λ hs. Contains hs h) stores.same_direct c;
   }
 
-  from_told : (l : ℕ) (n : NeighbourValue) (o : Option Origin) → from ≡ o → came_from (on_link o l) n ≡ true → IsAcknowledged heard l n.router (instance_of lsa)
+  from_told : (l : ℕ) (n : NeighbourValue) (o : Option PacketSource) → from ≡ o → came_from (on_link o l) n ≡ true → IsAcknowledged heard l n.router (instance_of lsa)
   from_told l n None is c = absurd (false≢true c)
   from_told l n (Some f) is c = go (f.link == l) refl c
     where
@@ -147,8 +147,8 @@ module _ (heard : Option Received) (lsa : List ℕ) (from : Option Origin) (by_f
           subst (λ k. IsAcknowledged heard k n.router (instance_of lsa)) (eqb-true f.link l here)
           (subst (λ q. IsAcknowledged heard f.link q (instance_of lsa)) (same_router f.router n.router (eqb-true f.router.0 n.router.0 c)) (told f is))
 
-  an_update : (p : Meaning) → Sends out p → IsUpdateOf (own_of before) lsa p
-  an_update p s = subst (λ m. IsUpdateOf (own_of before) lsa m) (sent_packet out p read s) (flooding-packets (own_of before) lsa from (released (key_of lsa) before.links) s.datagram (subst (λ ds. Contains ds s.datagram) sent s.sent))
+  an_update : (p : Meaning) → Sends out p → IsUpdateOf (context_of before) lsa p
+  an_update p s = subst (λ m. IsUpdateOf (context_of before) lsa m) (sent_packet out p read s) (flooding-packets (context_of before) lsa from (released (key_of lsa) before.links) s.datagram (subst (λ ds. Contains ds s.datagram) sent s.sent))
 
   is_accounted : IsAccounted heard before out after e came no_acks past
   unfolding e came no_acks
@@ -180,14 +180,14 @@ module _ (heard : Option Received) (lsa : List ℕ) (from : Option Origin) (by_f
   }
 
 -- the kept numbers do not fall
-pub Stores-kept : (lsa : List ℕ) (from : Option Origin) (before after : AreaValue) (k : LsaKey) → Stores lsa from before after → kept_number before k ≤ℤ kept_number after k
+pub Stores-kept : (lsa : List ℕ) (from : Option PacketSource) (before after : AreaValue) (k : LsaKey) → Stores lsa from before after → kept_number before k ≤ℤ kept_number after k
 Stores-kept lsa from before after k stores = subst (λ s. kept_number before k ≤ℤ kept_number s k) (sym stores.rest) (counts-kept (key_of lsa) (header_of lsa).number before k)
 
-pub Stores-known : (lsa : List ℕ) (from : Option Origin) (before after : AreaValue) → Stores lsa from before after → (key_of lsa).router ≡ before.router → (instance_of lsa).number ≤ℤ kept_number after (key_of lsa)
+pub Stores-known : (lsa : List ℕ) (from : Option PacketSource) (before after : AreaValue) → Stores lsa from before after → (key_of lsa).router ≡ before.router → (instance_of lsa).number ≤ℤ kept_number after (key_of lsa)
 Stores-known lsa from before after stores own = subst (λ s. (instance_of lsa).number ≤ℤ kept_number s (key_of lsa)) (sym stores.rest) (counts-known (key_of lsa) (header_of lsa).number before own)
 
 -- the LSA is held
-pub Stores-holds : (lsa : List ℕ) (from : Option Origin) (by_flooding : Bool) (before after : AreaValue) → StoresBy lsa from by_flooding before after → HoldsInstance after (instance_of lsa)
+pub Stores-holds : (lsa : List ℕ) (from : Option PacketSource) (by_flooding : Bool) (before after : AreaValue) → StoresBy lsa from by_flooding before after → HoldsInstance after (instance_of lsa)
 Stores-holds lsa from by_flooding before after stores = (lsa_of e, copy_of-has after (key_of lsa) (lsa_of e) (ap copy_in here), stored_instance lsa before.tick by_flooding)
   where
     e : Entry

@@ -15,12 +15,12 @@ use Rattle.ospf_neighbour.specs.declared.machine.NeighbourState.{NeighbourState}
 use Rattle.ospf_neighbour.specs.declared.machine.NeighbourState.TheVariants as state
 use Rattle.ospf_update.specs.Aging.{turned_area, turn_out}
 use Rattle.ospf_area.specs.Asking.{turned_to_next, turned_link, request_body, turn_requests_on}
-use Rattle.ospf_area.specs.Sending.{own_of, datagrams, packet_from, to_address, way_out}
+use Rattle.ospf_area.specs.Sending.{context_of, datagrams, packet_from, to_address, way_out}
 use Rattle.ospf_area.specs.Outputs.{SentValue, no_outputs, sends, AreReadAsSent}
 use Rattle.ospf_area.specs.Places.{flat_from}
 use Rattle.ospf_area.specs.State.{AreaValue, LinkValue, neighbour, state_in}
 use Rattle.ospf_area.proofs.Words.{turn_request, neighbours_in, loaded}
-use Rattle.ospf_area.specs.declared.sending.Own.{Own}
+use Rattle.ospf_area.specs.declared.sending.RouterContext.{RouterContext}
 use Rattle.ospf_area.specs.declared.sending.Way.{Way}
 use Rattle.ospf_step.specs.Neighbours.{NeighbourGoes, NeighbourGoesOn, Quiet}
 use Rattle.ospf_step.proofs.SentFacts.{flat_map-members, datagrams-packet}
@@ -105,12 +105,12 @@ nothing-quiet s =
 
 -- ---- all of them
 
-link_turned : (own : Own) (links : List LinkValue) (l : ℕ) → slice_get (map (turned_link own) links) l ≡ option_map (turned_link own) (slice_get links l)
+link_turned : (own : RouterContext) (links : List LinkValue) (l : ℕ) → slice_get (map (turned_link own) links) l ≡ option_map (turned_link own) (slice_get links l)
 link_turned own [] l = refl
 link_turned own (link ∷ links) zero = refl
 link_turned own (link ∷ links) (suc l) = link_turned own links l
 
-neighbour_turned : (own : Own) (o : Option LinkValue) (q : RouterId) → (mtu : ℕ) × (neighbour_of (neighbours_in (option_map (turned_link own) o)) q ≡ option_map (turned_to_next mtu own.tick) (neighbour_of (neighbours_in o) q))
+neighbour_turned : (own : RouterContext) (o : Option LinkValue) (q : RouterId) → (mtu : ℕ) × (neighbour_of (neighbours_in (option_map (turned_link own) o)) q ≡ option_map (turned_to_next mtu own.tick) (neighbour_of (neighbours_in o) q))
 neighbour_turned own None q = (0, refl)
 neighbour_turned own (Some link) q = (link.settings.mtu, find-map (λ n. n.router.0 == q.0) (turned_to_next link.settings.mtu own.tick) link.neighbours (λ n. ap (λ r. r.0 == q.0) (turned-keeps link.settings.mtu own.tick n).router))
 
@@ -121,8 +121,8 @@ module _ (s : AreaValue) where
   there : (l : ℕ) (q : RouterId) → (mtu : ℕ) × (neighbour after l q ≡ option_map (turned_to_next mtu s.tick) (neighbour s l q))
   unfolding after
   there l q =
-      let (mtu, is) = neighbour_turned (own_of s) (slice_get s.links l) q in
-      (mtu, ap (λ o. neighbour_of (neighbours_in o) q) (link_turned (own_of s) s.links l) ∙ is)
+      let (mtu, is) = neighbour_turned (context_of s) (slice_get s.links l) q in
+      (mtu, ap (λ o. neighbour_of (neighbours_in o) q) (link_turned (context_of s) s.links l) ∙ is)
 
   goes_by : (mtu : ℕ) (o : Option NeighbourValue) → NeighbourGoes s [] o (option_map (turned_to_next mtu s.tick) o)
   goes_by mtu None = tt
@@ -132,21 +132,21 @@ module _ (s : AreaValue) where
   enters_by mtu None up = absurd (false≢true up)
   enters_by mtu (Some n) up = (turned-keeps mtu s.tick n).enters up
 
-  same_delayed : (o : Option LinkValue) → delayed_in (option_map (turned_link (own_of s)) o) ≡ delayed_in o
+  same_delayed : (o : Option LinkValue) → delayed_in (option_map (turned_link (context_of s)) o) ≡ delayed_in o
   same_delayed None = refl
   same_delayed (Some link) = refl
 
-  a_request : (d : SentValue) (n : NeighbourValue) → d.packet ≡ packet_from (own_of s) (request_body n) → IsKnownPacket s d.packet
+  a_request : (d : SentValue) (n : NeighbourValue) → d.packet ≡ packet_from (context_of s) (request_body n) → IsKnownPacket s d.packet
   a_request d n is = subst (λ m. IsKnownPacket s m) (sym is) (record { router = refl; lsas = λ lsa c. absurd (Contains-nil lsa c); names = λ i lists. absurd (Contains-nil lists.0 lists.1) })
 
-  one_sends : (l mtu : ℕ) (way : NeighbourValue → Way) (n : NeighbourValue) (b : Bool) (d : SentValue) → Contains (cond b (datagrams (way n) (packet_from (own_of s) (request_body (asked_next mtu s.tick (loaded n))))) []) d → IsKnownPacket s d.packet
-  one_sends l mtu way n true d c = a_request d (asked_next mtu s.tick (loaded n)) (datagrams-packet (way n) (packet_from (own_of s) (request_body (asked_next mtu s.tick (loaded n)))) d c)
+  one_sends : (l mtu : ℕ) (way : NeighbourValue → Way) (n : NeighbourValue) (b : Bool) (d : SentValue) → Contains (cond b (datagrams (way n) (packet_from (context_of s) (request_body (asked_next mtu s.tick (loaded n))))) []) d → IsKnownPacket s d.packet
+  one_sends l mtu way n true d c = a_request d (asked_next mtu s.tick (loaded n)) (datagrams-packet (way n) (packet_from (context_of s) (request_body (asked_next mtu s.tick (loaded n)))) d c)
   one_sends l mtu way n false d c = absurd (Contains-nil d c)
 
-  all_send : (k : ℕ) (links : List LinkValue) (d : SentValue) → Contains (flat_from (turn_requests_on (own_of s)) k links) d → IsKnownPacket s d.packet
+  all_send : (k : ℕ) (links : List LinkValue) (d : SentValue) → Contains (flat_from (turn_requests_on (context_of s)) k links) d → IsKnownPacket s d.packet
   all_send k [] d c = absurd (Contains-nil d c)
-  all_send k (link ∷ links) d c = elim (Contains-append_cases (turn_requests_on (own_of s) k link) (flat_from (turn_requests_on (own_of s)) (suc k) links) d c) [
-    | inl here ↦ (let (n, inside, sent) = flat_map-members (turn_request (own_of s) k link.iface link.settings.mtu) link.neighbours d here in one_sends k link.settings.mtu (λ n. way_out k link.iface (to_address link.iface (asked_next link.settings.mtu s.tick (loaded n)).address)) n (request_due (loaded n)) d sent)
+  all_send k (link ∷ links) d c = elim (Contains-append_cases (turn_requests_on (context_of s) k link) (flat_from (turn_requests_on (context_of s)) (suc k) links) d c) [
+    | inl here ↦ (let (n, inside, sent) = flat_map-members (turn_request (context_of s) k link.iface link.settings.mtu) link.neighbours d here in one_sends k link.settings.mtu (λ n. way_out k link.iface (to_address link.iface (asked_next link.settings.mtu s.tick (loaded n)).address)) n (request_due (loaded n)) d sent)
     | inr rest ↦ all_send (suc k) links d rest
   ]
 
@@ -157,7 +157,7 @@ module _ (s : AreaValue) where
       record {
         neighbours = record {
           goes = λ l q. let (mtu, is) = there l q in subst (λ o. NeighbourGoes s [] (neighbour s l q) o) (sym is) (goes_by mtu (neighbour s l q));
-          waiting = λ l h c. subst (λ hs. Contains hs h) (ap delayed_in (link_turned (own_of s) s.links l) ∙ same_delayed (slice_get s.links l)) c;
+          waiting = λ l h c. subst (λ hs. Contains hs h) (ap delayed_in (link_turned (context_of s) s.links l) ∙ same_delayed (slice_get s.links l)) c;
           same_direct = refl;
           same_router = refl;
           database = λ key. refl;

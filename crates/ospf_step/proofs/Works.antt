@@ -3,7 +3,7 @@ use Rattle.std.proofs.Common.{◌≡◌, ℕ, List, [], map, Option, None, Some,
 use Rattle.ospf_base.specs.declared.ids.LsaKey.{LsaKey}
 use Rattle.ospf_adjacency.specs.Heard.{Neighbourhood}
 use Rattle.ospf_area.specs.Outputs.{AreReadAsSent, OutputsValue, SentValue, no_outputs, sends}
-use Rattle.ospf_area.specs.Sending.{and_sends, own_of}
+use Rattle.ospf_area.specs.Sending.{and_sends, context_of}
 use Rattle.ospf_area.specs.State.{AreaValue, LinkValue}
 use Rattle.ospf_step.specs.Links.{AllEach, AreKnown, ChangesLinks, LinkQuiet, OnOneLink}
 use Rattle.ospf_step.specs.Neighbours.{NeighboursGo, Quiet, told_by}
@@ -19,7 +19,7 @@ use Rattle.std.specs.List.{flat_map}
 use Rattle.ospf_links.specs.Repeats.{link_repeated, marked_all}
 use Rattle.ospf_update.proofs.Words.{undelayed_link}
 use Rattle.ospf_step.specs.Ticks.{TakesTick}
-use Rattle.ospf_area.specs.Posting.{posted_all}
+use Rattle.ospf_area.specs.Outboxes.{posted_all}
 use Rattle.ospf_links.specs.Works.{WorksOn}
 use Rattle.ospf_links.proofs.Words.{hello_sent, keys_out, worked_by, work_sent_on}
 use Rattle.ospf_step.proofs.Known.{none_known}
@@ -68,14 +68,14 @@ one_link l link link' next keys ds s t at state read = record {
 pub work_puts : (R : OutputsValue → Type 0) (part : LinkValue → Neighbourhood) (l : ℕ) (keys : List LsaKey) (s t : AreaValue) (out out' : OutputsValue)
     → WorksOn part l (record s { sent = keys }) out out' t → AreReadAsSent out'.sent
     → (t ≡ record s { sent = keys } → R no_outputs)
-    → ((link : LinkValue) → OnOneLink l link (with_neighbourhood (part link) link) (posted_all (own_of s) l link.iface (part link).sent) s (sends (posted_all (own_of s) l link.iface (part link).sent)) t → R (sends (posted_all (own_of s) l link.iface (part link).sent)))
+    → ((link : LinkValue) → OnOneLink l link (with_neighbourhood (part link) link) (posted_all (context_of s) l link.iface (part link).sent) s (sends (posted_all (context_of s) l link.iface (part link).sent)) t → R (sends (posted_all (context_of s) l link.iface (part link).sent)))
     → PutsOut R out out'
 work_puts R part l keys s t out out' is read none some = by (slice_get s.links l) refl is.state is.outputs
   where
-    by : (o : Option LinkValue) → slice_get s.links l ≡ o → t ≡ worked_by o part l (record s { sent = keys }) → out' ≡ and_sends out (work_sent_on o part (own_of s) l) → PutsOut R out out'
+    by : (o : Option LinkValue) → slice_get s.links l ≡ o → t ≡ worked_by o part l (record s { sent = keys }) → out' ≡ and_sends out (work_sent_on o part (context_of s) l) → PutsOut R out out'
     by None at state outputs = puts_sent R out out' [] (none state) outputs
     by (Some link) at state outputs =
-        let ds = posted_all (own_of s) l link.iface (part link).sent in
+        let ds = posted_all (context_of s) l link.iface (part link).sent in
         puts_sent R out out' ds (some link (one_link l link (with_neighbourhood (part link) link) (part link).next keys ds s t at state (read_sent out out' ds outputs read))) outputs
 
 -- ---- all links
@@ -112,7 +112,7 @@ ticked_area s = acknowledged_area (helloed_area (timed_area s))
 
 -- what is sent again
 abbrev pub repeated : AreaValue → AreaValue
-repeated s = record s { links = map (link_repeated (own_of s) s.database) s.links; sent = marked_all (flat_map (keys_out (own_of s) s.database) s.links) s.sent }
+repeated s = record s { links = map (link_repeated (context_of s) s.database) s.links; sent = marked_all (flat_map (keys_out (context_of s) s.database) s.links) s.sent }
 
 module _ (s : AreaValue) (out out' : OutputsValue) (after : AreaValue) (is : TakesTick s out out' after) where
   pub acknowledged_is : is.acknowledged ≡ ticked_area is.aged

@@ -1,6 +1,6 @@
 -- Which events are dropped, and why (RFC 2328, section 8.2).
 use Rattle.std.specs.Prelude.{Bool, Option, None, Some, is_some, slice_get}
-use Rattle.ospf_area.specs.Sending.{own_of}
+use Rattle.ospf_area.specs.Sending.{context_of}
 use Rattle.ospf_area.specs.State.{AreaValue}
 use Rattle.ospf_step.specs.Step.{Event}
 use Rattle.ospf_step.specs.Step.Event.{Datagram, Tick, LinkUp, LinkDown}
@@ -8,7 +8,7 @@ use Rattle.ospf_packet.specs.PacketOf.{packet_of}
 use Rattle.ospf_step.specs.Receipt.{drop_of_packet}
 use Rattle.ospf_step.specs.declared.dropped.Dropped.{Dropped}
 use Rattle.ospf_step.specs.declared.dropped.Dropped.TheVariants as dropped
-use Rattle.ospf_area.specs.Posting.{local_by}
+use Rattle.ospf_area.specs.Outboxes.{local_by}
 
 -- why an event is dropped, if it is: only datagrams are. One that comes on a link that is not there
 -- is, and bytes that are no packet are, as `Packet`
@@ -18,7 +18,7 @@ dropped_by (Datagram link source destination bytes) s = elim (slice_get s.links 
   | Some there ↦ elim (packet_of bytes) [
     | None ↦ Some dropped.Packet
     | Some m ↦
-        let local = local_by (own_of s) there.settings in
+        let local = local_by (context_of s) there.settings in
         drop_of_packet local there.iface there.neighbours s.area source destination m
   ]
 ]

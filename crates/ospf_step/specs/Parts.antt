@@ -13,9 +13,9 @@ use Rattle.ospf_lsdb.specs.Moments.{among}
 use Rattle.ospf_area.specs.Flooding.{flooded_links, flooding_updates, released}
 use Rattle.ospf_area.specs.Numbers.{is_own}
 use Rattle.ospf_area.specs.Outputs.{OutputsValue, no_outputs, sends}
-use Rattle.ospf_area.specs.Sending.{own_of}
+use Rattle.ospf_area.specs.Sending.{context_of}
 use Rattle.ospf_area.specs.State.{AreaValue, database_entry, kept_number, some_link_loading}
-use Rattle.ospf_area.specs.declared.flooding.Origin.{Origin}
+use Rattle.ospf_area.specs.declared.flooding.PacketSource.{PacketSource}
 use Rattle.ospf_update.specs.Meets.{MeetsLsa}
 use Rattle.ospf_update.specs.Removal.{is_leaving, lowest_number}
 use Rattle.ospf_update.specs.Updates.{PassesOver}
@@ -23,7 +23,7 @@ use Rattle.ospf_update.specs.Updates.{PassesOver}
 -- ---- Updates and Acknowledgments
 
 -- one LSA of an Update meets its rule (13). What is no LSA of LS type 1 or 2 is passed over
-pub data LsaPart (f : Origin) (lsa : List ℕ) (before : AreaValue) (out : OutputsValue)
+pub data LsaPart (f : PacketSource) (lsa : List ℕ) (before : AreaValue) (out : OutputsValue)
     (after : AreaValue) : Type 0 where
   Meets : IsLsa lsa → MeetsLsa f lsa before no_outputs out after → LsaPart f lsa before out after
   PassedOver : (IsLsa lsa → ⊥) → PassesOver before.passes_over f lsa before after → out ≡ no_outputs
@@ -47,7 +47,7 @@ pub record IssuePart (lsa : List ℕ) (before : AreaValue) (out : OutputsValue) 
   pub kept : (key : LsaKey) → kept_number before key ≤ℤ kept_number after key
   pub known : (instance_of lsa).number ≤ℤ kept_number after (key_of lsa)
   pub sent :
-      out.sent ≡ flooding_updates (own_of before) lsa None (released (key_of lsa) before.links)
+      out.sent ≡ flooding_updates (context_of before) lsa None (released (key_of lsa) before.links)
   pub taken : out.taken ≡ []
   pub issued : out.issued ≡ lsa ∷ []
   pub ended : out.ended ≡ []
@@ -69,7 +69,8 @@ pub record ExpiryPart (key : LsaKey) (copy : Entry) (before : AreaValue) (out : 
   pub same_direct : after.direct ≡ before.direct
   pub numbering : (k : LsaKey) → kept_number after k ≡ kept_number before k
   pub outputs :
-      out ≡ sends (flooding_updates (own_of before) (lsa_of (at_max_age copy)) None before.links)
+      out ≡ sends
+      (flooding_updates (context_of before) (lsa_of (at_max_age copy)) None before.links)
 
 -- ---- ages, and what leaves the database
 

@@ -1,7 +1,7 @@
 -- What a router has so that a packet can be taken (RFC 2328, sections 10.5 and 10.7).
 use Rattle.std.specs.Prelude.{⊤, ◌≡◌, ◌<◌, true, Some, None, length, slice_get}
 use Rattle.ospf_area.specs.State.{AreaValue, LinkValue}
-use Rattle.ospf_area.specs.declared.flooding.Origin.{Origin}
+use Rattle.ospf_area.specs.declared.flooding.PacketSource.{PacketSource}
 use Rattle.ospf_step.specs.Invariants.{NoneWaitsBelow}
 use Rattle.ospf_step.specs.Step.{Event}
 use Rattle.ospf_step.specs.Step.Event.{Datagram, Tick, LinkUp, LinkDown}
@@ -13,7 +13,7 @@ use Rattle.ospf_packet.specs.Meaning.{BodyMeaning, Meaning, hello, description, 
 use Rattle.ospf_packet.specs.PacketOf.{packet_of}
 
 -- room for a new neighbour, and for a Request a neighbour in Exchange or above
-abbrev pub CanTakeOn : BodyMeaning → Origin → LinkValue → Type 0
+abbrev pub CanTakeOn : BodyMeaning → PacketSource → LinkValue → Type 0
 CanTakeOn (hello fields heard) f link =
     neighbour_of link.neighbours f.router ≡ None → length link.neighbours < max_neighbours
 CanTakeOn (description fields headers) f link = ⊤
@@ -24,7 +24,7 @@ CanTakeOn (update lsas) f link = ⊤
 CanTakeOn (acknowledgment headers) f link = ⊤
 
 -- it has that on the link that the packet came on
-abbrev pub CanTakePacket : Origin → BodyMeaning → AreaValue → Type 0
+abbrev pub CanTakePacket : PacketSource → BodyMeaning → AreaValue → Type 0
 CanTakePacket f body s =
     (link : LinkValue) → slice_get s.links f.link ≡ Some link → CanTakeOn body f link
 

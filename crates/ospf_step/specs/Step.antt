@@ -8,7 +8,7 @@ use Rattle.ospf_packet.specs.Meaning.{BodyMeaning, hello, description, request, 
 use Rattle.ospf_packet.specs.PacketOf.{packet_of}
 use Rattle.ospf_area.specs.Outputs.{OutputsValue, no_outputs, sends, then_outputs, AreReadAsSent}
 use Rattle.ospf_area.specs.State.{AreaValue}
-use Rattle.ospf_area.specs.declared.flooding.Origin.{Origin}
+use Rattle.ospf_area.specs.declared.flooding.PacketSource.{PacketSource}
 use Rattle.ospf_update.specs.Acks.{direct_out}
 use Rattle.ospf_area.specs.Acting.{Becomes}
 use Rattle.ospf_update.specs.Meets.{header_met}
@@ -34,12 +34,12 @@ heard_in (LinkDown link) = None
 
 -- the parts of a step, in the order in which they come
 pub data Part : Type 0 where
-  HelloComes : Origin → Meaning → Part  -- 10.5
-  DdComes : Origin → Meaning → Part  -- 10.6
-  RequestComes : Origin → Meaning → Part  -- 10.7
-  LsaComes : Origin → List ℕ → Part  -- 13
-  HeaderComes : Origin → LsaHeader → Part  -- 13.7
-  DirectAcknowledgements : Origin → Part  -- 13.5
+  HelloComes : PacketSource → Meaning → Part  -- 10.5
+  DdComes : PacketSource → Meaning → Part  -- 10.6
+  RequestComes : PacketSource → Meaning → Part  -- 10.7
+  LsaComes : PacketSource → List ℕ → Part  -- 13
+  HeaderComes : PacketSource → LsaHeader → Part  -- 13.7
+  DirectAcknowledgements : PacketSource → Part  -- 13.5
   LinkChanges : (link : ℕ) (up : Bool) → Part  -- 9.3
   Ages : Part  -- 14
   Timers : Part  -- 9.3, 10.3
@@ -117,11 +117,11 @@ Chain [] before out after = Becomes before no_outputs out after
 Chain (part ∷ parts) before out after = Then (IsPart part before) (Chain parts) out after
 
 -- each LSA of an Update, and the Requests that become due by it
-abbrev pub lsa_parts : Origin → List (List ℕ) → List Part
+abbrev pub lsa_parts : PacketSource → List (List ℕ) → List Part
 lsa_parts f lsas = flat_map (λ lsa. LsaComes f lsa ∷ Requests ∷ []) lsas
 
 -- what a packet brings (8.2)
-abbrev pub parts_of_packet : Origin → Meaning → BodyMeaning → List Part
+abbrev pub parts_of_packet : PacketSource → Meaning → BodyMeaning → List Part
 parts_of_packet f p (hello fields neighbours) = HelloComes f p ∷ []
 parts_of_packet f p (description fields headers) = DdComes f p ∷ []
 parts_of_packet f p (request entries) = RequestComes f p ∷ []

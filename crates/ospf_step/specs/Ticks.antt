@@ -3,7 +3,7 @@ use Rattle.std.specs.Prelude.{◌≡◌, [], map}
 use Rattle.std.specs.List.{flat_map}
 use Rattle.ospf_area.specs.Acting.{OnEachLink}
 use Rattle.ospf_area.specs.Outputs.{OutputsValue}
-use Rattle.ospf_area.specs.Sending.{own_of}
+use Rattle.ospf_area.specs.Sending.{context_of}
 use Rattle.ospf_area.specs.State.{AreaValue, LinkValue}
 use Rattle.ospf_adjacency.specs.Links.{hello_ticked}
 use Rattle.ospf_adjacency.specs.Repeats.{due_keys}
@@ -21,7 +21,8 @@ RepeatsAll s out out' after =
     (λ (link : LinkValue). flat_map (due_keys link.settings.retransmit s.tick s.database)
     link.neighbours) s.links in
     let marked = record s { sent = marked_all keys s.sent } in
-    OnEachLink (link_repeated (own_of s) s.database) (link_repeats_out (own_of s) s.database)
+    OnEachLink (link_repeated (context_of s) s.database)
+    (link_repeats_out (context_of s) s.database)
     marked out out' after
 
 -- a tick: ages, timers, Hellos, acknowledgements and repeats, in this order
@@ -37,11 +38,11 @@ pub record TakesTick (s : AreaValue) (out out' : OutputsValue) (after : AreaValu
   pub helloed : AreaValue
   pub helloed_out : OutputsValue
   pub hellos : OnEachLink (λ link. record link { iface = hello_ticked link.iface })
-      (hello_out (own_of timed)) timed aged_out helloed_out helloed
+      (hello_out (context_of timed)) timed aged_out helloed_out helloed
   -- the delayed acknowledgements, of which none waits any more (13.5)
   pub acknowledged : AreaValue
   pub acknowledged_out : OutputsValue
   pub acknowledgements : OnEachLink (λ link. record link { delayed = [] })
-      (delayed_out_on (own_of helloed)) helloed helloed_out acknowledged_out acknowledged
+      (delayed_out_on (context_of helloed)) helloed helloed_out acknowledged_out acknowledged
   -- what is sent again (10.8, 10.9, 13.6)
   pub repeats : RepeatsAll acknowledged acknowledged_out out' after

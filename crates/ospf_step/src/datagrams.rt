@@ -1,7 +1,7 @@
 //! Datagrams that come.
 
 ghost use Rattle.std.specs.Prelude.{◌≡◌, ◌≢◌, None, Some, IfErr, IfOk, OnErr, OnOk};
-ghost use Rattle.ospf_area.specs.Sending.{own_of};
+ghost use Rattle.ospf_area.specs.Sending.{context_of};
 ghost use Rattle.ospf_step.specs.Puts.{headers_met};
 ghost use Rattle.ospf_packet.specs.PacketOf.{packet_of};
 ghost use Rattle.ospf_packet.specs.Said.{body_said, said};
@@ -19,7 +19,7 @@ use crate::senders::not_dropped_is_taken;
 use ospf_adjacency::{
     answers_are_quiet, description_keeps_router, elections_come_about, neighbours_stay_of_link,
 };
-use ospf_area::{Area, Origin, Outputs, local_of, own_of};
+use ospf_area::{Area, Outputs, PacketSource, context_of, local_of};
 use ospf_base::Addr;
 use ospf_links::{take_description, take_hello, take_request};
 use ospf_originate::area_stays_sound;
@@ -69,7 +69,7 @@ pub(crate) fn take_datagram(
     // For the proof.
     database_is_one(area);
     none_waits_below(area, link, packet.router);
-    let from = Origin {
+    let from = PacketSource {
         link,
         router: packet.router,
         address: source,
@@ -95,7 +95,7 @@ fn receive_on<'a>(
     let Some(there) = area.links.get(link) else {
         return Err(Dropped::Packet);
     };
-    let local = local_of(own_of(area), there);
+    let local = local_of(context_of(area), there);
     receive(
         bytes,
         source,
@@ -110,7 +110,7 @@ fn receive_on<'a>(
 // What a packet says is taken.
 fn take_body(
     area: &mut Area,
-    from: Origin,
+    from: PacketSource,
     body: Body<'_>,
     out: &mut Outputs,
     alloc: Global,
@@ -139,7 +139,7 @@ fn take_body(
 }
 
 // The headers of an Acknowledgment, one after the other.
-fn take_headers(area: &mut Area, from: Origin, headers: Headers<'_>)
+fn take_headers(area: &mut Area, from: PacketSource, headers: Headers<'_>)
     ensures { area.new ≡ headers_met from headers.entry area.old }
 {
     for header in headers {

@@ -12,7 +12,7 @@ ghost use Rattle.ospf_packet.specs.declared.body.Description.{Description};
 ghost use Rattle.ospf_packet.specs.declared.body.Hello.{Hello};
 ghost use Rattle.ospf_packet.specs.declared.entry.RequestEntry.{RequestEntry};
 ghost use Rattle.ospf_area.specs.Outputs.{OutputsValue};
-ghost use Rattle.ospf_area.specs.Sending.{and_sends, own_of};
+ghost use Rattle.ospf_area.specs.Sending.{and_sends, context_of};
 ghost use Rattle.ospf_area.specs.State.{AreaValue};
 ghost use Rattle.ospf_update.specs.Updates.{TakesUpdate};
 ghost use Rattle.ospf_links.specs.Parts.{description_part, hello_part, link_down, link_up, request_part};
@@ -20,7 +20,7 @@ ghost use Rattle.ospf_links.specs.Works.{WorksOn, link_changed, up_out_on};
 ghost use Rattle.ospf_step.specs.Begins.{BeginsChain, BeginsWork, IsArrival};
 ghost use Rattle.ospf_step.specs.Puts.{PutsOut, headers_met};
 ghost use Rattle.ospf_step.specs.Step.{Chain, Event, Part, first_parts};
-ghost use Rattle.ospf_step.specs.Takes.{origin_of};
+ghost use Rattle.ospf_step.specs.Takes.{source_of};
 ghost use Rattle.ospf_step.specs.Invariants.{NoneWaitsBelow};
 
 /// A datagram that is a packet, by what it says; a Database Description where nothing waits for the
@@ -31,21 +31,22 @@ pub fn datagrams_are_chains()
         IsArrival e link source p →
         (h : Hello) (heard : List RouterId) (named : Bool) → p.body ≡ hello h heard →
         (s : AreaValue) (out : OutputsValue) → BeginsWork e
-        (hello_part (own_of s) (origin_of link source p) h named s.next_dd) link s out }
+        (hello_part (context_of s) (source_of link source p) h named s.next_dd) link s out }
     // A Database Description (10.6).
     ensures description { (e : Event) (link : ℕ) (source : Addr) (p : Meaning) →
         IsArrival e link source p →
         (d : Description) (headers : List LsaHeader) → p.body ≡ description d headers →
         (s : AreaValue) (out : OutputsValue) → IsDatabase s.database →
         NoneWaitsBelow s link p.router → BeginsWork e
-        (description_part (own_of s) (origin_of link source p) d headers s.database s.next_dd) link
-        s out }
+        (description_part (context_of s) (source_of link source p) d headers s.database s.next_dd)
+        link s out }
     // A Request (10.7). The keys whose copies go out are marked.
     ensures request { (e : Event) (link : ℕ) (source : Addr) (p : Meaning) →
         IsArrival e link source p →
         (entries : List RequestEntry) (marks : List LsaKey) → p.body ≡ request entries →
         (s : AreaValue) (out : OutputsValue) → IsDatabase s.database →
-        let part = request_part (own_of s) (origin_of link source p) s.database entries s.next_dd in
+        let part =
+        request_part (context_of s) (source_of link source p) s.database entries s.next_dd in
         (t : AreaValue) (mid_out : OutputsValue) →
         WorksOn part link (record s { sent = marks }) out mid_out t →
         BeginsChain e s out t mid_out }
@@ -54,20 +55,20 @@ pub fn datagrams_are_chains()
         IsArrival e link source p →
         (lsas : List (List ℕ)) → p.body ≡ update lsas →
         (s t : AreaValue) (out mid_out : OutputsValue) →
-        TakesUpdate (origin_of link source p) lsas s out mid_out t → BeginsChain e s out t mid_out }
+        TakesUpdate (source_of link source p) lsas s out mid_out t → BeginsChain e s out t mid_out }
     // An Acknowledgment (13.7).
     ensures acknowledgment { (e : Event) (link : ℕ) (source : Addr) (p : Meaning) →
         IsArrival e link source p →
         (headers : List LsaHeader) → p.body ≡ acknowledgment headers →
         (s : AreaValue) (out : OutputsValue) →
-        BeginsChain e s out (headers_met (origin_of link source p) headers s) out }
+        BeginsChain e s out (headers_met (source_of link source p) headers s) out }
 {}
 
 /// A link that goes up or down.
 pub fn link_changes_are_chains()
     ensures up { (l : ℕ) (s : AreaValue) (out : OutputsValue) → BeginsChain (Event.LinkUp l) s out
         (link_changed link_up l s)
-        (and_sends out (up_out_on (slice_get s.links l) (own_of s) l)) }
+        (and_sends out (up_out_on (slice_get s.links l) (context_of s) l)) }
     ensures down { (l : ℕ) (rest : List Part) (s t u : AreaValue)
         (out mid_out out' : OutputsValue) → PutsOut (λ o. Chain rest t o u) mid_out out' →
         t ≡ link_changed link_down l s → mid_out ≡ out →

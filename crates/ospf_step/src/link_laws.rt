@@ -10,9 +10,9 @@ ghost use Rattle.ospf_packet.specs.declared.body.Description.{Description};
 ghost use Rattle.ospf_packet.specs.declared.body.Hello.{Hello};
 ghost use Rattle.ospf_packet.specs.declared.entry.RequestEntry.{RequestEntry};
 ghost use Rattle.ospf_area.specs.Outputs.{AreReadAsSent, OutputsValue};
-ghost use Rattle.ospf_area.specs.Sending.{and_sends, own_of};
+ghost use Rattle.ospf_area.specs.Sending.{and_sends, context_of};
 ghost use Rattle.ospf_area.specs.State.{AreaValue};
-ghost use Rattle.ospf_area.specs.declared.flooding.Origin.{Origin};
+ghost use Rattle.ospf_area.specs.declared.flooding.PacketSource.{PacketSource};
 ghost use Rattle.ospf_links.specs.Parts.{description_part, hello_part, link_down, link_up, request_part};
 ghost use Rattle.ospf_links.specs.Works.{WorksOn, link_changed, up_out_on};
 ghost use Rattle.ospf_step.specs.Packets.{dd_headers_of};
@@ -22,20 +22,20 @@ ghost use Rattle.ospf_step.specs.Invariants.{NoneWaitsBelow};
 
 /// A Hello that comes, on a link that may not be there.
 pub fn hellos_put_out()
-    ensures { (f : Origin) (p : Meaning) (h : Hello) (named : Bool) (s t : AreaValue)
+    ensures { (f : PacketSource) (p : Meaning) (h : Hello) (named : Bool) (s t : AreaValue)
         (out out' : OutputsValue) →
         AreReadAsSent out'.sent →
-        WorksOn (hello_part (own_of s) f h named s.next_dd) f.link s out out' t →
+        WorksOn (hello_part (context_of s) f h named s.next_dd) f.link s out out' t →
         PutsOut (λ o. IsPart (Part.HelloComes f p) s o t) out out' }
 {}
 
 /// A Database Description that comes, of a neighbour that may not be there.
 pub fn descriptions_put_out()
-    ensures { (f : Origin) (p : Meaning) (d : Description) (headers : List LsaHeader)
+    ensures { (f : PacketSource) (p : Meaning) (d : Description) (headers : List LsaHeader)
         (s t : AreaValue) (out out' : OutputsValue) →
         IsDatabase s.database → NoneWaitsBelow s f.link f.router → p.router ≡ f.router → headers
         ≡ dd_headers_of p.body → AreReadAsSent out'.sent →
-        WorksOn (description_part (own_of s) f d headers s.database s.next_dd) f.link s out out'
+        WorksOn (description_part (context_of s) f d headers s.database s.next_dd) f.link s out out'
         t →
         PutsOut (λ o. IsPart (Part.DdComes f p) s o t) out out' }
 {}
@@ -43,10 +43,10 @@ pub fn descriptions_put_out()
 /// A Request that comes, of a neighbour that may not be there. The keys
 /// whose copies go out are marked.
 pub fn requests_put_out()
-    ensures { (f : Origin) (p : Meaning) (entries : List RequestEntry) (marks : List LsaKey)
+    ensures { (f : PacketSource) (p : Meaning) (entries : List RequestEntry) (marks : List LsaKey)
         (s t : AreaValue) (out out' : OutputsValue) →
         IsDatabase s.database → AreReadAsSent out'.sent →
-        WorksOn (request_part (own_of s) f s.database entries s.next_dd) f.link
+        WorksOn (request_part (context_of s) f s.database entries s.next_dd) f.link
         (record s { sent = marks }) out out' t →
         PutsOut (λ o. IsPart (Part.RequestComes f p) s o t) out out' }
 {}
@@ -55,7 +55,7 @@ pub fn requests_put_out()
 pub fn links_up_put_out()
     ensures { (l : ℕ) (s t : AreaValue) (out out' : OutputsValue) →
         AreReadAsSent out'.sent → t ≡ link_changed link_up l s → out'
-        ≡ and_sends out (up_out_on (slice_get s.links l) (own_of s) l) →
+        ≡ and_sends out (up_out_on (slice_get s.links l) (context_of s) l) →
         PutsOut (λ o. IsPart (Part.LinkChanges l true) s o t) out out' }
 {}
 

@@ -7,9 +7,9 @@ ghost use Rattle.ospf_base.specs.declared.ids.LsaKey.{LsaKey};
 ghost use Rattle.ospf_lsa.specs.declared.header.LsaHeader.{LsaHeader};
 ghost use Rattle.ospf_lsdb.specs.Database.{Entry, IsDatabase};
 ghost use Rattle.ospf_area.specs.Outputs.{AreReadAsSent, OutputsValue, no_outputs};
-ghost use Rattle.ospf_area.specs.Sending.{and_sends, own_of};
+ghost use Rattle.ospf_area.specs.Sending.{and_sends, context_of};
 ghost use Rattle.ospf_area.specs.State.{AreaValue, database_entry};
-ghost use Rattle.ospf_area.specs.declared.flooding.Origin.{Origin};
+ghost use Rattle.ospf_area.specs.declared.flooding.PacketSource.{PacketSource};
 ghost use Rattle.ospf_update.specs.Aging.{Flushes, TickAges, turn_out, turned_area};
 ghost use Rattle.ospf_area.specs.Acting.{InTurn, OnEachLink};
 ghost use Rattle.ospf_update.specs.Removal.{RemovesOne, leaving};
@@ -41,7 +41,7 @@ pub fn steps_are_chains()
 
 /// What is done with an Update, and then what follows, is the chain of its parts.
 pub fn updates_are_chains()
-    ensures { (f : Origin) (slices : List (List ℕ)) (rest : List Part) (s t u : AreaValue)
+    ensures { (f : PacketSource) (slices : List (List ℕ)) (rest : List Part) (s t u : AreaValue)
         (out mid_out out' : OutputsValue) →
         AreReadAsSent out'.sent → TakesUpdate f slices s out mid_out t →
         PutsOut (λ o. Chain rest t o u) mid_out out' →
@@ -52,7 +52,7 @@ pub fn updates_are_chains()
 /// What is done with the headers of an Acknowledgment, and then what
 /// follows, is the chain of its parts.
 pub fn headers_are_chains()
-    ensures { (f : Origin) (hs : List LsaHeader) (rest : List Part) (s t u : AreaValue)
+    ensures { (f : PacketSource) (hs : List LsaHeader) (rest : List Part) (s t u : AreaValue)
         (out out' : OutputsValue) →
         t ≡ headers_met f hs s → PutsOut (λ o. Chain rest t o u) out out' →
         PutsOut (λ o. Chain (map (λ h. Part.HeaderComes f h) hs ++ rest) s o u) out out' }
@@ -76,7 +76,7 @@ pub fn next_requests_put_out()
 pub fn acknowledgements_put_out()
     ensures { (s t : AreaValue) (out out' : OutputsValue) →
         AreReadAsSent out'.sent →
-        OnEachLink (λ link. record link { delayed = [] }) (delayed_out_on (own_of s)) s out
+        OnEachLink (λ link. record link { delayed = [] }) (delayed_out_on (context_of s)) s out
         out' t →
         PutsOut (λ o. Quiet s o t) out out' }
 {}

@@ -1,7 +1,7 @@
 //! A step.
 
 ghost use Rattle.std.specs.Prelude.{◌≡◌, ◌≢◌, None, IfOk, OnErr, OnOk, slice_get};
-ghost use Rattle.ospf_area.specs.Sending.{and_sends, own_of};
+ghost use Rattle.ospf_area.specs.Sending.{and_sends, context_of};
 ghost use Rattle.ospf_step.specs.Accounts.{Accounts};
 ghost use Rattle.ospf_step.specs.Step.{StepLaws, heard_in};
 ghost use Rattle.ospf_step.specs.Words.{IsSoundState};
@@ -119,7 +119,7 @@ fn take(
 fn take_up(area: &mut Area, link: usize, out: &mut Outputs, alloc: Global) -> Result<(), AllocError>
     requires { IsFitRouter area.old }
     ensures takes { OnOk result (Becomes (link_changed link_up link area.old)
-        (and_sends out.old (up_out_on (slice_get area.old.links link) (own_of area.old) link))
+        (and_sends out.old (up_out_on (slice_get area.old.links link) (context_of area.old) link))
         out.new area.new) }
     ensures fit { OnOk result (IsFitRouter area.new) }
 {

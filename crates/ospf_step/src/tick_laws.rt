@@ -7,7 +7,7 @@ ghost use Rattle.ospf_base.specs.declared.ids.LsaKey.{LsaKey};
 ghost use Rattle.ospf_lsdb.specs.Database.{IsDatabase};
 ghost use Rattle.ospf_area.specs.Outputs.{AreReadAsSent, OutputsValue};
 ghost use Rattle.ospf_area.specs.Acting.{OnEachLink};
-ghost use Rattle.ospf_area.specs.Sending.{own_of};
+ghost use Rattle.ospf_area.specs.Sending.{context_of};
 ghost use Rattle.ospf_area.specs.State.{AreaValue};
 ghost use Rattle.ospf_adjacency.specs.Links.{hello_ticked};
 ghost use Rattle.ospf_links.specs.Parts.{hello_out, link_timed};
@@ -28,8 +28,8 @@ pub fn timers_put_out()
 pub fn due_hellos_put_out()
     ensures { (s t : AreaValue) (out out' : OutputsValue) →
         AreReadAsSent out'.sent →
-        OnEachLink (λ link. record link { iface = hello_ticked link.iface }) (hello_out (own_of s))
-        s out out' t →
+        OnEachLink (λ link. record link { iface = hello_ticked link.iface })
+        (hello_out (context_of s)) s out out' t →
         PutsOut (λ o. IsPart Part.Hellos s o t) out out' }
 {}
 
@@ -37,8 +37,8 @@ pub fn due_hellos_put_out()
 pub fn repeats_put_out()
     ensures { (marks : List LsaKey) (s t : AreaValue) (out out' : OutputsValue) →
         IsDatabase s.database → AreRising s.links → AreReadAsSent out'.sent →
-        OnEachLink (link_repeated (own_of s) s.database) (link_repeats_out (own_of s) s.database)
-        (record s { sent = marks }) out out' t →
+        OnEachLink (link_repeated (context_of s) s.database)
+        (link_repeats_out (context_of s) s.database) (record s { sent = marks }) out out' t →
         PutsOut (λ o. IsPart Part.Repeats s o t) out out' }
 {}
 

@@ -2,7 +2,7 @@
 
 ghost use Rattle.std.specs.Prelude.{◌≡◌, [], OnOk, map};
 ghost use Rattle.ospf_area.specs.Acting.{OnEachLink};
-ghost use Rattle.ospf_area.specs.Sending.{own_of};
+ghost use Rattle.ospf_area.specs.Sending.{context_of};
 ghost use Rattle.ospf_adjacency.specs.Links.{hello_ticked};
 ghost use Rattle.ospf_links.specs.Parts.{hello_out, link_timed};
 ghost use Rattle.ospf_step.specs.Fit.{IsFitRouter};
@@ -10,7 +10,7 @@ ghost use Rattle.ospf_step.specs.Ticks.{RepeatsAll, TakesTick};
 ghost use Rattle.ospf_update.specs.Acks.{delayed_out_on};
 
 use ospf_adjacency::{elections_come_about, neighbours_stay_of_link, repeats_are_quiet};
-use ospf_area::{Area, Outputs, own_of};
+use ospf_area::{Area, Outputs, context_of};
 use ospf_originate::area_stays_sound;
 use ospf_update::age;
 use std::alloc::{AllocError, Global};
@@ -55,18 +55,18 @@ fn count_timers(area: &mut Area, alloc: Global)
 // As `ospf_links::send_hellos`, over the links of an area.
 fn send_hellos(area: &mut Area, out: &mut Outputs, alloc: Global) -> Result<(), AllocError>
     ensures { OnOk result (OnEachLink (λ link. record link { iface = hello_ticked link.iface })
-        (hello_out (own_of area.old)) area.old out.old out.new area.new) }
+        (hello_out (context_of area.old)) area.old out.old out.new area.new) }
 {
-    let own = own_of(area);
+    let own = context_of(area);
     ospf_links::send_hellos(&mut area.links, own, out, alloc)
 }
 
 // As `ospf_update::send_delayed`, over the links of an area.
 fn send_delayed(area: &mut Area, out: &mut Outputs, alloc: Global) -> Result<(), AllocError>
     ensures { OnOk result (OnEachLink (λ link. record link { delayed = [] })
-        (delayed_out_on (own_of area.old)) area.old out.old out.new area.new) }
+        (delayed_out_on (context_of area.old)) area.old out.old out.new area.new) }
 {
-    let own = own_of(area);
+    let own = context_of(area);
     ospf_update::send_delayed(&mut area.links, own, out, alloc)
 }
 
@@ -74,7 +74,7 @@ fn send_delayed(area: &mut Area, out: &mut Outputs, alloc: Global) -> Result<(),
 fn repeat_all(area: &mut Area, out: &mut Outputs, alloc: Global) -> Result<(), AllocError>
     ensures { OnOk result (RepeatsAll area.old out.old out.new area.new) }
 {
-    let own = own_of(area);
+    let own = context_of(area);
     ospf_links::repeat_all(
         &mut area.links,
         &area.database,

@@ -19,7 +19,7 @@ use Rattle.ospf_area.proofs.LawLemmas.{flooded_there, turns_there}
 use Rattle.ospf_area.proofs.WaitLemmas.{flood_waits, reaches, turn_waits}
 use Rattle.ospf_area.specs.Flooding.{goes_anywhere}
 use Rattle.ospf_area.specs.Laws.{IsSpared}
-use Rattle.ospf_area.specs.Sending.{and_sends, own_of}
+use Rattle.ospf_area.specs.Sending.{and_sends, context_of}
 use Rattle.ospf_area.specs.State.{AreaValue, Awaits, WaitsIn, database_entry, kept_number, neighbour}
 use Rattle.ospf_area.specs.Acting.{Becomes, InTurn}
 use Rattle.ospf_area.specs.Outputs.{OutputsValue}
@@ -76,8 +76,8 @@ copy_key s key e is = by_held (held_of s.database key) refl is
 -- LoadingDone and Requests leave it
 turn_keeps : (s : AreaValue) (l : ℕ) (q : RouterId) (j : Instance) → Awaits s l q j → Awaits (turned_area s) l q j
 turn_keeps s l q j waits =
-    subst (λ (o : Option NeighbourValue). WaitsIn o j) (sym (turns_there (own_of s) s.links l q))
-    ((turn_waits (own_of s) (slice_get s.links l) (neighbour s l q) j).1 waits)
+    subst (λ (o : Option NeighbourValue). WaitsIn o j) (sym (turns_there (context_of s) s.links l q))
+    ((turn_waits (context_of s) (slice_get s.links l) (neighbour s l q) j).1 waits)
 
 noted_neighbour : (key : LsaKey) (b : Bool) (s : AreaValue) (l : ℕ) (q : RouterId) → neighbour (noted key b s) l q ≡ neighbour s l q
 noted_neighbour key true s l q = refl

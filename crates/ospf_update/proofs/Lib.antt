@@ -12,6 +12,6 @@ pub mod ReachLemmas
 pub mod TurnLemmas
 pub mod PackLemmas
 pub mod PassLemmas
-pub mod PostLemmas
+pub mod OutboxLemmas
 pub mod AgeLemmas
 pub mod Words

@@ -20,7 +20,7 @@ use Rattle.ospf_area.specs.Outputs.{OutputsValue}
 use Rattle.ospf_area.specs.Standing.{acknowledging, answer_at}
 use Rattle.ospf_area.specs.State.{AreaValue, neighbour_at}
 use Rattle.ospf_area.specs.declared.changes.AdjacencyChange.TheVariants.{Acknowledges}
-use Rattle.ospf_area.specs.declared.flooding.Origin.{Origin}
+use Rattle.ospf_area.specs.declared.flooding.PacketSource.{PacketSource}
 use Rattle.ospf_update.specs.Laws.{is_installed}
 use Rattle.ospf_update.specs.Meets.{MeetsLsa, MeetsRule, Stores, duplicated, header_met, heard_by, named_by, replied, reply_to, rule_met}
 use Rattle.ospf_update.proofs.Words.{taken_off}
@@ -33,7 +33,7 @@ keeps_both s m t one next = record { database = next.database ∙ one.database; 
 pub keeps_same : (s t : AreaValue) → t ≡ s → KeepsAll s t
 keeps_same s t is = subst (KeepsAll s) (sym is) (record { database = refl; numbers = λ k. refl })
 
-acknowledging_keeps : (a : Acknowledgement) (f : Origin) (h : LsaHeader) (s : AreaValue) → KeepsAll s (acknowledging a f h s)
+acknowledging_keeps : (a : Acknowledgement) (f : PacketSource) (h : LsaHeader) (s : AreaValue) → KeepsAll s (acknowledging a f h s)
 acknowledging_keeps answer.None f h s = record { database = refl; numbers = λ k. refl }
 acknowledging_keeps answer.Delayed f h s = record { database = refl; numbers = λ k. refl }
 acknowledging_keeps answer.Direct f h s = record { database = refl; numbers = λ k. refl }
@@ -45,24 +45,24 @@ heard_keeps key s = by_test (is_self_originated s.router s.links key)
     by_test true = record { database = refl; numbers = λ k. refl }
     by_test false = record { database = refl; numbers = λ k. refl }
 
-replied_keeps : (o : Option (List ℕ)) (f : Origin) (key : LsaKey) (s : AreaValue) → KeepsAll s (replied o f key s)
+replied_keeps : (o : Option (List ℕ)) (f : PacketSource) (key : LsaKey) (s : AreaValue) → KeepsAll s (replied o f key s)
 replied_keeps None f key s = record { database = refl; numbers = λ k. refl }
 replied_keeps (Some lsa) f key s = record { database = refl; numbers = λ k. refl }
 
 -- the LSA was stored, and then nothing more was done that the database and the numbers are read of
-pub record IsStored (f : Origin) (lsa : List ℕ) (s t : AreaValue) : Type 0 where
+pub record IsStored (f : PacketSource) (lsa : List ℕ) (s t : AreaValue) : Type 0 where
   pub mid : AreaValue
   pub stores : Stores lsa (Some f) s mid
   pub keeps : KeepsAll mid t
 
-abbrev on_newer : Origin → List ℕ → AreaValue → AreaValue → Acknowledgement
+abbrev on_newer : PacketSource → List ℕ → AreaValue → AreaValue → Acknowledgement
 on_newer f lsa s m = answer_at (case_of_newer (flooded_back (key_of lsa) (header_of lsa) (Some f) (released (key_of lsa) s.links))) f m.links
 
-abbrev on_same : Origin → List ℕ → AreaValue → Acknowledgement
+abbrev on_same : PacketSource → List ℕ → AreaValue → Acknowledgement
 on_same f lsa s = answer_at (case_of_same (is_awaited_of (instance_of lsa) (neighbour_at s.links f.link f.router))) f s.links
 
 -- it was stored, or nothing is changed
-pub met_cases : (f : Origin) (lsa : List ℕ) (s : AreaValue) (o o' : OutputsValue) (t : AreaValue) → MeetsLsa f lsa s o o' t
+pub met_cases : (f : PacketSource) (lsa : List ℕ) (s : AreaValue) (o o' : OutputsValue) (t : AreaValue) → MeetsLsa f lsa s o o' t
     → ((is_installed (rule_met s f lsa) ≡ true) × IsStored f lsa s t) ⊎ ((is_installed (rule_met s f lsa) ≡ false) × KeepsAll s t)
 met_cases f lsa s o o' t meets = by_rule (rule_met s f lsa) meets
   where
@@ -94,7 +94,7 @@ met_cases f lsa s o o' t meets = by_rule (rule_met s f lsa) meets
         )
     by_rule (Some Stale) is = inr (refl, subst (KeepsAll s) (sym is.state) (replied_keeps (reply_to s (key_of lsa)) f (key_of lsa) s))
 
-pub header_keeps : (f : Origin) (h : LsaHeader) (s : AreaValue) → KeepsAll s (header_met f h s)
+pub header_keeps : (f : PacketSource) (h : LsaHeader) (s : AreaValue) → KeepsAll s (header_met f h s)
 header_keeps f h s = by_name (named_by h (copy_in_database s.database (key_of_header h)))
   where
     by_name : (o : Option Instance) → KeepsAll s (taken_off f o s)
@@ -102,7 +102,7 @@ header_keeps f h s = by_name (named_by h (copy_in_database s.database (key_of_he
     by_name (Some i) = record { database = refl; numbers = λ k. refl }
 
 -- the same instance, as it is met call by call
-pub duplicated_by : {T E : Type 0} (r : Result T E) (f : Origin) (lsa : List ℕ) (s b t : AreaValue) (awaited : Bool) (how : AcknowledgementCase) (answer : Acknowledgement) (h : LsaHeader) (i : Instance)
+pub duplicated_by : {T E : Type 0} (r : Result T E) (f : PacketSource) (lsa : List ℕ) (s b t : AreaValue) (awaited : Bool) (how : AcknowledgementCase) (answer : Acknowledgement) (h : LsaHeader) (i : Instance)
     → i ≡ instance_of lsa → awaited ≡ is_awaited_of (instance_of lsa) (neighbour_at s.links f.link f.router) → how ≡ case_of_same awaited → answer ≡ answer_at how f s.links
     → b ≡ record s { links = changed_at f (Acknowledges i) s.tick s.links } → h ≡ header_of lsa → OnOk r (t ≡ acknowledging answer f h b) → OnOk r (t ≡ duplicated f lsa s)
 duplicated_by (Err e) f lsa s b t awaited how answer h i of_i of_awaited of_how of_answer of_b of_h is = tt

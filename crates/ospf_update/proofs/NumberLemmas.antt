@@ -20,7 +20,7 @@ use Rattle.ospf_area.specs.Numbers.{is_own}
 use Rattle.ospf_area.specs.Outputs.{OutputsValue}
 use Rattle.ospf_area.specs.State.{AreaValue, kept_number, numbering_of}
 use Rattle.ospf_area.proofs.Words.{kept_in, is_numbering_of}
-use Rattle.ospf_area.specs.declared.flooding.Origin.{Origin}
+use Rattle.ospf_area.specs.declared.flooding.PacketSource.{PacketSource}
 use Rattle.ospf_area.specs.declared.state.Numbering.{Numbering}
 use Rattle.ospf_update.specs.Aging.{Flushes, TickAges}
 use Rattle.ospf_update.specs.Laws.{is_installed}
@@ -35,12 +35,12 @@ use Rattle.ospf_update.proofs.PassLemmas.{passed}
 
 -- ---- an LSA of an Update, and a header of an Acknowledgment
 
-stored_number : (lsa : List ℕ) (from : Option Origin) (s t : AreaValue) → Stores lsa from s t → (key : LsaKey)
+stored_number : (lsa : List ℕ) (from : Option PacketSource) (s t : AreaValue) → Stores lsa from s t → (key : LsaKey)
     → kept_number t key ≡ (if same_key (key_of lsa) key && is_own s.router key then int_max (kept_number s key) (header_of lsa).number else kept_number s key)
 stored_number lsa from s t stores key =
     ap (λ (x : AreaValue). kept_number x key) stores.rest ∙ own_counted s.router (key_of lsa) key (header_of lsa).number s.floor s.numbering
 
-pub met_numbers : (f : Origin) (lsa : List ℕ) (s : AreaValue) (o o' : OutputsValue) (t : AreaValue) → MeetsLsa f lsa s o o' t → (key : LsaKey)
+pub met_numbers : (f : PacketSource) (lsa : List ℕ) (s : AreaValue) (o o' : OutputsValue) (t : AreaValue) → MeetsLsa f lsa s o o' t → (key : LsaKey)
     → kept_number t key
     ≡ (if is_installed (rule_met s f lsa) && (same_key (key_of lsa) key && is_own s.router key) then int_max (kept_number s key) (header_of lsa).number else kept_number s key)
 met_numbers f lsa s o o' t meets key = elim (met_cases f lsa s o o' t meets) [
@@ -53,7 +53,7 @@ met_numbers f lsa s o o' t meets key = elim (met_cases f lsa s o o' t meets) [
         ≡ (if b && (same_key (key_of lsa) key && is_own s.router key) then int_max (kept_number s key) (header_of lsa).number else kept_number s key)
     counted e = ap (λ (b : Bool). if b && (same_key (key_of lsa) key && is_own s.router key) then int_max (kept_number s key) (header_of lsa).number else kept_number s key) e
 
-pub header_numbers : (f : Origin) (h : LsaHeader) (s : AreaValue) (key : LsaKey) → kept_number (header_met f h s) key ≡ kept_number s key
+pub header_numbers : (f : PacketSource) (h : LsaHeader) (s : AreaValue) (key : LsaKey) → kept_number (header_met f h s) key ≡ kept_number s key
 header_numbers f h s key = (header_keeps f h s).numbers key
 
 -- ---- an Update
@@ -62,20 +62,20 @@ no_less : (b : Bool) (x y n : ℤ) → y ≡ (if b then int_max x n else x) → 
 no_less true x y n is = omega (arith, ints, clamps, is)
 no_less false x y n is = omega (arith, ints, is)
 
-slice_numbers : (f : Origin) (bytes : List ℕ) (s : AreaValue) (o o' : OutputsValue) (t : AreaValue) → TakesSlice f bytes s o o' t → (key : LsaKey) → kept_number s key ≤ℤ kept_number t key
+slice_numbers : (f : PacketSource) (bytes : List ℕ) (s : AreaValue) (o o' : OutputsValue) (t : AreaValue) → TakesSlice f bytes s o o' t → (key : LsaKey) → kept_number s key ≤ℤ kept_number t key
 slice_numbers f bytes s o o' t (Met is mid so_far meets state outputs) key =
     no_less (is_installed (rule_met s f bytes) && (same_key (key_of bytes) key && is_own s.router key)) (kept_number s key) (kept_number t key) (header_of bytes).number
     (ap (λ (x : AreaValue). kept_number x key) state ∙ met_numbers f bytes s o so_far mid meets key)
 slice_numbers f bytes s o o' t (PassedOver not_lsa is outputs) key = no_less false (kept_number s key) (kept_number t key) (kept_number s key) (ap (λ (x : AreaValue). kept_number x key) (passed s.passes_over f bytes s t is).state)
 
-slices_numbers : (f : Origin) (slices : List (List ℕ)) (s : AreaValue) (o o' : OutputsValue) (t : AreaValue) → TakesSlices f slices s o o' t → (key : LsaKey) → kept_number s key ≤ℤ kept_number t key
+slices_numbers : (f : PacketSource) (slices : List (List ℕ)) (s : AreaValue) (o o' : OutputsValue) (t : AreaValue) → TakesSlices f slices s o o' t → (key : LsaKey) → kept_number s key ≤ℤ kept_number t key
 slices_numbers f [] s o o' t is key = no_less false (kept_number s key) (kept_number t key) (kept_number s key) (ap (λ (x : AreaValue). kept_number x key) is.state)
 slices_numbers f (bytes ∷ slices) s o o' t (mid, so_far, one, rest) key =
     let first = slice_numbers f bytes s o so_far mid one key in
     let next = slices_numbers f slices mid so_far o' t rest key in
     omega (arith, ints, first, next)
 
-pub update_numbers : (f : Origin) (slices : List (List ℕ)) (s : AreaValue) (o o' : OutputsValue) (t : AreaValue) → TakesUpdate f slices s o o' t → (key : LsaKey)
+pub update_numbers : (f : PacketSource) (slices : List (List ℕ)) (s : AreaValue) (o o' : OutputsValue) (t : AreaValue) → TakesUpdate f slices s o o' t → (key : LsaKey)
     → kept_number s key ≤ℤ kept_number t key
 update_numbers f slices s o o' t is key =
     subst (λ (n : ℤ). kept_number s key ≤ℤ n) (sym (ap (λ (x : AreaValue). kept_number x key) is.state)) (slices_numbers f slices s o is.so_far is.mid is.takes key)

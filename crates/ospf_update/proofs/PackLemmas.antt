@@ -11,7 +11,7 @@ use Rattle.ospf_lsa.specs.declared.header.LsaHeader.{LsaHeader}
 use Rattle.ospf_packet.specs.Meaning.{acknowledgment}
 use Rattle.ospf_packet.proofs.BodyLengths.{acknowledgment_length}
 use Rattle.ospf_area.specs.Packing.{IsFull, IsWithin, ip_length}
-use Rattle.ospf_area.specs.declared.sending.Own.{Own}
+use Rattle.ospf_area.specs.declared.sending.RouterContext.{RouterContext}
 use Rattle.ospf_area.proofs.PackLemmas.{ip_length-is, room_passed, room_used}
 use Rattle.ospf_update.specs.Acks.{ack_room, cut, header_precedes, in_order, put_in_order}
 use Rattle.ospf_update.proofs.OrderLemmas.{in_order_rises, in_order_stable}
@@ -41,7 +41,7 @@ put_all_same (h ∷ hs) sorted =
 
 -- ---- in packets
 
-acknowledgment_sized : (own : Own) (headers : List LsaHeader) → ip_length (acknowledgment_of own headers) ≡ 44 + length headers * 20
+acknowledgment_sized : (own : RouterContext) (headers : List LsaHeader) → ip_length (acknowledgment_of own headers) ≡ 44 + length headers * 20
 acknowledgment_sized own headers = omega (arith, ip_length-is own (acknowledgment headers), acknowledgment_length headers)
 
 none_cut : (n room : ℕ) (i : ℕ) (packed : List LsaHeader) → slice_get (cut n room []) i ≡ Some packed → ⊥
@@ -72,7 +72,7 @@ none_empty (suc n) room (h ∷ hs) pos =
     let long = length-take k (h ∷ hs) in
     ((λ none. absurd (omega (arith, ap length none))), none_empty n room (drop k (h ∷ hs)) pos)
 
-all_fit : (own : Own) (mtu n : ℕ) (hs : List LsaHeader) → 44 ≤ mtu → AllByRecursion (IsWithin (acknowledgment_of own) mtu) (cut n (ack_room mtu) hs)
+all_fit : (own : RouterContext) (mtu n : ℕ) (hs : List LsaHeader) → 44 ≤ mtu → AllByRecursion (IsWithin (acknowledgment_of own) mtu) (cut n (ack_room mtu) hs)
 unfolding cut
 all_fit own mtu zero hs within = tt
 all_fit own mtu (suc n) [] within = tt
@@ -82,7 +82,7 @@ all_fit own mtu (suc n) (h ∷ hs) within =
     let used = room_used mtu 44 20 (ack_room mtu) (length (take k (h ∷ hs))) (omega arith) within refl (omega arith) in
     (omega (arith, used, acknowledgment_sized own (take k (h ∷ hs))), all_fit own mtu n (drop k (h ∷ hs)) within)
 
-all_full : (own : Own) (mtu n : ℕ) (hs : List LsaHeader) → (i : ℕ) (packed : List LsaHeader) (next : LsaHeader) (later : List LsaHeader)
+all_full : (own : RouterContext) (mtu n : ℕ) (hs : List LsaHeader) → (i : ℕ) (packed : List LsaHeader) (next : LsaHeader) (later : List LsaHeader)
     → slice_get (cut n (ack_room mtu) hs) i ≡ Some packed → slice_get (cut n (ack_room mtu) hs) (suc i) ≡ Some (next ∷ later) → IsFull (acknowledgment_of own) mtu packed next
 unfolding cut
 all_full own mtu zero hs i packed next later here there = absurd (none-some packed here)
@@ -100,7 +100,7 @@ all_full own mtu (suc n) (h ∷ hs) zero packed next later here there =
 all_full own mtu (suc n) (h ∷ hs) (suc i) packed next later here there =
     all_full own mtu n (drop (min (ack_room mtu) (length (h ∷ hs))) (h ∷ hs)) i packed next later here there
 
-alone_or_fit : (own : Own) (mtu : ℕ) (ps : List (List LsaHeader)) → AllByRecursion (IsWithin (acknowledgment_of own) mtu) ps
+alone_or_fit : (own : RouterContext) (mtu : ℕ) (ps : List (List LsaHeader)) → AllByRecursion (IsWithin (acknowledgment_of own) mtu) ps
     → AllByRecursion (λ (packed : List LsaHeader). IsWithin (acknowledgment_of own) mtu packed ⊎ (length packed ≡ 1)) ps
 alone_or_fit own mtu [] all = tt
 alone_or_fit own mtu (p ∷ ps) all = (inl all.0, alone_or_fit own mtu ps all.1)

@@ -10,7 +10,7 @@ use Rattle.ospf_lsa.specs.Header.{header_of, key_of_header}
 use Rattle.ospf_lsa.specs.Lsa.{type_of}
 use Rattle.ospf_lsa.specs.declared.header.LsaHeader.{LsaHeader}
 use Rattle.ospf_area.specs.State.{AreaValue, neighbour_at, state_in}
-use Rattle.ospf_area.specs.declared.flooding.Origin.{Origin}
+use Rattle.ospf_area.specs.declared.flooding.PacketSource.{PacketSource}
 use Rattle.ospf_neighbour.specs.Machine.{is_exchanging}
 use Rattle.ospf_update.specs.Updates.{IsOtherLsa, PassesOver}
 
@@ -29,7 +29,7 @@ pub record Passes (s t : AreaValue) : Type 0 where
   pub state : t ≡ record s { direct = direct }
   pub nameless : (h : LsaHeader) → Contains direct h → Contains s.direct h ⊎ (key_of_header h ≡ None)
 
-pub passed : (passes_over : Bool) (f : Origin) (bytes : List ℕ) (s t : AreaValue) → PassesOver passes_over f bytes s t → Passes s t
+pub passed : (passes_over : Bool) (f : PacketSource) (bytes : List ℕ) (s t : AreaValue) → PassesOver passes_over f bytes s t → Passes s t
 passed false f bytes s t is = record { direct = s.direct; state = is; nameless = λ h there. inl there }
 passed true f bytes s t (inl ((taken, other), is)) = record {
   direct = s.direct ++ header_of bytes ∷ [];
@@ -42,12 +42,12 @@ passed true f bytes s t (inl ((taken, other), is)) = record {
 passed true f bytes s t (inr (none, is)) = record { direct = s.direct; state = is; nameless = λ h there. inl there }
 
 -- where one comes that is to be acknowledged, and where none does
-pub acknowledged : (passes_over : Bool) (f : Origin) (bytes : List ℕ) (s t : AreaValue) → passes_over ≡ true → is_exchanging (state_in (neighbour_at s.links f.link f.router)) ≡ true → IsOtherLsa bytes
+pub acknowledged : (passes_over : Bool) (f : PacketSource) (bytes : List ℕ) (s t : AreaValue) → passes_over ≡ true → is_exchanging (state_in (neighbour_at s.links f.link f.router)) ≡ true → IsOtherLsa bytes
     → t ≡ record s { direct = s.direct ++ header_of bytes ∷ [] } → PassesOver passes_over f bytes s t
 acknowledged false f bytes s t passes taken other is = absurd (cc)
 acknowledged true f bytes s t passes taken other is = inl ((taken, other), is)
 
-pub left_alone : (passes_over : Bool) (f : Origin) (bytes : List ℕ) (s : AreaValue)
+pub left_alone : (passes_over : Bool) (f : PacketSource) (bytes : List ℕ) (s : AreaValue)
     → (passes_over ≡ true → is_exchanging (state_in (neighbour_at s.links f.link f.router)) ≡ true → IsOtherLsa bytes → ⊥) → PassesOver passes_over f bytes s s
 left_alone false f bytes s none = refl
 left_alone true f bytes s none = inr ((λ comes. none refl comes.0 comes.1), refl)

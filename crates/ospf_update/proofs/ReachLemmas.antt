@@ -26,9 +26,9 @@ use Rattle.ospf_neighbour.specs.declared.machine.NeighbourState.TheVariants.{Dow
 use Rattle.ospf_area.proofs.LawLemmas.{turns_there}
 use Rattle.ospf_area.specs.Laws.{IsSpared, turned_there}
 use Rattle.ospf_area.specs.Laws.IsSpared.{Came, Described}
-use Rattle.ospf_area.specs.Sending.{own_of}
+use Rattle.ospf_area.specs.Sending.{context_of}
 use Rattle.ospf_area.specs.State.{AreaValue, Awaits, LinkValue, database_entry, neighbour}
-use Rattle.ospf_area.specs.declared.sending.Own.{Own}
+use Rattle.ospf_area.specs.declared.sending.RouterContext.{RouterContext}
 use Rattle.ospf_update.specs.Aging.{copy_flooded}
 use Rattle.ospf_update.proofs.Words.{copies_sent, copy_flooded_by, copy_sent}
 use Rattle.ospf_update.proofs.CopyLemmas.{copies_wait, copy_keeps, copy_reaches, flooded_copy}
@@ -82,7 +82,7 @@ offered_still Lists k key h tick n up = record { up = up; requests = λ e is. fe
 
 -- ---- LoadingDone and Requests
 
-turned_still : (own : Own) (link : Option LinkValue) (key : LsaKey) (n : NeighbourValue) → is_exchanging n.state ≡ true → IsStill key n (turned_there own link n)
+turned_still : (own : RouterContext) (link : Option LinkValue) (key : LsaKey) (n : NeighbourValue) → is_exchanging n.state ≡ true → IsStill key n (turned_there own link n)
 turned_still own None key n up = record { up = up; requests = λ e is. is }
 turned_still own (Some link) key n up = by_due (request_due (loaded n))
   where
@@ -118,9 +118,9 @@ copy_after k key s l q n is up = by_copy (database_entry s k) refl
     then_turned m at still =
         let t = copy_flooded k s in
         record {
-          next = turned_there (own_of t) (slice_get t.links l) m;
-          is = turns_there (own_of t) t.links l q ∙ ap (option_map (turned_there (own_of t) (slice_get t.links l))) at;
-          still = still_both key n m (turned_there (own_of t) (slice_get t.links l) m) still (turned_still (own_of t) (slice_get t.links l) key m still.up);
+          next = turned_there (context_of t) (slice_get t.links l) m;
+          is = turns_there (context_of t) t.links l q ∙ ap (option_map (turned_there (context_of t) (slice_get t.links l))) at;
+          still = still_both key n m (turned_there (context_of t) (slice_get t.links l) m) still (turned_still (context_of t) (slice_get t.links l) key m still.up);
         }
 
     by_copy : (o : Option Entry) → database_entry s k ≡ o → IsAfter k key s l q n

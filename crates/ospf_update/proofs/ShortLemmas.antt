@@ -11,7 +11,7 @@ use Rattle.ospf_area.proofs.ShortLemmas.{short_aged, short_expired, short_instal
 use Rattle.ospf_area.specs.Laws.{AreShort}
 use Rattle.ospf_area.specs.Outputs.{OutputsValue}
 use Rattle.ospf_area.specs.State.{AreaValue}
-use Rattle.ospf_area.specs.declared.flooding.Origin.{Origin}
+use Rattle.ospf_area.specs.declared.flooding.PacketSource.{PacketSource}
 use Rattle.ospf_update.specs.Aging.{Flushes, TickAges}
 use Rattle.ospf_update.specs.Laws.{IsShortLsa}
 use Rattle.ospf_update.specs.Meets.{MeetsLsa, Stores, header_met}
@@ -29,31 +29,31 @@ same s t is short = subst AreShort (sym is) short
 contents_short : (lsa : List ℕ) → IsShortLsa lsa → 2 + length (contents lsa) ≤ largest_lsa
 contents_short lsa short = let left = length-drop 2 lsa in omega arith
 
-pub store_short : (lsa : List ℕ) (from : Option Origin) (s t : AreaValue) → Stores lsa from s t → IsShortLsa lsa → AreShort s.database → AreShort t.database
+pub store_short : (lsa : List ℕ) (from : Option PacketSource) (s t : AreaValue) → Stores lsa from s t → IsShortLsa lsa → AreShort s.database → AreShort t.database
 unfolding entry_from
 store_short lsa from s t stores short old = short_installed (entry_from lsa s.tick (is_some from)) s.database t.database stores.database (contents_short lsa short) old
 
-pub met_short : (f : Origin) (lsa : List ℕ) (s : AreaValue) (o o' : OutputsValue) (t : AreaValue) → MeetsLsa f lsa s o o' t → IsShortLsa lsa → AreShort s.database → AreShort t.database
+pub met_short : (f : PacketSource) (lsa : List ℕ) (s : AreaValue) (o o' : OutputsValue) (t : AreaValue) → MeetsLsa f lsa s o o' t → IsShortLsa lsa → AreShort s.database → AreShort t.database
 met_short f lsa s o o' t meets short old = elim (met_cases f lsa s o o' t meets) [
   | inl (stored, is) ↦ same is.mid t is.keeps.database (store_short lsa (Some f) s is.mid is.stores short old)
   | inr (other, keeps) ↦ same s t keeps.database old
 ]
 
-slice_short : (f : Origin) (bytes : List ℕ) (s : AreaValue) (o o' : OutputsValue) (t : AreaValue) → TakesSlice f bytes s o o' t → IsShortLsa bytes → AreShort s.database → AreShort t.database
+slice_short : (f : PacketSource) (bytes : List ℕ) (s : AreaValue) (o o' : OutputsValue) (t : AreaValue) → TakesSlice f bytes s o o' t → IsShortLsa bytes → AreShort s.database → AreShort t.database
 slice_short f bytes s o o' t (Met is mid so_far meets state outputs) short old = same mid t (ap (λ (x : AreaValue). x.database) state) (met_short f bytes s o so_far mid meets short old)
 slice_short f bytes s o o' t (PassedOver not_lsa is outputs) short old = same s t (ap (λ (x : AreaValue). x.database) (passed s.passes_over f bytes s t is).state) old
 
-slices_short : (f : Origin) (slices : List (List ℕ)) (s : AreaValue) (o o' : OutputsValue) (t : AreaValue) → TakesSlices f slices s o o' t → AllByRecursion IsShortLsa slices
+slices_short : (f : PacketSource) (slices : List (List ℕ)) (s : AreaValue) (o o' : OutputsValue) (t : AreaValue) → TakesSlices f slices s o o' t → AllByRecursion IsShortLsa slices
     → AreShort s.database → AreShort t.database
 slices_short f [] s o o' t is short old = same s t (ap (λ (x : AreaValue). x.database) is.state) old
 slices_short f (bytes ∷ slices) s o o' t (mid, so_far, one, rest) short old =
     slices_short f slices mid so_far o' t rest short.1 (slice_short f bytes s o so_far mid one short.0 old)
 
-pub update_short : (f : Origin) (slices : List (List ℕ)) (s : AreaValue) (o o' : OutputsValue) (t : AreaValue) → TakesUpdate f slices s o o' t → AllByRecursion IsShortLsa slices
+pub update_short : (f : PacketSource) (slices : List (List ℕ)) (s : AreaValue) (o o' : OutputsValue) (t : AreaValue) → TakesUpdate f slices s o o' t → AllByRecursion IsShortLsa slices
     → AreShort s.database → AreShort t.database
 update_short f slices s o o' t is short old = same is.mid t (ap (λ (x : AreaValue). x.database) is.state) (slices_short f slices s o is.so_far is.mid is.takes short old)
 
-pub header_short : (f : Origin) (h : LsaHeader) (s : AreaValue) → AreShort s.database → AreShort (header_met f h s).database
+pub header_short : (f : PacketSource) (h : LsaHeader) (s : AreaValue) → AreShort s.database → AreShort (header_met f h s).database
 header_short f h s old = same s (header_met f h s) (header_keeps f h s).database old
 
 pub flush_short : (key : LsaKey) (s : AreaValue) (o o' : OutputsValue) (t : AreaValue) → Flushes key s o o' t → AreShort s.database → AreShort t.database

@@ -10,10 +10,10 @@ use Rattle.ospf_area.specs.Flooding.{flooded_links, goes_anywhere, released}
 use Rattle.ospf_update.specs.Meets.{InstallsIn, Stores}
 use Rattle.ospf_update.proofs.Words.{flooded_area}
 use Rattle.ospf_area.specs.Numbers.{counts, marked}
-use Rattle.ospf_area.specs.Sending.{own_of}
+use Rattle.ospf_area.specs.Sending.{context_of}
 use Rattle.ospf_area.specs.State.{AreaValue, LinkValue}
-use Rattle.ospf_area.specs.declared.flooding.Origin.{Origin}
-use Rattle.ospf_area.specs.declared.sending.Own.{Own}
+use Rattle.ospf_area.specs.declared.flooding.PacketSource.{PacketSource}
+use Rattle.ospf_area.specs.declared.sending.RouterContext.{RouterContext}
 use Rattle.ospf_area.proofs.Words.{greatest_after}
 
 abbrev releasing : LsaKey → AreaValue → AreaValue
@@ -28,7 +28,7 @@ marking key went s = record s { sent = marked key went s.sent }
 abbrev counting : LsaKey → ℤ → AreaValue → AreaValue
 counting key number s = record s { numbering = counts key number s; greatest = greatest_after key number s }
 
-in_terms : (lsa : List ℕ) (from : Option Origin) (s a b c d e : AreaValue)
+in_terms : (lsa : List ℕ) (from : Option PacketSource) (s a b c d e : AreaValue)
     → a ≡ releasing (key_of lsa) s → b ≡ flooded_area lsa from a → InstallsIn lsa (is_some from) b c
     → d ≡ marking (key_of lsa) (goes_anywhere (key_of lsa) (header_of lsa) from a.links) c → e ≡ counting (key_of lsa) (header_of lsa).number d
     → Stores lsa from s e
@@ -51,7 +51,7 @@ in_terms lsa from s a b c d e is_a is_b is_c is_d is_e =
     }
 
 -- the steps by the views, the key, the header and the flags that the code has at hand
-pub Stores-steps : (lsa : List ℕ) (from : Option Origin) (s a b c d e : AreaValue) (u v w : List ℕ) (key : LsaKey) (h : LsaHeader) (by_flooding went : Bool)
+pub Stores-steps : (lsa : List ℕ) (from : Option PacketSource) (s a b c d e : AreaValue) (u v w : List ℕ) (key : LsaKey) (h : LsaHeader) (by_flooding went : Bool)
     → u ≡ lsa → v ≡ lsa → w ≡ lsa → key ≡ key_of u → h ≡ header_of v → by_flooding ≡ is_some from → went ≡ goes_anywhere (key_of w) (header_of w) from a.links
     → a ≡ record s { links = released key s.links } → b ≡ flooded_area w from a → InstallsIn lsa by_flooding b c
     → d ≡ record c { sent = marked key went c.sent } → e ≡ record d { numbering = counts key h.number d; greatest = greatest_after key h.number d }
@@ -68,11 +68,11 @@ Stores-steps lsa from s a b c d e u v w key h by_flooding went is_u is_v is_w is
     (is_e ∙ ap (λ (k : LsaKey). counting k h.number d) the_key ∙ ap (λ (n : ℤ). counting (key_of lsa) n d) the_number)
 
 -- the links of a router are flooded, of which the code has a view and its tick at hand
-pub floods : (lsa : List ℕ) (from : Option Origin) (key : LsaKey) (s a view : AreaValue) (own : Own) (now new : List LinkValue)
-    → own ≡ own_of s → a ≡ record s { links = released key s.links } → view ≡ a → now ≡ view.links
+pub floods : (lsa : List ℕ) (from : Option PacketSource) (key : LsaKey) (s a view : AreaValue) (own : RouterContext) (now new : List LinkValue)
+    → own ≡ context_of s → a ≡ record s { links = released key s.links } → view ≡ a → now ≡ view.links
     → new ≡ flooded_links (key_of lsa) (header_of lsa) from own.tick now → record view { links = new } ≡ flooded_area lsa from a
 floods lsa from key s a view own now new is_own is_a is_view is_now is_new =
-    let tick : own.tick ≡ a.tick = ap (λ (o : Own). o.tick) is_own ∙ sym (ap (λ (x : AreaValue). x.tick) is_a) in
+    let tick : own.tick ≡ a.tick = ap (λ (o : RouterContext). o.tick) is_own ∙ sym (ap (λ (x : AreaValue). x.tick) is_a) in
     let links : now ≡ a.links = is_now ∙ ap (λ (x : AreaValue). x.links) is_view in
     ap (λ (x : AreaValue). record x { links = new }) is_view
     ∙ ap (λ (ls : List LinkValue). record a { links = ls })

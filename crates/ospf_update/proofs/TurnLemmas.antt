@@ -29,12 +29,12 @@ use Rattle.ospf_area.proofs.Words.{request_to, turn_request, delayed_on, loaded,
 use Rattle.ospf_area.specs.Changes.{changed_at}
 use Rattle.ospf_area.specs.Outputs.{OutputsValue, SentValue}
 use Rattle.ospf_area.specs.Places.{flat_from, map_from}
-use Rattle.ospf_area.specs.Sending.{and_sends, own_of}
+use Rattle.ospf_area.specs.Sending.{and_sends, context_of}
 use Rattle.ospf_area.specs.Standing.{acknowledging, answer_at}
 use Rattle.ospf_area.specs.State.{AreaValue, LinkValue, neighbour_at}
 use Rattle.ospf_area.specs.declared.changes.AdjacencyChange.TheVariants.{Acknowledges, IsSent}
-use Rattle.ospf_area.specs.declared.flooding.Origin.{Origin}
-use Rattle.ospf_area.specs.declared.sending.Own.{Own}
+use Rattle.ospf_area.specs.declared.flooding.PacketSource.{PacketSource}
+use Rattle.ospf_area.specs.declared.sending.RouterContext.{RouterContext}
 use Rattle.ospf_update.specs.Aging.{turn_out, turned_area}
 use Rattle.ospf_update.specs.Meets.{MeetsRule, replied, reply_to, rule_met}
 use Rattle.ospf_update.specs.Updates.{AreTurned, IsTurned, leaves_turned}
@@ -143,7 +143,7 @@ loaded_again n =
 abbrev asks_if : Bool → ℕ → ℕ → NeighbourValue → NeighbourValue
 asks_if b mtu tick n = if b then asked_next mtu tick n else n
 
-abbrev sends_if : Bool → Own → ℕ → Iface → ℕ → NeighbourValue → List SentValue
+abbrev sends_if : Bool → RouterContext → ℕ → Iface → ℕ → NeighbourValue → List SentValue
 sends_if b own l i mtu n = if b then request_to own l i (asked_next mtu own.tick n) else []
 
 -- behind a turn no LoadingDone is left
@@ -162,7 +162,7 @@ turned_again mtu tick n = ap (λ m. asks_if (request_due m) mtu tick m) (loaded_
     by_test false is = ap (λ b. asks_if b mtu tick (loaded n)) is
 
 -- where a turn sends nothing, nor does the next
-quiet_again : (own : Own) (l : ℕ) (i : Iface) (mtu : ℕ) (n : NeighbourValue) → turn_request own l i mtu n ≡ [] → turn_request own l i mtu (turned_to_next mtu own.tick n) ≡ []
+quiet_again : (own : RouterContext) (l : ℕ) (i : Iface) (mtu : ℕ) (n : NeighbourValue) → turn_request own l i mtu n ≡ [] → turn_request own l i mtu (turned_to_next mtu own.tick n) ≡ []
 quiet_again own l i mtu n quiet = ap (λ m. sends_if (request_due m) own l i mtu m) (loaded_turned mtu own.tick n) ∙ by_test (request_due (loaded n)) refl quiet
   where
     by_due : (b : Bool) → request_to own l i (asked_next mtu own.tick (loaded n)) ≡ [] → sends_if b own l i mtu (asked_next mtu own.tick (loaded n)) ≡ []
@@ -176,16 +176,16 @@ quiet_again own l i mtu n quiet = ap (λ m. sends_if (request_due m) own l i mtu
 
 -- ---- a turn of all
 
-link_again : (own : Own) (link : LinkValue) → turned_link own (turned_link own link) ≡ turned_link own link
+link_again : (own : RouterContext) (link : LinkValue) → turned_link own (turned_link own link) ≡ turned_link own link
 link_again own link =
     ap (λ (ns : List NeighbourValue). record link { neighbours = ns }) (map_again (turned_to_next link.settings.mtu own.tick) (turned_again link.settings.mtu own.tick) link.neighbours)
 
-link_quiet : (own : Own) (l : ℕ) (link : LinkValue) → turn_requests_on own l link ≡ [] → turn_requests_on own l (turned_link own link) ≡ []
+link_quiet : (own : RouterContext) (l : ℕ) (link : LinkValue) → turn_requests_on own l link ≡ [] → turn_requests_on own l (turned_link own link) ≡ []
 link_quiet own l link quiet =
     flat_map_none (turn_request own l link.iface link.settings.mtu) (turned_to_next link.settings.mtu own.tick) (quiet_again own l link.iface link.settings.mtu) link.neighbours quiet
 
 -- behind a turn that sent nothing none waits
-pub turned_rests : (own : Own) (links : List LinkValue) → flat_from (turn_requests_on own) 0 links ≡ [] → AreTurned own (map (turned_link own) links)
+pub turned_rests : (own : RouterContext) (links : List LinkValue) → flat_from (turn_requests_on own) 0 links ≡ [] → AreTurned own (map (turned_link own) links)
 turned_rests own links quiet = record {
   still = map_again (turned_link own) (link_again own) links;
   quiet = flat_from_none (turn_requests_on own) (turned_link own) (link_quiet own) 0 links quiet;
@@ -194,17 +194,17 @@ turned_rests own links quiet = record {
 -- ---- changes that no turn sees
 
 -- a change of links by which no turn becomes due
-record IsUnseen (own : Own) (c : ℕ → LinkValue → LinkValue) : Type 0 where
+record IsUnseen (own : RouterContext) (c : ℕ → LinkValue → LinkValue) : Type 0 where
   commutes : (l : ℕ) (link : LinkValue) → turned_link own (c l link) ≡ c l (turned_link own link)
   same : (l : ℕ) (link : LinkValue) → turn_requests_on own l (c l link) ≡ turn_requests_on own l link
 
-unseen_rests : (own : Own) (c : ℕ → LinkValue → LinkValue) (links : List LinkValue) → IsUnseen own c → AreTurned own links → AreTurned own (map_from c 0 links)
+unseen_rests : (own : RouterContext) (c : ℕ → LinkValue → LinkValue) (links : List LinkValue) → IsUnseen own c → AreTurned own links → AreTurned own (map_from c 0 links)
 unseen_rests own c links unseen turned_to_next = record {
   still = map_from_commutes (turned_link own) c unseen.commutes 0 links ∙ ap (map_from c 0) turned_to_next.still;
   quiet = flat_from_same (turn_requests_on own) c unseen.same 0 links ∙ turned_to_next.quiet;
 }
 
-delayed_unseen : (own : Own) (number : ℕ) (h : LsaHeader) → IsUnseen own (delayed_on number h)
+delayed_unseen : (own : RouterContext) (number : ℕ) (h : LsaHeader) → IsUnseen own (delayed_on number h)
 delayed_unseen own number h = record { commutes = λ l link. commutes link (l == number); same = λ l link. same l link (l == number) }
   where
     commutes : (link : LinkValue) (b : Bool)
@@ -232,7 +232,7 @@ relists_commutes q g mtu tick n =
     by_test true = ap (λ m. asks_if (request_due m) mtu tick m) (loaded_relists g n) ∙ by_due (request_due (loaded n))
     by_test false = refl
 
-relists_same : (q : RouterId) (g : List Listed → List Listed) (own : Own) (l : ℕ) (i : Iface) (mtu : ℕ) (n : NeighbourValue)
+relists_same : (q : RouterId) (g : List Listed → List Listed) (own : RouterContext) (l : ℕ) (i : Iface) (mtu : ℕ) (n : NeighbourValue)
     → turn_request own l i mtu (relists_if q g n) ≡ turn_request own l i mtu n
 relists_same q g own l i mtu n = by_test (n.router.0 == q.0)
   where
@@ -243,10 +243,10 @@ relists_same q g own l i mtu n = by_test (n.router.0 == q.0)
 abbrev relists_link : RouterId → (List Listed → List Listed) → LinkValue → LinkValue
 relists_link q g link = record link { neighbours = map (relists_if q g) link.neighbours }
 
-abbrev relists_on : Origin → (List Listed → List Listed) → ℕ → LinkValue → LinkValue
+abbrev relists_on : PacketSource → (List Listed → List Listed) → ℕ → LinkValue → LinkValue
 relists_on f g l link = if l == f.link then relists_link f.router g link else link
 
-relists_unseen : (own : Own) (f : Origin) (g : List Listed → List Listed) → IsUnseen own (relists_on f g)
+relists_unseen : (own : RouterContext) (f : PacketSource) (g : List Listed → List Listed) → IsUnseen own (relists_on f g)
 relists_unseen own f g = record { commutes = λ l link. commutes link (l == f.link); same = λ l link. same l link (l == f.link) }
   where
     commutes : (link : LinkValue) (b : Bool) → turned_link own (if b then relists_link f.router g link else link) ≡ (if b then relists_link f.router g (turned_link own link) else turned_link own link)
@@ -261,25 +261,25 @@ relists_unseen own f g = record { commutes = λ l link. commutes link (l == f.li
     same l link false = refl
 
 -- an instance that is acknowledged, or sent, is one
-acknowledged_rests : (own : Own) (f : Origin) (i : Instance) (tick : ℕ) (links : List LinkValue) → AreTurned own links → AreTurned own (changed_at f (Acknowledges i) tick links)
+acknowledged_rests : (own : RouterContext) (f : PacketSource) (i : Instance) (tick : ℕ) (links : List LinkValue) → AreTurned own links → AreTurned own (changed_at f (Acknowledges i) tick links)
 acknowledged_rests own f i tick links turned_to_next = unseen_rests own (relists_on f (without_instance i)) links (relists_unseen own f (without_instance i)) turned_to_next
 
-sent_rests : (own : Own) (f : Origin) (i : Instance) (tick : ℕ) (links : List LinkValue) → AreTurned own links → AreTurned own (changed_at f (IsSent i) tick links)
+sent_rests : (own : RouterContext) (f : PacketSource) (i : Instance) (tick : ℕ) (links : List LinkValue) → AreTurned own links → AreTurned own (changed_at f (IsSent i) tick links)
 sent_rests own f i tick links turned_to_next = unseen_rests own (relists_on f (map (sent_again i tick))) links (relists_unseen own f (map (sent_again i tick))) turned_to_next
 
-acknowledging_rests : (a : Acknowledgement) (f : Origin) (h : LsaHeader) (s : AreaValue) → IsTurned s → IsTurned (acknowledging a f h s)
+acknowledging_rests : (a : Acknowledgement) (f : PacketSource) (h : LsaHeader) (s : AreaValue) → IsTurned s → IsTurned (acknowledging a f h s)
 acknowledging_rests answer.None f h s turned_to_next = turned_to_next
-acknowledging_rests answer.Delayed f h s turned_to_next = unseen_rests (own_of s) (delayed_on f.link h) s.links (delayed_unseen (own_of s) f.link h) turned_to_next
+acknowledging_rests answer.Delayed f h s turned_to_next = unseen_rests (context_of s) (delayed_on f.link h) s.links (delayed_unseen (context_of s) f.link h) turned_to_next
 acknowledging_rests answer.Direct f h s turned_to_next = turned_to_next
 
-replied_rests : (o : Option (List ℕ)) (f : Origin) (key : LsaKey) (s : AreaValue) → IsTurned s → IsTurned (replied o f key s)
+replied_rests : (o : Option (List ℕ)) (f : PacketSource) (key : LsaKey) (s : AreaValue) → IsTurned s → IsTurned (replied o f key s)
 replied_rests None f key s turned_to_next = turned_to_next
-replied_rests (Some lsa) f key s turned_to_next = sent_rests (own_of s) f (instance_of lsa) s.tick s.links turned_to_next
+replied_rests (Some lsa) f key s turned_to_next = sent_rests (context_of s) f (instance_of lsa) s.tick s.links turned_to_next
 
 -- ---- the rules of an Update
 
 -- all rules but two leave none to wait
-pub rule_rests : (r : Option LsaRule) (f : Origin) (lsa : List ℕ) (s : AreaValue) (o o' : OutputsValue) (t : AreaValue) → leaves_turned r ≡ true → MeetsRule r f lsa s o o' t → IsTurned s → IsTurned t
+pub rule_rests : (r : Option LsaRule) (f : PacketSource) (lsa : List ℕ) (s : AreaValue) (o o' : OutputsValue) (t : AreaValue) → leaves_turned r ≡ true → MeetsRule r f lsa s o o' t → IsTurned s → IsTurned t
 rule_rests None f lsa s o o' t leaves is turned_to_next = subst IsTurned (sym is.state) turned_to_next
 rule_rests (Some AcknowledgesExpired) f lsa s o o' t leaves is turned_to_next = subst IsTurned (sym is.state) (acknowledging_rests (answer_at Expired f s.links) f (header_of lsa) s turned_to_next)
 rule_rests (Some TooSoon) f lsa s o o' t leaves is turned_to_next = subst IsTurned (sym is.state) turned_to_next
@@ -289,11 +289,11 @@ rule_rests (Some Duplicate) f lsa s o o' t leaves is turned_to_next =
     let i = instance_of lsa in
     subst IsTurned (sym is.state)
     (acknowledging_rests (answer_at (case_of_same (is_awaited_of i (neighbour_at s.links f.link f.router))) f s.links) f (header_of lsa) (record s { links = changed_at f (Acknowledges i) s.tick s.links })
-    (acknowledged_rests (own_of s) f i s.tick s.links turned_to_next))
+    (acknowledged_rests (context_of s) f i s.tick s.links turned_to_next))
 rule_rests (Some Stale) f lsa s o o' t leaves is turned_to_next = subst IsTurned (sym is.state) (replied_rests (reply_to s (key_of lsa)) f (key_of lsa) s turned_to_next)
 
 -- where none waits, a turn is the same as none
-pub turns_none : (r : Option LsaRule) (f : Origin) (lsa : List ℕ) (s : AreaValue) (o o' : OutputsValue) (t : AreaValue) → r ≡ rule_met s f lsa → MeetsRule r f lsa s o o' t → IsTurned t → MeetsAndTurns f lsa s o o' t
+pub turns_none : (r : Option LsaRule) (f : PacketSource) (lsa : List ℕ) (s : AreaValue) (o o' : OutputsValue) (t : AreaValue) → r ≡ rule_met s f lsa → MeetsRule r f lsa s o o' t → IsTurned t → MeetsAndTurns f lsa s o o' t
 turns_none r f lsa s o o' t met is turned_to_next = record {
   mid = t;
   so_far = o';
@@ -308,5 +308,5 @@ empty_is_none (x ∷ xs) is = absurd (cc)
 
 -- and a turn that sent nothing leaves none to wait
 pub turn_rests : {E : Type 0} (r : Result Bool E) (s t : AreaValue) → OnOk r (t ≡ turned_area s) → IfOk r (λ quiet. quiet ≡ is_empty (turn_out s)) → IfOk r (λ turned_to_next. turned_to_next ≡ true → IsTurned t)
-turn_rests (Ok quiet) s t after told = λ is. subst IsTurned (sym after) (turned_rests (own_of s) s.links (empty_is_none (turn_out s) (sym told ∙ is)))
+turn_rests (Ok quiet) s t after told = λ is. subst IsTurned (sym after) (turned_rests (context_of s) s.links (empty_is_none (turn_out s) (sym told ∙ is)))
 turn_rests (Err e) s t after told = tt

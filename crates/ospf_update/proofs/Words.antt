@@ -11,9 +11,9 @@ use Rattle.ospf_packet.specs.Meaning as meaning
 use Rattle.ospf_flood.specs.Rules.{is_sent_back}
 use Rattle.ospf_lsdb.specs.Database.{Entry, header_at, key_in, lsa_of}
 use Rattle.ospf_area.specs.Outputs.{SentValue, OutputsValue}
-use Rattle.ospf_area.specs.Sending.{and_sends, datagrams, own_of, packet_from, sent_lsa, to_address, update_out, way_out}
+use Rattle.ospf_area.specs.Sending.{and_sends, datagrams, context_of, packet_from, sent_lsa, to_address, update_out, way_out}
 use Rattle.ospf_area.specs.State.{AreaValue, LinkValue, database_entry}
-use Rattle.ospf_area.specs.declared.flooding.Origin.{Origin}
+use Rattle.ospf_area.specs.declared.flooding.PacketSource.{PacketSource}
 use Rattle.ospf_area.specs.Acting.{InTurn}
 use Rattle.ospf_update.specs.Meets.{MeetsLsa, first_dd_on}
 use Rattle.ospf_base.specs.declared.ids.Instance.{Instance}
@@ -30,28 +30,28 @@ use Rattle.ospf_update.specs.Aging.{copy_flooded, turn_out, turned_area}
 use Rattle.ospf_update.specs.Removal.{RemovesOne, leaving, lowest_number}
 use Rattle.ospf_update.specs.Updates.{TakesSlice}
 use Rattle.ospf_lsa.specs.declared.header.LsaHeader.{LsaHeader}
-use Rattle.ospf_area.specs.declared.sending.Own.{Own}
+use Rattle.ospf_area.specs.declared.sending.RouterContext.{RouterContext}
 use Rattle.ospf_update.specs.Acks.{acks_out, cut, put_in_order}
 use Rattle.std.specs.List.{fold, list_any}
 use Rattle.ospf_area.proofs.Words.{is_numbering_of}
 
 -- it is flooded out of all links
-abbrev pub flooded_area : List ℕ → Option Origin → AreaValue → AreaValue
+abbrev pub flooded_area : List ℕ → Option PacketSource → AreaValue → AreaValue
 flooded_area lsa from s = record s { links = flooded_links (key_of lsa) (header_of lsa) from s.tick s.links }
 
 -- the Updates by which it is, where its old copy left all lists before
-abbrev pub store_updates : List ℕ → Option Origin → AreaValue → List SentValue
-store_updates lsa from s = flooding_updates (own_of s) lsa from (released (key_of lsa) s.links)
+abbrev pub store_updates : List ℕ → Option PacketSource → AreaValue → List SentValue
+store_updates lsa from s = flooding_updates (context_of s) lsa from (released (key_of lsa) s.links)
 
 -- an LSA in an Update to the neighbour
-abbrev pub lsa_out_on : Own → Origin → List ℕ → Option LinkValue → List SentValue
+abbrev pub lsa_out_on : RouterContext → PacketSource → List ℕ → Option LinkValue → List SentValue
 lsa_out_on own f lsa o = elim o [
   | None ↦ []
   | Some link ↦ update_out own (way_out f.link link.iface (to_address link.iface f.address)) (sent_lsa link.settings.transmit_delay lsa ∷ [])
 ]
 
 -- an LSA meets its rule, and directly after it come LoadingDone and the next Requests
-pub record MeetsAndTurns (f : Origin) (lsa : List ℕ) (before : AreaValue) (out out' : OutputsValue) (after : AreaValue) : Type 0 where
+pub record MeetsAndTurns (f : PacketSource) (lsa : List ℕ) (before : AreaValue) (out out' : OutputsValue) (after : AreaValue) : Type 0 where
   pub mid : AreaValue
   pub so_far : OutputsValue
   pub meets : MeetsLsa f lsa before out so_far mid
@@ -67,7 +67,7 @@ abbrev pub packets : ℕ → List LsaHeader → List (List LsaHeader)
 packets room hs = cut (length hs) room hs
 
 -- an Acknowledgment
-abbrev pub ack_out : Own → Way → List LsaHeader → List SentValue
+abbrev pub ack_out : RouterContext → Way → List LsaHeader → List SentValue
 ack_out own way hs = datagrams way (packet_from own (meaning.acknowledgment hs))
 
 -- a link on which no acknowledgement waits
@@ -97,17 +97,17 @@ reply_of o sent = elim o [
   | Some copy ↦ (if is_sent_back copy sent then Some (lsa_of copy) else None)
 ]
 
-abbrev pub lsa_out : Origin → List ℕ → AreaValue → List SentValue
-lsa_out f lsa s = lsa_out_on (own_of s) f lsa (slice_get s.links f.link)
+abbrev pub lsa_out : PacketSource → List ℕ → AreaValue → List SentValue
+lsa_out f lsa s = lsa_out_on (context_of s) f lsa (slice_get s.links f.link)
 
-abbrev pub taken_off : Origin → Option Instance → AreaValue → AreaValue
+abbrev pub taken_off : PacketSource → Option Instance → AreaValue → AreaValue
 taken_off f o s = elim o [
   | None ↦ s
   | Some i ↦ record s { links = changed_at f (Acknowledges i) s.tick s.links }
 ]
 
-abbrev pub first_dd : Origin → AreaValue → List SentValue
-first_dd f s = first_dd_on (own_of s) f s.next_dd (slice_get s.links f.link)
+abbrev pub first_dd : PacketSource → AreaValue → List SentValue
+first_dd f s = first_dd_on (context_of s) f s.next_dd (slice_get s.links f.link)
 
 -- the first packet of an exchange: I, M and MS, and no headers (10.8)
 abbrev pub first_description : ℕ → ℕ → Description
@@ -123,7 +123,7 @@ copy_flooded_by o key s = elim o [
 abbrev pub copy_flood_out_by : Option Entry → AreaValue → List SentValue
 copy_flood_out_by o s = elim o [
   | None ↦ []
-  | Some e ↦ flooding_updates (own_of s) (lsa_of e) None s.links
+  | Some e ↦ flooding_updates (context_of s) (lsa_of e) None s.links
 ]
 
 -- the Updates that flood the database's copy of a key (13.3)
@@ -155,10 +155,10 @@ abbrev pub Removes : AreaValue → OutputsValue → OutputsValue → AreaValue �
 Removes before out out' after = InTurn RemovesOne (leaving before) before out out' after
 
 -- one after the other
-abbrev pub TakesSlices : Origin → List (List ℕ) → AreaValue → OutputsValue → OutputsValue → AreaValue → Type 0
+abbrev pub TakesSlices : PacketSource → List (List ℕ) → AreaValue → OutputsValue → OutputsValue → AreaValue → Type 0
 TakesSlices f slices before out out' after = InTurn (TakesSlice f) slices before out out' after
 
-abbrev pub direct_out_on : Own → Origin → List LsaHeader → Option LinkValue → List SentValue
+abbrev pub direct_out_on : RouterContext → PacketSource → List LsaHeader → Option LinkValue → List SentValue
 direct_out_on own f hs None = []
 direct_out_on own f hs (Some link) = acks_out own (way_out f.link link.iface (to_address link.iface f.address)) link.settings.mtu hs
 

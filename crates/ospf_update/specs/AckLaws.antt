@@ -7,7 +7,7 @@ use Rattle.ospf_lsa.specs.declared.header.LsaHeader.{LsaHeader}
 use Rattle.ospf_packet.specs.Meaning.{Meaning, acknowledgment}
 use Rattle.ospf_area.specs.Packing.{ArePacked, IsWithin}
 use Rattle.ospf_area.specs.Sending.{datagrams, packet_from}
-use Rattle.ospf_area.specs.declared.sending.Own.{Own}
+use Rattle.ospf_area.specs.declared.sending.RouterContext.{RouterContext}
 use Rattle.ospf_area.specs.declared.sending.Way.{Way}
 use Rattle.ospf_update.specs.Acks.{acks_out, header_precedes, in_order}
 
@@ -26,12 +26,12 @@ AcknowledgementsAreOrdered = (headers : List LsaHeader) → IsOrdered headers (i
 -- ---- in packets
 
 -- the Acknowledgment of these headers
-abbrev pub acknowledgment_of : Own → List LsaHeader → Meaning
+abbrev pub acknowledgment_of : RouterContext → List LsaHeader → Meaning
 acknowledgment_of own headers = packet_from own (acknowledgment headers)
 
 -- what is sent are these packets: they have the headers in order of key, as
 -- many in each as fit, and each fits
-pub record AreAcknowledgments (own : Own) (way : Way) (mtu : ℕ) (headers : List LsaHeader)
+pub record AreAcknowledgments (own : RouterContext) (way : Way) (mtu : ℕ) (headers : List LsaHeader)
     (packets : List (List LsaHeader)) : Type 0 where
   pub sent : acks_out own way mtu headers
       ≡ flat_map (λ hs. datagrams way (acknowledgment_of own hs)) packets
@@ -41,6 +41,6 @@ pub record AreAcknowledgments (own : Own) (way : Way) (mtu : ℕ) (headers : Lis
 -- where one header fits the MTU
 abbrev pub AcknowledgementsArePacked : Type 0
 AcknowledgementsArePacked =
-    (own : Own) (way : Way) (mtu : ℕ) (headers : List LsaHeader)
+    (own : RouterContext) (way : Way) (mtu : ℕ) (headers : List LsaHeader)
     → ip_header + packet_header + lsa_header ≤ mtu
     → (packets : List (List LsaHeader)) × AreAcknowledgments own way mtu headers packets

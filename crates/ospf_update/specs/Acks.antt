@@ -8,11 +8,11 @@ use Rattle.ospf_flood.specs.Links.{flooding_address}
 use Rattle.ospf_lsa.specs.declared.header.LsaHeader.{LsaHeader}
 use Rattle.ospf_packet.specs.Meaning as meaning
 use Rattle.ospf_area.specs.Outputs.{SentValue}
-use Rattle.ospf_area.specs.Packets.{Parcel}
-use Rattle.ospf_area.specs.Sending.{datagrams, own_of, packet_from, to_address, way_out}
+use Rattle.ospf_area.specs.Packets.{PendingPacket}
+use Rattle.ospf_area.specs.Sending.{datagrams, context_of, packet_from, to_address, way_out}
 use Rattle.ospf_area.specs.State.{AreaValue, LinkValue}
-use Rattle.ospf_area.specs.declared.flooding.Origin.{Origin}
-use Rattle.ospf_area.specs.declared.sending.Own.{Own}
+use Rattle.ospf_area.specs.declared.flooding.PacketSource.{PacketSource}
+use Rattle.ospf_area.specs.declared.sending.RouterContext.{RouterContext}
 use Rattle.ospf_area.specs.declared.sending.Way.{Way}
 
 -- ---- in order of key
@@ -48,7 +48,7 @@ cut (suc n) room (h ∷ hs) =
     ∷ cut n room (drop (min room (length (h ∷ hs))) (h ∷ hs))
 
 -- Acknowledgments of these headers in their order, as many in each as fit
-abbrev pub acks_out : Own → Way → ℕ → List LsaHeader → List SentValue
+abbrev pub acks_out : RouterContext → Way → ℕ → List LsaHeader → List SentValue
 acks_out own way mtu hs =
     flat_map (λ chunk. datagrams way (packet_from own (meaning.acknowledgment chunk)))
     (cut (length (in_order hs)) (ack_room mtu) (in_order hs))
@@ -56,31 +56,31 @@ acks_out own way mtu hs =
 -- ---- as they are put to go out
 
 -- an Acknowledgment of these headers to this address
-abbrev pub ack_parcel : Addr → List LsaHeader → Parcel
-ack_parcel destination hs = record { destination = destination; body = meaning.acknowledgment hs }
+abbrev pub ack_packet : Addr → List LsaHeader → PendingPacket
+ack_packet destination hs = record { destination = destination; body = meaning.acknowledgment hs }
 
 -- so many headers in each
-abbrev pub packed_parcels : Addr → ℕ → List LsaHeader → List Parcel
-packed_parcels destination room hs = map (ack_parcel destination) (cut (length hs) room hs)
+abbrev pub packed_packets : Addr → ℕ → List LsaHeader → List PendingPacket
+packed_packets destination room hs = map (ack_packet destination) (cut (length hs) room hs)
 
 -- in order of key, as many in each as fit
-abbrev pub ack_parcels : Addr → ℕ → List LsaHeader → List Parcel
-ack_parcels destination mtu hs = packed_parcels destination (ack_room mtu) (in_order hs)
+abbrev pub ack_packets : Addr → ℕ → List LsaHeader → List PendingPacket
+ack_packets destination mtu hs = packed_packets destination (ack_room mtu) (in_order hs)
 
 -- ---- direct ones, at the end of an Update
 
 -- to the neighbour that sent the Update, out of its link, if that is there
-abbrev pub direct_out : Origin → AreaValue → List SentValue
+abbrev pub direct_out : PacketSource → AreaValue → List SentValue
 direct_out f s = elim (slice_get s.links f.link) [
   | None ↦ []
   | Some link ↦
-      acks_out (own_of s) (way_out f.link link.iface (to_address link.iface f.address))
+      acks_out (context_of s) (way_out f.link link.iface (to_address link.iface f.address))
       link.settings.mtu s.direct
 ]
 
 -- ---- delayed ones, at the next tick
 
 -- to where flooded Updates go: they wait on the link until then
-abbrev pub delayed_out_on : Own → ℕ → LinkValue → List SentValue
+abbrev pub delayed_out_on : RouterContext → ℕ → LinkValue → List SentValue
 delayed_out_on own l link =
     acks_out own (way_out l link.iface (flooding_address link.iface)) link.settings.mtu link.delayed

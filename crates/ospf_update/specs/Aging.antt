@@ -12,18 +12,18 @@ use Rattle.ospf_area.specs.Flooding.{flooded_links, flooding_updates, goes_anywh
 use Rattle.ospf_area.specs.Numbers.{marked}
 use Rattle.ospf_area.specs.Acting.{Becomes, InTurn}
 use Rattle.ospf_area.specs.Outputs.{OutputsValue, SentValue}
-use Rattle.ospf_area.specs.Sending.{and_sends, own_of}
+use Rattle.ospf_area.specs.Sending.{and_sends, context_of}
 use Rattle.ospf_area.specs.State.{AreaValue, database_entry}
 
 -- ---- what comes of each flood
 
 -- LoadingDone and the next Requests of all neighbours
 abbrev pub turned_area : AreaValue → AreaValue
-turned_area s = record s { links = map (turned_link (own_of s)) s.links }
+turned_area s = record s { links = map (turned_link (context_of s)) s.links }
 
 -- the next Requests that are due on all links (10.9)
 abbrev pub turn_out : AreaValue → List SentValue
-turn_out s = flat_from (turn_requests_on (own_of s)) 0 s.links
+turn_out s = flat_from (turn_requests_on (context_of s)) 0 s.links
 
 -- ---- a copy goes to all
 
@@ -46,7 +46,7 @@ abbrev pub SendsCopy : LsaKey → AreaValue → OutputsValue → OutputsValue �
 SendsCopy key before out out' after =
     let updates : List SentValue = elim (database_entry before key) [
       | None ↦ []
-      | Some e ↦ flooding_updates (own_of before) (lsa_of e) None before.links
+      | Some e ↦ flooding_updates (context_of before) (lsa_of e) None before.links
     ] in
     Becomes (turned_area (copy_flooded key before))
     (and_sends out (updates ++ turn_out (copy_flooded key before))) out' after

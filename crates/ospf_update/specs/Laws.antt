@@ -32,13 +32,14 @@ use Rattle.ospf_area.specs.Numbers.{is_own}
 use Rattle.ospf_area.specs.Outputs.{OutputsValue}
 use Rattle.ospf_update.specs.Removal.{ends_run, leaving, lowest_number, RemovesOne}
 use Rattle.ospf_area.specs.State.{Awaits, AreaValue, database_entry, kept_number, neighbour}
-use Rattle.ospf_area.specs.declared.flooding.Origin.{Origin}
+use Rattle.ospf_area.specs.declared.flooding.PacketSource.{PacketSource}
 
 -- each neighbour has the old copy off its list, and then the LSA was
 -- flooded to it or past it (13, step 5)
 abbrev pub StoredNeighbours : Type 0
 StoredNeighbours =
-    (lsa : List ℕ) (from : Option Origin) (before after : AreaValue) → Stores lsa from before after
+    (lsa : List ℕ) (from : Option PacketSource) (before after : AreaValue)
+    → Stores lsa from before after
     → (l : ℕ) (q : RouterId)
     → neighbour after l q
     ≡ option_map (λ n.
@@ -48,7 +49,8 @@ StoredNeighbours =
 -- the database has the LSA in place of its key's, and nothing else changes (13.2)
 abbrev pub StoredEntry : Type 0
 StoredEntry =
-    (lsa : List ℕ) (from : Option Origin) (before after : AreaValue) → Stores lsa from before after
+    (lsa : List ℕ) (from : Option PacketSource) (before after : AreaValue)
+    → Stores lsa from before after
     → (key : LsaKey)
     → database_entry after key
     ≡ (if same_key (lsdb.key_in (entry_from lsa before.tick (is_some from)).contents) key
@@ -58,7 +60,8 @@ StoredEntry =
 -- of the router's own keys the greatest number is kept (12.1.6)
 abbrev pub StoredNumbers : Type 0
 StoredNumbers =
-    (lsa : List ℕ) (from : Option Origin) (before after : AreaValue) → Stores lsa from before after
+    (lsa : List ℕ) (from : Option PacketSource) (before after : AreaValue)
+    → Stores lsa from before after
     → (key : LsaKey)
     → kept_number after key
     ≡ (if same_key (key_of lsa) key && is_own before.router key
@@ -70,14 +73,16 @@ StoredNumbers =
 -- an instance that waits goes on waiting, but for those of the key (13, step 5c; 13.3)
 abbrev pub StoredStays : Type 0
 StoredStays =
-    (lsa : List ℕ) (from : Option Origin) (before after : AreaValue) → Stores lsa from before after
+    (lsa : List ℕ) (from : Option PacketSource) (before after : AreaValue)
+    → Stores lsa from before after
     → (l : ℕ) (q : RouterId) (j : Instance)
     → Awaits before l q j → Awaits after l q j ⊎ (j.key ≡ key_of lsa)
 
 -- each neighbour in Exchange or above waits for the LSA, or is spared (13.3, step 1)
 abbrev pub StoredReaches : Type 0
 StoredReaches =
-    (lsa : List ℕ) (from : Option Origin) (before after : AreaValue) → Stores lsa from before after
+    (lsa : List ℕ) (from : Option PacketSource) (before after : AreaValue)
+    → Stores lsa from before after
     → (l : ℕ) (q : RouterId) (n : NeighbourValue)
     → neighbour before l q ≡ Some n → is_exchanging n.state ≡ true
     → Awaits after l q (instance_with (key_of lsa) (header_of lsa))
@@ -138,17 +143,18 @@ is_installed (Some Stale) = false
 -- of the router's own keys the greatest number that was installed is kept, until the copy with
 -- the last number leaves (12.1.6)
 pub record NumbersAreKept : Type 0 where
-  pub met : (f : Origin) (lsa : List ℕ) (before : AreaValue) (out out' : OutputsValue)
+  pub met : (f : PacketSource) (lsa : List ℕ) (before : AreaValue) (out out' : OutputsValue)
       (after : AreaValue) → MeetsLsa f lsa before out out' after → (key : LsaKey)
       → kept_number after key
       ≡ (if is_installed (rule_met before f lsa)
       && (same_key (key_of lsa) key && is_own before.router key)
       then int_max (kept_number before key) (header_of lsa).number
       else kept_number before key)
-  pub updated : (f : Origin) (slices : List (List ℕ)) (before : AreaValue) (out out' : OutputsValue)
+  pub updated : (f : PacketSource) (slices : List (List ℕ)) (before : AreaValue)
+      (out out' : OutputsValue)
       (after : AreaValue) → TakesUpdate f slices before out out' after → (key : LsaKey)
       → kept_number before key ≤ℤ kept_number after key
-  pub acknowledged : (f : Origin) (h : LsaHeader) (before : AreaValue) (key : LsaKey)
+  pub acknowledged : (f : PacketSource) (h : LsaHeader) (before : AreaValue) (key : LsaKey)
       → kept_number (header_met f h before) key ≡ kept_number before key
   pub flushed : (key : LsaKey) (before : AreaValue) (out out' : OutputsValue) (after : AreaValue)
       → Flushes key before out out' after → (k : LsaKey)
@@ -176,16 +182,18 @@ UpdatesBringShort =
 
 -- and whatever is done, those of the database stay so
 pub record AreaStaysShort : Type 0 where
-  pub stored : (lsa : List ℕ) (from : Option Origin) (before after : AreaValue)
+  pub stored : (lsa : List ℕ) (from : Option PacketSource) (before after : AreaValue)
       → Stores lsa from before after → IsShortLsa lsa → AreShort before.database
       → AreShort after.database
-  pub met : (f : Origin) (lsa : List ℕ) (before : AreaValue) (out out' : OutputsValue)
+  pub met : (f : PacketSource) (lsa : List ℕ) (before : AreaValue) (out out' : OutputsValue)
       (after : AreaValue) → MeetsLsa f lsa before out out' after → IsShortLsa lsa
       → AreShort before.database → AreShort after.database
-  pub updated : (f : Origin) (slices : List (List ℕ)) (before : AreaValue) (out out' : OutputsValue)
+  pub updated : (f : PacketSource) (slices : List (List ℕ)) (before : AreaValue)
+      (out out' : OutputsValue)
       (after : AreaValue) → TakesUpdate f slices before out out' after
       → AllByRecursion IsShortLsa slices → AreShort before.database → AreShort after.database
-  pub acknowledged : (f : Origin) (h : LsaHeader) (before : AreaValue) → AreShort before.database
+  pub acknowledged : (f : PacketSource) (h : LsaHeader) (before : AreaValue)
+      → AreShort before.database
       → AreShort (header_met f h before).database
   pub flushed : (key : LsaKey) (before : AreaValue) (out out' : OutputsValue) (after : AreaValue)
       → Flushes key before out out' after → AreShort before.database → AreShort after.database

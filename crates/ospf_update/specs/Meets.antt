@@ -24,13 +24,13 @@ use Rattle.ospf_area.specs.Changes.{changed_at}
 use Rattle.ospf_area.specs.Flooding.{flooded_back, flooded_links, flooding_updates, goes_anywhere, released}
 use Rattle.ospf_area.specs.Numbers.{counts, is_self_originated, marked, is_own}
 use Rattle.ospf_area.specs.Outputs.{OutputsValue, SentValue}
-use Rattle.ospf_area.specs.Sending.{and_sends, datagrams, own_of, packet_from, sent_lsa, to_address, update_out, way_out}
+use Rattle.ospf_area.specs.Sending.{and_sends, datagrams, context_of, packet_from, sent_lsa, to_address, update_out, way_out}
 use Rattle.ospf_area.specs.Standing.{acknowledging, answer_at}
 use Rattle.ospf_lsdb.specs.Moments.{among}
 use Rattle.ospf_area.specs.State.{AreaValue, LinkValue, database_entry, some_link_loading, neighbour_at, state_in}
 use Rattle.ospf_area.specs.declared.changes.AdjacencyChange.TheVariants.{Acknowledges, IsSent, Restarts}
-use Rattle.ospf_area.specs.declared.flooding.Origin.{Origin}
-use Rattle.ospf_area.specs.declared.sending.Own.{Own}
+use Rattle.ospf_area.specs.declared.flooding.PacketSource.{PacketSource}
+use Rattle.ospf_area.specs.declared.sending.RouterContext.{RouterContext}
 use Rattle.ospf_neighbour.specs.Lists.{request_of, is_listed}
 use Rattle.ospf_neighbour.specs.Machine.{is_exchanging}
 use Rattle.std.specs.Int.{int_max}
@@ -45,7 +45,8 @@ pub record InstallsIn (lsa : List ℕ) (by_flooding : Bool) (before after : Area
 
 -- its old copy leaves all retransmission lists, then it is flooded, then it takes the old copy's
 -- place (13, steps 5b to 5d). It came from a neighbour, or is the router's own
-pub record Stores (lsa : List ℕ) (from : Option Origin) (before after : AreaValue) : Type 0 where
+pub record Stores (lsa : List ℕ) (from : Option PacketSource) (before after : AreaValue)
+    : Type 0 where
   pub database :
       lsdb.Installs (entry_from lsa before.tick (is_some from)) before.database after.database
   pub rest : after ≡ record before {
@@ -66,7 +67,7 @@ pub record Stores (lsa : List ℕ) (from : Option Origin) (before after : AreaVa
 -- ---- the rules of an Update
 
 -- which rule an LSA meets, if its sender is in Exchange or above
-abbrev pub rule_met : AreaValue → Origin → List ℕ → Option LsaRule
+abbrev pub rule_met : AreaValue → PacketSource → List ℕ → Option LsaRule
 rule_met s f lsa =
     let sender = neighbour_at s.links f.link f.router in
     let copy = database_entry s (key_of lsa) in
@@ -85,7 +86,7 @@ heard_by key s =
 
 -- it is newer than the copy, or there is none: it is stored and flooded, and acknowledged by the
 -- table of section 13.5 (13, step 5)
-pub record Admits (f : Origin) (lsa : List ℕ) (before : AreaValue) (out out' : OutputsValue)
+pub record Admits (f : PacketSource) (lsa : List ℕ) (before : AreaValue) (out out' : OutputsValue)
     (after : AreaValue) : Type 0 where
   pub mid : AreaValue
   pub stores : Stores lsa (Some f) before mid
@@ -96,13 +97,13 @@ pub record Admits (f : Origin) (lsa : List ℕ) (before : AreaValue) (out out' :
       after ≡ heard_by (key_of lsa) (acknowledging answer f (header_of lsa) mid)
   pub outputs :
       let links = released (key_of lsa) before.links in
-      let updates = flooding_updates (own_of before) lsa (Some f) links in
+      let updates = flooding_updates (context_of before) lsa (Some f) links in
       out' ≡ record out { sent = out.sent ++ updates; taken = out.taken ++ instance_of lsa ∷ [] }
 
 -- ---- the exchange of databases begins again
 
 -- the first packet of an exchange: I, M and MS, and no headers (10.8)
-abbrev pub first_dd_on : Own → Origin → ℕ → Option LinkValue → List SentValue
+abbrev pub first_dd_on : RouterContext → PacketSource → ℕ → Option LinkValue → List SentValue
 first_dd_on own f number None = []
 first_dd_on own f number (Some link) =
     datagrams (way_out f.link link.iface (to_address link.iface f.address))
@@ -116,7 +117,7 @@ first_dd_on own f number (Some link) =
     }) []))
 
 -- the neighbour is back in ExStart, with the next DD sequence number
-abbrev pub restarted : Origin → AreaValue → AreaValue
+abbrev pub restarted : PacketSource → AreaValue → AreaValue
 restarted f s =
     record s {
       links = changed_at f (Restarts s.next_dd) s.tick s.links;
@@ -126,7 +127,7 @@ restarted f s =
 -- ---- the same instance as the copy
 
 -- where it was waited for, that ends; it is acknowledged by the table (13, step 7)
-abbrev pub duplicated : Origin → List ℕ → AreaValue → AreaValue
+abbrev pub duplicated : PacketSource → List ℕ → AreaValue → AreaValue
 duplicated f lsa s =
     let awaited : Bool = elim (neighbour_at s.links f.link f.router) [
       | None ↦ false
@@ -147,17 +148,17 @@ reply_to s key = elim (database_entry s key) [
 ]
 
 -- it goes back in an Update to the neighbour
-abbrev pub reply_out : Option (List ℕ) → Origin → AreaValue → List SentValue
+abbrev pub reply_out : Option (List ℕ) → PacketSource → AreaValue → List SentValue
 reply_out None f s = []
 reply_out (Some lsa) f s = elim (slice_get s.links f.link) [
   | None ↦ []
   | Some link ↦
-      update_out (own_of s) (way_out f.link link.iface (to_address link.iface f.address))
+      update_out (context_of s) (way_out f.link link.iface (to_address link.iface f.address))
       (sent_lsa link.settings.transmit_delay lsa ∷ [])
 ]
 
 -- it was sent to the neighbour, and in an Update in this tick
-abbrev pub replied : Option (List ℕ) → Origin → LsaKey → AreaValue → AreaValue
+abbrev pub replied : Option (List ℕ) → PacketSource → LsaKey → AreaValue → AreaValue
 replied None f key s = s
 replied (Some lsa) f key s =
     record s {
@@ -168,7 +169,8 @@ replied (Some lsa) f key s =
 -- ---- the rules together
 
 -- what an LSA does by the rule that it meets (13, steps 4 to 8)
-abbrev pub MeetsRule : Option LsaRule → Origin → List ℕ → AreaValue → OutputsValue → OutputsValue
+abbrev pub MeetsRule : Option LsaRule → PacketSource → List ℕ → AreaValue → OutputsValue
+    → OutputsValue
     → AreaValue → Type 0
 -- its sender is below Exchange, as after BadLSReq by an earlier LSA: nothing happens
 MeetsRule None f lsa before out out' after = Becomes before out out' after
@@ -184,7 +186,8 @@ MeetsRule (Some Installs) f lsa before out out' after = Admits f lsa before out 
 -- it was asked for, and is no newer than the copy: BadLSReq (step 6)
 MeetsRule (Some BadRequest) f lsa before out out' after =
     Becomes (restarted f before)
-    (and_sends out (first_dd_on (own_of before) f before.next_dd (slice_get before.links f.link)))
+    (and_sends out (first_dd_on (context_of before) f before.next_dd
+    (slice_get before.links f.link)))
     out' after
 -- it is the same instance as the copy (step 7)
 MeetsRule (Some Duplicate) f lsa before out out' after =
@@ -195,7 +198,8 @@ MeetsRule (Some Stale) f lsa before out out' after =
     (and_sends out (reply_out (reply_to before (key_of lsa)) f before)) out' after
 
 -- one LSA of an Update, from the outputs so far to those after it (13)
-abbrev pub MeetsLsa : Origin → List ℕ → AreaValue → OutputsValue → OutputsValue → AreaValue → Type 0
+abbrev pub MeetsLsa : PacketSource → List ℕ → AreaValue → OutputsValue → OutputsValue → AreaValue
+    → Type 0
 MeetsLsa f lsa before out out' after = MeetsRule (rule_met before f lsa) f lsa before out out' after
 
 -- ---- a header of an Acknowledgment
@@ -207,7 +211,7 @@ named_by h (Some copy) =
     elim (recency h (header_at copy)) [ Same ↦ Some (instance_at copy) | _ ↦ None ]
 
 -- the router once the neighbour acknowledged it
-abbrev pub header_met : Origin → LsaHeader → AreaValue → AreaValue
+abbrev pub header_met : PacketSource → LsaHeader → AreaValue → AreaValue
 header_met f h s =
     elim (named_by h (option_and_then (entry_of s.database) (key_of_header h))) [
       | None ↦ s

@@ -15,10 +15,10 @@ use Rattle.ospf_update.specs.Aging.{turned_area, turn_out}
 use Rattle.ospf_area.specs.Acting.{InTurn}
 use Rattle.ospf_update.specs.Meets.{MeetsLsa}
 use Rattle.ospf_area.specs.Outputs.{OutputsValue}
-use Rattle.ospf_area.specs.Sending.{and_sends, own_of}
+use Rattle.ospf_area.specs.Sending.{and_sends, context_of}
 use Rattle.ospf_area.specs.State.{AreaValue, LinkValue, neighbour_at, state_in}
-use Rattle.ospf_area.specs.declared.flooding.Origin.{Origin}
-use Rattle.ospf_area.specs.declared.sending.Own.{Own}
+use Rattle.ospf_area.specs.declared.flooding.PacketSource.{PacketSource}
+use Rattle.ospf_area.specs.declared.sending.RouterContext.{RouterContext}
 use Rattle.ospf_neighbour.specs.Machine.{is_exchanging}
 
 -- the bytes are an LSA of LS type 3, 4 or 5, as far as that is looked at: they are as long as it
@@ -31,7 +31,7 @@ pub record IsOtherLsa (bytes : List ℕ) : Type 0 where
 
 -- a slice that is no LSA of a known LS type: nothing happens. But where those of LS types 3, 4 and
 -- 5 are passed over, one of these from a neighbour in Exchange or above is acknowledged (13.5)
-abbrev pub PassesOver : Bool → Origin → List ℕ → AreaValue → AreaValue → Type 0
+abbrev pub PassesOver : Bool → PacketSource → List ℕ → AreaValue → AreaValue → Type 0
 PassesOver false f bytes before after = after ≡ before
 PassesOver true f bytes before after =
     let sender = state_in (neighbour_at before.links f.link f.router) in
@@ -41,7 +41,8 @@ PassesOver true f bytes before after =
 
 -- a slice is an LSA, which meets its rule, and directly after it come LoadingDone and the next
 -- Requests; or it is passed over (13, steps 1 to 3)
-pub data TakesSlice (f : Origin) (bytes : List ℕ) (before : AreaValue) (out out' : OutputsValue)
+pub data TakesSlice (f : PacketSource) (bytes : List ℕ) (before : AreaValue)
+    (out out' : OutputsValue)
     (after : AreaValue) : Type 0 where
   Met : IsLsa bytes → (mid : AreaValue) (so_far : OutputsValue)
       → MeetsLsa f bytes before out so_far mid
@@ -51,7 +52,7 @@ pub data TakesSlice (f : Origin) (bytes : List ℕ) (before : AreaValue) (out ou
       → TakesSlice f bytes before out out' after
 
 -- an Update: its LSAs, and then the direct acknowledgements
-pub record TakesUpdate (f : Origin) (slices : List (List ℕ)) (before : AreaValue)
+pub record TakesUpdate (f : PacketSource) (slices : List (List ℕ)) (before : AreaValue)
     (out out' : OutputsValue) (after : AreaValue) : Type 0 where
   pub mid : AreaValue
   pub so_far : OutputsValue
@@ -62,13 +63,13 @@ pub record TakesUpdate (f : Origin) (slices : List (List ℕ)) (before : AreaVal
 -- ---- where no turn is needed
 
 -- no neighbour waits for a turn: it would change none, and send nothing
-pub record AreTurned (own : Own) (links : List LinkValue) : Type 0 where
+pub record AreTurned (own : RouterContext) (links : List LinkValue) : Type 0 where
   pub still : map (turned_link own) links ≡ links
   pub quiet : flat_from (turn_requests_on own) 0 links ≡ []
 
 -- no neighbour of the router waits for a turn
 abbrev pub IsTurned : AreaValue → Type 0
-IsTurned s = AreTurned (own_of s) s.links
+IsTurned s = AreTurned (context_of s) s.links
 
 -- an LSA of this rule leaves the state and the request list of each neighbour as they are
 abbrev pub leaves_turned : Option LsaRule → Bool

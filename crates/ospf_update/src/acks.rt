@@ -3,12 +3,15 @@
 ghost use Rattle.std.specs.Prelude.{◌≡◌, ◌<◌, ◌∷◌, [], IfOk, OnOk, Some, slice_get, map, None};
 ghost use Rattle.std.specs.Ordering.{is_lt};
 ghost use Rattle.ospf_area.specs.Places.{flat_from};
-ghost use Rattle.ospf_update.specs.Acks.{header_precedes, in_order, ack_room, ack_parcel, ack_parcels, packed_parcels, direct_out, delayed_out_on, acks_out};
-ghost use Rattle.ospf_area.specs.Posting.{and_parcels};
-ghost use Rattle.ospf_area.specs.Sending.{and_sends, own_of, to_address, way_out};
+ghost use Rattle.ospf_update.specs.Acks.{header_precedes, in_order, ack_room, ack_packet, ack_packets, packed_packets, direct_out, delayed_out_on, acks_out};
+ghost use Rattle.ospf_area.specs.Outboxes.{and_packets};
+ghost use Rattle.ospf_area.specs.Sending.{and_sends, context_of, to_address, way_out};
 ghost use Rattle.ospf_area.specs.State.{LinkValue};
 
-use ospf_area::{Area, AreaLink, LinkSettings, Origin, Outputs, Own, Post, own_of, to_address};
+use ospf_area::{
+    Area, AreaLink, LinkSettings, Outbox, Outputs, PacketSource, RouterContext, context_of,
+    to_address,
+};
 use ospf_base::{Addr, IP_HEADER, LSA_HEADER, PACKET_HEADER};
 use ospf_flood::flooding_address;
 use ospf_lsa::LsaHeader;
@@ -23,13 +26,13 @@ pub fn send_acks(
     headers: &[LsaHeader],
     settings: LinkSettings,
     destination: Addr,
-    post: &mut Post,
+    outbox: &mut Outbox,
 ) -> Result<(), AllocError>
-    ensures { OnOk result (post.new ≡ and_parcels post.old
-        (ack_parcels destination settings.mtu headers.now)) }
+    ensures { OnOk result (outbox.new ≡ and_packets outbox.old
+        (ack_packets destination settings.mtu headers.now)) }
 {
-    let sorted = in_order(headers, post.alloc())?;
-    send_packed(&sorted, ack_room(settings), destination, post)
+    let sorted = in_order(headers, outbox.alloc())?;
+    send_packed(&sorted, ack_room(settings), destination, outbox)
 }
 
 /// Sends the direct acknowledgements of an Update to its sender (RFC 2328, section 13.5).
@@ -37,14 +40,14 @@ pub fn send_acks(
 /// `AllocError` where memory runs out; then the router is to be stopped.
 pub fn send_direct(
     area: &mut Area,
-    from: Origin,
+    from: PacketSource,
     out: &mut Outputs,
     alloc: Global,
 ) -> Result<(), AllocError>
     ensures after { OnOk result (area.new ≡ record area.old { direct = [] }) }
     ensures sent { OnOk result (out.new ≡ and_sends out.old (direct_out from area.old)) }
 {
-    let own = own_of(area);
+    let own = context_of(area);
     send_direct_from(&area.links, own, from, &area.direct, out, alloc)?;
     area.direct.clear();
     Ok(())
@@ -55,7 +58,7 @@ pub fn send_direct(
 /// `AllocError` where memory runs out; then the router is to be stopped.
 pub fn send_delayed(
     links: &mut [AreaLink],
-    own: Own,
+    own: RouterContext,
     out: &mut Outputs,
     alloc: Global,
 ) -> Result<(), AllocError>
@@ -92,27 +95,27 @@ fn send_packed(
     headers: &[LsaHeader],
     room: usize,
     destination: Addr,
-    post: &mut Post,
+    outbox: &mut Outbox,
 ) -> Result<(), AllocError>
     requires { 0 < room }
-    ensures { OnOk result (post.new ≡ and_parcels post.old
-        (packed_parcels destination room headers.now)) }
+    ensures { OnOk result (outbox.new ≡ and_packets outbox.old
+        (packed_packets destination room headers.now)) }
 {
     let mut rest = headers;
     while rest.len() > 0 {
         let (now, later) = rest.split_at(room.min(rest.len()));
-        send_ack(now, destination, post)?;
+        send_ack(now, destination, outbox)?;
         rest = later;
     }
     Ok(())
 }
 
-fn send_ack(headers: &[LsaHeader], destination: Addr, post: &mut Post) -> Result<(), AllocError>
-    ensures { OnOk result (post.new ≡ and_parcels post.old
-        (ack_parcel destination headers.now ∷ [])) }
+fn send_ack(headers: &[LsaHeader], destination: Addr, outbox: &mut Outbox) -> Result<(), AllocError>
+    ensures { OnOk result (outbox.new ≡ and_packets outbox.old
+        (ack_packet destination headers.now ∷ [])) }
 {
-    let headers = Vec::from_slice(post.alloc(), headers)?;
-    post.put(destination, BodyValue::Acknowledgment(headers))
+    let headers = Vec::from_slice(outbox.alloc(), headers)?;
+    outbox.put(destination, BodyValue::Acknowledgment(headers))
 }
 
 fn ack_room(settings: LinkSettings) -> usize
@@ -124,8 +127,8 @@ fn ack_room(settings: LinkSettings) -> usize
 
 fn send_direct_from(
     links: &[AreaLink],
-    own: Own,
-    from: Origin,
+    own: RouterContext,
+    from: PacketSource,
     headers: &[LsaHeader],
     out: &mut Outputs,
     alloc: Global,
@@ -145,8 +148,8 @@ fn send_direct_from(
 
 fn send_direct_on(
     link: &AreaLink,
-    own: Own,
-    from: Origin,
+    own: RouterContext,
+    from: PacketSource,
     headers: &[LsaHeader],
     out: &mut Outputs,
     alloc: Global,
@@ -156,26 +159,26 @@ fn send_direct_on(
         (way_out from.link link.now.iface (to_address link.now.iface from.address))
         link.now.settings.mtu headers.now)) }
 {
-    let mut post = Post::new(0, alloc);
+    let mut outbox = Outbox::new(0, alloc);
     let to = to_address(&link.iface, from.address);
-    send_acks(headers, link.settings, to, &mut post)?;
-    post.send_all(out, own, from.link, &link.iface)
+    send_acks(headers, link.settings, to, &mut outbox)?;
+    outbox.send_all(out, own, from.link, &link.iface)
 }
 
 fn send_delayed_on(
     link: &mut AreaLink,
     number: usize,
-    own: Own,
+    own: RouterContext,
     out: &mut Outputs,
     alloc: Global,
 ) -> Result<(), AllocError>
     ensures after { OnOk result (link.new ≡ record link.old { delayed = [] }) }
     ensures sent { OnOk result (out.new ≡ and_sends out.old (delayed_out_on own number link.old)) }
 {
-    let mut post = Post::new(0, alloc);
+    let mut outbox = Outbox::new(0, alloc);
     let to = flooding_address(&link.iface);
-    send_acks(&link.delayed, link.settings, to, &mut post)?;
-    post.send_all(out, own, number, &link.iface)?;
+    send_acks(&link.delayed, link.settings, to, &mut outbox)?;
+    outbox.send_all(out, own, number, &link.iface)?;
     link.delayed.clear();
     Ok(())
 }

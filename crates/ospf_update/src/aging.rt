@@ -7,12 +7,12 @@ ghost use Rattle.ospf_area.specs.Acting.{InTurn};
 ghost use Rattle.ospf_update.specs.Aging.{turned_area, turn_out, copy_flooded, Flushes, SendsCopy, TickAges};
 ghost use Rattle.ospf_area.specs.Flooding.{flooded_links, flooding_updates, goes_anywhere};
 ghost use Rattle.ospf_area.specs.Numbers.{marked};
-ghost use Rattle.ospf_area.specs.Sending.{and_sends, own_of};
+ghost use Rattle.ospf_area.specs.Sending.{and_sends, context_of};
 ghost use Rattle.ospf_area.specs.State.{copy_of, database_entry};
 ghost use Rattle.ospf_lsa.specs.Header.{header_of};
 ghost use Rattle.ospf_lsa.specs.Lsa.{key_of};
 
-use ospf_area::{Area, Outputs, flood, mark, own_of, turn_requests};
+use ospf_area::{Area, Outputs, context_of, flood, mark, turn_requests};
 use ospf_base::{LsaKey, MAX_AGE};
 use ospf_lsa::{Lsa, LsaView};
 use std::alloc::{AllocError, Global};
@@ -25,7 +25,7 @@ pub fn turn_in(area: &mut Area, out: &mut Outputs, alloc: Global) -> Result<(), 
     ensures after { OnOk result (area.new ≡ turned_area area.old) }
     ensures sent { OnOk result (out.new ≡ and_sends out.old (turn_out area.old)) }
 {
-    let own = own_of(area);
+    let own = context_of(area);
     turn_requests(&mut area.links, own, out, alloc)
 }
 
@@ -87,7 +87,7 @@ fn flood_copy(
     ensures sent { OnOk result (out.new ≡ and_sends out.old
         (elim (database_entry area.old key) [
           | None ↦ []
-          | Some e ↦ flooding_updates (own_of area.old) (lsa_of e) None area.old.links
+          | Some e ↦ flooding_updates (context_of area.old) (lsa_of e) None area.old.links
         ])) }
 {
     let Some(copy) = copy_of(area, &key, alloc)? else {
@@ -111,9 +111,9 @@ fn flood_to_all(
     ensures went { IfOk result (λ went. went
         ≡ goes_anywhere (key_of lsa.now) (header_of lsa.now) None area.old.links) }
     ensures sent { OnOk result (out.new ≡ and_sends out.old
-        (flooding_updates (own_of area.old) lsa.now None area.old.links)) }
+        (flooding_updates (context_of area.old) lsa.now None area.old.links)) }
 {
-    let own = own_of(area);
+    let own = context_of(area);
     let flooded = flood(&mut area.links, lsa, None, own, out, alloc)?;
     Ok(flooded.anywhere)
 }

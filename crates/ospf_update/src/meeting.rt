@@ -10,15 +10,15 @@ ghost use Rattle.ospf_area.specs.Flooding.{flooded_back, flooding_updates, relea
 ghost use Rattle.ospf_area.specs.Numbers.{marked};
 ghost use Rattle.ospf_area.specs.Acting.{Becomes};
 ghost use Rattle.ospf_update.specs.Meets.{InstallsIn, Stores, rule_met, heard_by, Admits, first_dd_on, duplicated, replied, reply_out, reply_to, restarted, MeetsRule, MeetsLsa, named_by, header_met};
-ghost use Rattle.ospf_area.specs.Sending.{and_sends, own_of, sent_lsa, to_address, update_out, way_out};
+ghost use Rattle.ospf_area.specs.Sending.{and_sends, context_of, sent_lsa, to_address, update_out, way_out};
 ghost use Rattle.ospf_area.specs.Standing.{acknowledging, answer_at};
 ghost use Rattle.ospf_flood.specs.declared.acknowledgement.AcknowledgementCase.TheVariants.{Expired};
 
 use ospf_area::{
-    AdjacencyChange, Area, AreaLink, Flooded, Origin, Outputs, Own, Post, acknowledge_by,
-    answer_at, change_at, count_number, description_body, flood, is_awaited, is_requested,
-    is_self_originated, is_taken, mark, own_of, release, send_lsa, sent_lsa, some_link_loading,
-    to_address, was_sent,
+    AdjacencyChange, Area, AreaLink, Flooded, Outbox, Outputs, PacketSource, RouterContext,
+    acknowledge_by, answer_at, change_at, context_of, count_number, description_body, flood,
+    is_awaited, is_requested, is_self_originated, is_taken, mark, release, send_lsa, sent_lsa,
+    some_link_loading, to_address, was_sent,
 };
 use ospf_base::{Instance, LsaKey, MAX_AGE};
 use ospf_exchange::beginning;
@@ -31,7 +31,7 @@ use std::alloc::{AllocError, Global};
 
 /// Takes a header of an Acknowledgment from the neighbour of the origin, which is in Exchange or
 /// above (RFC 2328, section 13.7). No memory is taken.
-pub fn on_header(area: &mut Area, from: Origin, header: &LsaHeader)
+pub fn on_header(area: &mut Area, from: PacketSource, header: &LsaHeader)
     ensures { area.new ≡ header_met from header.now area.old }
 {
     if let Some(instance) = named_in(area, header) {
@@ -53,7 +53,7 @@ pub fn on_header(area: &mut Area, from: Origin, header: &LsaHeader)
 pub fn store(
     area: &mut Area,
     lsa: Lsa,
-    from: Option<Origin>,
+    from: Option<PacketSource>,
     out: &mut Outputs,
     alloc: Global,
 ) -> Result<Flooded, AllocError>
@@ -61,9 +61,9 @@ pub fn store(
     ensures back { IfOk result (λ f. f.back
         ≡ flooded_back (key_of lsa) (header_of lsa) from (released (key_of lsa) area.old.links)) }
     ensures sent { OnOk result (out.new ≡ and_sends out.old
-        (flooding_updates (own_of area.old) lsa from (released (key_of lsa) area.old.links))) }
+        (flooding_updates (context_of area.old) lsa from (released (key_of lsa) area.old.links))) }
 {
-    let own = own_of(area);
+    let own = context_of(area);
     let key = lsa.view().key();
     let header = lsa.view().header();
     // (13, step 5c) Before the flood, which lists the new instance.
@@ -79,7 +79,7 @@ pub fn store(
 
 /// Which rule an LSA of an Update meets (section 13), if its sender is in
 /// Exchange or above. No memory is taken.
-pub fn rule_met(area: &Area, from: Origin, lsa: &LsaView) -> Option<LsaRule>
+pub fn rule_met(area: &Area, from: PacketSource, lsa: &LsaView) -> Option<LsaRule>
     ensures { result ≡ rule_met area.now from lsa.now }
 {
     if !is_taken(&area.links, from) {
@@ -99,15 +99,15 @@ pub fn rule_met(area: &Area, from: Origin, lsa: &LsaView) -> Option<LsaRule>
 /// `AllocError` where memory runs out; then the router is to be stopped.
 pub(crate) fn restart(
     area: &mut Area,
-    from: Origin,
+    from: PacketSource,
     out: &mut Outputs,
     alloc: Global,
 ) -> Result<(), AllocError>
     ensures { OnOk result (Becomes (restarted from area.old)
-        (and_sends out.old (first_dd_on (own_of area.old) from area.old.next_dd
+        (and_sends out.old (first_dd_on (context_of area.old) from area.old.next_dd
         (slice_get area.old.links from.link))) out.new area.new) }
 {
-    let own = own_of(area);
+    let own = context_of(area);
     let number = area.next_dd;
     send_first_dd(&area.links, own, from, number, out, alloc)?;
     change_at(
@@ -125,7 +125,7 @@ pub(crate) fn restart(
 /// `AllocError` where memory runs out; then the router is to be stopped.
 pub fn on_lsa(
     area: &mut Area,
-    from: Origin,
+    from: PacketSource,
     lsa: &LsaView,
     out: &mut Outputs,
     alloc: Global,
@@ -142,7 +142,7 @@ pub fn on_lsa(
 pub(crate) fn follow(
     rule: Option<LsaRule>,
     area: &mut Area,
-    from: Origin,
+    from: PacketSource,
     lsa: &LsaView,
     out: &mut Outputs,
     alloc: Global,
@@ -213,8 +213,8 @@ fn asks_who_loads(header: &LsaHeader) -> bool
 // The first Database Description of an exchange, to the neighbour of the origin.
 fn send_first_dd(
     links: &[AreaLink],
-    own: Own,
-    from: Origin,
+    own: RouterContext,
+    from: PacketSource,
     number: u32,
     out: &mut Outputs,
     alloc: Global,
@@ -230,8 +230,8 @@ fn send_first_dd(
 
 fn send_first_dd_on(
     link: &AreaLink,
-    own: Own,
-    from: Origin,
+    own: RouterContext,
+    from: PacketSource,
     number: u32,
     out: &mut Outputs,
     alloc: Global,
@@ -239,16 +239,16 @@ fn send_first_dd_on(
     ensures { OnOk result (out.new ≡ and_sends out.old
         (first_dd_on own from number (Some link.now))) }
 {
-    let mut post = Post::new(number, alloc);
+    let mut outbox = Outbox::new(number, alloc);
     let first = beginning(number, own.tick);
     let body = description_body(link.settings.mtu, first, Vec::new(alloc));
-    post.put(to_address(&link.iface, from.address), body)?;
-    post.send_all(out, own, from.link, &link.iface)
+    outbox.put(to_address(&link.iface, from.address), body)?;
+    outbox.send_all(out, own, from.link, &link.iface)
 }
 
 fn on_expired(
     area: &mut Area,
-    from: Origin,
+    from: PacketSource,
     lsa: &LsaView,
     out: &mut Outputs,
 ) -> Result<(), AllocError>
@@ -272,7 +272,7 @@ fn take(out: &mut Outputs, instance: Instance) -> Result<(), AllocError>
 
 fn admit(
     area: &mut Area,
-    from: Origin,
+    from: PacketSource,
     lsa: &LsaView,
     out: &mut Outputs,
     alloc: Global,
@@ -301,7 +301,7 @@ fn hear(area: &mut Area, key: LsaKey) -> Result<(), AllocError>
     Ok(())
 }
 
-fn on_same(area: &mut Area, from: Origin, lsa: &LsaView) -> Result<(), AllocError>
+fn on_same(area: &mut Area, from: PacketSource, lsa: &LsaView) -> Result<(), AllocError>
     ensures { OnOk result (area.new ≡ duplicated from lsa.now area.old) }
 {
     // (13, step 7a)
@@ -321,7 +321,7 @@ fn on_same(area: &mut Area, from: Origin, lsa: &LsaView) -> Result<(), AllocErro
 
 fn reply(
     area: &mut Area,
-    from: Origin,
+    from: PacketSource,
     key: LsaKey,
     out: &mut Outputs,
     alloc: Global,
@@ -332,7 +332,7 @@ fn reply(
     let Some(copy) = reply_to(area, &key, alloc)? else {
         return Ok(());
     };
-    let own = own_of(area);
+    let own = context_of(area);
     send_back(&area.links, own, from, &copy.view(), out, alloc)?;
     let instance = copy.view().instance();
     change_at(
@@ -363,8 +363,8 @@ fn reply_to(area: &Area, key: &LsaKey, alloc: Global) -> Result<Option<Lsa>, All
 // Sends an LSA to the neighbour of the origin.
 fn send_back(
     links: &[AreaLink],
-    own: Own,
-    from: Origin,
+    own: RouterContext,
+    from: PacketSource,
     lsa: &LsaView,
     out: &mut Outputs,
     alloc: Global,
@@ -385,8 +385,8 @@ fn send_back(
 
 fn send_back_on(
     link: &AreaLink,
-    own: Own,
-    from: Origin,
+    own: RouterContext,
+    from: PacketSource,
     lsa: &LsaView,
     out: &mut Outputs,
     alloc: Global,
@@ -396,8 +396,8 @@ fn send_back_on(
         (way_out from.link link.now.iface (to_address link.now.iface from.address))
         (sent_lsa link.now.settings.transmit_delay lsa.now ∷ []))) }
 {
-    let mut post = Post::new(0, alloc);
+    let mut outbox = Outbox::new(0, alloc);
     let copy = sent_lsa(link.settings, lsa, alloc)?;
-    send_lsa(copy, to_address(&link.iface, from.address), &mut post)?;
-    post.send_all(out, own, from.link, &link.iface)
+    send_lsa(copy, to_address(&link.iface, from.address), &mut outbox)?;
+    outbox.send_all(out, own, from.link, &link.iface)
 }

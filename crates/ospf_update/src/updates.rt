@@ -9,7 +9,7 @@ ghost use Rattle.ospf_update.specs.Updates.{IsOtherLsa, IsTurned, leaves_turned,
 use crate::acks::send_direct;
 use crate::aging::turn_in;
 use crate::meeting::{follow, rule_met};
-use ospf_area::{Area, Origin, Outputs, is_taken};
+use ospf_area::{Area, Outputs, PacketSource, is_taken};
 use ospf_base::{LSA_HEADER, lsa_sum_holds, u16_at};
 use ospf_exchange::is_other;
 use ospf_flood::LsaRule;
@@ -25,7 +25,7 @@ use std::alloc::{AllocError, Global};
 /// `AllocError` where memory runs out; then the router is to be stopped.
 pub fn on_update(
     area: &mut Area,
-    from: Origin,
+    from: PacketSource,
     lsas: Lsas<'_>,
     out: &mut Outputs,
     alloc: Global,
@@ -43,7 +43,7 @@ pub fn on_update(
 // where none waited for a turn before, and the rule leaves it so. Answers whether none waits now.
 fn take_lsa(
     area: &mut Area,
-    from: Origin,
+    from: PacketSource,
     bytes: &[u8],
     is_turned: bool,
     out: &mut Outputs,
@@ -90,7 +90,7 @@ fn turn_and_tell(area: &mut Area, out: &mut Outputs, alloc: Global) -> Result<bo
 
 // (13, steps 1 to 3) A slice that is refused as a router-LSA or network-LSA. Where LSAs of LS types
 // 3, 4 and 5 are passed over, one of these is acknowledged to its sender.
-fn pass_over(area: &mut Area, from: Origin, bytes: &[u8]) -> Result<(), AllocError>
+fn pass_over(area: &mut Area, from: PacketSource, bytes: &[u8]) -> Result<(), AllocError>
     ensures { OnOk result (PassesOver area.old.passes_over from bytes.now area.old area.new) }
 {
     if area.passes_over && is_taken(&area.links, from) && is_other_lsa(bytes) {

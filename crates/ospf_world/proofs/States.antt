@@ -2,7 +2,7 @@
 use Rattle.std.proofs.Common.{◌≡◌, inl, ℕ, zero, suc, negsuc, false, List, [], ◌∷◌, None, Some, refl, subst, arith, lit<, lit≤}
 use Rattle.std.specs.List.{All, Contains}
 use Rattle.ospf_area.specs.Outputs.{OutputsValue, no_outputs}
-use Rattle.ospf_area.specs.Sending.{and_sends, own_of}
+use Rattle.ospf_area.specs.Sending.{and_sends, context_of}
 use Rattle.ospf_area.specs.State.{AreaValue, LinkValue}
 use Rattle.ospf_area.specs.Flooding.{flooded_links, goes_anywhere, released}
 use Rattle.ospf_area.specs.Numbers.{counts, marked}
@@ -132,7 +132,7 @@ abbrev pub linked : AreaValue
 linked = link_changed link_up 0 has_issued
 
 abbrev pub linked_out : OutputsValue
-linked_out = and_sends no_outputs (up_out_on (Some down_link) (own_of has_issued) 0)
+linked_out = and_sends no_outputs (up_out_on (Some down_link) (context_of has_issued) 0)
 
 -- ---- the routing table
 

@@ -4,7 +4,7 @@ use Rattle.std.specs.Option.{option_map}
 use Rattle.std.proofs.lemmas.Bool.{false≢true}
 use Rattle.std.proofs.lemmas.Option.{none-some, same_Some}
 use Rattle.ospf_area.specs.Outputs.{AreReadAsSent, no_outputs}
-use Rattle.ospf_area.specs.Sending.{datagrams, own_of, packet_from}
+use Rattle.ospf_area.specs.Sending.{datagrams, context_of, packet_from}
 use Rattle.ospf_area.specs.State.{AreaValue, Awaits, LinkValue}
 use Rattle.ospf_area.specs.declared.state.Numbering.{Numbering}
 use Rattle.ospf_base.specs.Keys.{same_key}
@@ -12,7 +12,7 @@ use Rattle.ospf_base.specs.declared.ids.Instance.{Instance}
 use Rattle.ospf_base.specs.declared.ids.RouterId.{RouterId}
 use Rattle.ospf_step.proofs.StepChains.{up_chain, ends_put, tick_puts}
 use Rattle.ospf_step.specs.Invariants.{AreRising}
-use Rattle.ospf_adjacency.specs.Links.{hello_parcel}
+use Rattle.ospf_adjacency.specs.Links.{hello_packet}
 use Rattle.ospf_step.proofs.Chains.{step_from_chain}
 use Rattle.ospf_step.proofs.StepAccounts.{StepLaws-accounts, StepLaws-sound}
 use Rattle.ospf_step.specs.Step.{Event, StepLaws, last_parts}
@@ -133,7 +133,7 @@ tick_step = record {
 -- ---- a link that goes up
 
 abbrev pub hello_said : Meaning
-hello_said = packet_from (own_of has_issued) (hello_parcel (link_up down_link).iface []).body
+hello_said = packet_from (context_of has_issued) (hello_packet (link_up down_link).iface []).body
 
 pub hello_fits : MeaningFits hello_said
 hello_fits = record {

@@ -5,7 +5,7 @@ use super::wired::{OWN, count, description, iface};
 use ospf_adjacency::{
     elect_on, is_broadcast, is_dropped, take_description, take_event, wants_adjacency,
 };
-use ospf_area::{OnLink, Outputs, Own, Post, request_turn, send_dd, send_request};
+use ospf_area::{LinkContext, Outputs, RouterContext, Outbox, request_turn, send_dd, send_request};
 use ospf_base::{ALL_SPF_ROUTERS, Addr, AreaId, InterfaceKind, RouterId};
 use ospf_exchange::Local;
 use ospf_iface::{Iface, IfaceState};
@@ -25,24 +25,24 @@ fn local(mtu: u16) -> Local {
     }
 }
 
-fn on_link(iface: Iface, mtu: u16) -> OnLink {
-    OnLink {
+fn on_link(iface: Iface, mtu: u16) -> LinkContext {
+    LinkContext {
         iface,
         local: local(mtu),
     }
 }
 
 // What was posted goes out of link 4, at address 0.0.0.1. Answers the router's next number.
-fn send(post: Post, out: &mut Outputs) -> Result<u32, Fail> {
-    let own = Own {
+fn send(outbox: Outbox, out: &mut Outputs) -> Result<u32, Fail> {
+    let own = RouterContext {
         router: OWN,
         area: AreaId(0),
         tick: 7,
         passes_over: false,
     };
     let link = iface(InterfaceKind::Broadcast, IfaceState::DrOther);
-    let number = post.next();
-    post.send_all(out, own, 4, &link)?;
+    let number = outbox.next();
+    outbox.send_all(out, own, 4, &link)?;
     Ok(number)
 }
 
@@ -66,13 +66,13 @@ fn hear(
     };
     let link = iface(InterfaceKind::PointToPoint, IfaceState::PointToPoint);
     let at = on_link(link, 576);
-    let mut post = Post::new(100, alloc);
+    let mut outbox = Outbox::new(100, alloc);
     let router = neighbour.router();
     let dropped = is_dropped(neighbour, router, fields, &headers, local(576));
     let taken = take_description(
-        neighbour, router, fields, headers, database, &at, &mut post,
+        neighbour, router, fields, headers, database, &at, &mut outbox,
     )?;
-    send(post, out)?;
+    send(outbox, out)?;
     require(taken != dropped)?;
     Ok(taken)
 }
@@ -98,12 +98,12 @@ fn last_sent(out: &Outputs) -> Option<(u8, u32, usize)> {
 fn starting(alloc: Global, out: &mut Outputs) -> Result<Neighbour, Fail> {
     let link = iface(InterfaceKind::PointToPoint, IfaceState::PointToPoint);
     let at = on_link(link, 576);
-    let mut post = Post::new(50, alloc);
+    let mut outbox = Outbox::new(50, alloc);
     let mut neighbour = Neighbour::new(alloc, RouterId(2), Addr(2));
     for event in [NbrEvent::HelloReceived, NbrEvent::TwoWayReceived(true)] {
-        take_event(&mut neighbour, event, &at, &mut post)?;
+        take_event(&mut neighbour, event, &at, &mut outbox)?;
     }
-    require(send(post, out)? == 51)?;
+    require(send(outbox, out)? == 51)?;
     Ok(neighbour)
 }
 
@@ -257,9 +257,9 @@ fn three_routers_elect(rt: HostRuntime) -> Result<(), Fail> {
     ];
     let number = u32::MAX;
     let mut out = Outputs::new(alloc);
-    let mut post = Post::new(number, alloc);
-    elect_on(&mut link, &mut neighbours, local(1500), &mut post)?;
-    let number = send(post, &mut out)?;
+    let mut outbox = Outbox::new(number, alloc);
+    elect_on(&mut link, &mut neighbours, local(1500), &mut outbox)?;
+    let number = send(outbox, &mut out)?;
     assert_eq!(rt;
         (link.state, link.dr, link.backup),
         (IfaceState::Backup, Addr(2), Addr(1))
@@ -294,9 +294,9 @@ fn adjacencies_end(rt: HostRuntime) -> Result<(), Fail> {
     let mut neighbours = [exchanging(alloc, 2), two_way(alloc, 3, 1, Addr(3))];
     let number = 50;
     let mut out = Outputs::new(alloc);
-    let mut post = Post::new(number, alloc);
-    elect_on(&mut link, &mut neighbours, local(1500), &mut post)?;
-    let number = send(post, &mut out)?;
+    let mut outbox = Outbox::new(number, alloc);
+    elect_on(&mut link, &mut neighbours, local(1500), &mut outbox)?;
+    let number = send(outbox, &mut out)?;
     assert_eq!(rt;
         (link.state, link.dr, link.backup),
         (IfaceState::DrOther, Addr(3), Addr::NOWHERE)
@@ -321,9 +321,9 @@ fn loading_is_done(rt: HostRuntime) -> Result<(), Fail> {
     let _ = neighbour.event(NbrEvent::ExchangeDone, 40);
     let mut out = Outputs::new(alloc);
     for state in [NeighbourState::Loading, NeighbourState::Full] {
-        let mut post = Post::new(50, alloc);
-        request_turn(&mut neighbour, &on_link(link, 1500), &mut post)?;
-        send(post, &mut out)?;
+        let mut outbox = Outbox::new(50, alloc);
+        request_turn(&mut neighbour, &on_link(link, 1500), &mut outbox)?;
+        send(outbox, &mut out)?;
         assert_eq!(rt; (neighbour.state(), count(&out)), (state, 1));
         neighbour.remove_request(&lsa.view().key());
     }
@@ -349,11 +349,11 @@ fn where_packets_go(rt: HostRuntime) -> Result<(), Fail> {
     let mut neighbour = starting(alloc, &mut out)?;
     let ends = iface(InterfaceKind::PointToPoint, IfaceState::PointToPoint);
     let link = iface(InterfaceKind::Broadcast, IfaceState::DrOther);
-    let mut post = Post::new(50, alloc);
-    send_dd(&neighbour, &on_link(ends, 576), &mut post)?;
-    send_request(&neighbour, &on_link(link, 576), &mut post)?;
-    request_turn(&mut neighbour, &on_link(link, 576), &mut post)?;
-    send(post, &mut out)?;
+    let mut outbox = Outbox::new(50, alloc);
+    send_dd(&neighbour, &on_link(ends, 576), &mut outbox)?;
+    send_request(&neighbour, &on_link(link, 576), &mut outbox)?;
+    request_turn(&mut neighbour, &on_link(link, 576), &mut outbox)?;
+    send(outbox, &mut out)?;
     let mut ways = Vec::new(alloc);
     for packet in out.sent() {
         ways.push(packet.destination)?;
@@ -371,16 +371,16 @@ fn outputs_are_kept(rt: HostRuntime) -> Result<(), Fail> {
     let alloc = rt.alloc();
     let mut out = Outputs::new(alloc);
     let neighbour = starting(alloc, &mut out)?;
-    let own = Own {
+    let own = RouterContext {
         router: RouterId(5),
         area: AreaId(3),
         tick: 8,
         passes_over: false,
     };
     let link = iface(InterfaceKind::PointToPoint, IfaceState::PointToPoint);
-    let mut post = Post::new(50, alloc);
-    send_dd(&neighbour, &on_link(link, 576), &mut post)?;
-    post.send_all(&mut out, own, 6, &link)?;
+    let mut outbox = Outbox::new(50, alloc);
+    send_dd(&neighbour, &on_link(link, 576), &mut outbox)?;
+    outbox.send_all(&mut out, own, 6, &link)?;
     let mut links = Vec::new(alloc);
     for sent in out.sent() {
         let packet = Packet::read(&sent.bytes)?;

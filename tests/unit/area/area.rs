@@ -3,9 +3,9 @@
 use super::made::require;
 use super::wired::{area_of, neighbour, waiting};
 use ospf_area::{
-    Area, AdjacencyChange, AreaLink, LinkSettings, OnLink, Origin, Outputs, Post, acknowledge_by, answer_at,
+    Area, AdjacencyChange, AreaLink, LinkSettings, LinkContext, PacketSource, Outputs, Outbox, acknowledge_by, answer_at,
     change_at, count_number, delay_at, flood, is_awaited, is_numbered, is_own, is_requested,
-    is_self_originated, is_taken, mark, origin_of, own_of, release, send_request, sent_lsa,
+    is_self_originated, is_taken, mark, source_of, context_of, release, send_request, sent_lsa,
     some_link_loading, to_address, turn_requests, was_sent,
 };
 use ospf_base::{Addr, Instance, InterfaceKind, Kind, LsaKey, RouterId};
@@ -101,19 +101,19 @@ fn area(alloc: Global, described: &[LsaHeader]) -> Result<Area, Fail> {
     Ok(area_of(alloc, OWN, links, 7, 300))
 }
 
-const FROM_DR: Origin = Origin {
+const FROM_DR: PacketSource = PacketSource {
     link: 0,
     router: RouterId(1),
     address: Addr(1),
 };
 
-const FROM_OTHER: Origin = Origin {
+const FROM_OTHER: PacketSource = PacketSource {
     link: 0,
     router: RouterId(2),
     address: Addr(2),
 };
 
-const FROM_THIRD: Origin = Origin {
+const FROM_THIRD: PacketSource = PacketSource {
     link: 1,
     router: RouterId(3),
     address: Addr(3),
@@ -153,11 +153,11 @@ fn all_waiting(area: &Area) -> (usize, usize, usize) {
 // Floods router 7's LSA from here. Answers whether it was sent anywhere, and back.
 fn flood_from(
     area: &mut Area,
-    from: Origin,
+    from: PacketSource,
     out: &mut Outputs,
     alloc: Global,
 ) -> Result<(bool, bool), Fail> {
-    let own = own_of(area);
+    let own = context_of(area);
     let lsa = lsa_of(alloc, FIRST)?;
     let flooded = flood(&mut area.links, &lsa.view(), Some(from), own, out, alloc)?;
     Ok((flooded.anywhere, flooded.back))
@@ -212,20 +212,20 @@ fn the_backup_floods_what_came_elsewhere(rt: HostRuntime) -> Result<(), Fail> {
 }
 
 // In tick 8.
-fn change(area: &mut Area, from: Origin, change: AdjacencyChange) {
+fn change(area: &mut Area, from: PacketSource, change: AdjacencyChange) {
     change_at(&mut area.links, from, change, 8);
 }
 
 // When the first instance that waits for the neighbour was sent to it.
-fn first_sent_at(area: &Area, from: Origin) -> Result<u64, Fail> {
-    let other = origin_of(&area.links, from).ok_or("no neighbour")?;
+fn first_sent_at(area: &Area, from: PacketSource) -> Result<u64, Fail> {
+    let other = source_of(&area.links, from).ok_or("no neighbour")?;
     let listed = other.retransmission().first().ok_or("nothing listed")?;
     Ok(listed.sent_at)
 }
 
 // Whether the exchange with the neighbour begins, and its DD sequence number.
-fn beginning(area: &Area, from: Origin) -> Result<(bool, u32), Fail> {
-    let other = origin_of(&area.links, from).ok_or("no neighbour")?;
+fn beginning(area: &Area, from: PacketSource) -> Result<(bool, u32), Fail> {
+    let other = source_of(&area.links, from).ok_or("no neighbour")?;
     Ok((
         other.state() == NeighbourState::ExStart,
         other.exchanging().number,
@@ -259,7 +259,7 @@ fn loading(area: &Area) -> (bool, bool, bool) {
 
 // The next Requests. Answers how many datagrams there are then.
 fn ask(area: &mut Area, out: &mut Outputs, alloc: Global) -> Result<usize, Fail> {
-    let own = own_of(area);
+    let own = context_of(area);
     turn_requests(&mut area.links, own, out, alloc)?;
     Ok(out.sent.len())
 }
@@ -310,7 +310,7 @@ fn asks_once(out: &Outputs) -> Result<bool, Fail> {
 }
 
 // How an LSA that is newer is acknowledged, if it came from here.
-fn answer(area: &Area, from: Origin) -> Acknowledgement {
+fn answer(area: &Area, from: PacketSource) -> Acknowledgement {
     answer_at(&area.links, AcknowledgementCase::NotFloodedBack, from)
 }
 
@@ -459,10 +459,10 @@ fn sent_age(link: &AreaLink, alloc: Global) -> Result<u16, Fail> {
 // Sends neighbour 2 a Request.
 fn request_sent(area: &Area, link: &AreaLink, alloc: Global) -> Result<Outputs, Fail> {
     let mut out = Outputs::new(alloc);
-    let other = origin_of(&area.links, FROM_OTHER).ok_or("no neighbour")?;
-    let mut post = Post::new(0, alloc);
-    send_request(other, &OnLink::of(own_of(area), link), &mut post)?;
-    post.send_all(&mut out, own_of(area), 0, &link.iface)?;
+    let other = source_of(&area.links, FROM_OTHER).ok_or("no neighbour")?;
+    let mut outbox = Outbox::new(0, alloc);
+    send_request(other, &LinkContext::of(context_of(area), link), &mut outbox)?;
+    outbox.send_all(&mut out, context_of(area), 0, &link.iface)?;
     Ok(out)
 }
 

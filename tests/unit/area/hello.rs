@@ -6,7 +6,7 @@ use ospf_adjacency::{
     go_down, go_up, hello_on, is_at, is_named, is_settled, send_due_hello, send_hello,
     tick_neighbours, tick_timers,
 };
-use ospf_area::{OnLink, Outputs, Own, Post};
+use ospf_area::{LinkContext, Outputs, RouterContext, Outbox};
 use ospf_base::{ALL_SPF_ROUTERS, Addr, AreaId, InterfaceKind, RouterId};
 use ospf_iface::{Iface, IfaceState};
 use ospf_neighbour::{NbrEvent, Neighbour, NeighbourState, place_for};
@@ -26,24 +26,24 @@ fn hello(priority: u8, dr: Addr, backup: Addr) -> Hello {
     }
 }
 
-fn on_link(iface: Iface) -> OnLink {
-    OnLink {
+fn on_link(iface: Iface) -> LinkContext {
+    LinkContext {
         iface,
         local: LOCAL,
     }
 }
 
 // What was posted goes out of the link. Answers it, and the router's next number.
-fn sent(post: Post, link: &Iface, alloc: Global) -> Result<(Outputs, u32), Fail> {
-    let own = Own {
+fn sent(outbox: Outbox, link: &Iface, alloc: Global) -> Result<(Outputs, u32), Fail> {
+    let own = RouterContext {
         router: OWN,
         area: AreaId(0),
         tick: LOCAL.tick,
         passes_over: false,
     };
     let mut out = Outputs::new(alloc);
-    let number = post.next();
-    post.send_all(&mut out, own, 0, link)?;
+    let number = outbox.next();
+    outbox.send_all(&mut out, own, 0, link)?;
     Ok((out, number))
 }
 
@@ -63,7 +63,7 @@ fn a_hello_makes_a_neighbour(rt: HostRuntime) -> Result<(), Fail> {
     let alloc = rt.alloc();
     let link = iface(InterfaceKind::Broadcast, IfaceState::DrOther);
     let mut neighbours = Vec::new(alloc);
-    let mut post = Post::new(5, alloc);
+    let mut outbox = Outbox::new(5, alloc);
     let said = hello(3, Addr(2), Addr::NOWHERE);
     let elects = hello_on(
         &mut neighbours,
@@ -72,9 +72,9 @@ fn a_hello_makes_a_neighbour(rt: HostRuntime) -> Result<(), Fail> {
         &said,
         false,
         &on_link(link),
-        &mut post,
+        &mut outbox,
     )?;
-    let (out, _) = sent(post, &link, alloc)?;
+    let (out, _) = sent(outbox, &link, alloc)?;
     assert_eq!(rt; elects, true);
     assert_eq!(rt; count(&out), 0);
     let first = neighbours.first().ok_or("none")?;
@@ -96,7 +96,7 @@ fn heard_both_ways(rt: HostRuntime) -> Result<(), Fail> {
     let alloc = rt.alloc();
     let link = iface(InterfaceKind::PointToPoint, IfaceState::PointToPoint);
     let mut neighbours = vec![in alloc; neighbour(alloc, 2, false, 1)]?;
-    let mut post = Post::new(5, alloc);
+    let mut outbox = Outbox::new(5, alloc);
     let said = hello(1, Addr::NOWHERE, Addr::NOWHERE);
     let elects = hello_on(
         &mut neighbours,
@@ -105,9 +105,9 @@ fn heard_both_ways(rt: HostRuntime) -> Result<(), Fail> {
         &said,
         true,
         &on_link(link),
-        &mut post,
+        &mut outbox,
     )?;
-    let (out, number) = sent(post, &link, alloc)?;
+    let (out, number) = sent(outbox, &link, alloc)?;
     assert_eq!(rt; elects, false);
     assert_eq!(rt; number, 6);
     let first = neighbours.first().ok_or("none")?;
@@ -136,7 +136,7 @@ fn elects_by(
 ) -> Result<(bool, NeighbourState), Fail> {
     let link = iface(InterfaceKind::Broadcast, state);
     let mut neighbours = vec![in alloc; neighbour(alloc, 2, true, 40)]?;
-    let mut post = Post::new(5, alloc);
+    let mut outbox = Outbox::new(5, alloc);
     let elects = hello_on(
         &mut neighbours,
         RouterId(2),
@@ -144,7 +144,7 @@ fn elects_by(
         said,
         named,
         &on_link(link),
-        &mut post,
+        &mut outbox,
     )?;
     let heard = neighbours.first().ok_or("none")?;
     Ok((elects, heard.state()))
@@ -250,21 +250,21 @@ fn a_hello_each_interval(rt: HostRuntime) -> Result<(), Fail> {
         neighbour(alloc, 2, false, 40),
         neighbour(alloc, 3, true, 40),
     ];
-    let mut post = Post::new(5, alloc);
-    send_due_hello(&mut link, &neighbours, &mut post)?;
-    assert_eq!(rt; count(&sent(post, &link, alloc)?.0), 0);
-    let mut post = Post::new(5, alloc);
-    send_due_hello(&mut link, &neighbours, &mut post)?;
-    let (out, _) = sent(post, &link, alloc)?;
+    let mut outbox = Outbox::new(5, alloc);
+    send_due_hello(&mut link, &neighbours, &mut outbox)?;
+    assert_eq!(rt; count(&sent(outbox, &link, alloc)?.0), 0);
+    let mut outbox = Outbox::new(5, alloc);
+    send_due_hello(&mut link, &neighbours, &mut outbox)?;
+    let (out, _) = sent(outbox, &link, alloc)?;
     assert_eq!(rt; (count(&out), link.hello_in), (1, 10));
     assert_eq!(rt;
         listed(&out, alloc)?.as_slice(),
         [RouterId(2), RouterId(3)].as_slice()
     );
-    let mut post = Post::new(5, alloc);
-    send_due_hello(&mut link, &neighbours, &mut post)?;
-    send_hello(&link, &neighbours, &mut post)?;
-    assert_eq!(rt; count(&sent(post, &link, alloc)?.0), 1);
+    let mut outbox = Outbox::new(5, alloc);
+    send_due_hello(&mut link, &neighbours, &mut outbox)?;
+    send_hello(&link, &neighbours, &mut outbox)?;
+    assert_eq!(rt; count(&sent(outbox, &link, alloc)?.0), 1);
     Ok(())
 }
 

@@ -3,7 +3,7 @@
 use super::made::{FIRST, FIRST_NUMBER, SECOND};
 use super::wired::area_of;
 use super::written::bytes_of;
-use ospf_area::{Area, AreaLink, LinkSettings, Origin, Outputs, Sent, origin_of, own_of};
+use ospf_area::{Area, AreaLink, LinkSettings, PacketSource, Outputs, Sent, source_of, context_of};
 use ospf_base::{Addr, AreaId, InterfaceKind, RouterId};
 use ospf_iface::{Iface, IfaceSettings, IfaceState};
 use ospf_links::{
@@ -81,26 +81,26 @@ fn point_to_point(router: RouterId, address: u32) -> IfaceSettings {
     }
 }
 
-const FROM_FIRST: Origin = Origin {
+const FROM_FIRST: PacketSource = PacketSource {
     link: 0,
     router: FIRST,
     address: Addr(0x0a00_0001),
 };
 
-const FROM_SECOND: Origin = Origin {
+const FROM_SECOND: PacketSource = PacketSource {
     link: 0,
     router: SECOND,
     address: Addr(0x0a00_0002),
 };
 
-fn neighbour_state(router: &Router, from: Origin) -> Option<NeighbourState> {
-    match origin_of(&router.area.links, from) {
+fn neighbour_state(router: &Router, from: PacketSource) -> Option<NeighbourState> {
+    match source_of(&router.area.links, from) {
         Some(neighbour) => Some(neighbour.state()),
         None => None,
     }
 }
 
-fn is_in(router: &Router, from: Origin, state: NeighbourState) -> bool {
+fn is_in(router: &Router, from: PacketSource, state: NeighbourState) -> bool {
     neighbour_state(router, from) == Some(state)
 }
 
@@ -123,8 +123,8 @@ fn has_room(area: &Area, number: usize) -> bool {
 }
 
 // Whether a neighbour is in Exchange or above, if it is there.
-fn is_answered(area: &Area, from: Origin) -> bool {
-    match origin_of(&area.links, from) {
+fn is_answered(area: &Area, from: PacketSource) -> bool {
+    match source_of(&area.links, from) {
         Some(neighbour) => neighbour.state().is_exchanging(),
         None => true,
     }
@@ -132,7 +132,7 @@ fn is_answered(area: &Area, from: Origin) -> bool {
 
 fn hears_hello(
     router: &mut Router,
-    from: Origin,
+    from: PacketSource,
     hello: &Hello,
     named: Named<'_>,
     alloc: Global,
@@ -146,7 +146,7 @@ fn hears_hello(
 
 fn hears_request(
     router: &mut Router,
-    from: Origin,
+    from: PacketSource,
     requests: Requests<'_>,
     alloc: Global,
 ) -> Result<(), Fail> {
@@ -158,7 +158,7 @@ fn hears_request(
 }
 
 // The router takes the bytes of a packet.
-fn hears(router: &mut Router, from: Origin, bytes: &[u8], alloc: Global) -> Result<(), Fail> {
+fn hears(router: &mut Router, from: PacketSource, bytes: &[u8], alloc: Global) -> Result<(), Fail> {
     match Packet::read(bytes)?.body {
         Body::Hello(hello, named) => hears_hello(router, from, &hello, named, alloc),
         Body::Description(fields, headers) => {
@@ -187,7 +187,7 @@ fn bytes_at(router: &Router, place: usize, alloc: Global) -> Result<Vec<u8>, Fai
 fn ticks(router: &mut Router, alloc: Global) -> Result<(), Fail> {
     let area = &mut router.area;
     area.tick = area.tick.wrapping_add(1);
-    let own = own_of(area);
+    let own = context_of(area);
     count_timers(&mut area.links, alloc);
     send_hellos(&mut area.links, own, &mut router.out, alloc)?;
     repeat_all(
@@ -221,7 +221,7 @@ fn count_marked(router: &Router) -> usize {
 fn stands(
     router: &Router,
     elected: (IfaceState, Addr, Addr),
-    from: Origin,
+    from: PacketSource,
     state: Option<NeighbourState>,
     count: usize,
 ) -> bool {
@@ -355,7 +355,7 @@ enum To {
     Second(usize),
 }
 
-fn to_first(pair: &mut Pair, place: usize, from: Origin, alloc: Global) -> Result<(), Fail> {
+fn to_first(pair: &mut Pair, place: usize, from: PacketSource, alloc: Global) -> Result<(), Fail> {
     let bytes = bytes_at(&pair.second, place, alloc)?;
     hears(&mut pair.first, from, &bytes, alloc)
 }
@@ -427,7 +427,7 @@ fn prepare(pair: &mut Pair, alloc: Global) -> Result<(), Fail> {
 }
 
 // A router's own LSA, of its link to another.
-fn installs(router: &mut Router, own: Origin, other: RouterId, alloc: Global) -> Result<(), Fail> {
+fn installs(router: &mut Router, own: PacketSource, other: RouterId, alloc: Global) -> Result<(), Fail> {
     let lsa = lsa_of(alloc, own.router, other, own.address.0)?;
     router.area.database.install(lsa, 0, false)?;
     Ok(())
@@ -452,7 +452,7 @@ fn description(alloc: Global, flags: u8, number: u32) -> Result<Vec<u8>, Fail> {
 }
 
 // It comes to a router, with a number of its own.
-fn describes(router: &mut Router, from: Origin, flags: u8, alloc: Global) -> Result<(), Fail> {
+fn describes(router: &mut Router, from: PacketSource, flags: u8, alloc: Global) -> Result<(), Fail> {
     let bytes = description(alloc, flags, 900)?;
     hears(router, from, &bytes, alloc)
 }

@@ -1,6 +1,6 @@
 //! The numbers and contents of own LSAs over an area, against sums that were computed elsewhere.
 
-use ospf_area::{Area, AreaLink, LinkSettings, Origin, Outputs};
+use ospf_area::{Area, AreaLink, LinkSettings, PacketSource, Outputs};
 use ospf_base::{Addr, AreaId, Instance, InterfaceKind, Kind, LsaKey, MAX_AGE, RouterId, is_mask};
 use ospf_iface::{Iface, IfaceSettings, IfaceState};
 use ospf_lsa::{LinkKind, Lsa, LsaView};
@@ -180,7 +180,7 @@ fn step(area: &mut Area, alloc: Global) -> Result<Vec<Instance>, Fail> {
 
 // An LSA comes from 2.2.2.2.
 fn hear(area: &mut Area, lsa: &Lsa, alloc: Global) -> Result<(), Fail> {
-    let from = Origin {
+    let from = PacketSource {
         link: 0,
         router: TWO.router,
         address: TWO.address,

@@ -3,7 +3,7 @@
 use super::made::{key_of, require};
 use super::wired::count;
 use ospf_adjacency::{repeat, take_description, take_event, take_request};
-use ospf_area::{OnLink, Outputs, Own, Post, Sent, request_turn};
+use ospf_area::{LinkContext, Outputs, RouterContext, Outbox, Sent, request_turn};
 use ospf_base::{Addr, AreaId, Instance, InterfaceKind, RouterId};
 use ospf_exchange::Local;
 use ospf_iface::{Iface, IfaceSettings, IfaceState};
@@ -55,22 +55,22 @@ fn iface() -> Iface {
     }
 }
 
-fn on_link(local: Local) -> OnLink {
-    OnLink {
+fn on_link(local: Local) -> LinkContext {
+    LinkContext {
         iface: iface(),
         local,
     }
 }
 
 // What was posted goes out of the link.
-fn send(post: Post, out: &mut Outputs) -> Result<(), Fail> {
-    let own = Own {
+fn send(outbox: Outbox, out: &mut Outputs) -> Result<(), Fail> {
+    let own = RouterContext {
         router: LOCAL.router,
         area: AreaId(0),
         tick: LOCAL.tick,
         passes_over: false,
     };
-    post.send_all(out, own, 0, &iface())?;
+    outbox.send_all(out, own, 0, &iface())?;
     Ok(())
 }
 
@@ -99,12 +99,12 @@ fn headers_of(alloc: Global, count: u32) -> Result<Vec<LsaHeader>, Fail> {
 // A neighbour in ExStart, to which the first Database Description has gone out with the number 300.
 fn starting(alloc: Global, router: u32) -> Result<Neighbour, Fail> {
     let mut neighbour = Neighbour::new(alloc, RouterId(router), Addr(router));
-    let mut post = Post::new(300, alloc);
+    let mut outbox = Outbox::new(300, alloc);
     let mut out = Outputs::new(alloc);
     for event in [NbrEvent::HelloReceived, NbrEvent::TwoWayReceived(true)] {
-        take_event(&mut neighbour, event, &on_link(LOCAL), &mut post)?;
+        take_event(&mut neighbour, event, &on_link(LOCAL), &mut outbox)?;
     }
-    send(post, &mut out)?;
+    send(outbox, &mut out)?;
     require(count(&out) == 1)?;
     Ok(neighbour)
 }
@@ -164,7 +164,7 @@ fn takes_description(
         return Err("no Database Description".into());
     };
     let sender = neighbour.router();
-    let mut post = Post::new(301, alloc);
+    let mut outbox = Outbox::new(301, alloc);
     let taken = take_description(
         neighbour,
         sender,
@@ -172,9 +172,9 @@ fn takes_description(
         headers,
         database,
         &on_link(LOCAL),
-        &mut post,
+        &mut outbox,
     )?;
-    send(post, out)?;
+    send(outbox, out)?;
     Ok(taken)
 }
 
@@ -212,16 +212,16 @@ fn takes_request(
     if !neighbour.is_exchanging() {
         return Err("below Exchange".into());
     }
-    let mut post = Post::new(301, alloc);
+    let mut outbox = Outbox::new(301, alloc);
     let keys = take_request(
         neighbour,
         entries,
         database,
         &on_link(LOCAL),
         DELAY,
-        &mut post,
+        &mut outbox,
     )?;
-    send(post, out)?;
+    send(outbox, out)?;
     Ok(keys.len())
 }
 
@@ -232,17 +232,17 @@ fn repeats(
     database: &Lsdb,
     alloc: Global,
 ) -> Result<(Outputs, usize), Fail> {
-    let mut post = Post::new(301, alloc);
+    let mut outbox = Outbox::new(301, alloc);
     let keys = repeat(
         neighbour,
         database,
         &on_link(at_tick(tick)),
         RETRANSMIT,
         DELAY,
-        &mut post,
+        &mut outbox,
     )?;
     let mut out = Outputs::new(alloc);
-    send(post, &mut out)?;
+    send(outbox, &mut out)?;
     Ok((out, keys.len()))
 }
 
@@ -407,10 +407,10 @@ fn a_master_gets_one_again(rt: HostRuntime) -> Result<(), Fail> {
 // ---- Requests
 
 fn asked(neighbour: &mut Neighbour, alloc: Global) -> Result<usize, Fail> {
-    let mut post = Post::new(301, alloc);
-    request_turn(neighbour, &on_link(LOCAL), &mut post)?;
+    let mut outbox = Outbox::new(301, alloc);
+    request_turn(neighbour, &on_link(LOCAL), &mut outbox)?;
     let mut out = Outputs::new(alloc);
-    send(post, &mut out)?;
+    send(outbox, &mut out)?;
     last_request(&out)
 }
 

@@ -2,7 +2,7 @@
 
 use super::made::lsa_of;
 use super::wired::{area_of, neighbour, waiting};
-use ospf_area::{Area, AreaLink, LinkSettings, Origin, Outputs};
+use ospf_area::{Area, AreaLink, LinkSettings, PacketSource, Outputs};
 use ospf_base::{Addr, AreaId, InterfaceKind, RouterId};
 use ospf_iface::{Iface, IfaceSettings, IfaceState};
 use ospf_lsa::{Lsa, LsaHeader};
@@ -28,19 +28,19 @@ const OWN: RouterId = RouterId(9);
 
 const MTU: u16 = 576;
 
-const FROM_FIRST: Origin = Origin {
+const FROM_FIRST: PacketSource = PacketSource {
     link: 0,
     router: RouterId(1),
     address: Addr(1),
 };
 
-const FROM_SECOND: Origin = Origin {
+const FROM_SECOND: PacketSource = PacketSource {
     link: 0,
     router: RouterId(2),
     address: Addr(2),
 };
 
-const FROM_THIRD: Origin = Origin {
+const FROM_THIRD: PacketSource = PacketSource {
     link: 1,
     router: RouterId(3),
     address: Addr(3),
@@ -173,7 +173,7 @@ fn update_of(alloc: Global, lsas: Vec<Lsa>) -> Result<Vec<u8>, Fail> {
 
 fn takes_bytes(
     area: &mut Area,
-    from: Origin,
+    from: PacketSource,
     bytes: &[u8],
     out: &mut Outputs,
     alloc: Global,
@@ -189,7 +189,7 @@ fn takes_bytes(
 // Takes an Update with one LSA.
 fn takes(
     area: &mut Area,
-    from: Origin,
+    from: PacketSource,
     lsa: Lsa,
     out: &mut Outputs,
     alloc: Global,

@@ -1,6 +1,6 @@
 //! Interfaces, neighbours and areas, for the tests of what goes on in an area.
 
-use ospf_area::{Area, AreaLink, Origin, Outputs, origin_of};
+use ospf_area::{Area, AreaLink, PacketSource, Outputs, source_of};
 use ospf_base::{Addr, AreaId, InterfaceKind, RouterId};
 use ospf_exchange::Local;
 use ospf_iface::{Iface, IfaceSettings, IfaceState};
@@ -117,8 +117,8 @@ pub(crate) fn count(out: &Outputs) -> usize {
 }
 
 /// How many instances wait for the acknowledgement of a neighbour.
-pub(crate) fn waiting(area: &Area, from: Origin) -> usize {
-    match origin_of(&area.links, from) {
+pub(crate) fn waiting(area: &Area, from: PacketSource) -> usize {
+    match source_of(&area.links, from) {
         Some(neighbour) => neighbour.retransmission().len(),
         None => 99,
     }

@@ -4,7 +4,7 @@ use super::super::made::SECOND;
 use super::{
     FROM_SECOND, Pair, Router, are_in, are_same, counts_sent, goes_up, met, stands, to_first,
 };
-use ospf_area::Origin;
+use ospf_area::PacketSource;
 use ospf_base::Addr;
 use ospf_iface::IfaceState;
 use ospf_links::take_down;
@@ -50,7 +50,7 @@ fn a_link_goes_down(rt: HostRuntime) -> Result<(), Fail> {
 
 // All that may come of a link that is not there, and a link that is up and comes up again.
 fn does_nothing(pair: &mut Pair, alloc: Global) -> Result<(), Fail> {
-    let elsewhere = Origin {
+    let elsewhere = PacketSource {
         link: 7,
         router: SECOND,
         address: FROM_SECOND.address,

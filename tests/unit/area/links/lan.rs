@@ -5,7 +5,7 @@ use super::{
     Router, Says, describes, goes_up, hears, iface_state, is_in, router_of, sends, sends_to, stands,
     ticks,
 };
-use ospf_area::{AreaLink, Origin};
+use ospf_area::{AreaLink, PacketSource};
 use ospf_base::{Addr, AreaId, InterfaceKind, RouterId};
 use ospf_iface::{IfaceSettings, IfaceState};
 use ospf_links::elect;
@@ -34,13 +34,13 @@ const SECOND_THERE: Addr = Addr(0x0a01_0002);
 const THIRD_THERE: Addr = Addr(0x0a01_0003);
 
 // Who sends from a place on the LAN.
-fn origin_at(place: usize) -> Origin {
+fn origin_at(place: usize) -> PacketSource {
     let (router, address) = match place {
         0 => (FIRST, FIRST_THERE),
         1 => (SECOND, SECOND_THERE),
         _ => (THIRD, THIRD_THERE),
     };
-    Origin {
+    PacketSource {
         link: 0,
         router,
         address,

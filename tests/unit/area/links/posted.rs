@@ -3,7 +3,7 @@
 use super::super::made::FIRST;
 use super::super::written::HELLO;
 use super::{FROM_SECOND, Router, are_same, is_sent, point_to_point, router_of, sends_to};
-use ospf_area::{Post, own_of};
+use ospf_area::{Outbox, context_of};
 use ospf_base::{ALL_SPF_ROUTERS, Addr};
 use ospf_iface::Iface;
 use ospf_packet::{BodyValue, Hello};
@@ -32,14 +32,14 @@ fn posts(router: &mut Router, alloc: Global) -> Result<(), Fail> {
 }
 
 fn posts_from(router: &mut Router, iface: &Iface, alloc: Global) -> Result<(), AllocError> {
-    let mut post = Post::new(0, alloc);
-    puts(&mut post, alloc)?;
-    post.send_all(&mut router.out, own_of(&router.area), 0, iface)
+    let mut outbox = Outbox::new(0, alloc);
+    puts(&mut outbox, alloc)?;
+    outbox.send_all(&mut router.out, context_of(&router.area), 0, iface)
 }
 
-fn puts(post: &mut Post, alloc: Global) -> Result<(), AllocError> {
-    post.put(ALL_SPF_ROUTERS, first_hello(alloc))?;
-    post.put(FROM_SECOND.address, first_hello(alloc))
+fn puts(outbox: &mut Outbox, alloc: Global) -> Result<(), AllocError> {
+    outbox.put(ALL_SPF_ROUTERS, first_hello(alloc))?;
+    outbox.put(FROM_SECOND.address, first_hello(alloc))
 }
 
 // Whether they go where they should, whether they are as they should, and the link and the source of the first.

@@ -6,7 +6,7 @@ use super::{
     FROM_SECOND, Pair, Router, To, are_same, count_marked, counts_sent, is_sent, lsa_of, met,
     neighbour_state, pass, wait_for,
 };
-use ospf_area::{flood, own_of};
+use ospf_area::{flood, context_of};
 use ospf_links::count_timers;
 use ospf_lsa::LsaView;
 use ospf_neighbour::NeighbourState;
@@ -21,7 +21,7 @@ fn floods(router: &mut Router, alloc: Global) -> Result<(), Fail> {
 }
 
 fn floods_copy(router: &mut Router, lsa: &LsaView, alloc: Global) -> Result<(), AllocError> {
-    let own = own_of(&router.area);
+    let own = context_of(&router.area);
     flood(
         &mut router.area.links,
         lsa,

@@ -2,7 +2,7 @@
 
 use super::super::made::lsa_of;
 use super::{FIRST, FROM_FIRST, SECOND, all_waiting, area, header_of, headers_in, stores};
-use ospf_area::{AreaLink, Outputs, Own, Post, own_of};
+use ospf_area::{AreaLink, Outputs, RouterContext, Outbox, context_of};
 use ospf_base::{Addr, RouterId};
 use ospf_iface::IfaceState;
 use ospf_lsa::LsaHeader;
@@ -69,14 +69,14 @@ fn acknowledgements_are_packed(rt: HostRuntime) -> Result<(), Fail> {
 fn packed(headers: &[LsaHeader], alloc: Global) -> Result<Outputs, Fail> {
     let area = area(alloc, IfaceState::Dr, &[])?;
     let link = area.links.first().ok_or("no link")?;
-    packed_on(link, own_of(&area), headers, alloc)
+    packed_on(link, context_of(&area), headers, alloc)
 }
 
-fn packed_on(link: &AreaLink, own: Own, headers: &[LsaHeader], alloc: Global) -> Result<Outputs, Fail> {
+fn packed_on(link: &AreaLink, own: RouterContext, headers: &[LsaHeader], alloc: Global) -> Result<Outputs, Fail> {
     let mut out = Outputs::new(alloc);
-    let mut post = Post::new(0, alloc);
-    send_acks(headers, link.settings, Addr(2), &mut post)?;
-    post.send_all(&mut out, own, 0, &link.iface)?;
+    let mut outbox = Outbox::new(0, alloc);
+    send_acks(headers, link.settings, Addr(2), &mut outbox)?;
+    outbox.send_all(&mut out, own, 0, &link.iface)?;
     Ok(out)
 }
 

@@ -5,7 +5,7 @@ use super::{
     FIRST, FROM_FIRST, FROM_SECOND, FROM_THIRD, acknowledged, area, delayed, installs, links,
     stores, takes,
 };
-use ospf_area::{Area, Origin, Outputs, answer_at};
+use ospf_area::{Area, PacketSource, Outputs, answer_at};
 use ospf_base::MAX_AGE;
 use ospf_flood::{Acknowledgement, AcknowledgementCase};
 use ospf_iface::IfaceState;
@@ -34,7 +34,7 @@ fn age_in(case: AcknowledgementCase) -> u16 {
 fn acknowledges(
     area: &mut Area,
     case: AcknowledgementCase,
-    from: Origin,
+    from: PacketSource,
     alloc: Global,
 ) -> Result<usize, Fail> {
     let lsa = lsa_of(alloc, 7, FIRST, age_in(case))?;
@@ -47,7 +47,7 @@ fn acknowledges(
 fn answered(
     case: AcknowledgementCase,
     state: IfaceState,
-    from: Origin,
+    from: PacketSource,
     alloc: Global,
 ) -> Result<(usize, usize), Fail> {
     let mut area = area(alloc, state, &[])?;

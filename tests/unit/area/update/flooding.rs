@@ -5,7 +5,7 @@ use super::{
     FIRST, FROM_SECOND, FROM_THIRD, SECOND, all_waiting, area, counts, delayed, headers_in, holding,
     takes,
 };
-use ospf_area::{Area, Origin, Outputs, own_of};
+use ospf_area::{Area, PacketSource, Outputs, context_of};
 use ospf_base::{ALL_SPF_ROUTERS, Addr};
 use ospf_iface::IfaceState;
 use ospf_lsa::LsaView;
@@ -42,7 +42,7 @@ fn last_update(out: &Outputs) -> Result<(usize, Addr, u16, i32), Fail> {
 // Takes an Update with router 7's first LSA. Answers `counts` and `last_update`.
 fn takes_first(
     area: &mut Area,
-    from: Origin,
+    from: PacketSource,
     out: &mut Outputs,
     alloc: Global,
 ) -> Result<((usize, usize), (usize, Addr, u16, i32)), Fail> {
@@ -71,7 +71,7 @@ fn floods_to_the_other_link(rt: HostRuntime) -> Result<(), Fail> {
 // What goes out at a tick.
 fn delayed_out(area: &mut Area, alloc: Global) -> Result<Outputs, Fail> {
     let mut out = Outputs::new(alloc);
-    let own = own_of(area);
+    let own = context_of(area);
     send_delayed(&mut area.links, own, &mut out, alloc)?;
     Ok(out)
 }

@@ -2,7 +2,7 @@
 
 use super::super::made::lsa_of;
 use super::{FIRST, FROM_THIRD, MTU, SECOND, counts, installs, loading_area, takes_bytes, update_of};
-use ospf_area::{Area, Origin, Outputs, origin_of};
+use ospf_area::{Area, PacketSource, Outputs, source_of};
 use ospf_neighbour::NeighbourState;
 use ospf_packet::{Body, Packet};
 use std::alloc::Global;
@@ -28,8 +28,8 @@ fn last_description(out: &Outputs) -> Result<(u8, u32, u16), Fail> {
     }
 }
 
-fn state_of(area: &Area, from: Origin) -> Option<NeighbourState> {
-    match origin_of(&area.links, from) {
+fn state_of(area: &Area, from: PacketSource) -> Option<NeighbourState> {
+    match source_of(&area.links, from) {
         Some(neighbour) => Some(neighbour.state()),
         None => None,
     }

@@ -22,12 +22,12 @@ returns-clause-sent c = λ rest.
     ∙ ap (λ (l : List ℕ). is_empty c.args.batch.now.items || nat_le (length l) c.args.left.now) (c.as_bytes-length.ensures.bytes ∙ c.view.ensures.same)) in
     elim c.if-not-goes_in.branch [
       | then-not-goes_in+in_ok-send w ↦
-          packs_anew c.args.room c.args.destination c.args.batch.now.items c.push.new.self.items c.args.lsa rest c.args.post.now c.if-not-goes_in.post
+          packs_anew c.args.room c.args.destination c.args.batch.now.items c.push.new.self.items c.args.lsa rest c.args.outbox.now c.if-not-goes_in.outbox
           (sym w.if-not-goes_in.true ∙ by)
-          (rw w.post-is (w.in_ok-send.ensures ∙ rw w.replace-full.ensures.value))
+          (rw w.outbox-is (w.in_ok-send.ensures ∙ rw w.replace-full.ensures.value))
           (c.in_ok-push.ensures.items ∙ rw w.batch-is (rw w.replace-full.ensures.after (ap (λ (b : List (List ℕ)). b ++ c.args.lsa ∷ []) w.new.ensures.items)))
       | else-not-goes_in w ↦
-          packs_after c.args.room c.args.destination c.args.batch.now.items c.push.new.self.items c.args.lsa rest c.args.post.now c.if-not-goes_in.post
+          packs_after c.args.room c.args.destination c.args.batch.now.items c.push.new.self.items c.args.lsa rest c.args.outbox.now c.if-not-goes_in.outbox
           (sym w.if-not-goes_in.false ∙ by)
-          (rw w.post-is) (c.in_ok-push.ensures.items ∙ rw w.batch-is)
+          (rw w.outbox-is) (c.in_ok-push.ensures.items ∙ rw w.batch-is)
     ]

@@ -9,7 +9,7 @@ use Rattle.ospf_lsa.specs.declared.header.LsaHeader.{LsaHeader}
 use Rattle.ospf_lsa.specs.Lsa.{key_of}
 use Rattle.ospf_neighbour.specs.Neighbour.{NeighbourValue}
 use Rattle.ospf_area.specs.Flooding.{came_from}
-use Rattle.ospf_area.specs.declared.flooding.Origin.{Origin}
+use Rattle.ospf_area.specs.declared.flooding.PacketSource.{PacketSource}
 use Rattle.ospf_neighbour.proofs.NeighbourLemmas.{AreNeighbours-same, routers-set}
 use Rattle.ospf_area.proofs.NeighbourLemmas.{flooded-router}
 use Rattle.ospf_area.proofs.PlaceLemmas.{map_read, or_set, or_left}
@@ -19,7 +19,7 @@ use Rattle.ospf_area.proofs.flooding.flood_neighbours.Goals as goal
 use Rattle.ospf_area.proofs.flooding.flood_neighbours.Goals.{then-branch, else-branch}
 
 -- a neighbour is flooded to by what the code has at hand
-module _ (k key : LsaKey) (head h : LsaHeader) (by : Bool) (here : Option Origin) where
+module _ (k key : LsaKey) (head h : LsaHeader) (by : Bool) (here : Option PacketSource) where
   as_flooded : (tick : ℕ) (n : NeighbourValue) → k ≡ key → head ≡ h → by ≡ came_from here n → flooded k head by tick n ≡ flooded_neighbour key h here tick n
   as_flooded tick n is_key is_head is_by =
       ap (λ (x : LsaKey). flooded x head by tick n) is_key ∙ ap (λ (x : LsaHeader). flooded key x by tick n) is_head ∙ ap (λ (x : Bool). flooded key h x tick n) is_by

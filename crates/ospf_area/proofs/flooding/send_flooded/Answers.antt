@@ -4,13 +4,13 @@ use Rattle.std.proofs.lemmas.Result.{on_ok_weaker}
 use Rattle.ospf_flood.specs.Links.{flooding_address}
 use Rattle.ospf_area.specs.Sending.{and_sends}
 use Rattle.ospf_area.specs.contracts.state as state
-use Rattle.ospf_area.proofs.PostLemmas.{lsa_posted}
+use Rattle.ospf_area.proofs.OutboxLemmas.{lsa_posted}
 use Rattle.ospf_area.proofs.flooding.send_flooded.Goals as goal
 
 pub returns : goal.returns
 returns c =
     on_ok_weaker c.send_all.result
     (λ e. e ∙ ap (and_sends c.args.out.now)
-    (lsa_posted c.args.own c.args.number 0 flooding_address c.args.link.now (state.AreaLink.the_view c.link.inside) c.args.lsa.now c.in_ok-lsa.lsa c.flooding_address.result c.new-post.result c.send_lsa.new.post
-    c.link.view_is c.new-post.ensures c.in_ok-lsa.ensures c.flooding_address.ensures c.in_ok-send_lsa.ensures))
+    (lsa_posted c.args.own c.args.number 0 flooding_address c.args.link.now (state.AreaLink.the_view c.link.inside) c.args.lsa.now c.in_ok-lsa.lsa c.flooding_address.result c.new-outbox.result c.send_lsa.new.outbox
+    c.link.view_is c.new-outbox.ensures c.in_ok-lsa.ensures c.flooding_address.ensures c.in_ok-send_lsa.ensures))
     c.send_all.ensures

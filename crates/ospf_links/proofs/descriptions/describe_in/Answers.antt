@@ -21,7 +21,7 @@ nobody c =
 
 pub returns-then-not-is_at : goal.returns-then-not-is_at
 returns-then-not-is_at c =
-    let x = neighbourhood c.args.all.now.items false c.args.post.now in
+    let x = neighbourhood c.args.all.now.items false c.args.outbox.now in
     ap (λ (o : Option NeighbourValue). description_by o c.args.at.now.iface c.args.at.now.local c.args.from.router c.args.fields c.args.headers c.args.database.now x) (sym (nobody c))
 
 -- the neighbour that stands there
@@ -51,6 +51,6 @@ returns c =
     let local = c.args.at.now.local in
     let t = c.in_ok-elects.ensures in
     let e = c.index_mut-neighbour.result.now in
-    described_found i local c.args.from.router c.args.fields c.args.headers c.args.database.now c.args.all.now.items c.args.post.now c.describe.new.post c.place_for-place.result
+    described_found i local c.args.from.router c.args.fields c.args.headers c.args.database.now c.args.all.now.items c.args.outbox.now c.describe.new.outbox c.place_for-place.result
     e c.describe.new.neighbour c.in_ok-elects.elects s.at s.there s.same
-    (described_router i local c.args.from.router c.args.fields c.args.headers c.args.database.now (turn e c.args.post.now) c.describe.new.neighbour (ap (λ (u : Turn). u.neighbour) t.turn)) t.turn t.elects
+    (described_router i local c.args.from.router c.args.fields c.args.headers c.args.database.now (turn e c.args.outbox.now) c.describe.new.neighbour (ap (λ (u : Turn). u.neighbour) t.turn)) t.turn t.elects

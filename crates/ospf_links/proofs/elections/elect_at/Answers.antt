@@ -14,11 +14,11 @@ elect_link-requires c =
 pub returns-in-Some : goal.returns-in-Some
 returns-in-Some c =
     on_ok_weaker c.elect_link.result
-    (λ e. elects_some c.args.area.now _ _ c.args.out.now c.elect_link.new.out c.args.number c.in-Some.link.now c.elect_link.new.link c.elect_link.new.next c.own_of-own.result e.0
+    (λ e. elects_some c.args.area.now _ _ c.args.out.now c.elect_link.new.out c.args.number c.in-Some.link.now c.elect_link.new.link c.elect_link.new.next c.context_of-own.result e.0
     c.area.view_is
     (is_there c.area.inside.links.items c.args.area.now.links c.args.number c.in-Some.link.now (sym (ap (λ (s : AreaValue). s.links) c.area.view_is))
     (ap is_some (sym c.in-Some.is) ∙ c.get_mut.follows.1.1.0) c.in-Some.ensures.value)
-    c.own_of-own.ensures e.1 refl e.2)
+    c.context_of-own.ensures e.1 refl e.2)
     c.elect_link.ensures
 
 pub returns-in-None : goal.returns-in-None

@@ -21,7 +21,7 @@ nobody c =
 
 pub returns-then-not-is_at-clause-turn : goal.returns-then-not-is_at-clause-turn
 returns-then-not-is_at-clause-turn c =
-    let x = neighbourhood c.args.all.now.items false c.args.post.now in
+    let x = neighbourhood c.args.all.now.items false c.args.outbox.now in
     ap (λ (o : Option NeighbourValue). request_by o c.args.at.now.iface c.args.at.now.local c.args.delay c.args.database.now c.args.requests x) (sym (nobody (goal.at.returns-then-not-is_at-clause-turn c).Then-not-is_at))
 
 pub returns-then-not-is_at-clause-keys : goal.returns-then-not-is_at-clause-keys
@@ -46,7 +46,7 @@ returns-clause-turn c =
     let h = c.is_at.ensures.there (subst-true c.is_at.result c.if-not-is_at.false) in
     let there : slice_get ns k ≡ Some h.0 = ap (λ (l : List NeighbourValue). slice_get l k) (sym c.deref-2.ensures.value) ∙ h.1 in
     let is : e ≡ h.0 = c.index_mut-neighbour.ensures.value ∙ get_or_from_slice_get ns k h.0 e there in
-    requested_found c.args.at.now.iface c.args.at.now.local c.args.from.router c.args.delay c.args.database.now c.args.requests ns c.args.post.now c.take_request.new.post k
+    requested_found c.args.at.now.iface c.args.at.now.local c.args.from.router c.args.delay c.args.database.now c.args.requests ns c.args.outbox.now c.take_request.new.outbox k
     e c.take_request.new.neighbour
     (c.place_for-place.ensures ∙ ap (λ (l : List NeighbourValue). place_for l c.args.from.router.0) c.deref.ensures.value) (there ∙ ap (λ (n : NeighbourValue). Some n) (sym is)) (ap (λ (n : NeighbourValue). n.router) is ∙ h.2)
     c.in_ok-keys.ensures.turn

@@ -4,7 +4,7 @@ use Rattle.std.proofs.lemmas.Option.{same_Some}
 use Rattle.ospf_packet.specs.Meaning.{Meaning}
 use Rattle.ospf_packet.specs.Said.{said}
 use Rattle.ospf_step.specs.Invariants.{NoneWaitsBelow}
-use Rattle.ospf_step.specs.Takes.{TakesDatagram, origin_of}
+use Rattle.ospf_step.specs.Takes.{TakesDatagram, source_of}
 use Rattle.ospf_step.proofs.DropFacts.{can_come, can_take, not_dropped_as}
 use Rattle.ospf_step.proofs.StepFit.{body_fit}
 use Rattle.ospf_step.proofs.datagrams.take_datagram.Goals as goal
@@ -31,6 +31,6 @@ returns-clause-fit c =
     let s = c.args.area.now in
     let m = said c.in-Ok.packet in
     body_fit c.neighbours_stay_of_link.ensures c.elections_come_about.ensures c.description_keeps_router.ensures c.answers_are_quiet.ensures c.area_stays_sound.ensures
-    m.body (origin_of c.args.link c.args.source m) s c.args.out.now c.take_body.new.out c.take_body.new.area
+    m.body (source_of c.args.link c.args.source m) s c.args.out.now c.take_body.new.out c.take_body.new.area
     (can_come c.not_dropped_is_taken.ensures s c.args.link c.args.source c.args.destination m c.requires
     (not_dropped_as s c.args.link c.args.source c.args.destination _ m c.in-Ok.ensures.packet c.in-Ok.ensures.taken)) c.in_ok-take_body.ensures c.requires

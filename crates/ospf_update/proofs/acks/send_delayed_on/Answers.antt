@@ -16,5 +16,5 @@ returns-clause-sent c =
     c.in_ok-send_all.ensures
     ∙ ap (and_sends c.args.out.now)
     (acks_posted c.args.own c.args.number 0 flooding_address link (state.AreaLink.the_view c.link.inside) c.deref.result.now c.flooding_address-to.result
-    c.new-post.result c.send_acks.new.post c.link.view_is c.new-post.ensures c.flooding_address-to.ensures c.in_ok-send_acks.ensures
+    c.new-outbox.result c.send_acks.new.outbox c.link.view_is c.new-outbox.ensures c.flooding_address-to.ensures c.in_ok-send_acks.ensures
     ∙ ap (λ (hs : List LsaHeader). acks_out c.args.own (way_out c.args.number link.iface (flooding_address link.iface)) link.settings.mtu hs) waiting)

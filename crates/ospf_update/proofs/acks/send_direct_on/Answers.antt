@@ -12,5 +12,5 @@ returns c =
     on_ok_weaker c.send_all.result
     (λ e. e ∙ ap (and_sends c.args.out.now)
     (acks_posted c.args.own c.args.from.link 0 (λ (i : Iface). to_address i c.args.from.address) c.args.link.now (state.AreaLink.the_view c.link.inside) c.args.headers.now c.to_address-to.result
-    c.new-post.result c.send_acks.new.post c.link.view_is c.new-post.ensures c.to_address-to.ensures c.in_ok-send_acks.ensures))
+    c.new-outbox.result c.send_acks.new.outbox c.link.view_is c.new-outbox.ensures c.to_address-to.ensures c.in_ok-send_acks.ensures))
     c.send_all.ensures

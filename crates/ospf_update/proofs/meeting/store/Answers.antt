@@ -29,5 +29,5 @@ returns-clause-after c =
     c.view.result c.view-2.result c.view-3.result c.key-key.result c.header-header.result c.is_some.result c.in_ok-flooded.flooded.anywhere
     c.view.ensures.same c.view-2.ensures.same c.view-3.ensures.same c.key-key.ensures c.header-header.ensures.value c.is_some.ensures went
     c.release_in.ensures
-    (floods c.view-3.result c.args.from c.key-key.result c.args.area.now c.release_in.new.area view c.own_of-own.result c.deref_mut.result.now c.flood.new.links c.own_of-own.ensures c.release_in.ensures c.area.view_is now c.in_ok-flooded.ensures.after)
+    (floods c.view-3.result c.args.from c.key-key.result c.args.area.now c.release_in.new.area view c.context_of-own.result c.deref_mut.result.now c.flood.new.links c.context_of-own.ensures c.release_in.ensures c.area.view_is now c.in_ok-flooded.ensures.after)
     installs c.in_ok-mark_in.ensures c.in_ok-count_number.ensures

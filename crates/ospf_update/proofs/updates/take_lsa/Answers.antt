@@ -2,7 +2,7 @@
 use Rattle.std.proofs.Common.{◌≡◌, ◌∙◌, ℕ, Bool, List, Option, Result, Ok, Err, OnOk, subst, sym}
 use Rattle.ospf_area.specs.Outputs.{OutputsValue}
 use Rattle.ospf_area.specs.State.{AreaValue}
-use Rattle.ospf_area.specs.declared.flooding.Origin.{Origin}
+use Rattle.ospf_area.specs.declared.flooding.PacketSource.{PacketSource}
 use Rattle.ospf_lsa.specs.Lsa.{IsLsa}
 use Rattle.ospf_area.specs.Sending.{and_sends}
 use Rattle.ospf_flood.specs.declared.rule.LsaRule.{LsaRule}
@@ -14,11 +14,11 @@ use Rattle.ospf_update.proofs.TurnLemmas.{rule_rests, turn_rests, turns_none}
 use Rattle.ospf_update.proofs.updates.take_lsa.Goals as goal
 
 -- bytes that were read as an LSA meet what that LSA meets
-met : (f : Origin) (lsa bytes : List ℕ) (s t : AreaValue) (o o' : OutputsValue) → lsa ≡ bytes → IsLsa bytes → MeetsAndTurns f lsa s o o' t → TakesSlice f bytes s o o' t
+met : (f : PacketSource) (lsa bytes : List ℕ) (s t : AreaValue) (o o' : OutputsValue) → lsa ≡ bytes → IsLsa bytes → MeetsAndTurns f lsa s o o' t → TakesSlice f bytes s o o' t
 met f lsa bytes s t o o' is valid meets = TakesSlice.Met valid meets.mid meets.so_far (subst (λ (l : List ℕ). MeetsLsa f l s o meets.so_far meets.mid) is meets.meets) meets.state meets.outputs
 
 -- and where they are turned to, all of it
-turned : {E : Type 0} (r : Result Bool E) (rule : Option LsaRule) (f : Origin) (lsa bytes : List ℕ) (s mid t : AreaValue) (o so_far o' : OutputsValue) → lsa ≡ bytes → IsLsa bytes
+turned : {E : Type 0} (r : Result Bool E) (rule : Option LsaRule) (f : PacketSource) (lsa bytes : List ℕ) (s mid t : AreaValue) (o so_far o' : OutputsValue) → lsa ≡ bytes → IsLsa bytes
     → rule ≡ rule_met s f lsa → MeetsRule rule f lsa s o so_far mid → OnOk r (t ≡ turned_area mid) → OnOk r (o' ≡ and_sends so_far (turn_out mid)) → OnOk r (TakesSlice f bytes s o o' t)
 turned (Ok quiet) rule f lsa bytes s mid t o so_far o' is valid met_it meets state outputs =
     met f lsa bytes s t o o' is valid (record { mid = mid; so_far = so_far; meets = subst (λ (x : Option LsaRule). MeetsRule x f lsa s o so_far mid) met_it meets; state = state; outputs = outputs })

@@ -1,10 +1,10 @@
 //! What a part of a step works on beside neighbours: its link, and what it leaves.
 
 ghost use Rattle.std.specs.Prelude.{◌≡◌};
-ghost use Rattle.ospf_area.specs.Posting.{local_by};
+ghost use Rattle.ospf_area.specs.Outboxes.{local_by};
 
 use crate::outputs::Outputs;
-use crate::sending::{Own, send, way_out};
+use crate::sending::{RouterContext, send, way_out};
 use crate::state::{AreaLink, LinkSettings};
 use ospf_base::Addr;
 use ospf_exchange::Local;
@@ -15,24 +15,24 @@ use std::marker::Model;
 
 /// The link's side of a part of a step.
 #[derive(Clone, Copy)]
-pub struct OnLink {
+pub struct LinkContext {
     /// The interface.
     pub iface: Iface,
     /// What the part needs to know of the router and the interface.
     pub local: Local,
 }
 
-impl OnLink {
+impl LinkContext {
     ghost use Rattle.std.specs.Prelude.{◌≡◌};
 
     /// A link as its neighbours' parts of a step work on it.
-    pub fn of(own: Own, link: &AreaLink) -> OnLink
+    pub fn of(own: RouterContext, link: &AreaLink) -> LinkContext
         ensures { result ≡ record {
           iface = link.now.iface;
           local = local_by own link.now.settings;
         } }
     {
-        OnLink {
+        LinkContext {
             iface: link.iface,
             local: local_of(own, link),
         }
@@ -42,32 +42,32 @@ impl OnLink {
 /// What a part of a step at one link leaves beside its neighbours: the router's next Database
 /// Description number, and the packets that go out.
 #[derive(Drop)]
-pub struct Post {
+pub struct Outbox {
     next: u32,
-    sent: Vec<Parcel>,
+    sent: Vec<PendingPacket>,
     alloc: Global,
 }
 
-impl Model for Post {
-    ghost use Rattle.ospf_area.specs.Posting.{PostValue};
+impl Model for Outbox {
+    ghost use Rattle.ospf_area.specs.Outboxes.{OutboxValue};
 
-    ghost Value = { PostValue };
+    ghost Value = { OutboxValue };
 
     ghost view = { λ p. record { next = p.next; sent = p.sent.items } };
 }
 
-impl Post {
+impl Outbox {
     ghost use Rattle.std.specs.Prelude.{◌≡◌, ◌∷◌, [], OnOk};
     ghost use Rattle.ospf_area.specs.Sending.{and_sends};
     ghost use Rattle.ospf_packet.specs.Said.{body_meant};
-    ghost use Rattle.ospf_area.specs.Posting.{and_parcels, posted_all};
+    ghost use Rattle.ospf_area.specs.Outboxes.{and_packets, posted_all};
 
     /// Nothing goes out yet; `next` is the router's next Database Description
     /// number (RFC 2328, section 10.8).
-    pub fn new(next: u32, alloc: Global) -> Post
+    pub fn new(next: u32, alloc: Global) -> Outbox
         ensures { result ≡ record { next = next; sent = [] } }
     {
-        Post {
+        Outbox {
             next,
             sent: Vec::new(alloc),
             alloc,
@@ -92,10 +92,10 @@ impl Post {
     pub fn put(&mut self, destination: Addr, body: BodyValue) -> Result<(), AllocError>
         ensures next { self.new.next ≡ self.old.next }
         ensures sent { OnOk result
-            (self.new ≡ and_parcels self.old
+            (self.new ≡ and_packets self.old
             (record { destination = destination; body = body_meant body } ∷ [])) }
     {
-        self.sent.push(Parcel { destination, body })?;
+        self.sent.push(PendingPacket { destination, body })?;
         Ok(())
     }
 
@@ -106,7 +106,7 @@ impl Post {
     pub fn send_all(
         self,
         out: &mut Outputs,
-        own: Own,
+        own: RouterContext,
         link: usize,
         iface: &Iface,
     ) -> Result<(), AllocError>
@@ -115,12 +115,12 @@ impl Post {
     {
         let alloc = self.alloc;
         let sent = self.sent;
-        for parcel in sent {
-            let way = way_out(link, iface, parcel.destination);
+        for packet in sent {
+            let way = way_out(link, iface, packet.destination);
             let packet = PacketValue {
                 router: own.router,
                 area: own.area,
-                body: parcel.body,
+                body: packet.body,
             };
             send(out, way, &packet, alloc)?;
         }
@@ -136,14 +136,14 @@ impl Post {
 }
 
 /// What the parts of a step need to know of the router and this link.
-pub fn local_of(own: Own, link: &AreaLink) -> Local
+pub fn local_of(own: RouterContext, link: &AreaLink) -> Local
     ensures { result ≡ local_by own link.now.settings }
 {
     local_by(own, link.settings)
 }
 
 /// What the parts of a step need to know of the router and a link of these settings.
-pub fn local_by(own: Own, settings: LinkSettings) -> Local
+pub fn local_by(own: RouterContext, settings: LinkSettings) -> Local
     ensures { result ≡ local_by own settings }
 {
     Local {
@@ -156,15 +156,15 @@ pub fn local_by(own: Own, settings: LinkSettings) -> Local
 
 /// A packet that is to go out of a link: where it goes, and what it says.
 #[derive(Drop)]
-struct Parcel {
+struct PendingPacket {
     destination: Addr,
     body: BodyValue,
 }
 
-impl Model for Parcel {
+impl Model for PendingPacket {
     ghost use Rattle.ospf_area.specs.Packets as packets;
 
-    ghost Value = { packets.Parcel };
+    ghost Value = { packets.PendingPacket };
 
     ghost use Rattle.ospf_packet.specs.Said.{body_meant};
 
