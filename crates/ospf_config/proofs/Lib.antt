@@ -5,5 +5,6 @@ pub mod Singles
 pub mod TableLists
 mod KeyLists
 pub mod ConflictLists
+mod IntegerLemmas
 mod FaultLemmas
 mod TextFaults

@@ -1,6 +1,6 @@
 -- What the value at a key means, or which fault it has.
 use Rattle.std.specs.Prelude.{◌≡◌, ℕ, ℤ, pos, ◌≤◌, List, [], ◌∷◌, Option, Some, None, option_map, Result, Ok, Err}
-use Rattle.toml.specs.Data.{Data, Items, no_items, item, integer, array}
+use Rattle.toml.specs.Data.{Data, Items, no_items, item, integer, array, as_integer}
 use Rattle.ospf_config.specs.declared.fault.ConfigFault.{ConfigFault}
 use Rattle.ospf_config.specs.declared.fault.ConfigFault.TheVariants as fault
 
@@ -25,6 +25,12 @@ Optional typed Means default (Some d) r = ReadsValue Means (typed d) r
 -- the integer is a number of this range
 abbrev pub IsNumberIn : ℕ → ℕ → ℤ → ℕ → Type 0
 IsNumberIn low high z n = (z ≡ pos n) × (low ≤ n) × (n ≤ high)
+
+-- the integer at a key, whatever its size: the default where the key is not there, and none where
+-- the value is no integer
+abbrev pub integer_or : ℕ → Option Data → Option ℤ
+integer_or default None = Some (pos default)
+integer_or default (Some d) = as_integer d
 
 -- the integers of a list, if each member is one
 abbrev pub integers_of : Items → Option (List ℤ)

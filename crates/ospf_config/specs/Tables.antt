@@ -1,11 +1,11 @@
 -- What a TOML table says of a configuration, and which faults it has.
-use Rattle.std.specs.Prelude.{◌≡◌, ◌⊎◌, ℕ, ◌<◌, ◌≤◌, if◌then◌else◌, List, [], ◌∷◌, length, slice_get, codes, Contains, Any, Option, Some, None, option_and_then, unwrap_or, Result, Ok, Err}
+use Rattle.std.specs.Prelude.{◌≡◌, ◌⊎◌, ℕ, ℤ, ◌<◌, ◌≤◌, ◌≤ℤ◌, if◌then◌else◌, List, [], ◌∷◌, length, slice_get, codes, Contains, Any, Option, Some, None, option_and_then, unwrap_or, Result, Ok, Err}
 use Rattle.toml.specs.Data.{Data, Items, no_items, item, array, table, Members, no_members, member, get_member}
 use Rattle.toml.specs.Text.{are_tables}
 use Rattle.ospf_config.specs.declared.address.InterfaceAddress.{InterfaceAddress}
 use Rattle.ospf_config.specs.declared.fault.ConfigFault.{ConfigFault}
 use Rattle.ospf_config.specs.declared.fault.ConfigFault.TheVariants as fault
-use Rattle.ospf_config.specs.Reading.{Required}
+use Rattle.ospf_config.specs.Reading.{Required, integer_or}
 use Rattle.ospf_config.specs.Keys.{ReadsOwnRouterId, ReadsArea, ReadsStubRouter, ReadsOtherLsas, ReadsKind, ReadsInterfaceAddress, ReadsCost, ReadsPriority, ReadsHello, ReadsDead, ReadsRetransmit, ReadsTransmitDelay, ReadsMtu, ReadsPort, ReadsPeers}
 use Rattle.ospf_config.specs.Conflicts.{Conflict}
 
@@ -80,13 +80,14 @@ pub record HaveSamePrefix (tables : List Members) : Type 0 where
   pub second_address : ReadsInterfaceAddress second (Ok b)
   pub conflict : Conflict a b
 
--- the interface would be dead no later than its next Hello (RFC 2328, appendix C.3)
+-- the interface would be dead no later than its next Hello (RFC 2328, appendix C.3): the integers
+-- at the two keys are compared, also where one of them is out of its range
 pub record IsDeadNotOverHello (t : Members) : Type 0 where
-  pub hello : ℕ
-  pub dead : ℕ
-  pub hello_is : ReadsHello t (Ok hello)
-  pub dead_is : ReadsDead t (Ok dead)
-  pub not_over : dead ≤ hello
+  pub hello : ℤ
+  pub dead : ℤ
+  pub hello_is : integer_or 10 (get_member (codes "hello") t) ≡ Some hello
+  pub dead_is : integer_or 40 (get_member (codes "dead") t) ≡ Some dead
+  pub not_over : dead ≤ℤ hello
 
 -- ---- keys that are not known
 

@@ -1,10 +1,10 @@
 //! What stands at a key.
 
-ghost use Rattle.std.specs.Prelude.{◌≡◌, ◌≤◌, IfOk, option_map, option_copied, Ok};
+ghost use Rattle.std.specs.Prelude.{◌≡◌, ◌≤◌, IfOk, option_map, option_copied, Ok, codes};
 ghost use Rattle.ospf_base.specs.Constants.{max_age};
 ghost use Rattle.toml.specs.Data.{get_member, as_integer, as_str};
 ghost use Rattle.toml.specs.View.{view, table_view};
-ghost use Rattle.ospf_config.specs.Reading.{ReadsValue, Optional, IsNumberIn};
+ghost use Rattle.ospf_config.specs.Reading.{ReadsValue, Optional, IsNumberIn, integer_or};
 ghost use Rattle.ospf_config.specs.Texts.{IsKindText, IsAddressText};
 ghost use Rattle.ospf_config.specs.Keys.{ReadsKind, ReadsInterfaceAddress, ReadsCostValue, ReadsCost, IsPortNumber, ReadsPriority, ReadsHello, ReadsDead, ReadsRetransmit, ReadsTransmitDelay, ReadsMtu, ReadsPort};
 
@@ -13,6 +13,12 @@ use crate::fault::ConfigFault;
 use crate::interface::{LEAST_PORT, Port};
 use ospf_base::{InterfaceKind, MAX_AGE};
 use toml::{Table, Value};
+
+// HelloInterval where the key `hello` is not there.
+const DEFAULT_HELLO: u16 = 10;
+
+// RouterDeadInterval where the key `dead` is not there.
+const DEFAULT_DEAD: u16 = 40;
 
 /// What the table holds at a key.
 pub fn value_at<'a>(table: &'a Table, key: &str) -> Option<&'a Value>
@@ -65,7 +71,7 @@ pub fn hello_at(table: &Table) -> Result<u16, ConfigFault>
     ensures reads { ReadsHello (table_view table.now) result }
     ensures range { IfOk result (λ n. 1 ≤ n) }
 {
-    number_at(table, "hello", 1, 65535, 10)
+    number_at(table, "hello", 1, 65535, DEFAULT_HELLO)
 }
 
 /// RouterDeadInterval in ticks at the key `dead`, 40 where nothing is
@@ -74,7 +80,7 @@ pub fn dead_at(table: &Table) -> Result<u16, ConfigFault>
     ensures reads { ReadsDead (table_view table.now) result }
     ensures range { IfOk result (λ n. 1 ≤ n) }
 {
-    number_at(table, "dead", 1, 65535, 40)
+    number_at(table, "dead", 1, 65535, DEFAULT_DEAD)
 }
 
 /// RxmtInterval in ticks at the key `retransmit`, 5 where nothing is
@@ -112,6 +118,21 @@ pub fn port_at(table: &Table) -> Result<Option<Port>, ConfigFault>
         None => Ok(None),
         Some(value) => port_of(value.as_integer()),
     }
+}
+
+// The integer at the key `hello`, whatever its size: 10 where nothing is there, and none where the
+// value is no integer.
+pub(crate) fn hello_integer(table: &Table) -> Option<i64>
+    ensures { result ≡ integer_or 10 (get_member (codes "hello") (table_view table.now)) }
+{
+    integer_at(table, "hello", DEFAULT_HELLO)
+}
+
+// The integer at the key `dead`, likewise: 40 where nothing is there.
+pub(crate) fn dead_integer(table: &Table) -> Option<i64>
+    ensures { result ≡ integer_or 40 (get_member (codes "dead") (table_view table.now)) }
+{
+    integer_at(table, "dead", DEFAULT_DEAD)
 }
 
 // A number of a range.
@@ -177,6 +198,16 @@ fn number_at(
     match value_at(table, key) {
         None => Ok(default),
         Some(value) => number_in(value.as_integer(), low, high),
+    }
+}
+
+// The integer at a key, whatever its size, or the default.
+fn integer_at(table: &Table, key: &str, default: u16) -> Option<i64>
+    ensures { result ≡ integer_or default (get_member key.now (table_view table.now)) }
+{
+    match value_at(table, key) {
+        None => Some(i64::from(default)),
+        Some(value) => value.as_integer(),
     }
 }
 

@@ -12,7 +12,7 @@ ghost use Rattle.ospf_config.specs.Tables.{HasInterfaceFault, IsOtherKey, HasOth
 
 use crate::address::InterfaceAddress;
 use crate::fault::ConfigFault;
-use crate::keys::{address_at, dead_at, hello_at};
+use crate::keys::{address_at, dead_integer, hello_integer};
 use std::alloc::Global;
 use toml::{Table, Value};
 
@@ -27,12 +27,13 @@ pub fn table_in(value: &Value) -> &Table
     }
 }
 
-/// Whether the interface would be dead no later than its next Hello.
+/// Whether the interface would be dead no later than its next Hello, by the
+/// integers at its keys or their defaults: also where one is out of its range.
 pub fn is_dead_not_over_hello(table: &Table) -> bool
     ensures { IsTrue result ↔ IsDeadNotOverHello (table_view table.now) }
 {
-    match (hello_at(table), dead_at(table)) {
-        (Ok(hello), Ok(dead)) => dead <= hello,
+    match (hello_integer(table), dead_integer(table)) {
+        (Some(hello), Some(dead)) => dead <= hello,
         _ => false,
     }
 }

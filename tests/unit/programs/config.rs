@@ -199,7 +199,7 @@ fn refused_at_the_top(rt: HostRuntime) -> Result<(), Fail> {
 
 #[test]
 fn refused_keys(rt: HostRuntime) -> Result<(), Fail> {
-    let cases: [(&str, Option<ConfigFault>, &str); 14] = [
+    let cases: [(&str, Option<ConfigFault>, &str); 15] = [
         (
             "dead = 10\n",
             Some(ConfigFault::DeadNotOverHello),
@@ -210,6 +210,11 @@ fn refused_keys(rt: HostRuntime) -> Result<(), Fail> {
             "hello = 40\n",
             Some(ConfigFault::DeadNotOverHello),
             "hello of the default dead",
+        ),
+        (
+            "dead = 0\n",
+            Some(ConfigFault::Range),
+            "range before dead-not-over-hello",
         ),
         (
             "priority = 256\n",
@@ -444,6 +449,27 @@ fn explains_all_faults_in_order(rt: HostRuntime) -> Result<(), Fail> {
     let rows = [
         ("", ""),
         ("dead = 10\n", "C7 DeadNotOverHello: interface 0: dead: more than `hello` (by default 40 and 10) wanted, 10 found\n"),
+        (
+            "dead = 0\n",
+            "C4 Range: interface 0: dead: 1 to 65535 wanted, 0 found\n\
+            C7 DeadNotOverHello: interface 0: dead: more than `hello` (by default 40 and 10) wanted, 0 found\n",
+        ),
+        (
+            "dead = -5\nhello = -6\n",
+            "C4 Range: interface 0: hello: 1 to 65535 wanted, -6 found\n\
+            C4 Range: interface 0: dead: 1 to 65535 wanted, -5 found\n",
+        ),
+        (
+            "hello = 70000\n",
+            "C4 Range: interface 0: hello: 1 to 65535 wanted, 70000 found\n\
+            C7 DeadNotOverHello: interface 0: dead: more than `hello` (by default 40 and 10) wanted, nothing found\n",
+        ),
+        ("dead = 70000\n", "C4 Range: interface 0: dead: 1 to 65535 wanted, 70000 found\n"),
+        (
+            "hello = \"50\"\ndead = 10\n",
+            "C3 Type: interface 0: hello: 1 to 65535 wanted, \"50\" found\n",
+        ),
+        ("dead = 4.5\n", "C3 Type: interface 0: dead: 1 to 65535 wanted, a float found\n"),
         (
             "mtu = \"big\"\ncolour = 1\nport = 7\n",
             "C3 Type: interface 0: mtu: 576 to 9000 wanted, \"big\" found\n\
