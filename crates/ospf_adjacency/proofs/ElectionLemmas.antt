@@ -29,21 +29,6 @@ first_kept : (b : Bool) (n : NeighbourValue) (kept : List NeighbourValue) → ma
 first_kept true n kept = refl
 first_kept false n kept = refl
 
-pub taking_part-push : (ns : List NeighbourValue) (n : NeighbourValue) → taking_part (ns ++ n ∷ []) ≡ taking_part ns ++ candidate_if (is_two_way n.state) n
-taking_part-push [] n = first_kept (is_two_way n.state) n [] ∙ append-nil (candidate_if (is_two_way n.state) n)
-taking_part-push (m ∷ ns) n =
-    let rest = filter (λ (x : NeighbourValue). is_two_way x.state) (ns ++ n ∷ []) in
-    let old = filter (λ (x : NeighbourValue). is_two_way x.state) ns in
-    let b = is_two_way m.state in
-    first_kept b m rest ∙ ap (λ cs. candidate_if b m ++ cs) (taking_part-push ns n) ∙ sym (append_assoc (candidate_if b m) (taking_part ns) (candidate_if (is_two_way n.state) n))
-    ∙ ap (λ cs. cs ++ candidate_if (is_two_way n.state) n) (sym (first_kept b m old))
-
-pub candidates-more : (i : Iface) (ns : List NeighbourValue) (k : ℕ) (n : NeighbourValue) → k < length ns → n ≡ get_or ns k n
-    → candidates_of i (take (k + 1) ns) ≡ candidates_of i (take k ns) ++ candidate_if (is_two_way n.state) n
-candidates-more i ns k n within is =
-    let more : take (k + 1) ns ≡ take k ns ++ n ∷ [] = take_more ns k n within ∙ ap (λ m. take k ns ++ m ∷ []) (sym is) in
-    ap (λ (cs : List Candidate). own_candidate i ∷ cs) (ap taking_part more ∙ taking_part-push (take k ns) n)
-
 -- ---- AdjOK?
 
 pub length-adjusted : (i : Iface) (tick next : ℕ) (ns : List NeighbourValue) → length (adjusted i tick next ns) ≡ length ns

@@ -28,11 +28,6 @@ packets_none p = ap (λ (ps : List PendingPacket). record p { sent = ps }) (sym 
 pub packets_more : (p : OutboxValue) (ps qs : List PendingPacket) → and_packets (and_packets p ps) qs ≡ and_packets p (ps ++ qs)
 packets_more p ps qs = ap (λ (rs : List PendingPacket). record p { sent = rs }) (append_assoc p.sent ps qs)
 
--- a packet is sent, and then the others
-pub sends_next : (own : RouterContext) (l : ℕ) (i : Iface) (out : OutputsValue) (p : PendingPacket) (ps : List PendingPacket)
-    → and_sends (and_sends out (posted own l i p)) (posted_all own l i ps) ≡ and_sends out (posted_all own l i (p ∷ ps))
-sends_next own l i out p ps = sends_more out (posted own l i p) (posted_all own l i ps)
-
 -- those that go out first, and then the others
 pub posted-append : (own : RouterContext) (l : ℕ) (i : Iface) (ps qs : List PendingPacket) → posted_all own l i (ps ++ qs) ≡ posted_all own l i ps ++ posted_all own l i qs
 posted-append own l i [] qs = refl

@@ -128,10 +128,6 @@ network_is n mask p is e = (
   λ same. (p, is, sym same),
 )
 
--- a prefix stands for a mask without a hole
-pub mask_of_prefix : (address mask : ℕ) (p : Prefix) → IsPrefixOf address mask p → IsMask mask
-mask_of_prefix address mask p is = (p.length, p.short, is.mask_is)
-
 -- ---- by the LSA that gives
 
 module _ {Y : Type 0} (P : Advertisement → Y → Type 0) (lsa : List ℕ) (old new : List Y) where

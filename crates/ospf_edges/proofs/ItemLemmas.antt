@@ -22,9 +22,6 @@ module _ {X : Type 0} (items xs mid ys : List X) (first : items ≡ xs ++ mid) w
   pub then_some : (rest : List X) → mid ≡ ys ++ rest → items ≡ (xs ++ ys) ++ rest
   then_some rest second = first ∙ ap (λ l. xs ++ l) second ∙ sym (append_assoc xs ys rest)
 
-  pub then_none : ((rest : List X) → mid ≡ ys ++ rest → ⊥) → (rest : List X) → items ≡ (xs ++ ys) ++ rest → ⊥
-  then_none none rest both = none rest (append_cancel_left xs mid (ys ++ rest) (sym first ∙ both ∙ append_assoc xs ys rest))
-
   -- nor with more behind them
   pub then_never : ((rest : List X) → mid ≡ ys ++ rest → ⊥) → (more rest : List X) → items ≡ (xs ++ (ys ++ more)) ++ rest → ⊥
   then_never none more rest both =
@@ -50,9 +47,6 @@ items_of_all-append (x ∷ rest) ys = ap (λ l. items_of x ++ l) (items_of_all-a
 
 pub link_in : (l : Link) → is_graph_kind l.kind ≡ true → link_items (l ∷ []) ≡ item.Link l ∷ []
 link_in l t = rw t refl
-
-pub link_out : (l : Link) → is_graph_kind l.kind ≡ false → link_items (l ∷ []) ≡ []
-link_out l f = rw f refl
 
 -- ---- what the items tell
 

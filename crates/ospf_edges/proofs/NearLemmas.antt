@@ -148,21 +148,6 @@ module _ (A : List Advertisement) where
         adds_as (NearMembers n attached A) (EdgesNear (Network n) A) old new
         (λ e. (near_network_edge e, λ h. network_edge_near e.from e.to e.cost e.link_data h.0 h.1))
 
-  -- no edge touches what is not listed
-  no_edge_from : (r : RouterId) → (IsListed A r → ⊥) → (to : Vertex) (cost link_data : ℕ) → IsEdgeBetween A (Router r) to cost link_data → ⊥
-  no_edge_from r none to cost link_data h = let s = edge_sent r to cost link_data h in none (s.0, s.1)
-
-  no_edge_to : (r : RouterId) → (IsListed A r → ⊥) → (from : Vertex) (cost link_data : ℕ) → IsEdgeBetween A from (Router r) cost link_data → ⊥
-  no_edge_to r none (Router x) cost link_data h = let own = h.3 in none (own.links, own.listed)
-  no_edge_to r none (Network n) cost link_data h = let on = h.1 in none (on.links, on.listed)
-
-  pub router_not_near : (r : RouterId) → (IsListed A r → ⊥) → (old : List Edge) → Adds (EdgesNear (Router r) A) old old
-  router_not_near r none old =
-      adds_none (EdgesNear (Router r) A) old (λ e h. elim h.1 [
-        | inl leaves ↦ no_edge_from r none e.to e.cost e.link_data (subst (λ v. IsEdgeBetween A v e.to e.cost e.link_data) leaves h.0)
-        | inr enters ↦ no_edge_to r none e.from e.cost e.link_data (subst (λ v. IsEdgeBetween A e.from v e.cost e.link_data) enters h.0)
-      ])
-
   no_network_from : (n : ℕ) → HasNoNetwork A n → (to : Vertex) (cost link_data : ℕ) → IsEdgeBetween A (Network n) to cost link_data → ⊥
   no_network_from n none (Router b) cost link_data h = let at = h.2 in none at.mask at.attached at.network
   no_network_from n none (Network m) cost link_data h = absurd h

@@ -42,8 +42,3 @@ merges place v other w x views h at apart there j u e p =
     ⊎_elim (λ t. absurd (quiet u t.1 p))
     (λ t. ⊎_elim (λ s. subst (λ k. IsTrue k.named → k.counter ≡ counter_of x.known.fib) s.1 of_other p) (λ s. h j u s.1 p) (at_set views place j w u t.1))
     (at_set (set views place w) other j newcomer u e)
-
--- what all that waits comes to, with one more
-pub end_snoc : (first : Common) (xs : List HandedOver) (next : HandedOver) → fold shown_after first (xs ++ next ∷ []) ≡ shown_after (fold shown_after first xs) next
-end_snoc first [] next = refl
-end_snoc first (x ∷ xs) next = end_snoc (shown_after first x) xs next

@@ -111,18 +111,6 @@ joins_none nearest list =
       few = omega arith;
     }
 
--- one that a nearer one undercuts
-pub joins_undercut : (c : SpfCandidate) (nearest : ℕ → Option ℕ) (list : List SpfCandidate) → IsUndercut nearest c → Joins (c ∷ []) nearest nearest list list
-joins_undercut c nearest list under =
-    record {
-      kept = λ d h. h;
-      only = λ d h. inl h;
-      joined = λ d h. elim (member_cases c [] d h) [ inl same ↦ inr (rw (← same) under) | inr later ↦ absurd (let low = later.1 in omega arith) ];
-      falls = λ q near h. (near, omega arith, h);
-      noted = λ settled h. h;
-      few = omega arith;
-    }
-
 -- one that none undercuts, whose distance is noted
 pub joins_one : (c : SpfCandidate) (nearest nearest' : ℕ → Option ℕ) (old new : List SpfCandidate) → (IsUndercut nearest c → ⊥)
     → nearest' (vertex_code c.edge.to) ≡ Some c.distance → ((q : ℕ) → eqb (vertex_code c.edge.to) q ≡ false → nearest' q ≡ nearest q)

@@ -74,9 +74,6 @@ module _ {is_dropped : Event → AreaValue → Bool} (w w' : World) (r : RouterI
   laws : Accounts (heard_in event) x.state out x'.state
   laws = StepLaws-accounts _ event x.state out x'.state (facts.sound r x step.was) step.laws
 
-  new_issued : List Issued
-  new_issued = map (λ lsa. record { lsa = lsa; run = run_of x.first x.later (key_of lsa) }) out.issued
-
   pub was_issued : (content : List ℕ) → WasIssued w.issued content → WasIssued w'.issued content
   was_issued content was =
       subst (λ issued. WasIssued issued content) (sym step.logs.issued) (WasIssued-more w.issued _ content was)

@@ -26,9 +26,6 @@ abbrev pub IsBestOrNone : (Candidate → Type 0) → List Candidate → Option C
 IsBestOrNone Set xs None = HasNoneIn Set xs
 IsBestOrNone Set xs (Some b) = IsBestIn Set xs b
 
-pub best_of_none : (Set : Candidate → Type 0) → IsBestOrNone Set [] None
-best_of_none Set = record { none = λ d m s. no_member d m }
-
 module _ (Set : Candidate → Type 0) (xs : List Candidate) (c : Candidate) where
   still_none : HasNoneIn Set xs → (Set c → ⊥) → HasNoneIn Set (xs ++ c ∷ [])
   still_none h out =

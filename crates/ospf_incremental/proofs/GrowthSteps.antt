@@ -235,10 +235,6 @@ offers_one c At Starts old new perm =
       ];
     }
 
-pub offers_start : (At : Vertex → ℕ → Type 0) (Starts : Vertex → Start → Type 0) (list : List SpfCandidate) → Offers [] At Starts list list
-offers_start At Starts list =
-    record { kept = λ e h. h; only = λ e h. inl h; owed = λ e d m at. absurd (let low = m.1 in omega arith) }
-
 offers_then : (a b : List Edge) (At : Vertex → ℕ → Type 0) (Starts : Vertex → Start → Type 0) (old mid new : List SpfCandidate)
     → Offers a At Starts old mid → Offers b At Starts mid new → Offers (a ++ b) At Starts old new
 offers_then a b At Starts old mid new x y =

@@ -106,9 +106,6 @@ told_among gone v false both = sym ((not_among gone v).1 (λ m. (let on = both.1
 
 -- ---- one of these edges
 
-equal_of : (a b : ℕ) → (a == b) ≡ true → a ≡ b
-equal_of a b is = is_equal a b is
-
 both_of : (a b : Bool) → (a && b) ≡ true → (a ≡ true) × (b ≡ true)
 both_of true b is = (refl, is)
 both_of false b is = absurd (cc)
@@ -161,9 +158,6 @@ takes_without less edges e = (
 )
 
 -- ---- edges that end at some vertices
-
-pub adds_to_none : (less : List Edge) (gone : List Vertex) (old : List Edge) → AddsEdgesTo [] less gone old old
-adds_to_none less gone old e = (λ m. inl m, λ m. elim m [ inl there ↦ there | inr none ↦ absurd (let low = none.0.1 in omega arith) ])
 
 module _ (some less : List Edge) (gone : List Vertex) (i : ℕ) (x : Edge) (lt : i < length some) (old ends : List Edge) (adds : AddsEdgesTo (take i some) less gone old ends) where
   pub adds_to_more : Contains gone (get_or some i x).to → (Contains less (get_or some i x) → ⊥) → AddsEdgesTo (take (i + 1) some) less gone old (ends ++ get_or some i x ∷ [])
@@ -285,14 +279,6 @@ is_reached place rs are v is =
     let r = nth rs k.0 f.0 in
     let at = at_place place rs are v k.0 k.1 r.0 (sym (r.1 r.0)) in
     (r.0.distance, at_to rs r.0 v r.0.distance at.1 at.0 refl)
-
-pub copies_nothing : (f : List Reached) → AreCopies f []
-copies_nothing f =
-    record {
-      at = λ v d m. absurd (let low = m.1 in omega arith);
-      starts = λ v x m. absurd (let low = m.1 in omega arith);
-      whole = λ v d x m has. absurd (let low = m.1 in omega arith);
-    }
 
 module _ (place : ℕ → Option ℕ) (f own : List Reached) (are : ArePlaces place f) (v : Vertex) (c : AreCopies f own) where
   -- a vertex that is not found

@@ -238,14 +238,6 @@ leaves_none place rs are v none =
     }
 
 module _ (At At' At'' : Vertex → ℕ → Type 0) (Starts Starts' Starts'' : Vertex → Start → Type 0) (gone : List Vertex) where
-  pub leaves_no_one : Leaves (Contains []) At At Starts Starts
-  leaves_no_one =
-      record {
-        at_in = λ v d free at. at;
-        at_out = λ v d at. (λ m. (let low = m.1 in omega arith), at);
-        starts_in = λ v x free has. has;
-        starts_out = λ v x has. (λ m. (let low = m.1 in omega arith), has);
-      }
 
   -- one more leaves
   pub leaves_more : (i : ℕ) (x : Vertex) → i < length gone → Leaves (Contains (take i gone)) At At' Starts Starts' → Leaves (Contains (get_or gone i x ∷ [])) At' At'' Starts' Starts''
@@ -318,8 +310,6 @@ module _ (less edges : List Edge) (i : ℕ) (x : Edge) (lt : i < length edges) (
 
 -- edges that end at what is gone
 module _ (gone : List Vertex) (At : Vertex → ℕ → Type 0) where
-  pub opens_start : (list : List SpfCandidate) → OpensEdges gone [] At list list
-  opens_start list = record { kept = λ e h. h; only = λ e h. inl h; waits = λ e d m at to none. absurd (let low = m.1 in omega arith) }
 
   pub opens_offered : (Starts : Vertex → Start → Type 0) (some : List Edge) (old new : List SpfCandidate) → Offers some At Starts old new → OpensEdges gone some At old new
   opens_offered Starts some old new o =

@@ -141,7 +141,3 @@ put_next routes cs left rest made q count m is before =
         hops = All-tail PutsHops (Put q) rest hops;
       },
     )
-
--- a change that takes a route away replaces none
-pub never_gone : (made : List Route) (left rest : List Change) (p : Prefix) → All (Replaces made) left → left ≡ Gone p ∷ rest → ⊥
-never_gone made left rest p h is = All-head (Replaces made) (Gone p) rest (subst (λ (l : List Change). All (Replaces made) l) is h)

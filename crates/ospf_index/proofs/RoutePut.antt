@@ -225,7 +225,3 @@ follow_next routes cs n old now new q lt is hops m put longer =
       room_sets = omega (arith, longer.room_sets, m.room_sets);
       room_hops = omega (arith, longer.room_hops, m.room_hops);
     }
-
--- at the end all changes are followed
-pub follow_end : (routes : List Route) (cs : List Change) (n : ℕ) (old new : Index) → length cs ≤ n → IsFollowed routes cs n old new → IsIndexOf (edited routes cs) new
-follow_end routes cs n old new le m = subst (λ (l : List Change). IsIndexOf (edited routes l) new) (take_all n cs le) m.index

@@ -168,19 +168,3 @@ matched false e p = absurd cc
 -- what the exchange tells where it found what it expected
 pub told : {P : Type 0} (found old : ℕ) → found ≡ old → MatchBool (found == old) P ⊤ → P
 told found old e p = matched (found == old) (grind (arith, nat_tests)) p
-
--- the list of the pen is the whole, and an exchange that changes nothing shows it
-pub proves_moves : (known both : List ListEvent) (count : ℕ) → closed false known ≡ true → IsPrefix known both
-    → Moves IsCounted shown moved 0 (both, (nib may_write (suc (suc (opens known))) 0, None)) (λ n. either (n == count) count n) (ProvesWhole (step 0 count count Closed) (both, (nib may_write (suc (suc (opens known))) 0, None)))
-proves_moves known both count shut begins cells log kept pre away =
-    let v : View ListEvent ℕ = (both, (nib may_write (suc (suc (opens known))) 0, None)) in
-    let Goes_at : List Cell → Type 0 = λ c. (0 < length c) × ((cell c 0).1 ≡ true) × Goes IsCounted shown moved 0 v (λ n. either (n == count) count n) (ProvesWhole (step 0 count count Closed) v) c log in
-    let same : log ≡ known = pen_whole known cells log (prefix_trans known both log begins pre) shut kept away in
-    let n : either (length log == count) count (length log) ≡ length log = by_test (length log) count (length log == count) refl in
-    let o : suc (suc (opens (log ++ []))) ≡ suc (suc (opens known)) = rw (append_none log, same) refl in
-    let l : legal false (log ++ []) ≡ true = rw (append_none log) kept.legal in
-    subst Goes_at (sym kept.words) (omega arith, refl, (keeps, [], None, tt, same_counted log _ n kept.legal, inl (refl, refl), (o, l, refl)))
-  where
-    by_test : (n count : ℕ) (b : Bool) → (n == count) ≡ b → either (n == count) count n ≡ n
-    by_test n count true is = rw is (let e : n ≡ count = grind (arith, nat_tests) in sym e)
-    by_test n count false is = rw is refl

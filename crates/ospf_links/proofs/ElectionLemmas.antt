@@ -31,18 +31,6 @@ record Keeps (before after : AreaValue) : Type 0 where
   numbering : after.numbering ≡ before.numbering
   router : after.router ≡ before.router
 
-there_keeps : (o : Option LinkValue) (l : ℕ) (before after : AreaValue) (out out' : OutputsValue) → ElectsThere o l before out after out' → Keeps before after
-there_keeps None l before after out out' e = record { database = ap (λ (s : AreaValue). s.database) e.0; numbering = ap (λ (s : AreaValue). s.numbering) e.0; router = ap (λ (s : AreaValue). s.router) e.0 }
-there_keeps (Some link) l before after out out' (link', next', sent, elects, is, sends) =
-    record { database = ap (λ (s : AreaValue). s.database) is; numbering = ap (λ (s : AreaValue). s.numbering) is; router = ap (λ (s : AreaValue). s.router) is }
-
-from_keeps : (l : ℕ) (before after : AreaValue) (out out' : OutputsValue) → ElectsFrom l before out out' after → Keeps before after
-from_keeps zero before after out out' e = record { database = ap (λ (s : AreaValue). s.database) e.0; numbering = ap (λ (s : AreaValue). s.numbering) e.0; router = ap (λ (s : AreaValue). s.router) e.0 }
-from_keeps (suc l) before after out out' (mid, mid_out, first, next) =
-    let a = from_keeps l before mid out mid_out first in
-    let b = there_keeps (slice_get mid.links l) l mid after mid_out out' next in
-    record { database = b.database ∙ a.database; numbering = b.numbering ∙ a.numbering; router = b.router ∙ a.router }
-
 -- ---- a link that had its election is ready
 
 if_ready : (b : Bool) (own : RouterContext) (next : ℕ) (link link' : LinkValue) (next' : ℕ) (sent : List PendingPacket) → ElectsIf b own next link link' next' sent → IsReady link → IsReady link'

@@ -40,12 +40,3 @@ entries_bytes (l ∷ links) = ap (λ (bs : List ℕ). link_bytes l ++ bs) (entri
 pub length-links : (links : List Link) → length (flat_map link_bytes links) ≡ 12 * length links
 length-links [] = refl
 length-links (l ∷ links) = omega (arith, length-links links, length-append (link_bytes l) (flat_map link_bytes links))
-
--- two writes at the checksum
-pub set-checksum : (lsa : List ℕ) (x y : ℕ) → 20 ≤ length lsa → set (set lsa 16 x) 17 y ≡ with_checksum lsa x y
-set-checksum lsa x y long =
-    let first : set lsa 16 x ≡ take 16 lsa ++ x ∷ drop 17 lsa = set_split lsa 16 x (omega arith) in
-    let len : length (take 16 lsa) ≡ 16 = omega (arith, length-take 16 lsa) in
-    let second : set (take 16 lsa ++ x ∷ drop 17 lsa) 17 y ≡ take 16 lsa ++ set (x ∷ drop 17 lsa) 1 y = set-append_right (take 16 lsa) (x ∷ drop 17 lsa) 16 17 y len (omega arith) in
-    let third : set (drop 17 lsa) 0 y ≡ y ∷ drop 18 lsa = ap (λ (t : List ℕ). set t 0 y) (drop_more lsa 17 0 (omega arith)) in
-    ap (λ (l : List ℕ). set l 17 y) first ∙ second ∙ ap (λ (t : List ℕ). take 16 lsa ++ x ∷ t) third

@@ -35,9 +35,6 @@ module _ (keys : List LsaKey) (lsas : List (List ℕ)) (are : AreKeysOf keys lsa
   pub key_at : (m : ℕ) (k : LsaKey) (x : List ℕ) → m < length lsas → get_or keys m k ≡ key_of (get_or lsas m x)
   key_at m k x lt = ap (λ ks. get_or ks m k) are ∙ get_or-map key_of lsas m x k lt
 
-  pub keys_long : length keys ≡ length lsas
-  keys_long = ap (λ ks. length ks) are ∙ length-map lsas key_of
-
   pub keys_inserted : (at : ℕ) (l : List ℕ) → AreKeysOf (insert keys at (key_of l)) (insert lsas at l)
   keys_inserted at l = ap (λ ks. insert ks at (key_of l)) are ∙ insert_map lsas at l
 

@@ -162,11 +162,6 @@ first_of_some n bytes (e ∷ es) len fit spelled =
 pub AreLinks-first : (n : ℕ) (bytes : List ℕ) → AreLinks (suc n) bytes → IsLink bytes × AreLinks n (drop (link_length bytes) bytes)
 AreLinks-first n bytes are = first_of_some n bytes are.entries are.counted are.fit are.spelled
 
--- no link is no byte
-pub AreLinks-none : (bytes : List ℕ) → length bytes ≡ 0 → AreLinks 0 bytes
-AreLinks-none [] e = record { entries = []; counted = refl; fit = tt; spelled = refl }
-AreLinks-none (b ∷ bytes) e = absurd (omega arith)
-
 none_left : (bytes : List ℕ) (es : List LinkEntry) → length es ≡ 0 → bytes ≡ flat_map entry_bytes es → length bytes ≡ 0
 none_left bytes [] len spelled = ap length spelled
 none_left bytes (e ∷ es) len spelled = absurd (omega arith)
@@ -185,10 +180,6 @@ links_of_entries n bytes are =
 pub AreLinks-step : (n : ℕ) (bytes : List ℕ) → 0 < n → AreLinks n bytes → IsLink bytes × AreLinks (n - 1) (drop (link_length bytes) bytes)
 AreLinks-step zero bytes lt are = absurd (omega arith)
 AreLinks-step (suc n) bytes lt are = let e : suc n - 1 ≡ n = omega arith in rw e (AreLinks-first n bytes are)
-
-pub links_in-step : (n : ℕ) (bytes : List ℕ) → 0 < n → links_in n bytes ≡ link_at bytes ∷ links_in (n - 1) (drop (link_length bytes) bytes)
-links_in-step zero bytes lt = absurd (omega arith)
-links_in-step (suc n) bytes lt = let e : suc n - 1 ≡ n = omega arith in rw e refl
 
 -- the links that are left, at one more
 pub goes_on : (count i : ℕ) (rest after : List ℕ) (link : Link) (P : Type 0) → i < count → AreBytes rest → IsFirstLink rest link after

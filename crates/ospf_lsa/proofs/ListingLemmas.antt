@@ -101,9 +101,6 @@ pub IsListing-place : (lsas : List (List ℕ)) (l : List ℕ) (at : ℕ) → IsL
 IsListing-place lsas l at is new p =
     IsListing-insert (take at lsas) l (drop at lsas) (subst (λ (ls : List (List ℕ)). IsListing ls) (sym (take-append-drop at lsas)) is) new p.before p.after
 
-pub IsInserted-place : (lsas : List (List ℕ)) (l : List ℕ) (at : ℕ) → IsInserted l lsas (take at lsas ++ l ∷ drop at lsas)
-IsInserted-place lsas l at = record { before = take at lsas; after = drop at lsas; old_is = sym (take-append-drop at lsas); new_is = refl }
-
 pub no_key_at : (lsas : List (List ℕ)) (key : LsaKey) (at : ℕ) → IsPlace lsas key at → HasKey lsas key → ⊥
 no_key_at lsas key at p has = no_key key (take at lsas) (drop at lsas) p.before p.after (subst (λ (ls : List (List ℕ)). HasKey ls key) (sym (take-append-drop at lsas)) has)
 

@@ -139,11 +139,6 @@ place_listed i ls at d found =
     let p = position-Some (is_of_instance i) ls at d found in
     list_any_at (is_of_instance i) ls at d p.0 p.1
 
-pub key_listed : (key : LsaKey) (ls : List Listed) (at : ℕ) (d : Listed) → position (is_of_key key) ls ≡ Some at → is_key_listed key ls ≡ true
-key_listed key ls at d found =
-    let p = position-Some (is_of_key key) ls at d found in
-    list_any_at (is_of_key key) ls at d p.0 p.1
-
 pub cond_not : (b x : Bool) → not b && x ≡ cond b false x
 cond_not true x = refl
 cond_not false x = refl

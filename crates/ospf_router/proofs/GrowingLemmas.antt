@@ -106,10 +106,6 @@ module _ (old new : List (List ℕ)) (root : RouterId) (paths : KeptTree) (ends 
     edge_out e,
   )
 
--- of no edge none went
-pub gone_start : (after : List Edge) → AreGone [] after []
-gone_start after = record { within = λ e m. m; all = λ e m. absurd (let low = m.1 in omega arith) }
-
 -- one edge more, which is there
 pub gone_kept : (before after gone : List Edge) (x : Edge) → Contains after x → AreGone before after gone → AreGone (before ++ x ∷ []) after gone
 gone_kept before after gone x there g =

@@ -13,15 +13,6 @@ use Rattle.ospf_lsdb.specs.Database.{Entry, Held, entries, is_fresh, listed, lsa
 abbrev pub fresh_of : List Entry → List (List ℕ)
 fresh_of es = map (λ e. e.contents) (filter is_fresh es)
 
-pub fresh_more : (e : Entry) (es : List Entry) → is_fresh e ≡ true → fresh_of (e ∷ es) ≡ e.contents ∷ fresh_of es
-fresh_more e es fresh = rw fresh refl
-
-pub fresh_less : (e : Entry) (es : List Entry) → is_fresh e ≡ false → fresh_of (e ∷ es) ≡ fresh_of es
-fresh_less e es old = rw old refl
-
-contents_listed : (e : Entry) → contents (lsa_of e) ≡ e.contents
-contents_listed e = refl
-
 pub listed_fresh : (db : List Held) → map contents (listed db) ≡ fresh_of (entries db)
 listed_fresh [] = refl
 listed_fresh (h ∷ hs) = by (is_fresh h.entry) refl (listed_fresh hs)

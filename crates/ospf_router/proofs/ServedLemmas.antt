@@ -32,10 +32,6 @@ each_some (Ok (Some x)) P Q f h = f x h
 each_some (Ok None) P Q f h = tt
 each_some (Err e) P Q f h = tt
 
--- a tree that has not grown yet
-pub from_itself : (grown : Grown) → IsGrownFrom grown.tree grown.touched.items grown
-from_itself grown = record { root = refl; kept = λ p m. m; spares = λ p free. record { routes = λ r of is. is; ways = λ w. w } }
-
 spared_then : (A B C : List Advertisement) (root : RouterId) (p : Prefix) → IsSparedPrefix A B root p → IsSparedPrefix B C root p → IsSparedPrefix A C root p
 spared_then A B C root p first then = record { routes = λ r of is. then.routes r of (first.routes r of is); ways = λ w. first.ways (then.ways w) }
 

@@ -20,14 +20,6 @@ told_by [] known (Some t) before is first told_is = absurd (cc told_is)
 told_by (x ∷ xs) known None before is first told_is = absurd (cc told_is)
 told_by (x ∷ xs) known (Some t) before is first told_is = cc told_is
 
--- what it told is all that its writer has published
-pub told_at_end : {rules : Rules} (a : Moment) (router : RouterValue) (known : Known) (told : Option Known) → a.known.tables ≡ opening → DrivesToEnd rules a router known told → IsPublishTold known told
-told_at_end {rules} a router known told first d =
-    let same : known ≡ d.drives.last.known = d.drives.ends.0.known in
-    let tells : told ≡ last_told (tables_published d.drives.goes_on.steps) known =
-    d.drives.ends.1 ∙ d.drives.goes_on.tells ∙ ap (λ (k : Known). last_told (tables_published d.drives.goes_on.steps) k) (sym same) in
-    told_by (tables_published d.drives.goes_on.steps) known told a.known.tables (ap (λ (k : Known). k.tables) same ∙ d.drives.goes_on.tables) first tells
-
 -- and the forwarding table is the one that it began with
 pub fib_at_end : {rules : Rules} (a : Moment) (router : RouterValue) (known : Known) (told : Option Known) → DrivesToEnd rules a router known told → known.fib ≡ a.known.fib
 fib_at_end {rules} a router known told d = ap (λ (k : Known). k.fib) d.drives.ends.0.known ∙ d.drives.goes_on.fib

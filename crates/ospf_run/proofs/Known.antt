@@ -27,8 +27,5 @@ pub looked_on : {A E : Type 0} (answer : Result A E) (old new : List Table) → 
 looked_on (Ok a) old new on_ok on_err = on_ok
 looked_on (Err e) old new on_ok on_err = subst (λ tables. IsPrefix old tables) (sym on_err) (prefix_self old)
 
-pub follows_self : (k : Known) → Follows k k
-follows_self k = record { fib = refl; tables = prefix_self k.tables }
-
 pub follows_on : (a b c : Known) → Follows a b → Follows b c → Follows a c
 follows_on a b c f g = record { fib = g.fib ∙ f.fib; tables = prefix_trans a.tables b.tables c.tables f.tables g.tables }

@@ -87,13 +87,6 @@ neighbour_is_not_route word is other =
     let both : 1126 ≡ 1394 = sym (neighbour_kind word is) ∙ route in
     omega (arith, both)
 
--- behind `route`
-pub only_route : (ws : List Text) → ((router : RouterId) (prefix : Prefix) (cost : ℕ) (rest : List Text) → BeginsRoute ws router prefix cost rest → AreSomeSpelled IsHopWord rest → ⊥)
-    → (e : Expected) → IsExpected (codes "route" ∷ ws) e → ⊥
-unfolding key kind kind_of
-only_route ws none (Router router (Route prefix cost hops)) h = none router prefix cost h.1 h.2 (hops.items, h.3)
-only_route ws none e h = let is : 1394 ≡ kind_of e = kind_is e (codes "route") ws h in omega (arith, is)
-
 -- two beginnings of a route are one
 pub route_begins_one : (ws : List Text) (r s : RouterId) (p q : Prefix) (m n : ℕ) (us vs : List Text) → BeginsRoute ws r p m us → BeginsRoute ws s q n vs
     → (r ≡ s) × (p ≡ q) × (m ≡ n) × (us ≡ vs)
@@ -109,15 +102,6 @@ long_route ws r p m rest begins many = (refl, r, p, m, rest, begins, many)
 pub route_has_prefix : (ws us vs rest : List Text) (a b c : Text) → ws ≡ a ∷ us → us ≡ b ∷ vs → vs ≡ c ∷ rest → (r : RouterId) (p : Prefix) (m : ℕ) (behind : List Text)
     → BeginsRoute ws r p m behind → IsPrefix b p
 route_has_prefix ws us vs rest a b c one two three r p m behind h = (rw (one, two, three) at h).1
-
--- of no words nothing is expected
-pub nothing_expected : (e : Expected) → IsExpected [] e → ⊥
-nothing_expected (Router router (Neighbour other state)) h = h
-nothing_expected (Router router (NoNeighbour link)) h = h
-nothing_expected (Router router (Dr link dr backup)) h = h
-nothing_expected (Router router (Route prefix cost hops)) h = h
-nothing_expected (Router router (NoRoute prefix)) h = h
-nothing_expected e h = h
 
 -- behind `no`
 pub only_absent : (w a b : Text) → ((router : RouterId) (prefix : Prefix) → w ≡ codes "route" → IsRouterWord a router → IsPrefix b prefix → ⊥)

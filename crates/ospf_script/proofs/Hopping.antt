@@ -117,12 +117,6 @@ parts_are word (Lan l r a) front behind h other is free =
     let cut = one_cut 62 front behind (number_text l.0) (number_text r.0 ++ 64 ∷ number_text a.0) free (number_has_no_greater l.0) (sym is ∙ h.0 ∙ text_across l r a) in
     (subst (λ (t : Text). IsAddress t l) (sym cut.0) (printed_spells l.0 h.1.0), cut.1, h.1.1, h.1.2)
 
--- where there is no `>`, there is none
-pub no_parts : (word : Text) (hop : NextHop) → IsHopWord word hop → (word ≡ codes "attached" → ⊥) → HasNo 62 word → ⊥
-no_parts word Attached h other free = other h.0
-no_parts word (PointToPoint l r) h other free = has_it 62 (number_text l.0) (number_text r.0) word (h.0 ∙ text_over l r) free
-no_parts word (Lan l r a) h other free = has_it 62 (number_text l.0) (number_text r.0 ++ 64 ∷ number_text a.0) word (h.0 ∙ text_across l r a) free
-
 -- the own address stands before it
 pub no_front : (front behind : Text) (hop : NextHop) → IsAround front behind hop → ((address : Addr) → IsAddress front address → ⊥) → ⊥
 no_front front behind Attached h none = h

@@ -12,13 +12,6 @@ pub record LeadsTo {A : Type 0} (P : Text → A → Type 0) (whole rest : List T
 pub leads_at_start : {A : Type 0} (P : Text → A → Type 0) (whole : List Text) → LeadsTo P whole whole []
 leads_at_start P whole = record { onto = λ values h. h; from = λ some. some }
 
--- the first of several words spells a value, and so do the others
-pub head_value : {A : Type 0} (P : Text → A → Type 0) (word : Text) (ws : List Text) → AreSomeSpelled P (word ∷ ws) → (value : A) × P word value
-head_value {A} P word ws some = elim some.0 as (λ xs. AllZip P (word ∷ ws) xs → (value : A) × P word value) [
-  | [] ↦ λ h. absurd h
-  | x ∷ xs ↦ λ h. (x, h.0)
-] some.1
-
 pub tail_values : {A : Type 0} (P : Text → A → Type 0) (word : Text) (ws : List Text) → AreSomeSpelled P (word ∷ ws) → AreSomeSpelled P ws
 tail_values P word ws some = elim some.0 as (λ xs. AllZip P (word ∷ ws) xs → AreSomeSpelled P ws) [
   | [] ↦ λ h. absurd h
@@ -38,18 +31,6 @@ pub leads_to_end : {A : Type 0} (P : Text → A → Type 0) (whole rest : List T
 leads_to_end P whole rest found leads is =
     let none : AllZip P rest [] = rw is tt in
     subst (AllZip P whole) (append-nil found) (leads.onto [] none)
-
--- where a word that is left spells no value, not all do
-pub leads_to_none : {A : Type 0} (P : Text → A → Type 0) (whole rest behind : List Text) (found : List A) (word : Text) → LeadsTo P whole rest found
-    → rest ≡ word ∷ behind → ((value : A) → P word value → ⊥) → AreSomeSpelled P whole → ⊥
-leads_to_none P whole rest behind found word leads is none some =
-    let head = head_value P word behind (rw is at leads.from some) in
-    none head.0 head.1
-
--- where words behind one that is left do not all spell values, not all do
-pub leads_to_fewer : {A : Type 0} (P : Text → A → Type 0) (whole rest behind : List Text) (found : List A) (word : Text) → LeadsTo P whole rest found
-    → rest ≡ word ∷ behind → (AreSomeSpelled P behind → ⊥) → AreSomeSpelled P whole → ⊥
-leads_to_fewer P whole rest behind found word leads is none some = none (tail_values P word behind (rw is at leads.from some))
 
 -- where a value and others follow, they are many
 pub leads_to_many : {A : Type 0} (P : Text → A → Type 0) (whole rest behind : List Text) (found : List A) (word : Text) (value : A) → LeadsTo P whole rest found

@@ -278,14 +278,6 @@ one_of : (P : Text → Type 0) (ws : List Text) → IsOne P ws → (a : Text) ×
 one_of P (a ∷ []) h = (a, h)
 one_of P ws h = absurd h
 
-two_of : (P : Text → Text → Type 0) (ws : List Text) → IsTwo P ws → (a b : Text) × P a b
-two_of P (a ∷ b ∷ []) h = (a, b, h)
-two_of P ws h = absurd h
-
-three_of : (P : Text → Text → Text → Type 0) (ws : List Text) → IsThree P ws → (a b c : Text) × P a b c
-three_of P (a ∷ b ∷ c ∷ []) h = (a, b, c, h)
-three_of P ws h = absurd h
-
 -- ---- commands, each as it is printed
 
 abbrev Again : Command → Type 0

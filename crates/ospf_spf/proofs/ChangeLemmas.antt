@@ -284,11 +284,6 @@ module _ (old new : List Route) (i j : ℕ) (cs : List Change) (old_order : AllP
 
 -- at the end of both tables
 module _ (old new : List Route) (i j : ℕ) (cs : List Change) (m : IsMerged old new i j cs) (old_end : i ≡ length old) (new_end : j ≡ length new) where
-  pub all_applied : edited old cs ≡ new
-  all_applied =
-      let rest : drop i old ≡ [] = drop_all i old (omega arith) in
-      let all : take j new ≡ new = take_all j new (omega arith) in
-      m.applied ∙ ap (λ l. l ++ drop i old) all ∙ ap (λ l. new ++ l) rest ∙ append-nil new
 
   pub all_puts : (route : Route) → Contains cs (Put route) ↔ IsNewRoute old new route
   all_puts route = (

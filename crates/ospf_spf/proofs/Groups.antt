@@ -106,15 +106,6 @@ pub record HasRoutes (reaches : List Reach) (starts : List VertexStart) (i : ℕ
   pub complete : (k : ℕ) (d : Reach) → k < i → (r : Route) × Contains routes r × (r.prefix ≡ (get_or reaches k d).prefix)
   pub sound : All (IsRouteOf reaches starts) routes
 
-pub no_routes : (reaches : List Reach) (starts : List VertexStart) → HasRoutes reaches starts 0 []
-no_routes reaches starts =
-    record {
-      in_order = λ i j d lt within. absurd (omega arith);
-      from = λ r h. absurd (let low = h.1 in omega arith);
-      complete = λ k d lt. absurd (omega arith);
-      sound = λ k d lt. absurd (omega arith);
-    }
-
 same_or_less : (k i : ℕ) → k < i + 1 → (k < i) ⊎ (k ≡ i)
 same_or_less k i lt = grind arith
 

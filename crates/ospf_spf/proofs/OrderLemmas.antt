@@ -110,9 +110,6 @@ pub rest_behind : (p : Prefix) (x : Route) (xs : List Route) → AllPairs IsRout
 rest_behind p x xs order at k d lt =
     subst (λ (q : Prefix). IsPrefixBefore q (get_or xs k d).prefix) at (head_before IsRouteBefore x xs order (get_or xs k d) (Contains-get_or xs k d lt))
 
-pub none_moved : (p : Prefix) (left made : List Route) → IsMoved p left made left made
-none_moved p left made = record { moved = []; left_is = refl; made_is = sym (append-nil made); before = All-nil _ }
-
 -- one route more is moved
 pub one_moved : (p : Prefix) (left made left_before made_before left_after : List Route) (r : Route) → IsMoved p left made left_before made_before
     → left_before ≡ r ∷ left_after → FirstIs IsPrefixBefore left_before p → IsMoved p left made left_after (made_before ++ r ∷ [])

@@ -99,9 +99,6 @@ module _ (heard : Option Received) (s t u : AreaValue) (a b : OutputsValue) (fir
   word_next l q i (HasWord.Described j h covers) = HasWord.Described j h covers
   word_next l q i (HasWord.Requested j c covers) = elim (first.asks l q j c) [ inl o ↦ HasWord.Requested j o covers | inr e ↦ HasWord.Described j e covers ]
 
-  word_first : (l : ℕ) (q : RouterId) (i : Instance) → HasWord heard s l q i → HasWord heard s l q i
-  word_first l q i w = w
-
   -- what took a copy's place in either part took it in both
   stored_first : (old new : List ℕ) → TakesItsPlace heard a old new → TakesItsPlace heard (then_outputs a b) old new
   stored_first old new (TakesItsPlace.Installed p h c taken) = TakesItsPlace.Installed p h c (Contains-append_left a.taken b.taken (instance_of new) taken)

@@ -19,7 +19,6 @@ pub mod AgingChains
 pub mod RemovalChains
 pub mod LinkParts
 pub mod PutParts
-pub mod KeptChains
 pub mod Known
 mod Works
 mod Parts

@@ -256,9 +256,6 @@ module _ (heard : Option Received) (before : AreaValue) (out : OutputsValue) (af
   names-same i (CanName.ToAcknowledge l lists) = CanName.ToAcknowledge l (subst (λ ls. Lists (delayed_in (slice_get ls l)) i) same_links lists)
   names-same i (CanName.ToAcknowledgeNow lists) = CanName.ToAcknowledgeNow (subst (λ hs. Lists hs i) same_direct lists)
 
-  pub none_enters-same : NoneEntersExchange before after
-  none_enters-same l q up = ap (λ o. is_exchanging (state_in o)) (sym (neighbour-same l q)) ∙ up
-
   pub OnlyDatabase-adjusts : Adjusts heard before out after
   OnlyDatabase-adjusts = record {
     same_router = same_router;

@@ -39,9 +39,6 @@ datagrams-packet way m d c = go (nat_lt largest_packet (length (packet_bytes m))
     go true c = absurd (Contains-nil d c)
     go false c = ap (λ d. d.packet) (one_of it d c)
 
-pub contents-with_age : (age : ℕ) (lsa : List ℕ) → contents (with_age age lsa) ≡ contents lsa
-contents-with_age age lsa = refl
-
 -- an Update of one LSA of these contents
 pub record IsUpdateOf (own : RouterContext) (lsa : List ℕ) (m : Meaning) : Type 0 where
   pub one : List ℕ

@@ -184,10 +184,6 @@ same_contents a b same = instance_of-contents a ∙ (ap (λ c. instance_of (0 �
 
 -- ---- headers
 
--- a header is of one instance
-pub IsOf-one : (h : LsaHeader) (i j : Instance) → IsOfInstance h i → IsOfInstance h j → i ≡ j
-IsOf-one h i j a b = instance_from_parts i j (same_Some i.key j.key (sym a.key ∙ b.key)) (sym a.number ∙ b.number) (sym a.sum ∙ b.sum)
-
 key_made : Kind → ℕ → RouterId → LsaKey
 key_made kind id router = record { kind = kind; id = id; router = router }
 

@@ -35,8 +35,3 @@ none_more L p most rest before y text all split is so =
 pub no_more : {X : Type 0} (L : ℕ × X → List ℕ) (p : ℕ × X → Bool) (most : ℕ) (rest : List X) (text all : List ℕ) → most ≡ 0
     → text ++ flat_map L (newest p most rest) ≡ all → text ≡ all
 no_more L p most rest text all none so = sym (append-nil text) ∙ ap (λ m. text ++ flat_map L (newest p m rest)) (sym none) ∙ so
-
-pub no_rest : {X : Type 0} (L : ℕ × X → List ℕ) (p : ℕ × X → Bool) (most : ℕ) (rest : List X) (text all : List ℕ) → rest ≡ []
-    → text ++ flat_map L (newest p most rest) ≡ all → text ≡ all
-no_rest L p zero rest text all none so = sym (append-nil text) ∙ so
-no_rest L p (suc n) rest text all none so = sym (append-nil text) ∙ ap (λ xs. text ++ flat_map L (newest p (suc n) xs)) (sym none) ∙ so

@@ -193,6 +193,3 @@ found_memory ws key f all is = by_found (wanted_of ws key) (found_made ws key fi
     by_found : (o : Option WantedValue) → CanBeMadeIf first_number o → IsUnmadeIf o f → f ≡ fault.Memory
     by_found None can unmade = absurd unmade
     by_found (Some w) can unmade = only_memory (Needs first_number w) f can unmade
-
-pub made_memory : (number : ℤ) (w : WantedValue) (f : LsaFault) → HasAll (Needs number w) → IsUnmade (Needs number w) f → f ≡ fault.Memory
-made_memory number w f all is = only_memory (Needs number w) f all is

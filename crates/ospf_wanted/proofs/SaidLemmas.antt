@@ -114,10 +114,6 @@ parts_eq lsa front size start rest long f s b =
     ∙ bytes_eq-append (take 10 (drop 2 lsa)) front (drop 18 lsa) (size ++ (start ++ rest)) (first ∙ sym f)
     ∙ ap (λ (b : Bool). bytes_eq (take 10 (drop 2 lsa)) front && b) (tail ∙ ap (λ (b : Bool). bytes_eq (take 2 (drop 18 lsa)) size && b) body)
 
--- the wanted contents by their parts
-wanted_parts : (h : LsaHeader) (body : List ℕ) → aside (header_bytes h ++ body) ≡ take 10 (header_bytes h) ++ (number_bytes 2 h.length ++ body)
-wanted_parts h body = refl
-
 and_nothing : (b : Bool) → (b && false) ≡ false
 and_nothing true = refl
 and_nothing false = refl

@@ -141,11 +141,6 @@ offers_near networks slots d network from g links events source are is found num
     ∙ by_routers d from g slots 0 slots refl
     ∙ ap (offers_by d g slots) (sym found ∙ is)
 
--- of one that went out of none
-pub offers_nowhere : (slots : List SlotValue) (d : ℕ) (g : Datagram) (events : List WorldEvent) (source : Option InterfaceAddress)
-    → source ≡ sending_address slots g → source ≡ None → events ≡ [] → events ≡ offers_of slots d g
-offers_nowhere slots d g events source is none no_events = no_events ∙ ap (offers_by d g slots) (sym none ∙ is)
-
 -- the router at a place sent it
 pub source_at : (slots : List SlotValue) (g : Datagram) (k : ℕ) (s : SlotValue) → place_of slots g.router.0 ≡ Some k → slice_get slots k ≡ Some s → address_at s.config g.sent.link ≡ sending_address slots g
 unfolding sending_address

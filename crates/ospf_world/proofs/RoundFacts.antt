@@ -36,11 +36,6 @@ offered_ends most i before now next answer f within part is comes =
     let all : AreOffered (suc (most - (i + 1))) now (Err f) next = OffersMore.Ended f one refl in
     comes (Err f) next (subst (λ (n : ℕ). AreOffered n now (Err f) next) (sym (one_left most i within)) all)
 
-pub offered_done : (most i : ℕ) (before now : WorldValue) → most ≤ i → ComesTo most before (most - i) now → AreOffered most before (Ok tt) now
-offered_done most i before now all comes =
-    let rest : AreOffered zero now (Ok tt) now = (refl, refl) in
-    comes (Ok tt) now (subst (λ (n : ℕ). AreOffered n now (Ok tt) now) (sym (none_left most i all)) rest)
-
 -- ---- the next datagram
 
 pub past : (ds : List Datagram) (i : ℕ) → length ds ≤ i → slice_get ds i ≡ None
@@ -58,12 +53,6 @@ next_some w ds slots place g events log are at within is offers =
     let there : slice_get w.logs.datagrams w.offered ≡ Some g = ap (λ (n : ℕ). slice_get w.logs.datagrams n) (sym at) ∙ ap (λ (xs : List Datagram). slice_get xs place) (sym log) ∙ here in
     let all : events ≡ offers_of w.slots w.offered g = offers ∙ ap (λ (xs : List SlotValue). offers_of xs place g) are ∙ ap (λ (n : ℕ). offers_of w.slots n g) at in
     AreNextOffers.Next g there (ap (λ (es : List WorldEvent). Some es) all)
-
--- one that stands there waits
-pub next_stands : (w : WorldValue) (ds : List Datagram) (place : ℕ) (g : Datagram) → ds ≡ w.logs.datagrams → place ≡ w.offered → place < length ds → g ≡ get_or ds place g → HasNext w
-next_stands w ds place g log at within is =
-    let here : slice_get ds place ≡ Some g = slice_get-get_or ds place g within ∙ ap (λ (d : Datagram). Some d) (sym is) in
-    (g, ap (λ (n : ℕ). slice_get w.logs.datagrams n) (sym at) ∙ ap (λ (xs : List Datagram). slice_get xs place) (sym log) ∙ here)
 
 -- ---- the ticks
 
