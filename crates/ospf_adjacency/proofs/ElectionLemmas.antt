@@ -22,13 +22,6 @@ use Rattle.ospf_area.proofs.PlaceLemmas.{read_left, write_left}
 
 -- ---- who takes part
 
-abbrev pub candidate_if : Bool → NeighbourValue → List Candidate
-candidate_if b n = if b then candidate_of n ∷ [] else []
-
-first_kept : (b : Bool) (n : NeighbourValue) (kept : List NeighbourValue) → map candidate_of (if b then n ∷ kept else kept) ≡ candidate_if b n ++ map candidate_of kept
-first_kept true n kept = refl
-first_kept false n kept = refl
-
 -- ---- AdjOK?
 
 pub length-adjusted : (i : Iface) (tick next : ℕ) (ns : List NeighbourValue) → length (adjusted i tick next ns) ≡ length ns

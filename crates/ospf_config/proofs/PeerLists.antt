@@ -160,10 +160,6 @@ port_value d p reads = elim (known (as_integer d)) [
 pub port_read : (d : Data) (p : Port) → ReadsValue (λ z (q : Port). z ≡ pos q.number) (as_integer d) (Ok p) → IsPort d
 port_read d p reads = record { port = p; is = port_value d p reads }
 
-pub port_not_read : (d : Data) (f : ConfigFault) → ReadsValue (λ z (q : Port). z ≡ pos q.number) (as_integer d) (Err f) → IsPort d → ⊥
-port_not_read d f reads is =
-    let here = rw is.is at reads in here.1 is.port refl
-
 pub port_at : (vs : List Value) (i : ℕ) (v : Value) → i < length vs → v ≡ get_or vs i v → All (λ x. IsPort (view x)) vs → IsPort (view v)
 port_at vs i v lt is all = let P : Value → Type 0 = λ x. IsPort (view x) in subst P (sym is) (all i v lt)
 
@@ -179,8 +175,6 @@ as_integers-array (datetime dt) ds e = absurd (none_is_some ds (sym e))
 as_integers-array (table ms) ds e = absurd (none_is_some ds (sym e))
 
 module _ (o : Option Data) (d : Data) (ds : Items) (at : Some d ≡ o) (list : Some ds ≡ as_array d) (r : Result (List Port) ConfigFault) where
-  pub to_peers : ReadsValue ArePortNumbers (integers_of ds) r → Optional as_integers ArePortNumbers [] o r
-  to_peers reads = rw (← at) (rw (as_integers-array d ds list) reads)
 
   pub from_peers : Optional as_integers ArePortNumbers [] o r → ReadsValue ArePortNumbers (integers_of ds) r
   from_peers reads =

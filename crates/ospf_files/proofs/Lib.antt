@@ -1,4 +1,3 @@
-mod Routes
 pub mod Written
 pub mod Listed
 pub mod FirstTwins

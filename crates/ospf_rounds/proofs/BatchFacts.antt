@@ -44,11 +44,6 @@ taken_ends most i before now next answer f within part is comes =
     let all : AreTaken (suc (most - (i + 1))) now (Err f) next = OffersMore.Ended f one refl in
     comes (Err f) next (subst (λ (n : ℕ). AreTaken n now (Err f) next) (sym (one_left most i within)) all)
 
-pub taken_done : (most i : ℕ) (before now : WorldValue) → most ≤ i → ComesByWaves most before (most - i) now → AreTaken most before (Ok tt) now
-taken_done most i before now all comes =
-    let rest : AreTaken zero now (Ok tt) now = (refl, refl) in
-    comes (Ok tt) now (subst (λ (n : ℕ). AreTaken n now (Ok tt) now) (sym (none_left most i all)) rest)
-
 -- ---- what comes of one wave
 
 wave_from : (w v w' : WorldValue) (events : List WorldEvent) (answer told : Result ℕ WorldFault) → v ≡ all_passed w → events ≡ wave w → answer ≡ told
@@ -71,10 +66,6 @@ wave_ends w v w' events answer f (IsNextWave.NoWave all is) was run said = cc
 wave_ends w v w' events answer f (IsNextWave.NextWave within is) was run said =
     let events_are : events ≡ wave w = cc in
     TakesWave.Ends f within (wave_from w v w' events answer (Err f) was events_are said run) refl
-
-pub no_wave : (w : WorldValue) → IsNextWave w None → length w.logs.datagrams ≤ w.offered
-no_wave w (IsNextWave.NoWave all is) = all
-no_wave w (IsNextWave.NextWave within is) = absurd (cc)
 
 -- ---- what comes of a batch
 

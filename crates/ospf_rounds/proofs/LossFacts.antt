@@ -37,11 +37,6 @@ loses_end most i before now next losses between later answer f within part is co
     let all : AreOfferedBut (suc (most - (i + 1))) now between (Err f) next later = LosesMore.Ended f one refl in
     comes (Err f) next later (subst (λ (n : ℕ). AreOfferedBut n now between (Err f) next later) (sym (one_left most i within)) all)
 
-pub loses_done : (most i : ℕ) (before now : WorldValue) (losses between : Losses) → most ≤ i → LosesTo most before losses (most - i) now between → AreOfferedBut most before losses (Ok tt) now between
-loses_done most i before now losses between all comes =
-    let rest : AreOfferedBut zero now between (Ok tt) now between = (refl, refl, refl) in
-    comes (Ok tt) now between (subst (λ (n : ℕ). AreOfferedBut n now between (Ok tt) now between) (sym (none_left most i all)) rest)
-
 -- ---- the next datagram
 
 pub kept_none : (w : WorldValue) (losses : Losses) (ds : List Datagram) (place : ℕ) → ds ≡ w.logs.datagrams → place ≡ w.offered → length ds ≤ place → AreNextKept w losses None losses
@@ -74,10 +69,6 @@ kept_ends w v w' losses losses' events answer f (AreNextKept.NoneNext at is same
 kept_ends w v w' losses losses' events answer f (AreNextKept.Next g at is later) was run said =
     let events_are : events ≡ (offers_kept w.slots w.offered g losses).0 = cc in
     LosesNext.Ends g f at (run_from w v w' events (offers_kept w.slots w.offered g losses).0 answer (Err f) was events_are said run) refl later
-
-pub kept_last : (w : WorldValue) (losses losses' : Losses) → AreNextKept w losses None losses' → LosesNext losses w (Ok false) w losses'
-kept_last w losses losses' (AreNextKept.NoneNext at is same) = LosesNext.NoneLeft at refl refl same
-kept_last w losses losses' (AreNextKept.Next g at is later) = cc
 
 -- ---- what comes of a round
 

@@ -81,18 +81,6 @@ has_word [] i d below = absurd (omega arith)
 has_word (w ∷ words) zero d below = (zero, omega arith, refl)
 has_word (w ∷ words) (suc i) d below = let h = has_word words i d (omega arith) in (suc h.0, omega (arith, h.1), h.2)
 
--- the two halves of what there is
-pub both_halves : {S X Y : Type 0} (s : Option S) (f : S → X) (g : S → Y) (x : X) (y : Y) → Some x ≡ option_map f s
-    → Some y ≡ option_map (λ (p : X × Y). p.1) (option_map (λ b. (f b, g b)) s) → option_map {U = X × Y} (λ b. (f b, g b)) s ≡ Some (x, y)
-both_halves (Some b) f g x y first second = ap₂ (λ v w. Some (v, w)) (sym (ap (λ o. unwrap_or o x) first)) (sym (ap (λ o. unwrap_or o y) second))
-both_halves None f g x y first second = absurd (none-some x (sym first))
-
--- the first half of what there is
-pub first_half : {S X Y : Type 0} (s : Option S) (f : S → X) (g : S → Y) (x : X) (y : Y) → option_map {U = X × Y} (λ b. (f b, g b)) s ≡ Some (x, y)
-    → option_map f s ≡ Some x
-first_half {X = X} {Y = Y} (Some b) f g x y e = ap (option_map (λ (p : X × Y). p.0)) e
-first_half {X = X} {Y = Y} None f g x y e = ap (option_map (λ (p : X × Y). p.0)) e
-
 -- what there is is one
 pub some_one : (x y : List ℕ) → Some x ≡ Some y → x ≡ y
 some_one x y same = ap (λ o. unwrap_or o x) same
@@ -392,12 +380,6 @@ run_read rows ticks (Err f) some none = tt
 run_read rows ticks (Ok None) some none = no_running rows (inr none)
 run_read rows ticks (Ok (Some (job.Run r))) some none = (rows, refl, some.0)
 run_read rows ticks (Ok (Some j)) some none = absurd some
-
--- what holds without a job holds with one
-pub of_any_job : {E : Type 0} (r : Result (Option Job) E) (P : Type 0) → P → IfOk r (λ found. IfSome found (λ _. P))
-of_any_job (Ok (Some j)) P p = p
-of_any_job (Ok None) P p = tt
-of_any_job (Err e) P p = tt
 
 -- ---- numbers
 
