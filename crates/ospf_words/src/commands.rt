@@ -97,7 +97,7 @@ fn without_arg<'a>(alloc: Global) -> Arg<'a>
         .long("without")
         .value_name("NAME")
         .action(ArgAction::Append)
-        .help("Leaves a part of the area out, by its name in `failures`")
+        .help("Removes a part of the area, by its name in `failures`")
 }
 
 // Whether JSON is printed.
@@ -108,7 +108,7 @@ fn value_arg<'a>(alloc: Global) -> Arg<'a>
     Arg::new(alloc, "json")
         .long("json")
         .action(ArgAction::SetTrue)
-        .help("Prints a value of JSON instead, on one line")
+        .help("Prints JSON instead, on one line")
 }
 
 // Adds the command `failures` and its words.
@@ -117,7 +117,7 @@ fn with_failures<'a>(program: Command<'a>, alloc: Global) -> Result<Command<'a>,
         ≡ with_subcommand (app_of program.entry) failures_app.top) }
 {
     let failures = Command::new(alloc, "failures")
-        .about("Tells what each single failure does to a routing table")
+        .about("Shows what each single failure does to a routing table")
         .after_help(FAILURES_HELP)
         .arg(root_arg(alloc))?
         .arg(each_arg(alloc))?
@@ -134,7 +134,7 @@ fn each_arg<'a>(alloc: Global) -> Arg<'a>
     Arg::new(alloc, "each")
         .long("each")
         .action(ArgAction::SetTrue)
-        .help("Tells each route that a failure changes")
+        .help("Prints each route that a failure changes")
 }
 
 // Whether a failure that cuts a prefix off is an error, or a root that is not listed.
@@ -145,7 +145,7 @@ fn strict_arg<'a>(alloc: Global) -> Arg<'a>
     Arg::new(alloc, "strict")
         .long("strict")
         .action(ArgAction::SetTrue)
-        .help("Ends with status 1 where a failure cuts a prefix off, or no root is listed")
+        .help("Exits with status 1 if a failure cuts off a prefix, or ROOT has no router-LSA")
 }
 
 // Adds the command `lsas` and its words.
@@ -153,7 +153,7 @@ fn with_lsas<'a>(program: Command<'a>, alloc: Global) -> Result<Command<'a>, All
     ensures { IfOk result (λ c. app_of c ≡ with_subcommand (app_of program.entry) lsas_app.top) }
 {
     let lsas = Command::new(alloc, "lsas")
-        .about("Prints LSAs in hexadecimal, one a line, on standard input, in words")
+        .about("Prints LSAs from standard input, in hexadecimal, one a line, in readable form")
         .after_help(LSAS_HELP)
         .arg(drawing_arg(alloc))?
         .arg(value_arg(alloc))?;
@@ -168,7 +168,7 @@ fn drawing_arg<'a>(alloc: Global) -> Arg<'a>
     Arg::new(alloc, "dot")
         .long("dot")
         .action(ArgAction::SetTrue)
-        .help("Prints a drawing of them for Graphviz's dot instead")
+        .help("Prints a drawing for Graphviz's dot instead")
 }
 
 // Adds the command `path` and its words.
@@ -176,7 +176,7 @@ fn with_path<'a>(program: Command<'a>, alloc: Global) -> Result<Command<'a>, All
     ensures { IfOk result (λ c. app_of c ≡ with_subcommand (app_of program.entry) path_app.top) }
 {
     let path = Command::new(alloc, "path")
-        .about("Prints the way from a router to an address, by the tables of all routers")
+        .about("Traces a packet hop by hop from a router to an address")
         .after_help(PATH_HELP)
         .arg(from_arg(alloc))?
         .arg(address_arg(alloc))?
@@ -191,7 +191,7 @@ fn from_arg<'a>(alloc: Global) -> Arg<'a>
 {
     Arg::new(alloc, "from")
         .value_name("FROM")
-        .help("The Router ID of the router that it begins at")
+        .help("The Router ID of the router where the path begins")
         .required(true)
 }
 
@@ -202,7 +202,7 @@ fn address_arg<'a>(alloc: Global) -> Arg<'a>
 {
     Arg::new(alloc, "address")
         .value_name("ADDRESS")
-        .help("The address that it leads to")
+        .help("The destination address")
         .required(true)
 }
 
@@ -213,7 +213,7 @@ fn choices_arg<'a>(alloc: Global) -> Arg<'a>
 {
     Arg::new(alloc, "choices")
         .value_name("CHOICE")
-        .help("Which hop each router takes, 0 to 4294967295, modulo their number")
+        .help("Which next hop each router takes, 0 to 4294967295, modulo their number")
         .num_args(0..)
         .action(ArgAction::Append)
         .value_parser(ValueParser::unsigned(0, MOST_CHOICE))
@@ -242,7 +242,7 @@ fn explain_arg<'a>(alloc: Global) -> Arg<'a>
     Arg::new(alloc, "explain")
         .long("explain")
         .action(ArgAction::SetTrue)
-        .help("Says of each refused file which key is wrong, and what belongs there")
+        .help("Says which key of a refused file is wrong, and what belongs there")
 }
 
 // Whether that is said of all faults.
@@ -253,7 +253,7 @@ fn all_arg<'a>(alloc: Global) -> Arg<'a>
     Arg::new(alloc, "all")
         .long("all")
         .action(ArgAction::SetTrue)
-        .help("Says that of each fault of a file, not of the first alone; not with --json")
+        .help("Says so for every fault of a file, not only the first; not with --json")
 }
 
 // Whether the files are judged together.
@@ -264,7 +264,7 @@ fn area_arg<'a>(alloc: Global) -> Arg<'a>
     Arg::new(alloc, "area")
         .long("area")
         .action(ArgAction::SetTrue)
-        .help("Judges the files together, as the routers of one area")
+        .help("Checks the files against each other, as the routers of one area")
 }
 
 // The files of configurations.
@@ -274,7 +274,7 @@ fn files_arg<'a>(alloc: Global) -> Arg<'a>
 {
     Arg::new(alloc, "files")
         .value_name("CONFIG")
-        .help("Files with the configuration of a router each")
+        .help("Configuration files, one for each router")
         .required(true)
         .num_args(1..)
         .action(ArgAction::Append)
@@ -285,7 +285,7 @@ fn with_sim<'a>(program: Command<'a>, alloc: Global) -> Result<Command<'a>, Allo
     ensures { IfOk result (λ c. app_of c ≡ with_subcommand (app_of program.entry) sim_app.top) }
 {
     let sim = Command::new(alloc, "sim")
-        .about("Simulates an area: runs a script over a router for each configuration")
+        .about("Simulates an area: runs a script, with a router for each configuration")
         .after_help(SIM_HELP)
         .arg(script_arg(alloc))?
         .arg(files_arg(alloc))?
@@ -303,7 +303,7 @@ fn script_arg<'a>(alloc: Global) -> Arg<'a>
 {
     Arg::new(alloc, "script")
         .value_name("SCRIPT")
-        .help("File with the lines of a script, or `-` for standard input")
+        .help("The file of the script, or `-` for standard input")
         .required(true)
 }
 
@@ -313,7 +313,7 @@ fn dot_arg<'a>(alloc: Global) -> Arg<'a>
     ensures local { result.global ≡ false }
 {
     Arg::new(alloc, "dot").long("dot").value_name("FILE").help(
-        "Draws what the first running router lists at the end, for Graphviz's dot",
+        "Draws the LSDB of the first running router at the end, for Graphviz's dot",
     )
 }
 
@@ -323,7 +323,7 @@ fn pcap_arg<'a>(alloc: Global) -> Arg<'a>
     ensures local { result.global ≡ false }
 {
     Arg::new(alloc, "pcap").long("pcap").value_name("FILE").help(
-        "Writes all datagrams that were sent, for Wireshark and tcpdump",
+        "Writes all packets that were sent, for Wireshark and tcpdump",
     )
 }
 
@@ -429,7 +429,7 @@ fn floor_arg<'a>(alloc: Global) -> Arg<'a>
     Arg::new(alloc, "floor")
         .long("floor")
         .value_name("NUMBER")
-        .help("What the numbers of own LSAs begin above, in eight hexadecimal digits")
+        .help("LS sequence numbers of own LSAs begin above this, eight hexadecimal digits")
 }
 
 // Whether neighbours are printed.
@@ -451,7 +451,7 @@ fn listing_arg<'a>(alloc: Global) -> Arg<'a>
     Arg::new(alloc, "listing")
         .long("listing")
         .action(ArgAction::SetTrue)
-        .help("Prints the LSAs that each router lists at the end, as `sim` does")
+        .help("Prints the LSDB of each router at the end, as `sim` does")
 }
 
 // Whether it is printed what was dropped.
@@ -473,7 +473,7 @@ fn every_arg<'a>(alloc: Global) -> Arg<'a>
     Arg::new(alloc, "every")
         .long("every")
         .value_name("N")
-        .help("Prints the table of each router each N ticks, 1 to 1000000")
+        .help("Prints the table of each router every N ticks, 1 to 1000000")
         .value_parser(ValueParser::unsigned(1, MOST_TICKS))
 }
 
@@ -485,5 +485,5 @@ fn until_eof_arg<'a>(alloc: Global) -> Arg<'a>
     Arg::new(alloc, "until-eof")
         .long("until-eof")
         .action(ArgAction::SetTrue)
-        .help("Ends the run, within a tick, where standard input ends")
+        .help("Ends the run cleanly, within a tick, when standard input ends")
 }

@@ -3,8 +3,9 @@
 // What `--help` says below the commands.
 pub(crate) const HELP: &str = "Exit status:
   0  done
-  1  `failures --strict` or an `expect` of a script found what was not wanted
-  2  the words ask for nothing that ospfd does
+  1  `failures --strict` found a failure that cuts off a prefix, or an `expect` of a
+     script was not met
+  2  usage error
   3  the input was refused
   4  memory ran out
   5  a file or a stream failed
@@ -20,22 +21,22 @@ Examples:
 
 // What `table --help` says below its words.
 pub(crate) const TABLE_HELP: &str = "Output:
-  PREFIX COST HOPS            a line a route; a hop is one of
-      attached                the prefix is the router's own
-      LOCAL>ROUTER            over the point-to-point interface LOCAL
-      LOCAL>ROUTER@ADDRESS    over the broadcast interface LOCAL, to ADDRESS
+  PREFIX COST HOPS            a line for each route; a next hop is one of
+      attached                the prefix is on the router itself
+      LOCAL>ROUTER            out of the point-to-point interface LOCAL
+      LOCAL>ROUTER@ADDRESS    out of the broadcast interface LOCAL, to ADDRESS
   lookup ADDRESS PREFIX COST HOP, or lookup ADDRESS none, for each ADDRESS
-Where ROOT is `all`, with no ADDRESS and no --without, each router's table stands below
+If ROOT is `all`, each router's table follows a line
   router R
-With --without it is the table of the area without what is named, as in `failures`:
-a link R-S@SUBNET (or SUBNET alone), links R-S, an interface R@NETWORK, a network
-@NETWORK or a router R.
-With --json, and neither ADDRESS nor --without, it is one array: an object a route, or
-where ROOT is `all` an object a router, with its routes.
+With --without it is the table after a failure, by its name in `failures`: a link
+R-S@SUBNET (or SUBNET alone), links R-S, an interface R@NETWORK, a network @NETWORK or
+a router R.
+With --json it is one array, with an object for each route, or if ROOT is `all` for
+each router. Neither `all` nor --json can be combined with ADDRESS or --without.
 
 Exit status:
-  0  done; where the root's router-LSA is not listed, standard error says so
-  2  the words fit no command, one is no address, or a NAME is of nothing there
+  0  done; if there is no router-LSA of ROOT, standard error says so
+  2  usage error, not an address, or a NAME that does not exist in the area
   3  a line was refused: its number and fault are on standard error
   4  memory ran out
   5  standard input was not read, or standard output not written
@@ -58,16 +59,16 @@ pub(crate) const LSAS_HELP: &str = "Output:
   network PREFIX of ADDRESS by R age N number N sum N
                               a network-LSA, and a line for each attached router:
     router S
-With --dot it is a drawing instead, in the language of Graphviz, and with --json one
-array: an object an LSA.
-A link or router is `one-way` where the LSA at its other end does not name it back;
-a network-LSA is `unused` where another of its Link State ID stands for the network.
-The flags of a router-LSA: B an area border router, E an AS boundary router, V an end
-of a virtual link, W a wildcard multicast receiver.
+With --dot it is a drawing for Graphviz, and with --json one array, with an object for
+each LSA.
+A link or router is `one-way` if the LSA at its other end does not list it;
+a network-LSA is `unused` if another with its Link State ID is used in its place.
+The flags of a router-LSA: B an area border router, E an AS boundary router, V an
+endpoint of a virtual link, W a wildcard multicast receiver.
 
 Exit status:
   0  done
-  2  the words fit no command
+  2  usage error
   3  a line was refused: its number and fault are on standard error
   4  memory ran out
   5  standard input was not read, or standard output not written
@@ -79,15 +80,16 @@ Examples:
 
 // What `path --help` says below its words.
 pub(crate) const PATH_HELP: &str = "Output:
-  R HOP cost N hop I of N     a line a router on the way: the hop that it takes, what
-                              its link costs, and which of its hops that is, from 0
-  PREFIX cost N arrived       the prefix that was reached, and what all of it cost
-  R no route                  in place of these, where a router has no route
-Each CHOICE is of one router, in turn: which hop it takes, modulo their number.
+  R HOP cost N hop I of N     a line for each router on the path: the next hop that it
+                              takes, the cost of this link, and which of its next
+                              hops that is, from 0
+  PREFIX cost N arrived       the prefix that was reached, and the cost of the path
+  R no route                  the last line if a router has no route
+Each CHOICE selects a next hop of one router, in turn, modulo their number.
 
 Exit status:
-  0  done; where the router-LSA of FROM is not listed, standard error says so
-  2  the words fit no command, or one is no address
+  0  done; if there is no router-LSA of FROM, standard error says so
+  2  usage error, or not an address
   3  a line was refused: its number and fault are on standard error
   4  memory ran out
   5  standard input was not read, or standard output not written
@@ -99,27 +101,28 @@ Example:
 // What `failures --help` says below its words.
 pub(crate) const FAILURES_HELP: &str = "Output:
   FAILURE cut N gone N cost N hops N
-                              a line a failure, most cut first: how many prefixes
-                              are cut off, gone, dearer, or have other hops
-  with --each a line a route that changes, before the line of its failure:
-  FAILURE cut PREFIX          reached no more, though a router still tells it
-  FAILURE gone PREFIX         reached no more, and nobody tells it any more
+                              a line for each failure, the worst first: how many
+                              prefixes are cut off, are no longer advertised, cost
+                              more, or have other next hops
+  with --each a line for each route that changes, before the line of its failure:
+  FAILURE cut PREFIX          no longer reachable, though still advertised
+  FAILURE gone PREFIX         no longer advertised by any router
   FAILURE cost PREFIX OLD>NEW HOPS
   FAILURE hops PREFIX COST HOPS
-Where ROOT is `all` these are added up over all routers, ` routers N` says at how many
-of them anything changes, and a line of a route begins with its router.
-With --json it is one array: an object a failure.
+If ROOT is `all`, these are totals over all routers, ` routers N` is the number of
+routers where anything changes, and the line of a route begins with its router.
+With --json it is one array, with an object for each failure.
 A failure is one of
-  R-S@SUBNET                  the link of two routers
-  R-S                         all links of two routers that name no subnet
+  R-S@SUBNET                  a link between two routers
+  R-S                         all links between two routers, if none has a subnet
   R@NETWORK                   a router's interface to a network
-  @NETWORK                    the network
-  R                           the router
+  @NETWORK                    a network
+  R                           a router
 
 Exit status:
   0  done
-  1  with --strict, a failure cuts a prefix off, or ROOT is not listed, or for `all` no router
-  2  the words fit no command, or ROOT is no address
+  1  with --strict: a failure cuts off a prefix, or there is no router-LSA of ROOT
+  2  usage error, or ROOT is not an address
   3  a line was refused: its number and fault are on standard error
   4  memory ran out
   5  standard input was not read, or standard output not written
@@ -132,20 +135,20 @@ Examples:
 // What `check --help` says below its words.
 pub(crate) const CHECK_HELP: &str = "Output:
   FILE: ok                    on standard output
-  FILE: C5 ZeroCost           on standard error: the fault of least number; with
+  FILE: C5 ZeroCost           on standard error: its first fault, by number; with
                               --explain, further lines say what to do about it,
-                              with --all about each fault that the file has
-  FILE: not read              on standard error, where the check ends
+                              with --all about every fault of the file
+  FILE: not read              on standard error; the command ends
   FILE: A5 Hello: interface 0: hello 5, OTHER: interface 0: hello 10
-                              with --area, on standard error: what is wrong
-                              between files that are right each alone
-With --json the files are judged together, as with --area, and what is wrong between
-them is one array on standard output: an object a fault or note.
+                              with --area, on standard error: a fault between
+                              files that are accepted one by one
+With --json the files are checked against each other, as with --area, and the faults
+and notes between them are one array on standard output.
 
 Exit status:
-  0  each file is accepted
-  2  the words fit no command
-  3  a file was refused, or with --area two of them together
+  0  all files are accepted
+  2  usage error
+  3  a file was refused, or there is a fault between files
   4  memory ran out
   5  a file was not read, or standard output not written
 
@@ -155,45 +158,45 @@ Example:
 
 // What `sim --help` says below its words.
 pub(crate) const SIM_HELP: &str = "Lines of a script:
-  start R DD [FLOOR]          the router R starts, with its first DD number and,
-                              in eight hexadecimal digits, the floor of its numbers
-  stop R                      it stops, and forgets all
-  tick R                      a second passes at it
-  up R LINK, down R LINK      a link of it comes up, or goes down
-  deliver N R LINK            datagram N comes in on a link of it
+  start R DD [FLOOR]          start the router R, with its first DD sequence number
+                              and, in eight hexadecimal digits, the number above
+                              which its LS sequence numbers begin
+  stop R                      stop it; it forgets everything
+  tick R                      let a second pass at it
+  up R LINK, down R LINK      bring a link of it up or down
+  deliver N R LINK            deliver packet N to it on a link
   start all, up all, down all the same at each router
-  cut ADDRESS, mend ADDRESS   all links to the network of the address go down, or
-                              come up
-  round COUNT [MOST]          so many times a tick each, and all datagrams delivered
+  cut ADDRESS, mend ADDRESS   bring all links to the network of the address down or up
+  round COUNT [MOST]          COUNT times: a tick each, then deliver all packets
   batch COUNT                 the same for many routers, each of which takes all
                               that waits for it at once
-  settle MAX                  rounds until nothing changes any more, at most so many
+  settle MAX                  at most MAX rounds, until the area has converged
   loss PERCENT NUMBER [ADDRESS]
-                              from here on so many of a hundred are lost, by the
-                              number; on the network of the address alone
-  random NUMBER COUNT         so many events, drawn by the number
+                              from here on lose PERCENT of all deliveries at random;
+                              NUMBER is the seed; only on the network of ADDRESS
+  random NUMBER COUNT         COUNT random events; NUMBER is the seed
   neighbours R, listing R, lsas R, table R, floor R
-                              what the router knows is printed
-  why R LINK [NEIGHBOUR]      what a link waits for is printed
-  datagrams R [MOST]          the last datagrams that a round offers to it
-  drops R                     how many it has dropped, by link and cause
-  walk R ADDRESS [CHOICE..]   the walk from R to ADDRESS is printed
-  label on, label off         whether a line above it says what is printed
+                              print what the router knows
+  why R LINK [NEIGHBOUR]      print what a link waits for
+  datagrams R [MOST]          print the last packets that a round offers to it
+  drops R                     print how many it has dropped, by link and cause
+  walk R ADDRESS [CHOICE..]   print the path from R to ADDRESS
+  label on, label off         print headings, or no longer
   expect full R S, expect neighbour R S STATE, expect no neighbour R LINK,
   expect dr R LINK ADDRESS [BACKUP], expect route R PREFIX COST [HOP..],
   expect no route R PREFIX, expect walk R ADDRESS arrived [COST],
   expect agree, expect settled
-                              where it is otherwise, that is printed
-  say WORD..                  the words are printed; from # on is a comment
+                              print what was found if it is not so
+  say WORD..                  print the words; everything after # is a comment
 With `-` as SCRIPT each line of standard input is answered before the next is read,
-and one that is no command ends nothing.
+and a line that is not a command is skipped.
 
 Exit status:
   0  the script has run; lines that were refused are on standard error
-  1  the script has run, and something was not as a line expected it
-  2  the words fit no command, or a file would be overwritten
-  3  a configuration was refused, two have one Router ID, or a line of a file is no
-     command
+  1  the script has run, and an `expect` was not met
+  2  usage error, or a file would be overwritten
+  3  a configuration was refused, two have the same Router ID, or a line of a script
+     file is not a command
   4  memory ran out
   5  a file or standard input was not read, or a file or standard output not written
 
@@ -202,29 +205,29 @@ Example:
 ";
 
 // What `run --help` says below its words.
-pub(crate) const RUN_HELP: &str =
-    "Output, when the run has ended, for each router in the order of the files:
+pub(crate) const RUN_HELP: &str = "Output at the end, for each router in the order of the files:
   router R                    its Router ID
-  PREFIX COST HOPS            its routing table, a line a route, as of `table`
-  lookup ADDRESS ..           with --lookup, what the table sends the address to
-  LINK R STATE                with --neighbours, a line a neighbour: the number of
-                              the link, its Router ID, the state it is in
-  KIND ID R NUMBER SUM        with --listing, a line an LSA: router or network, its
-                              Link State ID, Advertising Router, number, checksum
+  PREFIX COST HOPS            its routing table, a line for each route, as in `table`
+  lookup ADDRESS ..           with --lookup, the route of the address
+  LINK R STATE                with --neighbours, a line for each neighbor: the link,
+                              its Router ID and its state
+  KIND ID R NUMBER SUM        with --listing, a line for each LSA: router or network,
+                              Link State ID, Advertising Router, LS sequence
+                              number, checksum
   drops LINK CAUSE N          with --drops, how many packets were dropped, and why
-  floor NUMBER                with --floor, the greatest number of its own LSAs
-  FILE: U2 Send               on standard error, in place of these, where it failed
-With --every N, each N ticks of a router, its table below a line
+  floor NUMBER                with --floor, the highest sequence number it has used
+  FILE: U2 Send               on standard error, in place of these, if it failed
+With --every N, every N ticks of a router, its table after a line
   router R tick TICK
 `forever` runs until it is killed, or with --until-eof until standard input ends.
 
 Exit status:
-  0  all routers came to the end
-  2  the words fit no command, one is no address, or a file would be overwritten
-  3  the floor or a configuration was refused, two configurations have one Router ID,
-     or an interface has no port
+  0  all routers ran to the end
+  2  usage error, not an address, or a file would be overwritten
+  3  the floor or a configuration was refused, two configurations have the same Router
+     ID, or an interface has no port
   4  memory ran out
-  5  a file was not read, a socket was not made, or a wire or a stream failed
+  5  a file was not read, a socket was not created, or a router or a stream failed
 
 Example:
   ospfd run --tick 100 --lookup 192.168.2.9 60 first.toml second.toml

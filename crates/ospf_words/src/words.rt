@@ -31,7 +31,7 @@ pub fn not_text(alloc: Global) -> JobFault
     ensures not_help { IsHelp result → ⊥ }
 {
     let told = match command(alloc, ticks_arg(alloc)) {
-        Ok(mut command) => command.error(ErrorKind::InvalidValue, "a word is not UTF-8"),
+        Ok(mut command) => command.error(ErrorKind::InvalidValue, "an argument is not UTF-8"),
         Err(error) => Err(error),
     };
     match told {
@@ -561,10 +561,10 @@ fn no_job(command: &mut Command<'_>, matches: &ArgMatches<'_>) -> JobFault
 // Which words of the command that was entered do not go together.
 fn apart(matches: &ArgMatches<'_>) -> &'static str {
     match matches.subcommand_name() {
-        Some("table") => "`all` and --json go with no ADDRESS and no --without",
-        Some("lsas") => "--json goes with no --dot",
-        Some("check") => "--json goes with no --all",
-        Some("sim") | Some("run") => "--json goes only with --log",
-        _ => "the words do not go together",
+        Some("table") => "neither `all` nor --json can be combined with ADDRESS or --without",
+        Some("lsas") => "--json cannot be combined with --dot",
+        Some("check") => "--json cannot be combined with --all",
+        Some("sim") | Some("run") => "--json needs --log",
+        _ => "these arguments cannot be combined",
     }
 }

@@ -539,7 +539,7 @@ fn tells_each_failure(rt: HostRuntime) -> Result<(), Fail> {
             .code(),
         2
     );
-    assert!(rt; err.starts_with(b"error: a word is not UTF-8\n"));
+    assert!(rt; err.starts_with(b"error: an argument is not UTF-8\n"));
     Ok(())
 }
 
