@@ -7,7 +7,8 @@ import os
 TOP = os.path.dirname(os.path.dirname(os.path.dirname(os.path.abspath(__file__))))
 UNITS = ["tests/unit/units"]
 # These start no program of ours.
-WITHOUT_PROGRAM = [["tests/gate/layout"], ["tests/gate/unused"], ["tests/edits", "--check"], ["tools/promise", "--check", "docs/promises"], ["tests/gate/stand-ins"], ["tests/peers/bridge"]]
+WITHOUT_PROGRAM = [["tests/gate/english"], ["tests/gate/layout"], ["tests/gate/unused"], ["tests/edits", "--check"], ["tools/promise", "--check", "docs/promises"]]
+WITHOUT_PROGRAM += [["tests/gate/stand-ins"], ["tests/peers/bridge"]]
 # The longest first, so that the others run beside them.
 OF_PROGRAM = ["captures/compare-failures", "simulations/claims", "simulations/simulate", "captures/compare-inspect", "captures/read-captures"]
 OF_PROGRAM += ["simulations/report", "captures/compare-captures", "captures/read-shown", "gate/shown", "gate/streams"]
