@@ -225,7 +225,7 @@ line_explained text fault.Memory es none at (t, parsed, h) = absurd (none_is_som
 
 module _ (t : Members) (n : ℕ) (f : ConfigFault) (old new : List Explained) where
   pub prefix_added : (before : List Value) (holds : Bool) → f ≡ fault.SamePrefix → ((holds ≡ true) ↔ Any (λ v. IsTableWith (λ first. AreInConflict first t) (view v)) before)
-      → AddsRows (IsPlaceWhere (holds ≡ true) (IsKeyPlace (Some n) t (codes "address") (codes "a prefix and an address that no interface before has"))) old new
+      → AddsRows (IsPlaceWhere (holds ≡ true) (IsKeyPlace (Some n) t (codes "address") (codes "a prefix and an address that no earlier interface has"))) old new
       → AddsRows (AreInterfacePlaces n (tables_among (items_view before)) t f) old new
   prefix_added before holds is same h =
       rw is
@@ -236,7 +236,7 @@ module _ (t : Members) (n : ℕ) (f : ConfigFault) (old new : List Explained) wh
       })
 
   pub dead_added : (before : List Members) (holds : Bool) → f ≡ fault.DeadNotOverHello → ((holds ≡ true) ↔ IsDeadNotOverHello t)
-      → AddsRows (IsPlaceWhere (holds ≡ true) (IsKeyPlace (Some n) t (codes "dead") (codes "more than `hello` (by default 40 and 10)"))) old new → AddsRows (AreInterfacePlaces n before t f) old new
+      → AddsRows (IsPlaceWhere (holds ≡ true) (IsKeyPlace (Some n) t (codes "dead") (codes "more than `hello` (defaults: dead 40, hello 10)"))) old new → AddsRows (AreInterfacePlaces n before t f) old new
   dead_added before holds is same h = rw is (record { more = h.more; added = h.added; are = where_same _ _ _ h.more same h.are })
 
   pub rows_added : (before : List Members) (rows : List Row) → (f ≡ fault.SamePrefix → ⊥) → (f ≡ fault.DeadNotOverHello → ⊥) → (f ≡ fault.Unknown → ⊥) → AllZip (IsRowOf t) keys_of_interface rows

@@ -69,14 +69,14 @@ key_name peers_key = codes "peers"
 
 -- what belongs at the key, in words
 abbrev pub wanted_at : KnownKey → List ℕ
-wanted_at router_id_key = codes "a dotted text, as \"10.0.0.1\", other than \"0.0.0.0\","
-wanted_at area_key = codes "a dotted text, as \"0.0.0.1\","
+wanted_at router_id_key = codes "a dotted string such as \"10.0.0.1\", not \"0.0.0.0\","
+wanted_at area_key = codes "a dotted string such as \"0.0.0.1\","
 wanted_at stub_router_key = codes "true or false"
 wanted_at other_lsas_key = codes "\"refuse\" or \"pass over\""
 wanted_at interface_key = codes "1 to 32 tables [[interface]]"
 wanted_at kind_key = codes "\"point-to-point\" or \"broadcast\""
 wanted_at address_key =
-    codes "a host's address with the length of its prefix, 1 to 30, as \"10.0.0.1/30\","
+    codes "a host address and prefix length, 1 to 30, such as \"10.0.0.1/30\","
 wanted_at cost_key = codes "1 to 65535"
 wanted_at priority_key = codes "0 to 255"
 wanted_at hello_key = codes "1 to 65535"
@@ -85,7 +85,7 @@ wanted_at retransmit_key = codes "1 to 65535"
 wanted_at transmit_delay_key = codes "1 to 3600"
 wanted_at mtu_key = codes "576 to 9000"
 wanted_at port_key = codes "0, or 1024 to 65535,"
-wanted_at peers_key = codes "a list of at most 32 numbers, each 1024 to 65535,"
+wanted_at peers_key = codes "an array of at most 32 ports, each 1024 to 65535,"
 
 -- the key of the table has the fault
 abbrev pub KeyHas : Members → ConfigFault → KnownKey → Type 0
@@ -198,10 +198,11 @@ abbrev pub AreInterfacePlaces : ℕ → List Members → Members → ConfigFault
 AreInterfacePlaces n before t fault.SamePrefix es =
     IsPlaceWhere (Any (λ first. AreInConflict first t) before)
     (IsKeyPlace (Some n) t (codes "address")
-    (codes "a prefix and an address that no interface before has")) es
+    (codes "a prefix and an address that no earlier interface has")) es
 AreInterfacePlaces n before t fault.DeadNotOverHello es =
     IsPlaceWhere (IsDeadNotOverHello t)
-    (IsKeyPlace (Some n) t (codes "dead") (codes "more than `hello` (by default 40 and 10)")) es
+    (IsKeyPlace (Some n) t (codes "dead")
+    (codes "more than `hello` (defaults: dead 40, hello 10)")) es
 AreInterfacePlaces n before t fault.Unknown es =
     ArePlacesOf (IsOtherKey interface_keys) (IsUnknownPlace (Some n) t) (keys_of t) es
 AreInterfacePlaces n before t f es =
@@ -245,7 +246,7 @@ IsExplained text f es = (t : Members) × (parse_document text ≡ Some t) × Are
 
 -- what was found in place of what is expected
 abbrev pub found_here_text : Option (String Global) → List ℕ
-found_here_text None = codes "nothing found"
+found_here_text None = codes "none found"
 found_here_text (Some text) = string_bytes text ++ codes " found"
 
 -- in which of the interfaces it is, if in one
@@ -262,5 +263,5 @@ key_explained_text p =
 
 -- what is printed of a place
 abbrev pub explained_text : Explained → List ℕ
-explained_text (said.Line n) = codes "line " ++ decimal n ++ codes ": no TOML"
+explained_text (said.Line n) = codes "line " ++ decimal n ++ codes ": not valid TOML"
 explained_text (said.Key p) = key_explained_text p

@@ -30,7 +30,7 @@ impl Display for Explained {
 
     fn fmt<W: Write>(&self, f: &mut Formatter<W>) -> fmt::Result {
         match self {
-            Explained::Line(line) => write!(f, "line {line}: no TOML"),
+            Explained::Line(line) => write!(f, "line {line}: not valid TOML"),
             Explained::Key(place) => write!(f, "{place}"),
         }
     }
@@ -95,7 +95,7 @@ fn write_found<W: Write>(f: &mut Formatter<W>, found: &Option<String>) -> fmt::R
     ensures { WritesOnOk W.Write.write_str_gives f.old result (found_here_text found.now) f.new }
 {
     match found {
-        None => f.write_str("nothing found"),
+        None => f.write_str("none found"),
         Some(found) => write!(f, "{found} found"),
     }
 }

@@ -222,7 +222,7 @@ fn add_interface(
     let number = Some(interface);
     match fault {
         ConfigFault::SamePrefix => {
-            let wanted = "a prefix and an address that no interface before has";
+            let wanted = "a prefix and an address that no earlier interface has";
             let holds = is_any_in_conflict(before, table);
             add_where(alloc, out, number, table, "address", wanted, holds)
         }
@@ -234,7 +234,7 @@ fn add_interface(
                 number,
                 table,
                 "dead",
-                "more than `hello` (by default 40 and 10)",
+                "more than `hello` (defaults: dead 40, hello 10)",
                 holds,
             )
         }

@@ -25,13 +25,13 @@ pub(crate) struct Row {
 pub(crate) fn top_rows(table: &Table) -> [Row; 5]
     ensures { AllZip (IsRowOf (table_view table.now)) keys_at_top result }
 {
-    let dotted = "a dotted text, as \"10.0.0.1\", other than \"0.0.0.0\",";
+    let dotted = "a dotted string such as \"10.0.0.1\", not \"0.0.0.0\",";
     [
         key_row("router_id", router_id_at(table).err(), dotted),
         key_row(
             "area",
             area_at(table).err(),
-            "a dotted text, as \"0.0.0.1\",",
+            "a dotted string such as \"0.0.0.1\",",
         ),
         key_row("stub_router", stub_router_at(table).err(), "true or false"),
         key_row(
@@ -51,10 +51,10 @@ pub(crate) fn top_rows(table: &Table) -> [Row; 5]
 pub(crate) fn interface_rows(table: &Table) -> [Row; 11]
     ensures { AllZip (IsRowOf (table_view table.now)) keys_of_interface result }
 {
-    let address = "a host's address with the length of its prefix, 1 to 30, as \"10.0.0.1/30\",";
+    let address = "a host address and prefix length, 1 to 30, such as \"10.0.0.1/30\",";
     let ticks = "1 to 65535";
     let kind = "\"point-to-point\" or \"broadcast\"";
-    let peers = "a list of at most 32 numbers, each 1024 to 65535,";
+    let peers = "an array of at most 32 ports, each 1024 to 65535,";
     [
         key_row("kind", kind_at(table).err(), kind),
         key_row("address", address_at(table).err(), address),

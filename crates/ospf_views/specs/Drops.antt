@@ -34,7 +34,7 @@ detail_words (Some detail) = codes ": " ++ detail_text detail
 -- where the datagram came from, the cause, and the field
 abbrev pub reason_line : Addr → Dropped → Option Detail → List ℕ
 reason_line source cause detail =
-    codes "  would drop the last datagram of " ++ number_text source.0 ++ codes ": "
+    codes "  would drop the last packet from " ++ number_text source.0 ++ codes ": "
     ++ dropped_text cause ++ detail_words detail ++ codes "\n"
 
 -- nothing of one that is taken

@@ -58,10 +58,10 @@ abbrev pub misfit_words : Misfit → List ℕ
 misfit_words misfit.NamesOne =
     codes "names a Designated Router: that end is broadcast, this one point-to-point"
 misfit_words misfit.NamesNone =
-    codes "names no Designated Router: that end is point-to-point, or waits"
+    codes "names no Designated Router: that end is point-to-point, or still in Waiting"
 misfit_words (misfit.SmallerMtu there here) =
     codes "has MTU " ++ decimal there ++ codes ", this end " ++ decimal here
-    ++ codes ": it drops the Database Descriptions of this end"
+    ++ codes ": it drops this end's Database Descriptions"
 
 -- of the end of this address, if there is one
 abbrev pub misfit_line : Addr → Option Misfit → List ℕ

@@ -32,32 +32,32 @@ stands_line link q s =
 abbrev pub elected_waits : Addr → List ℕ
 elected_waits dr =
     if dr.0 == nowhere.0
-    then codes "  waits for a Designated Router: no router here has a priority above 0\n"
-    else codes "  waits for nothing: no adjacency is wanted\n"
+    then codes "  waiting for a Designated Router: no router here has a priority above 0\n"
+    else codes "  stays here: these two need no adjacency\n"
 
 -- in 2-Way: the election, or what has come of it (10.4)
 abbrev pub two_way_waits : IfaceState → ℕ → Addr → List ℕ
 two_way_waits iface.Waiting wait dr =
-    codes "  waits for the end of Waiting, in " ++ decimal wait ++ codes " ticks\n"
+    codes "  waiting for the wait timer, " ++ decimal wait ++ codes " ticks left\n"
 two_way_waits _ wait dr = elected_waits dr
 
 -- in Exchange: the other's next Database Description (10.8)
 abbrev pub exchange_waits : Exchanging → List ℕ
 exchange_waits e =
     if e.is_master
-    then codes "  waits for the slave's Database Description of number " ++ decimal e.number
-    ++ codes "\n"
-    else codes "  waits for the master's Database Description behind number " ++ decimal e.number
-    ++ codes "\n"
+    then codes "  waiting for the slave's Database Description with sequence number "
+    ++ decimal e.number ++ codes "\n"
+    else codes "  waiting for the master's next Database Description, after sequence number "
+    ++ decimal e.number ++ codes "\n"
 
 -- what the state waits for
 unfoldable pub state_waits : NeighbourState → Iface → NeighbourValue → List ℕ
-state_waits state.Down i n = codes "  waits for a Hello\n"
+state_waits state.Down i n = codes "  waiting for a Hello\n"
 state_waits state.Init i n =
-    codes "  waits for a Hello that lists " ++ number_text i.settings.router.0 ++ codes "\n"
+    codes "  waiting for a Hello that lists " ++ number_text i.settings.router.0 ++ codes "\n"
 state_waits state.TwoWay i n = two_way_waits i.state i.wait i.dr
 state_waits state.ExStart i n =
-    codes "  waits for a Database Description that settles who is master\n"
+    codes "  waiting for a Database Description that decides who is master\n"
 state_waits state.Exchange i n = exchange_waits n.exchanging
 state_waits state.Loading i n = []
 state_waits state.Full i n = []
@@ -77,7 +77,7 @@ request_line h =
 
 -- how many LSAs are to come by Request, and how many of them the last one named
 unfoldable pub requested_text : ℕ → List ℕ
-requested_text count = codes "  waits for LSAs by Request: " ++ decimal count
+requested_text count = codes "  waiting for requested LSAs: " ++ decimal count
 
 -- how many of them the last Request named
 unfoldable pub asked_text : ℕ → List ℕ
@@ -99,7 +99,7 @@ retransmission_line l = codes "    " ++ listed_text l.instance ++ codes "\n"
 
 -- how many acknowledgements are to come
 unfoldable pub acknowledgements_line : ℕ → List ℕ
-acknowledgements_line count = codes "  waits for acknowledgements: " ++ decimal count ++ codes "\n"
+acknowledgements_line count = codes "  waiting for acknowledgments: " ++ decimal count ++ codes "\n"
 
 -- the instances that it has not acknowledged, the first three of them named (13.6)
 unfoldable pub acknowledgement_waits : List Listed → List ℕ
@@ -109,7 +109,7 @@ acknowledgement_waits listed =
 
 -- in Full, nothing where both lists are empty
 unfoldable pub full_waits : NeighbourState → List LsaHeader → List Listed → List ℕ
-full_waits state.Full [] [] = codes "  waits for nothing\n"
+full_waits state.Full [] [] = codes "  waiting for nothing\n"
 full_waits _ _ _ = []
 
 -- a neighbour of a link, and what it waits for
@@ -122,8 +122,8 @@ neighbour_why link i n =
 
 -- one without neighbours: it comes up, or a Hello comes
 abbrev pub alone_waits : IfaceState → List ℕ
-alone_waits iface.Down = codes "  waits for the link to come up\n"
-alone_waits _ = codes "  waits for a Hello\n"
+alone_waits iface.Down = codes "  waiting for the link to come up\n"
+alone_waits _ = codes "  waiting for a Hello\n"
 
 -- the number of a link, and its interface
 unfoldable pub interface_line : ℕ → Iface → List ℕ

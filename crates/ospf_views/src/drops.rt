@@ -30,7 +30,7 @@ impl Display for DropShown {
     ghost output = { λ d. Some (reason_line d.source d.cause d.detail) };
 
     fn fmt<W: Write>(&self, f: &mut Formatter<W>) -> fmt::Result {
-        write!(f, "  would drop the last datagram of {}: ", self.source)?;
+        write!(f, "  would drop the last packet from {}: ", self.source)?;
         write!(f, "{}", self.cause)?;
         write_detail(f, self.detail)?;
         f.write_str("\n")

@@ -25,7 +25,7 @@ pub enum Misfit {
     SmallerMtu(u16, u16),
 }
 
-/// As `has MTU 1400, this end 1500: it drops the Database Descriptions of this end`.
+/// As `has MTU 1400, this end 1500: it drops this end's Database Descriptions`.
 impl Display for Misfit {
     ghost use Rattle.std.specs.Prelude.{Some};
     ghost use Rattle.ospf_views.specs.Misfits.{misfit_words};
@@ -38,11 +38,13 @@ impl Display for Misfit {
                 "names a Designated Router: that end is broadcast, this one point-to-point",
             ),
             Misfit::NamesNone => {
-                f.write_str("names no Designated Router: that end is point-to-point, or waits")
+                f.write_str(
+                    "names no Designated Router: that end is point-to-point, or still in Waiting",
+                )
             }
             Misfit::SmallerMtu(there, here) => write!(
                 f,
-                "has MTU {there}, this end {here}: it drops the Database Descriptions of this end"
+                "has MTU {there}, this end {here}: it drops this end's Database Descriptions"
             ),
         }
     }

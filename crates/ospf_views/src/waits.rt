@@ -195,8 +195,8 @@ fn write_alone<W: Write>(f: &mut Formatter<W>, state: IfaceState) -> fmt::Result
     ensures { WritesOnOk W.Write.write_str_gives f.old result (alone_waits state) f.new }
 {
     match state {
-        IfaceState::Down => f.write_str("  waits for the link to come up\n"),
-        _ => f.write_str("  waits for a Hello\n"),
+        IfaceState::Down => f.write_str("  waiting for the link to come up\n"),
+        _ => f.write_str("  waiting for a Hello\n"),
     }
 }
 
@@ -239,14 +239,14 @@ fn write_state<W: Write>(f: &mut Formatter<W>, iface: &Iface, neighbour: &Neighb
         (state_waits neighbour.now.state iface.now neighbour.now) f.new }
 {
     match neighbour.state() {
-        NeighbourState::Down => f.write_str("  waits for a Hello\n"),
+        NeighbourState::Down => f.write_str("  waiting for a Hello\n"),
         NeighbourState::Init => {
             let own = iface.settings.router;
-            write!(f, "  waits for a Hello that lists {own}\n")
+            write!(f, "  waiting for a Hello that lists {own}\n")
         }
         NeighbourState::TwoWay => write_two_way(f, iface),
         NeighbourState::ExStart => {
-            f.write_str("  waits for a Database Description that settles who is master\n")
+            f.write_str("  waiting for a Database Description that decides who is master\n")
         }
         NeighbourState::Exchange => write_exchange(f, neighbour.exchanging()),
         NeighbourState::Loading | NeighbourState::Full => Ok(()),
@@ -260,7 +260,7 @@ fn write_two_way<W: Write>(f: &mut Formatter<W>, iface: &Iface) -> fmt::Result
 {
     let wait = iface.wait;
     match iface.state {
-        IfaceState::Waiting => write!(f, "  waits for the end of Waiting, in {wait} ticks\n"),
+        IfaceState::Waiting => write!(f, "  waiting for the wait timer, {wait} ticks left\n"),
         _ => write_elected(f, iface.dr),
     }
 }
@@ -270,9 +270,9 @@ fn write_elected<W: Write>(f: &mut Formatter<W>, dr: Addr) -> fmt::Result
     ensures { WritesOnOk W.Write.write_str_gives f.old result (elected_waits dr) f.new }
 {
     if dr.0 == Addr::NOWHERE.0 {
-        f.write_str("  waits for a Designated Router: no router here has a priority above 0\n")
+        f.write_str("  waiting for a Designated Router: no router here has a priority above 0\n")
     } else {
-        f.write_str("  waits for nothing: no adjacency is wanted\n")
+        f.write_str("  stays here: these two need no adjacency\n")
     }
 }
 
@@ -284,12 +284,12 @@ fn write_exchange<W: Write>(f: &mut Formatter<W>, exchanging: Exchanging) -> fmt
     if exchanging.is_master {
         write!(
             f,
-            "  waits for the slave's Database Description of number {number}\n"
+            "  waiting for the slave's Database Description with sequence number {number}\n"
         )
     } else {
         write!(
             f,
-            "  waits for the master's Database Description behind number {number}\n"
+            "  waiting for the master's next Database Description, after sequence number {number}\n"
         )
     }
 }
@@ -326,7 +326,7 @@ fn write_requests_line<W: Write>(f: &mut Formatter<W>, count: usize, asked: usiz
 fn write_requested<W: Write>(f: &mut Formatter<W>, count: usize) -> fmt::Result
     ensures { WritesOnOk W.Write.write_str_gives f.old result (requested_text count) f.new }
 {
-    write!(f, "  waits for LSAs by Request: {count}")
+    write!(f, "  waiting for requested LSAs: {count}")
 }
 
 // How many of them the last Request named.
@@ -405,7 +405,7 @@ fn write_retransmission<W: Write>(f: &mut Formatter<W>, listed: &[Listed]) -> fm
 fn write_acknowledgements_line<W: Write>(f: &mut Formatter<W>, count: usize) -> fmt::Result
     ensures { WritesOnOk W.Write.write_str_gives f.old result (acknowledgements_line count) f.new }
 {
-    write!(f, "  waits for acknowledgements: {count}\n")
+    write!(f, "  waiting for acknowledgments: {count}\n")
 }
 
 // The first of them.
@@ -438,7 +438,7 @@ fn write_full<W: Write>(f: &mut Formatter<W>, neighbour: &Neighbour) -> fmt::Res
         neighbour.requests(),
         neighbour.retransmission(),
     ) {
-        (NeighbourState::Full, [], []) => f.write_str("  waits for nothing\n"),
+        (NeighbourState::Full, [], []) => f.write_str("  waiting for nothing\n"),
         _ => Ok(()),
     }
 }

@@ -252,7 +252,7 @@ fn explains_refused_files(rt: HostRuntime) -> Result<(), Fail> {
     assert_eq!(rt; told.out.as_slice(), b"a.toml: ok\n".as_slice());
     assert_eq!(rt;
         told.err.as_slice(),
-        b"b.toml: C5 ZeroCost\n  interface 0: cost: 1 to 65535 wanted, 0 found\nc.toml: C1 NotToml\n  the file is not UTF-8\nd.toml: C2 Missing\n  area: a dotted text, as \"0.0.0.1\", wanted, nothing found\n  interface: 1 to 32 tables [[interface]] wanted, nothing found\n".as_slice()
+        b"b.toml: C5 ZeroCost\n  interface 0: cost: 1 to 65535 wanted, 0 found\nc.toml: C1 NotToml\n  the file is not UTF-8\nd.toml: C2 Missing\n  area: a dotted string such as \"0.0.0.1\", wanted, none found\n  interface: 1 to 32 tables [[interface]] wanted, none found\n".as_slice()
     );
     Ok(())
 }
@@ -280,15 +280,15 @@ fn explains_all_faults(rt: HostRuntime) -> Result<(), Fail> {
         \x20 C5 ZeroCost: interface 0: cost: 1 to 65535 wanted, 0 found\n\
         \x20 C8 Unknown: interface 0: colour: a known key wanted, \"red\" found\n\
         c.toml: C2 Missing\n\
-        \x20 C2 Missing: router_id: a dotted text, as \"10.0.0.1\", other than \"0.0.0.0\", wanted, nothing found\n\
-        \x20 C2 Missing: interface 1: cost: 1 to 65535 wanted, nothing found\n\
+        \x20 C2 Missing: router_id: a dotted string such as \"10.0.0.1\", not \"0.0.0.0\", wanted, none found\n\
+        \x20 C2 Missing: interface 1: cost: 1 to 65535 wanted, none found\n\
         \x20 C3 Type: stub_router: true or false wanted, 1 found\n\
         \x20 C3 Type: interface 1: priority: 0 to 255 wanted, \"high\" found\n\
         \x20 C4 Range: interface 1: mtu: 576 to 9000 wanted, 100 found\n\
         \x20 C4 Range: interface 1: port: 0, or 1024 to 65535, wanted, 5 found\n\
         \x20 C5 ZeroCost: interface 0: cost: 1 to 65535 wanted, 0 found\n\
-        \x20 C6 SamePrefix: interface 1: address: a prefix and an address that no interface before has wanted, \"10.0.0.2/30\" found\n\
-        \x20 C7 DeadNotOverHello: interface 1: dead: more than `hello` (by default 40 and 10) wanted, 10 found\n\
+        \x20 C6 SamePrefix: interface 1: address: a prefix and an address that no earlier interface has wanted, \"10.0.0.2/30\" found\n\
+        \x20 C7 DeadNotOverHello: interface 1: dead: more than `hello` (defaults: dead 40, hello 10) wanted, 10 found\n\
         \x20 C8 Unknown: colour: a known key wanted, \"red\" found\n\
         \x20 C8 Unknown: interface 1: colour: a known key wanted, 1 found\n";
     assert!(rt; told.err.as_slice() == wanted.as_bytes());
@@ -307,7 +307,7 @@ fn explains_one_fault_or_no_toml_alone(rt: HostRuntime) -> Result<(), Fail> {
     assert!(rt; told.out.is_empty());
     assert_eq!(rt;
         told.err.as_slice(),
-        b"a.toml: C5 ZeroCost\n  C5 ZeroCost: interface 0: cost: 1 to 65535 wanted, 0 found\nb.toml: C1 NotToml\n  C1 NotToml: line 2: no TOML\nc.toml: C1 NotToml\n  C1 NotToml: the file is not UTF-8\n".as_slice()
+        b"a.toml: C5 ZeroCost\n  C5 ZeroCost: interface 0: cost: 1 to 65535 wanted, 0 found\nb.toml: C1 NotToml\n  C1 NotToml: line 2: not valid TOML\nc.toml: C1 NotToml\n  C1 NotToml: the file is not UTF-8\n".as_slice()
     );
     Ok(())
 }

@@ -406,11 +406,11 @@ fn explains_keys(rt: HostRuntime) -> Result<(), Fail> {
         ),
         (
             "dead = 10\n",
-            "interface 0: dead: more than `hello` (by default 40 and 10) wanted, 10 found\n",
+            "interface 0: dead: more than `hello` (defaults: dead 40, hello 10) wanted, 10 found\n",
         ),
         (
             "hello = 50\n",
-            "interface 0: dead: more than `hello` (by default 40 and 10) wanted, nothing found\n",
+            "interface 0: dead: more than `hello` (defaults: dead 40, hello 10) wanted, none found\n",
         ),
         (
             "colour = \"red\"\n",
@@ -420,11 +420,11 @@ fn explains_keys(rt: HostRuntime) -> Result<(), Fail> {
         ("\"a b\" = 1\n", "interface 0: \"a b\": a known key wanted, 1 found\n"),
         (
             "peers = [1]\n",
-            "interface 0: peers: a list of at most 32 numbers, each 1024 to 65535, wanted, a list of 1 found\n",
+            "interface 0: peers: an array of at most 32 ports, each 1024 to 65535, wanted, a list of 1 found\n",
         ),
         (
             "[[interface]]\nkind = \"broadcast\"\naddress = \"10.1.0.1/24\"\n",
-            "interface 1: cost: 1 to 65535 wanted, nothing found\n",
+            "interface 1: cost: 1 to 65535 wanted, none found\n",
         ),
         (
             "[[interface]]\nkind = \"broadcast\"\naddress = \"10.1.0.1/24\"\ncost = 0\n",
@@ -432,9 +432,9 @@ fn explains_keys(rt: HostRuntime) -> Result<(), Fail> {
         ),
         (
             "[[interface]]\nkind = \"broadcast\"\naddress = \"10.0.0.2/30\"\ncost = 1\n",
-            "interface 1: address: a prefix and an address that no interface before has wanted, \"10.0.0.2/30\" found\n",
+            "interface 1: address: a prefix and an address that no earlier interface has wanted, \"10.0.0.2/30\" found\n",
         ),
-        ("hello = 1\nmtu 7\n", "line 9: no TOML\n"),
+        ("hello = 1\nmtu 7\n", "line 9: not valid TOML\n"),
     ];
     for (third, told) in rows.iter() {
         assert_eq!(rt; explained(alloc, TOP, INTERFACE, third)?.as_str(), *told);
@@ -448,11 +448,11 @@ fn explains_all_faults_in_order(rt: HostRuntime) -> Result<(), Fail> {
     let alloc = rt.alloc();
     let rows = [
         ("", ""),
-        ("dead = 10\n", "C7 DeadNotOverHello: interface 0: dead: more than `hello` (by default 40 and 10) wanted, 10 found\n"),
+        ("dead = 10\n", "C7 DeadNotOverHello: interface 0: dead: more than `hello` (defaults: dead 40, hello 10) wanted, 10 found\n"),
         (
             "dead = 0\n",
             "C4 Range: interface 0: dead: 1 to 65535 wanted, 0 found\n\
-            C7 DeadNotOverHello: interface 0: dead: more than `hello` (by default 40 and 10) wanted, 0 found\n",
+            C7 DeadNotOverHello: interface 0: dead: more than `hello` (defaults: dead 40, hello 10) wanted, 0 found\n",
         ),
         (
             "dead = -5\nhello = -6\n",
@@ -462,7 +462,7 @@ fn explains_all_faults_in_order(rt: HostRuntime) -> Result<(), Fail> {
         (
             "hello = 70000\n",
             "C4 Range: interface 0: hello: 1 to 65535 wanted, 70000 found\n\
-            C7 DeadNotOverHello: interface 0: dead: more than `hello` (by default 40 and 10) wanted, nothing found\n",
+            C7 DeadNotOverHello: interface 0: dead: more than `hello` (defaults: dead 40, hello 10) wanted, none found\n",
         ),
         ("dead = 70000\n", "C4 Range: interface 0: dead: 1 to 65535 wanted, 70000 found\n"),
         (
@@ -476,7 +476,7 @@ fn explains_all_faults_in_order(rt: HostRuntime) -> Result<(), Fail> {
             C4 Range: interface 0: port: 0, or 1024 to 65535, wanted, 7 found\n\
             C8 Unknown: interface 0: colour: a known key wanted, 1 found\n",
         ),
-        ("mtu = 100\nmtu 7\n", "C1 NotToml: line 9: no TOML\n"),
+        ("mtu = 100\nmtu 7\n", "C1 NotToml: line 9: not valid TOML\n"),
     ];
     for (third, told) in rows.iter() {
         let text = joined(alloc, TOP, INTERFACE, third)?;
@@ -503,16 +503,16 @@ fn explains_the_top(rt: HostRuntime) -> Result<(), Fail> {
         "area = \"0.0.0.0\"\ninterface = []\n",
     )?;
     let wanted =
-        "router_id: a dotted text, as \"10.0.0.1\", other than \"0.0.0.0\", wanted, 5 found\n";
+        "router_id: a dotted string such as \"10.0.0.1\", not \"0.0.0.0\", wanted, 5 found\n";
     assert_eq!(rt; told.as_str(), wanted);
     let told = explained(alloc, TOP, "other_lsas = \"maybe\"\n", INTERFACE)?;
     let wanted = "other_lsas: \"refuse\" or \"pass over\" wanted, \"maybe\" found\n";
     assert_eq!(rt; told.as_str(), wanted);
     let told = explained(alloc, "stub_router = 1\n", "", "")?;
     let wanted =
-        "router_id: a dotted text, as \"10.0.0.1\", other than \"0.0.0.0\", wanted, nothing found\n\
-        area: a dotted text, as \"0.0.0.1\", wanted, nothing found\n\
-        interface: 1 to 32 tables [[interface]] wanted, nothing found\n";
+        "router_id: a dotted string such as \"10.0.0.1\", not \"0.0.0.0\", wanted, none found\n\
+        area: a dotted string such as \"0.0.0.1\", wanted, none found\n\
+        interface: 1 to 32 tables [[interface]] wanted, none found\n";
     assert_eq!(rt; told.as_str(), wanted);
     Ok(())
 }

@@ -26,18 +26,18 @@ fn each_wait_is_told(rt: HostRuntime) -> Result<(), Fail> {
     let mut world = world_of(&[super::given::CONFIG, OTHER], alloc)?;
     let (router, link) = (FIRST, 0);
     world.step(start(FIRST, 1), alloc)?;
-    assert_eq!(rt; both(&world, alloc)?.as_str(), "link 0 interface Down dr 0.0.0.0 backup 0.0.0.0\n  waits for the link to come up\n-\nlink 0 neighbour 2.2.2.2 Down\n  waits for the link to come up\n");
+    assert_eq!(rt; both(&world, alloc)?.as_str(), "link 0 interface Down dr 0.0.0.0 backup 0.0.0.0\n  waiting for the link to come up\n-\nlink 0 neighbour 2.2.2.2 Down\n  waiting for the link to come up\n");
     world.step(WorldEvent::LinkUp { router, link }, alloc)?;
-    assert_eq!(rt; both(&world, alloc)?.as_str(), "link 0 interface Point-to-point dr 0.0.0.0 backup 0.0.0.0\n  waits for a Hello\n-\nlink 0 neighbour 2.2.2.2 Down\n  waits for a Hello\n");
+    assert_eq!(rt; both(&world, alloc)?.as_str(), "link 0 interface Point-to-point dr 0.0.0.0 backup 0.0.0.0\n  waiting for a Hello\n-\nlink 0 neighbour 2.2.2.2 Down\n  waiting for a Hello\n");
     world.step(start(SECOND, 1), alloc)?;
     world.step(WorldEvent::LinkUp { router: SECOND, link }, alloc)?;
     let datagram = world.datagrams().len() - 1;
     world.step(WorldEvent::Deliver { datagram, router, link }, alloc)?;
-    assert_eq!(rt; both(&world, alloc)?.as_str(), "link 0 interface Point-to-point dr 0.0.0.0 backup 0.0.0.0\nlink 0 neighbour 2.2.2.2 Init\n  waits for a Hello that lists 1.1.1.1\n-\nlink 0 neighbour 2.2.2.2 Init\n  waits for a Hello that lists 1.1.1.1\n");
+    assert_eq!(rt; both(&world, alloc)?.as_str(), "link 0 interface Point-to-point dr 0.0.0.0 backup 0.0.0.0\nlink 0 neighbour 2.2.2.2 Init\n  waiting for a Hello that lists 1.1.1.1\n-\nlink 0 neighbour 2.2.2.2 Init\n  waiting for a Hello that lists 1.1.1.1\n");
     for _ in 0..60 {
         world.round(alloc)?;
     }
-    assert_eq!(rt; both(&world, alloc)?.as_str(), "link 0 interface Point-to-point dr 0.0.0.0 backup 0.0.0.0\nlink 0 neighbour 2.2.2.2 Full\n  waits for nothing\n-\nlink 0 neighbour 2.2.2.2 Full\n  waits for nothing\n");
+    assert_eq!(rt; both(&world, alloc)?.as_str(), "link 0 interface Point-to-point dr 0.0.0.0 backup 0.0.0.0\nlink 0 neighbour 2.2.2.2 Full\n  waiting for nothing\n-\nlink 0 neighbour 2.2.2.2 Full\n  waiting for nothing\n");
     let nowhere = why(world.router(FIRST)?, 1, None, alloc)?;
     assert!(rt; nowhere.is_none());
     Ok(())
@@ -71,8 +71,8 @@ fn a_mismatch_is_explained(rt: HostRuntime) -> Result<(), Fail> {
     let other = detail(&world, last, alloc)?;
     assert_eq!(rt; other.as_deref(), Some("HelloInterval 10 there, 5 here"));
     assert!(rt; detail(&world, 0, alloc)?.is_none());
-    assert_eq!(rt; drop(&world, last, alloc)?.as_str(), "  would drop the last datagram of 10.0.0.2: R6 HelloMismatch: HelloInterval 10 there, 5 here\n");
-    assert_eq!(rt; drop(&world, 0, alloc)?.as_str(), "  would drop the last datagram of 10.0.0.1: R3 OwnPacket\n");
+    assert_eq!(rt; drop(&world, last, alloc)?.as_str(), "  would drop the last packet from 10.0.0.2: R6 HelloMismatch: HelloInterval 10 there, 5 here\n");
+    assert_eq!(rt; drop(&world, 0, alloc)?.as_str(), "  would drop the last packet from 10.0.0.1: R3 OwnPacket\n");
     Ok(())
 }
 

@@ -7,6 +7,6 @@ use Rattle.ospf_views.proofs.misfit.MisfitDisplay.fmt.Goals as goal
 pub returns-in-SmallerMtu-clause-writes : goal.returns-in-SmallerMtu-clause-writes
 returns-in-SmallerMtu-clause-writes g c =
     λ plain ok. subst (λ (text : List ℕ). HasWritten g.W.Write.write_str_gives c.args.f.now text c.write.new.self)
-    (five_pieces (codes "has MTU ") (decimal c.in-SmallerMtu.there) (codes ", this end ") (decimal c.in-SmallerMtu.here) (codes ": it drops the Database Descriptions of this end")
+    (five_pieces (codes "has MTU ") (decimal c.in-SmallerMtu.there) (codes ", this end ") (decimal c.in-SmallerMtu.here) (codes ": it drops this end's Database Descriptions")
     ∙ sym (ap misfit_words c.in-SmallerMtu.is))
     (c.write.ensures.writes plain ok)
