@@ -1,0 +1,338 @@
+"""The definitions of crates/*/specs: where each one is, which others it cites, and all that it rests on."""
+import collections
+import functools
+import os
+import re
+
+TOP = os.path.dirname(os.path.dirname(os.path.abspath(__file__)))
+
+# A definition: its kind and its name; a name; a token; and what binds names, in parentheses and after a lambda.
+DEFINITION = re.compile(r"(?:pub )?(?:abbrev|unfoldable|record|data)(?: pub)? (\S+)")
+NAME = r"(?!λ)[^\W\d][\w'?!]*"
+TOKEN = re.compile(rf"\"(?:[^\"\\]|\\.)*\"|λ|\.{NAME}|{NAME}(?:\.[\w'?!]+)*|[(){{}};]|[^\s(){{}};\w]+|\d+")
+BINDER = re.compile(rf"\s*((?:{NAME}\s+)+):\s")
+LAMBDA = re.compile(rf"\s*((?:{NAME}\s*)+)\.\s")
+USE = re.compile(r"(pub )?use ([\w.]+?)(?:\.\{(.*)\}| as (\w+))?;?$")
+
+Word = collections.namedtuple("Word", "crate module name")
+Outside = collections.namedtuple("Outside", "place name")
+Definition = collections.namedtuple("Definition", "word comment lines number")
+
+
+class Fault(Exception):
+    """What is asked for is not there."""
+
+
+# ---- modules of specs/ ----
+
+class Module:
+    """A file of specs/: its head, what it uses, and its definitions in their order."""
+
+    def __init__(self, crate, name):
+        self.crate, self.name = crate, name
+        self.path = os.path.join("crates", crate, "specs", f"{name}.antt")
+        with open(os.path.join(TOP, self.path), encoding="utf-8") as file:
+            lines = file.read().split("\n")
+        self.scope, self.public, self.definitions, self.constructors = {}, {}, {}, collections.defaultdict(list)
+        first = next((n for n, line in enumerate(lines) if not line.startswith("--")), len(lines))
+        self.head = lines[:first]
+        for n in range(len(lines)):
+            if used := used_at(lines, n):
+                words = targets(used[2], used[3], used[4])
+                self.scope.update(words)
+                if used[1]:
+                    self.public.update(words)
+        self.divide(lines, first)
+
+    def divide(self, lines, first):
+        """Finds the definitions. A comment between two equations belongs to the definition that they make."""
+        starts = [n for n in range(first, len(lines)) if DEFINITION.match(lines[n])]
+        tops = [above(lines, n, first) for n in starts]
+        for n, top, end in zip(starts, tops, tops[1:] + [len(lines)]):
+            name = DEFINITION.match(lines[n])[1]
+            body = lines[n:end]
+            while body and (not body[-1].strip() or body[-1].startswith("--")):
+                body.pop()
+            word = Word(self.crate, self.name, name)
+            self.definitions[name] = Definition(word, lines[top:n], body, n + 1)
+            if re.match(r"(?:pub )?data ", lines[n]):
+                for line in body[1:]:
+                    if found := re.match(rf"  ({NAME}) :", line):
+                        self.constructors[found[1]].append(word)
+
+    def find(self, name):
+        """The definition of a name that the module defines or hands on, if it is one; that of a constructor is its data's."""
+        if name in self.definitions:
+            return self.definitions[name].word
+        if len(self.constructors.get(name, ())) == 1:
+            return self.constructors[name][0]
+        return self.public.get(name)
+
+
+def above(lines, n, first):
+    """The line where the comment above a definition begins."""
+    while n > first and lines[n - 1].startswith("--") and not lines[n - 1].startswith("-- ----"):
+        n -= 1
+    return n
+
+
+def used_at(lines, n, before=""):
+    """The `use` that begins on a line behind these words, if one does. Its names may go over several lines."""
+    line = lines[n].strip()
+    if not re.match(rf"{before}(pub )?use ", line):
+        return None
+    while "{" in line and "}" not in line and n + 1 < len(lines):
+        n += 1
+        line += " " + lines[n].strip()
+    return USE.fullmatch(line[len(before):])
+
+
+def targets(path, names, alias):
+    """What a `use` line brings into scope, by the names that it has there."""
+    if names is None:
+        return {alias or path.split(".")[-1]: ("module", path)}
+    found = {}
+    for one in names.split(","):
+        name, _, local = one.strip().partition(" as ")
+        if name:
+            found[local or name] = ("word", path, name)
+    return found
+
+
+@functools.lru_cache(maxsize=None)
+def module(crate, name):
+    """A module of a crate of ours, or None. One that Lib.antt hands on is the module of the crate that it stands in."""
+    if os.path.exists(os.path.join(TOP, "crates", crate, "specs", f"{name}.antt")):
+        return Module(crate, name)
+    library = module(crate, "Lib") if name != "Lib" else None
+    handed = library.public.get(name) if library else None
+    if handed and handed[0] == "module":
+        parts = handed[1].split(".")
+        return module(parts[1], parts[-1])
+    return None
+
+
+def is_ours(parts):
+    return len(parts) > 3 and parts[0] == "Rattle" and parts[2] == "specs" and os.path.isdir(os.path.join(TOP, "crates", parts[1]))
+
+
+def looked_up(target, rest):
+    """What a target of a `use` line stands for, where these names follow it: a definition, or a name from outside of specs/."""
+    if isinstance(target, Word):
+        return target
+    path, names = target[1], ([target[2]] if target[0] == "word" else []) + rest
+    parts = path.split(".")
+    if not is_ours(parts):
+        library = parts[1] if parts[0] == "Rattle" else parts[0]
+        return Outside(library, names[0] if names else parts[-1])
+    if parts[3] in ("declared", "contracts"):
+        at = next((n for n, part in enumerate(parts) if n > 3 and part[0].isupper()), len(parts) - 1)
+        return Outside(f"crates/{parts[1]}/src/{'/'.join(parts[4:at])}.rt", parts[at])
+    place = module(parts[1], parts[3])
+    names = parts[4:] + names
+    found = place.find(names[0]) if place and names else None
+    if found is None:
+        raise Fault(f"{path}: no word '{'.'.join(names)}' is found there")
+    return looked_up(found, names[1:])
+
+
+def sought(crate, name):
+    """The definition of a word in a crate."""
+    folder = os.path.join(TOP, "crates", crate)
+    if not os.path.isdir(folder) or not crate:
+        raise Fault(f"no crate '{crate}'")
+    specs = os.path.join(folder, "specs")
+    names = sorted(file[:-5] for file in os.listdir(specs) if file.endswith(".antt")) if os.path.isdir(specs) else []
+    found = [module(crate, one).definitions[name].word for one in names if name in module(crate, one).definitions]
+    if not found:
+        raise Fault(f"no definition '{name}' in crates/{crate}/specs")
+    return found
+
+
+def one_word(crate, name):
+    """The one definition of a word; of a name that several modules have, `MODULE.WORD` names one."""
+    if "." in name:
+        place, _, last = name.partition(".")
+        found = [word for word in sought(crate, last) if word.module == place]
+        if not found:
+            raise Fault(f"no definition '{last}' in crates/{crate}/specs/{place}.antt")
+    else:
+        found = sought(crate, name)
+    if len(found) > 1:
+        raise Fault(f"'{name}' is defined in several modules of {crate}: ask for one, {', '.join(f'{it.module}.{name}' for it in found)}")
+    return found[0]
+
+
+def definition(word):
+    return module(word.crate, word.module).definitions[word.name]
+
+
+# ---- which words a text cites ----
+
+class Scan:
+    """Goes over the text of a definition and finds the words that it cites, but for those that it binds itself."""
+
+    def __init__(self, scope, defined, constructors, bound=()):
+        self.scope, self.defined, self.constructors = scope, defined, constructors
+        self.bound = [set(bound)]
+        self.cited, self.symbols = {}, set()
+
+    def cite(self, path):
+        """Notes what a name stands for, if it is bound nowhere nearer."""
+        head, *rest = path.split(".")
+        if any(head in names for names in self.bound):
+            return
+        found = self.defined(head)
+        if found is None and head in self.scope:
+            found = looked_up(self.scope[head], rest)
+        if found is not None:
+            self.cited.setdefault(found)
+
+    def pattern(self, text):
+        """The left side of an equation binds its names, but for those of constructors."""
+        for found in TOKEN.finditer(text):
+            one = found[0]
+            self.symbols.add(one)
+            if not re.match(NAME, one):
+                continue
+            head = one.split(".")[0]
+            if one[0].isupper() or "." in one or head in self.constructors:
+                self.cite(one)
+            else:
+                self.bound[-1].add(head)
+
+    def text(self, text):
+        """A type or an expression."""
+        at, before, earlier, pending, records = 0, "", "", [], []
+        while found := TOKEN.search(text, at):
+            one, at = found[0], found.end()
+            self.symbols.add(one)
+            if one in "({":
+                is_record = one == "{" and "record" in (before, earlier)
+                binder = None if is_record else BINDER.match(text, at)
+                names = set(binder[1].split()) if binder else set()
+                at = binder.end() if binder else at
+                self.bound.append(set())
+                pending.append(names)
+                records.append(is_record)
+            elif one in ")}":
+                self.bound.pop()
+                records.pop()
+                self.bound[-1] |= pending.pop()
+            elif one == "λ":
+                if names := LAMBDA.match(text, at):
+                    self.bound[-1] |= set(names[1].split())
+                    at = names.end()
+            elif before == "let" or (before and before[-1:] in "{;" and records and records[-1]):
+                if before == "let":
+                    self.bound[-1].add(one)
+            elif re.match(NAME, one):
+                self.cite(one)
+            before, earlier = one, before
+
+
+def parts_of(lines):
+    """The lines of a definition without their comments, those that go on joined to the line that they belong to."""
+    parts = []
+    for line in lines:
+        line = re.sub(r"(^|\s)--(\s.*|$)", "", re.sub(r'"(?:[^"\\]|\\.)*"', '""', line))
+        if not line.strip() or line.strip() == "where":
+            continue
+        indent = len(line) - len(line.lstrip())
+        begins = (indent == 0 and line[0] not in "}])") or re.match(rf"  (?:pub )?{NAME} : ", line)
+        if parts and not begins:
+            parts[-1] += " " + line.strip()
+        else:
+            parts.append(line)
+    return parts
+
+
+def local_names(lines):
+    """What the `where` of a function defines."""
+    at = next((n for n, line in enumerate(lines) if line.strip() == "where"), len(lines))
+    return {found[1] for line in lines[at:] if (found := re.match(rf"\s+({NAME}) : ", line))}
+
+
+def equation(part, names):
+    """The left and the right side of an equation of one of these names, or None."""
+    found = re.match(rf"\s*({NAME})(?=\s)", part)
+    if not found or found[1] not in names or re.match(rf"\s*{NAME} : ", part):
+        return None
+    left, equals, right = part.partition(" = ")
+    return (left[found.end():], right) if equals else None
+
+
+@functools.lru_cache(maxsize=None)
+def citations(word):
+    """What a definition cites, in the order in which it does, and its operators by the names that they were used by."""
+    place = module(word.crate, word.module)
+    it = place.definitions[word.name]
+    scan = Scan(place.scope, lambda name: place.find(name) if name in place.definitions or name in place.constructors else None, constructors_seen(place))
+    locals_ = local_names(it.lines)
+    scan.bound[0] |= locals_
+    is_record, is_data = (re.match(rf"(?:pub )?{kind} ", it.lines[0]) for kind in ("record", "data"))
+    lines = joined_locals(it.lines, locals_) if locals_ else parts_of(it.lines)
+    for part in lines:
+        part = re.sub(rf"^{DEFINITION.pattern}", "", part)
+        if sides := equation(part, locals_ | {word.name}):
+            kept = [set(names) for names in scan.bound]
+            scan.pattern(sides[0])
+            scan.text(sides[1])
+            scan.bound = kept if not locals_ or re.match(r"\s", part) else scan.bound
+            continue
+        field = re.match(rf"\s+(?:pub )?({NAME}) : ", part)
+        kept = [set(names) for names in scan.bound]
+        scan.text(part[field.end():] if field else part)
+        if field and (is_record or is_data):
+            scan.bound = kept
+        if field and is_record:
+            scan.bound[0].add(field[1])
+    scan.cited.pop(word, None)
+    return list(scan.cited) + operators(place.scope, scan.symbols)
+
+
+def joined_locals(lines, names):
+    """As `parts_of`, where each line of a local name begins a part too."""
+    again = []
+    for part in parts_of(lines):
+        pieces = re.split(rf"(?<= )(?=(?:{'|'.join(map(re.escape, sorted(names)))}) (?::|[^=]*? = ))", part) if not part.startswith(("abbrev", "unfoldable")) else [part]
+        again.extend(" " * (n > 0) + piece for n, piece in enumerate(pieces))
+    return again
+
+
+def constructors_seen(place):
+    """Names of constructors that a module's patterns may have in small letters."""
+    known = set(place.constructors) | {"zero", "suc", "true", "false", "tt"}
+    for name, target in place.scope.items():
+        if target[0] == "word":
+            parts = target[1].split(".")
+            if parts[-1] == "TheVariants":
+                known.add(name)
+            elif is_ours(parts) and parts[3] not in ("declared", "contracts"):
+                home = module(parts[1], parts[3])
+                if home and (target[2] in home.constructors or len(parts) > 4):
+                    known.add(name)
+    return known
+
+
+def operators(scope, symbols):
+    """The operators of libraries whose signs stand in a text."""
+    found = []
+    for name, target in scope.items():
+        signs = [sign for sign in name.split("◌") if sign]
+        if not re.match(NAME, name) and signs and target[0] == "word" and all(sign in symbols for sign in signs):
+            one = looked_up(target, [])
+            if isinstance(one, Outside):
+                found.append(one._replace(name="".join(signs) if len(signs) == 1 else " ".join(signs)))
+    return found
+
+
+def closure(words):
+    """All definitions that these rest on, themselves among them, in the order in which they are met."""
+    met, wait = dict.fromkeys(words), collections.deque(words)
+    while wait:
+        for one in citations(wait.popleft()):
+            if isinstance(one, Word) and one not in met:
+                met[one] = None
+                wait.append(one)
+    return list(met)
