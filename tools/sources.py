@@ -85,8 +85,8 @@ class Call:
     """A public function: its comment, its head with its clauses, and the words that these cite."""
 
     def __init__(self, crate, path, item):
-        self.crate, self.source, self.at = crate, lines_of(path), item.start
-        lines = [line for line in self.source[item.start:item.end] if not line.lstrip().startswith("#[")]
+        self.crate, self.path, self.at = crate, path, item.start
+        lines = [line for line in lines_of(path)[item.start:item.end] if not line.lstrip().startswith("#[")]
         indent = len(lines[0]) - len(lines[0].lstrip())
         self.lines = [line[indent:] for line in lines]
         self.place = os.path.relpath(path, folder_of(crate))
@@ -98,7 +98,7 @@ class Call:
         head = re.sub(r"^\s*//.*$", "", head, flags=re.M)
         bound = set(re.findall(rf"({NAME})\s*:(?!:)", head)) | {"self", "result"}
         clauses = re.sub(r"^(\s*)(?:requires|ensures)\b( \w+)?", r"\1", clauses, flags=re.M)
-        return cited_by(self.crate, self.source, self.at, clauses, bound)
+        return cited_by(self.crate, self.path, self.at, clauses, bound)
 
     def words(self):
         return [one for one in self.cited() if isinstance(one, Word)]
@@ -108,9 +108,9 @@ class Call:
         return [found[2] or "" for line in self.lines if (found := CLAUSE.match(line)) and found[1] == kind]
 
 
-def cited_by(crate, source, at, text, bound=()):
-    """What a ghost text at a line of a source cites."""
-    scope, rust = ghost_scope(source, at), rust_scope(tuple(source))
+def cited_by(crate, path, at, text, bound=()):
+    """What a ghost text at a line of a file cites."""
+    scope, rust = ghost_scope(path, at), rust_scope(path)
     scan = Scan(scope, lambda name: None, set(), bound)
     scan.text(re.sub(r"\s+", " ", re.sub(r"^\s*//.*$", "", text, flags=re.M)))
     found = list(scan.cited) + operators(scope, scan.symbols)
@@ -132,23 +132,30 @@ def call(crate, name):
     return Call(crate, *found[0])
 
 
-def ghost_scope(lines, at):
-    """The words that `ghost use` brings to a place: those of the file, and those of the block that it stands in."""
+@functools.lru_cache(maxsize=None)
+def ghost_uses(path):
+    """The `ghost use` lines of a file: where each is, where its block ends, whether it is of the whole file, and what it brings."""
+    lines = lines_of(path)
+    ends = [n for n, line in enumerate(lines) if line.startswith("}")] + [len(lines)]
+    found = [(n, used_at(lines, n, "ghost ")) for n in range(len(lines)) if "ghost use " in lines[n]]
+    return [(n, next(end for end in ends if end > n), lines[n][0] != " ", targets(used[2], used[3], used[4])) for n, used in found if used]
+
+
+def ghost_scope(path, at):
+    """The words that `ghost use` brings to a place: those of the file, and those of the block that the place is in."""
+    lines, scope = lines_of(path), {}
     block = max((n for n in range(at + 1) if lines[n][:1].strip() and lines[n][0] not in "}/"), default=0)
-    scope = {}
-    for n, line in enumerate(lines):
-        if used := used_at(lines, n, "ghost "):
-            after = next((k for k in range(n, len(lines)) if lines[k].startswith("}")), len(lines))
-            if line[0] != " " or block < n <= at <= after:
-                scope.update(targets(used[2], used[3], used[4]))
+    for n, end, is_whole, words in ghost_uses(path):
+        if is_whole or block < n <= at <= end:
+            scope.update(words)
     return scope
 
 
 @functools.lru_cache(maxsize=None)
-def rust_scope(lines):
+def rust_scope(path):
     """The crates that the file's `use` lines have types of, by type; those that it declares are of its own."""
     found = {}
-    for line in re.sub(r"\{[^}]*\}", lambda it: " ".join(it[0].split()), "\n".join(lines)).split("\n"):
+    for line in re.sub(r"\{[^}]*\}", lambda it: " ".join(it[0].split()), "\n".join(lines_of(path))).split("\n"):
         if used := re.match(r"use (\w+)(?:::\w+)*::(?:\{(.*)\}|(\w+));", line):
             for name in re.findall(r"\b[A-Z]\w*", used[2] or used[3]):
                 found[name] = used[1]
@@ -157,6 +164,7 @@ def rust_scope(lines):
     return found
 
 
+@functools.lru_cache(maxsize=None)
 def rust_place(crate, of, name):
     """Where a type of the code is declared."""
     home = crate if of == "crate" else of
@@ -235,14 +243,15 @@ def entry(crate, path, it):
         return Entry(name, "law" if is_law else "", comment, made.clauses("requires"), made.clauses("ensures"), own_words(made.cited()))
     is_block = it.kind.startswith("impl ")
     ghosts = list(ghost_texts(lines, it, GHOST if is_block else FIELD))
-    words = own_words(one for _, n, text in ghosts for one in cited_by(crate, lines, n, text, {"self"}))
+    words = own_words(one for _, n, text in ghosts for one in cited_by(crate, path, n, text, {"self"}))
     name = f"{it.kind[5:]} for {it.owner}" if is_block else it.name
     return Entry(name, "" if is_block else it.kind, comment, [], [name for name, _, _ in ghosts], words)
 
 
+@functools.lru_cache(maxsize=None)
 def entries(crate):
     """What a crate exports, by file: its public types, functions and laws, and what it promises of its types by traits."""
-    names = exported(crate)
+    names, files = exported(crate), []
     for path in rust_files(folder_of(crate)):
         found = []
         for it in items(path):
@@ -252,4 +261,5 @@ def entries(crate):
             if one.comment or one.words or not it.kind.startswith("impl "):
                 found.append(one)
         if found:
-            yield path, said(lines_of(path), "//!"), found
+            files.append((path, said(lines_of(path), "//!"), found))
+    return files

@@ -112,8 +112,13 @@ def module(crate, name):
     return None
 
 
+@functools.lru_cache(maxsize=None)
+def is_crate(name):
+    return os.path.isdir(os.path.join(TOP, "crates", name))
+
+
 def is_ours(parts):
-    return len(parts) > 3 and parts[0] == "Rattle" and parts[2] == "specs" and os.path.isdir(os.path.join(TOP, "crates", parts[1]))
+    return len(parts) > 3 and parts[0] == "Rattle" and parts[2] == "specs" and is_crate(parts[1])
 
 
 def looked_up(target, rest):
