@@ -175,7 +175,6 @@ as_integers-array (datetime dt) ds e = absurd (none_is_some ds (sym e))
 as_integers-array (table ms) ds e = absurd (none_is_some ds (sym e))
 
 module _ (o : Option Data) (d : Data) (ds : Items) (at : Some d ≡ o) (list : Some ds ≡ as_array d) (r : Result (List Port) ConfigFault) where
-
   pub from_peers : Optional as_integers ArePortNumbers [] o r → ReadsValue ArePortNumbers (integers_of ds) r
   from_peers reads =
       let here : ReadsValue ArePortNumbers (as_integers d) r = rw (← at) at reads in

@@ -238,7 +238,6 @@ leaves_none place rs are v none =
     }
 
 module _ (At At' At'' : Vertex → ℕ → Type 0) (Starts Starts' Starts'' : Vertex → Start → Type 0) (gone : List Vertex) where
-
   -- one more leaves
   pub leaves_more : (i : ℕ) (x : Vertex) → i < length gone → Leaves (Contains (take i gone)) At At' Starts Starts' → Leaves (Contains (get_or gone i x ∷ [])) At' At'' Starts' Starts''
       → Leaves (Contains (take (i + 1) gone)) At At'' Starts Starts''
@@ -310,7 +309,6 @@ module _ (less edges : List Edge) (i : ℕ) (x : Edge) (lt : i < length edges) (
 
 -- edges that end at what is gone
 module _ (gone : List Vertex) (At : Vertex → ℕ → Type 0) where
-
   pub opens_offered : (Starts : Vertex → Start → Type 0) (some : List Edge) (old new : List SpfCandidate) → Offers some At Starts old new → OpensEdges gone some At old new
   opens_offered Starts some old new o =
       record {

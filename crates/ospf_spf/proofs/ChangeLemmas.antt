@@ -284,7 +284,6 @@ module _ (old new : List Route) (i j : ℕ) (cs : List Change) (old_order : AllP
 
 -- at the end of both tables
 module _ (old new : List Route) (i j : ℕ) (cs : List Change) (m : IsMerged old new i j cs) (old_end : i ≡ length old) (new_end : j ≡ length new) where
-
   pub all_puts : (route : Route) → Contains cs (Put route) ↔ IsNewRoute old new route
   all_puts route = (
     (λ h. All-contains (IsReal old new) cs (Put route) m.real h),
