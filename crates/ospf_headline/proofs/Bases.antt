@@ -10,7 +10,6 @@ use Rattle.ospf_area.specs.Outputs.{OutputsValue}
 use Rattle.ospf_lsdb.specs.Moments.{among}
 use Rattle.ospf_step.specs.Step.{Event, heard_in}
 use Rattle.ospf_step.proofs.StateFacts.{same_contents, slice_get-append_left}
-use Rattle.ospf_step.proofs.StepAccounts.{StepLaws-accounts}
 use Rattle.ospf_area.specs.State.{AreaValue}
 use Rattle.ospf_headline.specs.World.{Comes, World, WorldEvent, Issued, Run, Running, router_at, StepsRouter, RouterBecomes, SameLogs, IsNewWorld, Happens, RunsEvents}
 use Rattle.ospf_headline.specs.Logs.{run_of}
@@ -93,7 +92,7 @@ module _ (is_dropped : Event → AreaValue → Bool) (start : World) (past : Lis
       only q y key (IsThat.TheOne e is) = (of y is).1 key
       only q y key (IsThat.Another n at) = b.only_first q y key at
 
-  Bases-stepped : (r : RouterId) (e : Event) (x x' : Running) (out : OutputsValue) → Facts w → StepsRouter is_dropped w w' r e x x' out → WasSent w (heard_in e) → NoneLargest w'.issued → Bases is_dropped start (past ++ event ∷ []) w'
+  Bases-stepped : (r : RouterId) (e : Event) (x x' : Running) (out : OutputsValue) → Facts w → StepsRouter w w' r e x x' out → WasSent w (heard_in e) → NoneLargest w'.issued → Bases is_dropped start (past ++ event ∷ []) w'
   Bases-stepped r e x x' out facts step sent none = record {
     leads = further past start b.leads;
     running = λ q y at. run q y (which_router w w' r (Some x') q y step.changes at);
@@ -103,7 +102,7 @@ module _ (is_dropped : Event → AreaValue → Bool) (start : World) (past : Lis
     where
       goes_on : (key : LsaKey) → (among out.ended key ≡ true) ⊎ (among out.ended key ≡ false) → among out.ended key ≡ false
       goes_on key (inl ends) =
-          let largest = (StepLaws-accounts _ e x.state out x'.state (facts.sound r x step.was) step.laws).numbers.ends key ends in
+          let largest = step.accounts.numbers.ends key ends in
           let was = has_issued w w' r e x x' out facts step sent (contents largest.lsa) largest.has in
           absurd (none was.place was.entry was.at (ap (λ i. i.number) (same_contents was.entry.lsa largest.lsa was.is) ∙ largest.number))
       goes_on key (inr does) = does

@@ -9,7 +9,7 @@ use Rattle.ospf_packet.specs.PacketOf.{packet_of}
 use Rattle.ospf_area.specs.State.{kept_number}
 use Rattle.ospf_step.specs.Headers.{Lists}
 use Rattle.ospf_step.specs.Packets.{lsas_of, headers_in_body}
-use Rattle.ospf_step.specs.Words.{CanName, HasCopy, Asks, IsSoundState}
+use Rattle.ospf_step.specs.Words.{CanName, HasCopy, Asks}
 use Rattle.ospf_headline.specs.World.{World, Issued, Datagram, Running, router_at, HasItsTable}
 use Rattle.ospf_headline.specs.Logs.{run_of}
 use Rattle.ospf_headline.specs.Sound.{IssuedAt, WasIssued, number_in}
@@ -41,7 +41,5 @@ pub record Facts (w : World) : Type 0 where
   pub names : (r : RouterId) (x : Running) (i : Instance) → router_at w r ≡ Some x → CanName x.state i → Contains w.held (record { router = r; instance = i })
   pub named : (g : Datagram) (p : Meaning) (i : Instance) → Contains w.datagrams g → packet_of g.sent.bytes ≡ Some p → Lists (headers_in_body p.body) i → Contains w.held (record { router = p.router; instance = i })
   pub asked : (r : RouterId) (x : Running) (l : ℕ) (q : RouterId) (i : Instance) → router_at w r ≡ Some x → Asks x.state l q i → Contains w.held (record { router = q; instance = i })
-  -- each copy is an LSA, and what waits for an acknowledgement is held
-  pub sound : (r : RouterId) (x : Running) → router_at w r ≡ Some x → IsSoundState x.state
   -- each router has the table of its listing
   pub tables : (r : RouterId) (x : Running) → router_at w r ≡ Some x → HasItsTable x

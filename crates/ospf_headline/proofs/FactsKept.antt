@@ -17,13 +17,12 @@ use Rattle.ospf_area.specs.Outputs.{OutputsValue, SentValue}
 use Rattle.ospf_area.specs.State.{AreaValue, kept_number}
 use Rattle.ospf_step.specs.Headers.{Lists}
 use Rattle.ospf_step.specs.Packets.{Received, lsas_of, headers_in_body, dd_headers_of, acknowledging_headers_of}
-use Rattle.ospf_step.specs.Words.{CanName, HasCopy, Asks, Brings, IsSoundState}
+use Rattle.ospf_step.specs.Words.{CanName, HasCopy, Asks, Brings}
 use Rattle.ospf_lsdb.specs.Moments.{among}
 use Rattle.ospf_update.specs.Removal.{lowest_number}
 use Rattle.ospf_step.specs.Accounts.{Accounts, HasContents, Hears, IsAcknowledged, IsDescribed, Sends}
 use Rattle.ospf_step.specs.Step.{Event, heard_in}
 use Rattle.ospf_step.proofs.StateFacts.{same_router, Contains-nil, slice_get-append_right, Contains-map_cases, Contains-map, slice_get-append_cases, slice_get-append_left, slice_get-map_cases, Contains-from_slice_get, slice_get-from_Contains}
-use Rattle.ospf_step.proofs.StepAccounts.{StepLaws-accounts, StepLaws-sound}
 use Rattle.ospf_headline.specs.World.{World, Issued, Datagram, Holding, Running, router_at, StepsRouter, RouterBecomes, HasItsTable}
 use Rattle.ospf_headline.specs.Logs.{run_of}
 use Rattle.ospf_headline.specs.Sound.{WasIssued, IssuedAt, number_in}
@@ -70,9 +69,9 @@ acknowledged_named (acknowledgment headers) h c = c
 abbrev pub WasSent : World → Option Received → Type 0
 WasSent w heard = (r : Received) → heard ≡ Some r → (g : Datagram) × Contains w.datagrams g × (packet_of g.sent.bytes ≡ Some r.packet)
 
-module _ {is_dropped : Event → AreaValue → Bool} (w w' : World) (r : RouterId) (event : Event) (x x' : Running) (out : OutputsValue) (facts : Facts w) (step : StepsRouter is_dropped w w' r event x x' out) (was_sent : WasSent w (heard_in event)) where
+module _ (w w' : World) (r : RouterId) (event : Event) (x x' : Running) (out : OutputsValue) (facts : Facts w) (step : StepsRouter w w' r event x x' out) (was_sent : WasSent w (heard_in event)) where
   laws : Accounts (heard_in event) x.state out x'.state
-  laws = StepLaws-accounts _ event x.state out x'.state (facts.sound r x step.was) step.laws
+  laws = step.accounts
 
   pub was_issued : (content : List ℕ) → WasIssued w.issued content → WasIssued w'.issued content
   was_issued content was =
@@ -183,13 +182,6 @@ module _ {is_dropped : Event → AreaValue → Bool} (w w' : World) (r : RouterI
       go : IsThat w r (Some x') q y → Contains w'.held (record { router = n; instance = i })
       go (IsThat.TheOne e o) = asks_held l n i (laws.asks l n i (subst (λ z. Asks z.state l n i) (sym (same_Some x' y o)) c))
       go (IsThat.Another _ o) = was_held _ (facts.asked q y l n i o c)
-
-  pub sound_kept : (q : RouterId) (y : Running) → router_at w' q ≡ Some y → IsSoundState y.state
-  sound_kept q y at = go (which_router w w' r (Some x') q y step.changes at)
-    where
-      go : IsThat w r (Some x') q y → IsSoundState y.state
-      go (IsThat.TheOne e o) = subst (λ z. IsSoundState z.state) (same_Some x' y o) (StepLaws-sound _ event x.state out x'.state (facts.sound r x step.was) step.laws)
-      go (IsThat.Another _ o) = facts.sound q y o
 
   pub tables_kept : (q : RouterId) (y : Running) → router_at w' q ≡ Some y → HasItsTable y
   tables_kept q y at = go (which_router w w' r (Some x') q y step.changes at)
@@ -336,6 +328,5 @@ module _ {is_dropped : Event → AreaValue → Bool} (w w' : World) (r : RouterI
     names = names_kept;
     named = named_kept;
     asked = asked_kept;
-    sound = sound_kept;
     tables = tables_kept;
   }

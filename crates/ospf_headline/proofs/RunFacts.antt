@@ -17,12 +17,11 @@ use Rattle.ospf_packet.specs.PacketOf.{packet_of}
 use Rattle.ospf_neighbour.specs.Machine.{is_exchanging}
 use Rattle.ospf_area.specs.Outputs.{OutputsValue}
 use Rattle.ospf_area.specs.State.{AreaValue, Awaits, kept_number}
-use Rattle.ospf_step.specs.Words.{CanName, HasCopy, Asks, IsSoundState}
+use Rattle.ospf_step.specs.Words.{CanName, HasCopy, Asks}
 use Rattle.ospf_step.specs.Accounts.{IsAcknowledged, HasWord, MayLeave, IsReplaced, WaitsOn}
 use Rattle.ospf_step.specs.Packets.{Received}
 use Rattle.ospf_step.specs.Step.{Event, heard_in}
 use Rattle.ospf_step.proofs.StateFacts.{same_contents, Contains-nil, Contains-from_slice_get}
-use Rattle.ospf_step.proofs.StepAccounts.{StepLaws-accounts}
 use Rattle.ospf_step.specs.Step.Event.{Tick, LinkUp, LinkDown}
 use Rattle.ospf_headline.specs.World.{Comes, World, WorldEvent, Issued, Datagram, Running, router_at, StepsRouter, RouterBecomes, SameLogs, IsRunningStarted, IsNewWorld, Happens, RunsEvents, stepped_by, HasItsTable}
 use Rattle.ospf_headline.specs.Logs.{run_of}
@@ -61,7 +60,6 @@ pub record FactsOf (w : World) (r : RouterId) (x : Running) : Type 0 where
   pub router : x.state.router ≡ r
   pub names : (i : Instance) → CanName x.state i → Contains w.held (record { router = r; instance = i })
   pub asked : (l : ℕ) (q : RouterId) (i : Instance) → Asks x.state l q i → Contains w.held (record { router = q; instance = i })
-  pub sound : IsSoundState x.state
   pub tables : HasItsTable x
 
 -- where no log grows and router r becomes o, the facts need only be seen of o
@@ -79,12 +77,11 @@ Facts-same_logs w w' r o facts b logs of = record {
   names = λ q y i at n. subst (λ held. Contains held (record { router = q; instance = i })) (sym logs.held) ((each q y at).names i n);
   named = λ g p i c reads in_p. subst (λ held. Contains held (record { router = p.router; instance = i })) (sym logs.held) (facts.named g p i (subst (λ gs. Contains gs g) logs.datagrams c) reads in_p);
   asked = λ q y l n i at c. subst (λ held. Contains held (record { router = n; instance = i })) (sym logs.held) ((each q y at).asked l n i c);
-  sound = λ q y at. (each q y at).sound;
   tables = λ q y at. (each q y at).tables;
 }
   where
     old : (q : RouterId) (y : Running) → router_at w q ≡ Some y → FactsOf w q y
-    old q y at = record { database = λ lsa. facts.database q y lsa at; known = λ i e. facts.known q y i e at; begun = λ key. facts.begun q y key at; kept_above = λ key. facts.kept_above q y key at; router = facts.router q y at; names = λ i. facts.names q y i at; asked = λ l n i. facts.asked q y l n i at; sound = facts.sound q y at; tables = facts.tables q y at }
+    old q y at = record { database = λ lsa. facts.database q y lsa at; known = λ i e. facts.known q y i e at; begun = λ key. facts.begun q y key at; kept_above = λ key. facts.kept_above q y key at; router = facts.router q y at; names = λ i. facts.names q y i at; asked = λ l n i. facts.asked q y l n i at; tables = facts.tables q y at }
 
     each : (q : RouterId) (y : Running) → router_at w' q ≡ Some y → FactsOf w q y
     each q y at = by (which_router w w' r o q y b at)
@@ -106,7 +103,6 @@ FactsOf-started w r floor x s = record {
   router = s.router;
   names = λ i n. absurd (s.names_none i n);
   asked = λ l q i c. absurd (s.asks_none l q i c);
-  sound = record { lsas = λ lsa c. absurd (none-some lsa (sym (s.empty (key_of lsa)) ∙ c)); numbers = λ lsa c. absurd (none-some lsa (sym (s.empty (key_of lsa)) ∙ c)); lists = λ l q i c. absurd (s.names_none i (CanName.OnRetransmissionList l q c)) };
   tables = s.table;
 }
   where
@@ -145,7 +141,6 @@ Facts-new w new = record {
   names = λ r x i at n. absurd (stopped r x at);
   named = λ g p i c reads in_p. absurd (Contains-nil g (subst (λ gs. Contains gs g) new.no_datagrams c));
   asked = λ r x l q i at c. absurd (stopped r x at);
-  sound = λ r x at. absurd (stopped r x at);
   tables = λ r x at. absurd (stopped r x at);
 }
   where
@@ -241,10 +236,10 @@ no_collision w facts high i j e f ate atf same = go (agree w e.lsa f.lsa facts (
 pub covers_itself : (i : Instance) → Covers i i
 covers_itself i = (refl, inr (refl, omega arith))
 
-pub sound_step : {is_dropped : Event → AreaValue → Bool} (w w' : World) (r : RouterId) (e : Event) (x x' : Running) (out : OutputsValue) → Facts w → StepsRouter is_dropped w w' r e x x' out → WasSent w (heard_in e) → IsSoundFor w' e x.state out x'.state
+pub sound_step : (w w' : World) (r : RouterId) (e : Event) (x x' : Running) (out : OutputsValue) → Facts w → StepsRouter w w' r e x x' out → WasSent w (heard_in e) → IsSoundFor w' e x.state out x'.state
 sound_step w w' r e x x' out facts step sent = record {
-  left = λ l q i before. by_leave l q i ((StepLaws-accounts _ e x.state out x'.state (facts.sound r x step.was) step.laws).leaves l q i before);
-  listed = λ l q i brings holds exchanging. by_word l q i ((StepLaws-accounts _ e x.state out x'.state (facts.sound r x step.was) step.laws).listed l q i brings holds exchanging);
+  left = λ l q i before. by_leave l q i (step.accounts.leaves l q i before);
+  listed = λ l q i brings holds exchanging. by_word l q i (step.accounts.listed l q i brings holds exchanging);
 }
   where
     told : (q : RouterId) (j i : Instance) → Contains w'.held (record { router = q; instance = j }) → Covers j i → HasToldOf w' q i

@@ -9,8 +9,9 @@ use Rattle.ospf_edges.specs.Listed.{advertisements_of}
 use Rattle.ospf_area.specs.Outputs.{no_outputs}
 use Rattle.ospf_update.specs.Removal.{lowest_number}
 use Rattle.ospf_step.specs.Step.{Event}
-use Rattle.ospf_step.specs.Words.{CanName}
+use Rattle.ospf_step.specs.Words.{CanName, IsSoundState}
 use Rattle.ospf_step.proofs.StateFacts.{Contains-nil, same_router}
+use Rattle.ospf_step.proofs.StepAccounts.{StepLaws-accounts}
 use Rattle.ospf_step.proofs.Witness.{at_tick, ticks}
 use Rattle.ospf_event.specs.declared.event.WorldEvent.TheVariants.{Start, Tick}
 use Rattle.ospf_headline.specs.World.{Comes, World, Member, Running, WorldEvent, router_at, RouterBecomes, HasItsTable, IsRunningStarted, StepsRouter, RunsEvents, IsNewWorld}
@@ -82,12 +83,19 @@ is_started = record {
   table = has_its_table 0;
 }
 
-steps : StepsRouter (λ event s. false) (alone (Some (runs_at 0))) (alone (Some (runs_at 1))) it Event.Tick (runs_at 0) (runs_at 1) no_outputs
+is_sound : IsSoundState (at_tick 0)
+is_sound = record {
+  lsas = λ lsa c. absurd (none-some lsa c);
+  numbers = λ lsa c. absurd (none-some lsa c);
+  lists = λ l q i c. absurd (names_none i (CanName.OnRetransmissionList l q c));
+}
+
+steps : StepsRouter (alone (Some (runs_at 0))) (alone (Some (runs_at 1))) it Event.Tick (runs_at 0) (runs_at 1) no_outputs
 unfolding run_of
 steps = record {
   was = only_it (Some (runs_at 0)) it;
   changes = becomes (Some (runs_at 0)) (Some (runs_at 1));
-  laws = ticks;
+  accounts = StepLaws-accounts (λ event s. false) Event.Tick (at_tick 0) no_outputs (at_tick 1) is_sound ticks;
   table = has_its_table 1;
   logs = record { datagrams = refl; issued = refl; held = refl };
   runs = record { first = refl; runs = λ key. refl };

@@ -17,7 +17,8 @@ use Rattle.ospf_headline.specs.Logs.{run_of}
 use Rattle.ospf_step.specs.Words.{CanName, Asks}
 use Rattle.ospf_update.specs.Removal.{lowest_number}
 use Rattle.ospf_lsdb.specs.Moments.{among}
-use Rattle.ospf_step.specs.Step.{Event, StepLaws}
+use Rattle.ospf_step.specs.Accounts.{Accounts}
+use Rattle.ospf_step.specs.Step.{Event, heard_in}
 use Rattle.ospf_step.specs.Step.Event.{Tick, LinkUp, LinkDown}
 pub use Rattle.ospf_event.specs.declared.event.WorldEvent.{WorldEvent}
 pub use Rattle.ospf_event.specs.declared.event.WorldFault.{WorldFault}
@@ -170,28 +171,28 @@ pub record RunsGoOn (issued : List Issued) (ended : List LsaKey) (x x' : Running
       ≡ (if among ended key then record { name = length issued; base = lowest_number }
       else run_of x.first x.later key)
 
--- router r, running as x, is stepped with the event, puts out `out` and runs on as x'. Which events
--- routers drop may be anything that depends on the event and the state
-pub record StepsRouter (is_dropped : Event → AreaValue → Bool) (before after : World) (r : RouterId)
-    (event : Event) (x x' : Running) (out : OutputsValue) : Type 0 where
+-- router r, running as x, takes a step by the event, puts out `out` and runs on as x'. Of the step
+-- itself this asks only that it accounts for what the router sends, issues, holds and waits for
+pub record StepsRouter (before after : World) (r : RouterId) (event : Event) (x x' : Running)
+    (out : OutputsValue) : Type 0 where
   pub was : router_at before r ≡ Some x
   pub changes : RouterBecomes before after r (Some x')
-  pub laws : StepLaws is_dropped event x.state out x'.state
+  pub accounts : Accounts (heard_in event) x.state out x'.state
   pub table : HasItsTable x'
   pub logs : LogsGrow before after r x out
   pub runs : RunsGoOn after.issued out.ended x x'
 
--- an event at which memory may be wanting before anything is done: a start, and a tick, where it is
+-- an event at which memory may run out before anything is done: a start, and a tick, where it is
 -- logged
 abbrev pub WantsRoom : WorldEvent → Type 0
 WantsRoom (Start r dd floor) = ⊤
 WantsRoom (TickOf r) = ⊤
 WantsRoom _ = ⊥
 
--- what a world event comes to, and what is answered: it is refused, with the first fault that
--- holds, exactly where one does; or memory is wanting, before anything is done (`Memory false`) or,
--- at an event that is not dropped, so that the router stops (`Memory true`); or the router starts,
--- stops, or takes a step
+-- what a world event does, and what is answered: it is refused, with the first fault that holds,
+-- exactly where one does; or memory runs out, before anything is done (`Memory false`) or, at an
+-- event that is not dropped, so that the router stops (`Memory true`); or the router starts, stops,
+-- or takes a step. Which events a router drops may depend on the event and its state in any way
 pub data Comes (is_dropped : Event → AreaValue → Bool) (event : WorldEvent) (before : World)
     (result : Result (Unit {0}) WorldFault) (after : World) : Type 0 where
   Refused : (f : WorldFault) → refusal before event ≡ Some f → result ≡ Err f → after ≡ before
@@ -213,7 +214,7 @@ pub data Comes (is_dropped : Event → AreaValue → Bool) (event : WorldEvent) 
       → Comes is_dropped event before result after
   Stepped : refusal before event ≡ None → result ≡ Ok tt
       → (r : RouterId) (e : Event) (x x' : Running) (out : OutputsValue)
-      → stepped_by before event ≡ Some (r, e) → StepsRouter is_dropped before after r e x x' out
+      → stepped_by before event ≡ Some (r, e) → StepsRouter before after r e x x' out
       → Comes is_dropped event before result after
 
 -- the event comes, whatever is answered: it happens, or it is refused
