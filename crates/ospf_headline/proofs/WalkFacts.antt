@@ -149,7 +149,7 @@ module _ (w : World) (a : RouterId) (x : Running) (law : spf.WalksArrive) (facts
   -- the router of a walk's first route is listed, and reaches itself
   is_reached : (address : ℕ) (first : Route) → IsBest x.table address first → IsReached a
   is_reached address first best =
-      (subst (λ q. IsListed (adverts x) q) (facts.router a x runs) (best_listed x address first (facts.tables a x runs) best), [], refl)
+      (subst (λ q. IsListed (adverts x) q) (facts.router a x runs) (best_listed x address first (facts.tables a x runs) best), ([], refl))
 
   pub walks_arrive : RunningWalksArrive w a x
   walks_arrive address first best routers b paid walk =
