@@ -1,6 +1,7 @@
-"""The matrix of RFC 2328: each rule with its definitions, its calls, its tests and its edits, from a list (docs/promises/rfc2328.txt).
+"""The matrix of RFC 2328: each rule with its definitions, calls, tests and edits, from a list.
 
-The list has a heading for each section, and a paragraph for each rule:
+The list is docs/promises/rfc2328.txt. It has a heading for each section, and a paragraph for each
+rule:
 
     [9.4] Electing the Designated Router
 
@@ -10,10 +11,12 @@ The list has a heading for each section, and a paragraph for each rule:
       test unit/machines/election.rs two_declare priority_zero
       edit ospf_iface/old_backup_stays
 
-`is` names definitions, `by` public calls or laws, `test` functions of a file of tests below tests/, or a file, and `edit` edits. A rule
-has a line of each kind; `test none` and `edit none` say that there is none. Each definition has to be under the clauses of one of the
-rule's calls. Instead of rules a section may have a line `out`, with the reason why it is left out, or nothing, where its own sections
-follow. Each section of 8 to 16, A, B and C is in the list once, in the RFC's order. A line with # is a comment.
+`is` names definitions, `by` public calls or laws, `test` functions of a file of tests below tests/,
+or a file, and `edit` edits. A rule has a line of each kind; `test none` and `edit none` say that
+there is none. Each definition has to be under the clauses of one of the rule's calls. Instead of
+rules a section may have a line `out`, with the reason why it is left out, or nothing, where its own
+sections follow. Each section of 8 to 16, A, B and C is in the list once, in the RFC's order. A line
+with # is a comment.
 """
 import collections
 import functools
@@ -24,13 +27,16 @@ import textwrap
 from sources import call
 from specs import TOP, Fault, closure, one_word
 
-SECTIONS = """8 8.1 8.2 9 9.1 9.2 9.3 9.4 9.5 9.5.1 10 10.1 10.2 10.3 10.4 10.5 10.6 10.7 10.8 10.9 10.10
-11 11.1 11.2 11.3 12 12.1 12.1.1 12.1.2 12.1.3 12.1.4 12.1.5 12.1.6 12.1.7 12.2 12.3 12.4 12.4.1
-12.4.1.1 12.4.1.2 12.4.1.3 12.4.1.4 12.4.1.5 12.4.2 12.4.2.1 12.4.3 12.4.3.1 12.4.3.2 12.4.4 12.4.4.1
-13 13.1 13.2 13.3 13.4 13.5 13.6 13.7 14 14.1 15 16 16.1 16.1.1 16.2 16.3 16.4 16.4.1 16.5 16.6 16.7
-16.8 A A.1 A.2 A.3 A.3.1 A.3.2 A.3.3 A.3.4 A.3.5 A.3.6 A.4 A.4.1 A.4.2 A.4.3 A.4.4 A.4.5 B C C.1 C.2
-C.3 C.4 C.5 C.6 C.7""".split()
-LIST = os.path.join(TOP, "docs", "promises", "rfc2328.txt")
+SECTIONS = """
+8 8.1 8.2 9 9.1 9.2 9.3 9.4 9.5 9.5.1 10 10.1 10.2 10.3 10.4 10.5 10.6 10.7 10.8 10.9 10.10 11 11.1
+11.2 11.3 12 12.1 12.1.1 12.1.2 12.1.3 12.1.4 12.1.5 12.1.6 12.1.7 12.2 12.3 12.4 12.4.1 12.4.1.1
+12.4.1.2 12.4.1.3 12.4.1.4 12.4.1.5 12.4.2 12.4.2.1 12.4.3 12.4.3.1 12.4.3.2 12.4.4 12.4.4.1 13
+13.1 13.2 13.3 13.4 13.5 13.6 13.7 14 14.1 15 16 16.1 16.1.1 16.2 16.3 16.4 16.4.1 16.5 16.6 16.7
+16.8 A A.1 A.2 A.3 A.3.1 A.3.2 A.3.3 A.3.4 A.3.5 A.3.6 A.4 A.4.1 A.4.2 A.4.3 A.4.4 A.4.5 B C C.1
+C.2 C.3 C.4 C.5 C.6 C.7
+""".split()
+NAME = "rfc2328.txt"
+LIST = os.path.join(TOP, "docs", "promises", NAME)
 KINDS = ("is", "by", "test", "edit")
 NONE = "none"
 COLUMNS = 100
@@ -39,7 +45,8 @@ LINE = re.compile(rf"  ({'|'.join(KINDS)}) (.+)")
 OUT = "  out "
 TEST = re.compile(r"#\[test\]\s+(?:pub )?fn (\w+)")
 
-# A section with its title, the reason why it is left out, if it is, and its rules; a rule with what it names, by kind.
+# A section with its title, the reason why it is left out, if it is, and its rules; a rule with the
+# line behind it, and what it names, by kind.
 Section = collections.namedtuple("Section", "number title out rules")
 Rule = collections.namedtuple("Rule", "place text named")
 # What a rule names: what is shown, and the file that it leads to, from the top of the repository.
@@ -75,8 +82,9 @@ def sections(text):
 # ---- what is named ----
 
 def by_crates(line):
-    """The names of a line, each with its crate: CRATE NAME.., with a comma before the next crate."""
-    return [(crate, name) for crate, *names in (group.split() for group in line.split(",")) for name in names]
+    """The names of a line, each with its crate: CRATE NAME.., a comma before the next crate."""
+    groups = (group.split() for group in line.split(","))
+    return [(crate, name) for crate, *names in groups for name in names]
 
 
 def definitions(line):
@@ -117,23 +125,28 @@ def edits(line):
 def edit_files(crate):
     folder = os.path.join("crates", crate, "edits")
     here = os.path.join(TOP, folder)
-    return [os.path.join(folder, file) for file in sorted(os.listdir(here))] if os.path.isdir(here) else []
+    files = sorted(os.listdir(here)) if os.path.isdir(here) else []
+    return [os.path.join(folder, file) for file in files]
 
 
 def is_edit_in(name, path):
     """Whether a file is this edit, or has it as one of several."""
-    return os.path.basename(path) == f"{name}.edit" or re.search(rf"^## {re.escape(name)} \(", read(path), re.M) is not None
+    if os.path.basename(path) == f"{name}.edit":
+        return True
+    return re.search(rf"^## {re.escape(name)} \(", read(path), re.M) is not None
 
 
 FINDS = dict(zip(KINDS, (definitions, calls, tests, edits)))
 
 
 def found_in(rule, kind):
-    """All that a rule names of a kind, each once: nothing where it says so. A fault where it has no such line."""
+    """All that a rule names of a kind, each once: nothing where it says so."""
     lines = rule.named.get(kind, [])
     if not lines or (lines == [NONE] and kind in ("is", "by")):
-        raise Fault(f"line {rule.place}: no line '{kind}' in: {rule.text}")
-    return [] if lines == [NONE] else list(dict.fromkeys(one for line in lines for one in FINDS[kind](line)))
+        raise Fault(f"a rule has no line '{kind}': {rule.text}")
+    if lines == [NONE]:
+        return []
+    return list(dict.fromkeys(one for line in lines for one in FINDS[kind](line)))
 
 
 @functools.lru_cache(maxsize=None)
@@ -144,7 +157,8 @@ def under(crate, name):
 
 def check_rule(rule):
     """That the definitions of a rule are under its calls."""
-    promised = frozenset().union(*(under(*one) for line in rule.named["by"] for one in by_crates(line)))
+    its_calls = [one for line in rule.named["by"] for one in by_crates(line)]
+    promised = frozenset().union(*(under(*one) for one in its_calls))
     for crate, name in (one for line in rule.named["is"] for one in by_crates(line)):
         if one_word(crate, name) not in promised:
             raise Fault(f"no call of the rule has {crate} {name} under its clauses")
@@ -157,7 +171,7 @@ def cells(rule):
         check_rule(rule)
         return named
     except Fault as fault:
-        raise Fault(f"{os.path.basename(LIST)}, before line {rule.place}: {fault}") from fault
+        raise Fault(f"{NAME}, before line {rule.place}: {fault}") from fault
 
 
 def checked():
@@ -165,12 +179,13 @@ def checked():
     found = sections(read(LIST))
     numbers = [section.number for section in found]
     if numbers != SECTIONS:
-        strange = next(one for one, other in zip(numbers + SECTIONS, SECTIONS + numbers) if one != other)
-        raise Fault(f"{os.path.basename(LIST)}: the sections are not those of the RFC, each once and in order: see {strange}")
+        pairs = zip(numbers + SECTIONS, SECTIONS + numbers)
+        strange = next(one for one, other in pairs if one != other)
+        raise Fault(f"{NAME}: other sections than the RFC's, each once and in order: see {strange}")
     for section in found:
         has_parts = any(number.startswith(f"{section.number}.") for number in numbers)
         if bool(section.rules) == bool(section.out) and (section.rules or not has_parts):
-            raise Fault(f"{os.path.basename(LIST)}: section {section.number} has neither rules nor a reason, or both")
+            raise Fault(f"{NAME}: section {section.number} has neither rules nor a reason, or both")
     return found
 
 
@@ -182,12 +197,14 @@ def is_part(number):
 
 
 def title(section):
-    name = f"Appendix {section.number}:" if section.number[0].isalpha() and is_part(section.number) else section.number
-    return f"{'##' if is_part(section.number) else '###'} {name} {section.title}"
+    number = section.number
+    if not is_part(number):
+        return f"### {number} {section.title}"
+    return f"## {f'Appendix {number}:' if number.isalpha() else number} {section.title}"
 
 
 def label(one):
-    """The name of a file in the links of the page: without what all paths have. Small and capital letters are one in such names."""
+    """The name of a file in the links of the page, where small and capital letters are one."""
     return re.sub(r"^crates/|^tests/|/src|/specs|\.(?:antt|edits?)$", "", one.path)
 
 
@@ -210,19 +227,24 @@ def part(start):
     lines, files = [], {}
     for section in checked():
         lines += ["", title(section)]
-        lines += ["", *textwrap.wrap(f"Left out: {' '.join(section.out)}", COLUMNS)] if section.out else []
-        lines += ["", *table(section, files)] if section.rules else []
-    targets = (f"[{name}]: {os.path.relpath(os.path.join(TOP, path), start)}" for name, path in sorted(files.items()))
-    return [*lines, "", *targets, ""]
+        if section.out:
+            lines += ["", *textwrap.wrap(f"Left out: {' '.join(section.out)}", COLUMNS)]
+        if section.rules:
+            lines += ["", *table(section, files)]
+    lines.append("")
+    for name, path in sorted(files.items()):
+        lines.append(f"[{name}]: {os.path.relpath(os.path.join(TOP, path), start)}")
+    return [*lines, ""]
 
 
 def summed():
-    """How many rules there are, how many have no test or no edit, and how many sections are left out."""
+    """How many rules there are, how many have no test or no edit, and what is left out."""
     found = checked()
     rules = [rule for section in found for rule in section.rules]
-    bare = {kind: sum(not found_in(rule, kind) for rule in rules) for kind in ("test", "edit")}
-    out = sum(bool(section.out) for section in found)
     of = {kind: len({one for rule in rules for one in found_in(rule, kind)}) for kind in KINDS}
-    text = f"{len(rules)} rules name {of['is']} definitions, {of['by']} calls and laws, {of['test']} tests and {of['edit']} edits. "
-    text += f"{bare['test']} rules have no test by name, and {bare['edit']} no edit. {out} sections are left out."
+    bare = {kind: sum(not found_in(rule, kind) for rule in rules) for kind in KINDS}
+    out = sum(bool(section.out) for section in found)
+    text = f"{len(rules)} rules name {of['is']} definitions, {of['by']} calls and laws, "
+    text += f"{of['test']} tests and {of['edit']} edits. {bare['test']} rules have no test by "
+    text += f"name, and {bare['edit']} no edit. {out} sections are left out."
     return ["", *textwrap.wrap(text, COLUMNS), ""]

@@ -2,16 +2,16 @@
 
 The list is docs/promises/headline.txt. Its headings and paragraphs are:
 
-    [clause FIELD..]     a clause of the theorem in words, and the definitions to read for it, in order
-    [read NAME]          other definitions to read, whose text the page shows
-    [small]              what small words are about, and these words
-    [leaf]               what is below a word, where a reader of the theorem may stop, and these words
-    [ring]               lines that an example prints, and why they cannot be otherwise
+    [clause FIELD..]  a clause of the theorem in words, and the definitions to read, in order
+    [read NAME]       other definitions to read, whose text the page shows
+    [small]           what small words are about, and these words
+    [leaf]            what is below words at which a reader of the theorem may stop
+    [ring]            lines that an example prints, and why they cannot be otherwise
 
-A line `  is CRATE WORD.., CRATE ..` of a paragraph names definitions, and a line `  print ..` a line
-of the example. Each definition that the statement uses has to be in the list once, or to be below a
-leaf; each in the list has to be one that it uses. Each clause of the theorem and each line that the
-example prints has to be there too.
+A line `  is CRATE WORD.., CRATE ..` of a paragraph names definitions, and a line `  print ..` a
+line of the example. Each definition that the statement uses has to be in the list once, or to be
+below a leaf; each in the list has to be one that it uses. Each clause of the theorem and each line
+that the example prints has to be there too.
 """
 import collections
 import os
@@ -30,7 +30,8 @@ LINE = re.compile(r"  (is|print) (.+)")
 FIELD = re.compile(r"  pub (\w+) :")
 COLUMNS = 100
 
-# A paragraph: the kind of its heading and the names there, its text, its definitions, and the lines that are printed.
+# A paragraph: the kind of its heading and the names there, its text, its definitions, and the lines
+# that are printed.
 Entry = collections.namedtuple("Entry", "kind names text words printed")
 
 
@@ -89,14 +90,14 @@ def check_words(found):
     uses = used({word for one in found if one.kind == "leaf" for word in one.words})
     for word in uses:
         if word not in listed:
-            raise Fault(f"the headline uses {named(word)}, which is not in the list nor below a leaf")
+            raise Fault(f"the headline uses {named(word)}, neither in the list nor below a leaf")
     for word in listed:
         if word not in uses:
             raise Fault(f"{named(word)} is in the list, and the headline does not use it")
 
 
 def check_rest(found):
-    """That each clause of the theorem is in words, and each line that the example prints has a reason."""
+    """That each clause is in words, and each line that the example prints has a reason."""
     fields = [it[1] for line in definition(one_word(*THEOREM)).lines if (it := FIELD.match(line))]
     clauses = [name for one in found if one.kind == "clause" for name in one.names]
     if sorted(fields) != sorted(clauses):
@@ -104,7 +105,8 @@ def check_rest(found):
     printed = matrix.read(os.path.join(TOP, PRINTED)).splitlines()
     lines = [line for one in found for line in one.printed]
     if lines != printed:
-        strange = next((line for line, other in zip(printed + lines, lines + printed) if line != other), "")
+        pairs = zip(printed + lines, lines + printed)
+        strange = next((line for line, other in pairs if line != other), "")
         raise Fault(f"{PRINTED} has other lines: see '{strange}'")
 
 
@@ -148,12 +150,12 @@ def theorem(_):
 
 
 def texts(name, start):
-    """The definitions to read for a clause, or of another name, as they are, each with a heading."""
-    lines = []
-    for word in (word for one in of_kind("clause", "read") if name in one.names for word in one.words):
+    """The definitions to read for a clause, or of another name, each with a heading."""
+    lines, those = [], [one for one in of_kind("clause", "read") if name in one.names]
+    for word in (word for one in those for word in one.words):
         it = definition(word)
-        lines += ["", f"#### `{word.name}`", "", f"In {linked(word, start, file_of(word))}:", "", "```text"]
-        lines += [*map(str.rstrip, it.comment + it.lines), "```"]
+        lines += ["", f"#### `{word.name}`", "", f"In {linked(word, start, file_of(word))}:"]
+        lines += ["", "```text", *map(str.rstrip, it.comment + it.lines), "```"]
     if not lines:
         raise Fault(f"no definitions to read of '{name}'")
     return [*lines, ""]
@@ -162,7 +164,9 @@ def texts(name, start):
 def small(start):
     """The small words, by what they are about."""
     lines = ["", "| About | Words |", "|---|---|"]
-    return [*lines, *(f"| {one.text} | {links(one.words, start)} |" for one in of_kind("small")), ""]
+    for one in of_kind("small"):
+        lines.append(f"| {one.text} | {links(one.words, start)} |")
+    return [*lines, ""]
 
 
 def leaf(start):
@@ -189,9 +193,9 @@ def count(_):
     for one in checked():
         sizes["read" if one.kind == "clause" else one.kind] += len(one.words)
     total = len(closure(call(*STATEMENT).words()))
-    text = f"The statement rests on {total} definitions. {sizes['read']} carry the meaning and are on "
-    text += f"this page. {sizes['small']} are small words that these are made of. The others are below "
-    text += f"{sizes['leaf']} words at which a reader of the theorem may stop."
+    text = f"The statement rests on {total} definitions. {sizes['read']} carry the meaning and are "
+    text += f"on this page. {sizes['small']} are small words that these are made of. The others are "
+    text += f"{sizes['leaf']} words at which a reader of the theorem may stop, and what is below them."
     return ["", *textwrap.wrap(text, COLUMNS), ""]
 
 
