@@ -194,8 +194,8 @@ def count(_):
         sizes["read" if one.kind == "clause" else one.kind] += len(one.words)
     total = len(closure(call(*STATEMENT).words()))
     text = f"The statement rests on {total} definitions. {sizes['read']} carry the meaning and are "
-    text += f"on this page. {sizes['small']} are small words that these are made of. The others are "
-    text += f"{sizes['leaf']} words at which a reader of the theorem may stop, and what is below them."
+    text += f"on this page. {sizes['small']} are small words that these are made of. The others "
+    text += f"are {sizes['leaf']} words at which a reader of the theorem may stop, and those below."
     return ["", *textwrap.wrap(text, COLUMNS), ""]
 
 
