@@ -38,6 +38,8 @@ C.2 C.3 C.4 C.5 C.6 C.7
 NAME = "rfc2328.txt"
 LIST = os.path.join(TOP, "docs", "promises", NAME)
 KINDS = ("is", "by", "test", "edit")
+# The public call that has most of the rules under its clauses.
+STEP = ("ospf_router", "Router::step")
 NONE = "none"
 COLUMNS = 100
 HEADING = re.compile(r"\[([0-9A-C.]+)\] (.+)")
@@ -155,13 +157,17 @@ def under(crate, name):
     return frozenset(closure(call(crate, name).words()))
 
 
+def words_of(rule):
+    return [one_word(*one) for line in rule.named["is"] for one in by_crates(line)]
+
+
 def check_rule(rule):
     """That the definitions of a rule are under its calls."""
     its_calls = [one for line in rule.named["by"] for one in by_crates(line)]
     promised = frozenset().union(*(under(*one) for one in its_calls))
-    for crate, name in (one for line in rule.named["is"] for one in by_crates(line)):
-        if one_word(crate, name) not in promised:
-            raise Fault(f"no call of the rule has {crate} {name} under its clauses")
+    for word in words_of(rule):
+        if word not in promised:
+            raise Fault(f"no call of the rule has {word.crate} {word.name} under its clauses")
 
 
 def cells(rule):
@@ -246,5 +252,8 @@ def summed():
     out = sum(bool(section.out) for section in found)
     text = f"{len(rules)} rules name {of['is']} definitions, {of['by']} calls and laws, "
     text += f"{of['test']} tests and {of['edit']} edits. {bare['test']} rules have no test by "
-    text += f"name, and {bare['edit']} no edit. {out} sections are left out."
+    text += f"name, and {bare['edit']} no edit. {out} sections are left out. "
+    words, step = {word for rule in rules for word in words_of(rule)}, under(*STEP)
+    text += f"`{STEP[1]}` promises {len(words & step)} of these definitions. It rests on {len(step)}; "
+    text += "the others of them say how the parts are put together, and what bytes mean."
     return ["", *textwrap.wrap(text, COLUMNS), ""]
