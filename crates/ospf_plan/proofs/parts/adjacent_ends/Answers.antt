@@ -11,7 +11,7 @@ returns c =
     let third = end_in c.args.thirds.now in
     let led = linked_in c.in_ok-led.led in
     let at : third ≡ first_on (others (others ends)) = one_function third (first_on (others (others ends))) c.requires in
-    let electors : c.deref.result.now ≡ filter can_be_elected ends = c.deref.ensures.value ∙ c.in_ok-electors.ensures in
+    let electors : c.deref.result.now ≡ filter can_be_elected ends = search rules in
     let leads : led ≡ first_linked (filter can_be_elected ends) =
     one_function led (first_linked (filter can_be_elected ends)) (λ k. c.in_ok-led.ensures k ∙ ap (λ es. first_linked es k) electors) in
     filter_same _ (can_be_adjacent third led) _ (λ x b f' k. search rules) _ _ c.retain.ensures.filtered

@@ -1,4 +1,4 @@
-use Rattle.std.proofs.Common.{◌≡◌, ◌∙◌, ap, sym, subst}
+use Rattle.std.proofs.Common.{◌≡◌, ◌∙◌, ap, rules, sym, subst}
 use Rattle.std.proofs.lemmas.Result.{IfOk-weaker}
 use Rattle.ospf_plan.specs.Joins.{IsJoined}
 use Rattle.ospf_plan.specs.Parts.{adjacent_ends, joins_of}
@@ -8,7 +8,7 @@ use Rattle.ospf_plan.proofs.parts.reached_of.Goals as goal
 pub returns : goal.returns
 returns c =
     let ends = adjacent_ends c.args.ends.now in
-    let some : c.deref.result.now ≡ ends = c.deref.ensures.value ∙ c.in_ok-some.ensures in
+    let some : c.deref.result.now ≡ ends = search rules in
     let are : c.deref-2.result.now ≡ joins_of ends = c.deref-2.ensures.value ∙ c.in_ok-joins.ensures ∙ ap joins_of some in
     IfOk-weaker c.joined_with.result _ _ (λ reached is q. (
       (λ t. way_of ends q (subst (λ js. IsJoined js 0 q) are ((is q).0 t))),

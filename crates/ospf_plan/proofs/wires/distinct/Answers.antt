@@ -1,4 +1,4 @@
-use Rattle.std.proofs.Common.{◌≡◌, ◌<◌, ◌||◌, ◌++◌, ◌∷◌, [], ◌∙◌, ◌+◌, ap, sym, arith, length, take, if◌then◌else◌}
+use Rattle.std.proofs.Common.{rules, ◌≡◌, ◌<◌, ◌||◌, ◌++◌, ◌∷◌, [], ◌∙◌, ◌+◌, ap, sym, arith, length, take, if◌then◌else◌}
 use Rattle.ospf_plan.specs.Wires.{distinct, has_wire, is_wired, same_wire, wire_key}
 use Rattle.ospf_plan.proofs.Steps.{taken}
 use Rattle.ospf_plan.proofs.WireOrder.{distinct_more, wired_more}
@@ -12,8 +12,9 @@ loop-wire-preserved c =
     let before = take i wires in
     let within : i < length wires = omega arith in
     let more : take (i + 1) wires ≡ before ++ x ∷ [] = taken wires i x within c.wire-item.is in
+    let asked : c.contains.result ≡ has_wire c.loop-wire.set c.key_of-key.result = search rules in
     let known : c.contains.result ≡ is_wired before (wire_key x.end x.peer) =
-    c.contains.ensures ∙ ap (has_wire c.loop-wire.set) c.key_of-key.ensures ∙ c.loop-wire.invariant.0 (wire_key x.end x.peer) in (
+    asked ∙ ap (has_wire c.loop-wire.set) c.key_of-key.ensures ∙ c.loop-wire.invariant.0 (wire_key x.end x.peer) in (
       (λ q. c.in_ok-add_wire.ensures q
           ∙ ap (λ b. b || same_wire c.key_of-key.result q) (c.loop-wire.invariant.0 q)
           ∙ ap (λ k. is_wired before q || same_wire k q) c.key_of-key.ensures
