@@ -61,7 +61,7 @@ meaning_text fault.Mtu =
     "the one of the smaller MTU drops the other's Database Descriptions: they never become Full (section 10.6)"
 meaning_text fault.Mask =
     codes
-    "their networks overlap and are two: on a broadcast network neither hears the other; over a point-to-point link they may become Full, and each tells its own (sections 8.2 and 10.5)"
+    "their networks overlap and are two: on a broadcast network neither hears the other; over a point-to-point link they may become Full, and each advertises its own (sections 8.2 and 10.5)"
 meaning_text fault.Crowded =
     codes "each end takes the first router that it hears for its only neighbour (section 8.2)"
 meaning_text fault.NoDr =

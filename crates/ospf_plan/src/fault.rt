@@ -113,7 +113,7 @@ impl AreaFault {
                 "the one of the smaller MTU drops the other's Database Descriptions: they never become Full (section 10.6)"
             }
             AreaFault::Mask =>
-                "their networks overlap and are two: on a broadcast network neither hears the other; over a point-to-point link they may become Full, and each tells its own (sections 8.2 and 10.5)",
+                "their networks overlap and are two: on a broadcast network neither hears the other; over a point-to-point link they may become Full, and each advertises its own (sections 8.2 and 10.5)",
             AreaFault::Crowded => {
                 "each end takes the first router that it hears for its only neighbour (section 8.2)"
             }
