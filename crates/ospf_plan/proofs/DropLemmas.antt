@@ -1,5 +1,6 @@
 -- What a finding says of packets that are dropped.
 use Rattle.std.proofs.Common.{rules, ◌≡◌, ◌==◌, ◌&&◌, ◌⊎◌, ◌≤◌, ℕ, Bool, true, false, not, nat_lt, bit_and, List, ◌∙◌, ap, sym, subst, refl, inl, inr, arith, ◌+◌, length, map, is_some, [], ◌∷◌, ◌<◌, Option, Some, None, Result, Ok, Err, if◌then◌else◌}
+use Rattle.std.proofs.lemmas.Option.{same_Some}
 use Rattle.std.specs.List.{Contains, enumerate_from}
 use Rattle.ospf_base.specs.Constants.{router_options}
 use Rattle.ospf_base.specs.Masks.{mask_of}
@@ -28,7 +29,7 @@ use Rattle.ospf_exchange.specs.declared.fault.ExchangeFault.TheVariants as excha
 use Rattle.ospf_exchange.specs.declared.rule.Local.{Local}
 use Rattle.ospf_adjacency.specs.Adjacency.{is_broadcast}
 use Rattle.ospf_adjacency.specs.Descriptions.{dd_dropped}
-use Rattle.ospf_step.specs.Receipt.{drop_below_exchange, drop_by_body, drop_of_description, drop_of_hello, is_destination, sender_in}
+use Rattle.ospf_step.specs.Receipt.{drop_below_exchange, drop_by_body, drop_of_description, drop_of_hello, drop_of_packet, is_destination, sender_in}
 use Rattle.ospf_step.specs.declared.dropped.Dropped.{Dropped}
 use Rattle.ospf_step.specs.declared.dropped.Dropped.TheVariants as dropped
 use Rattle.ospf_plan.specs.declared.ends.LinkEnd.{LinkEnd}
@@ -39,7 +40,7 @@ use Rattle.ospf_plan.specs.declared.finding.Surroundings.{Surroundings}
 use Rattle.ospf_plan.specs.Ends.{ends_at, ends_of, first_of, first_on, link_end_of, network_key, same_network}
 use Rattle.ospf_plan.specs.Findings.{around_of, found_in, is_wrong, other_of}
 use Rattle.ospf_plan.specs.Laws.{IsAhead, IsIfaceOf, IsOfHellos, RefusesHellos, TakesHellos}
-use Rattle.ospf_plan.specs.Drops.{DropsAll, DropsDescriptions, DropsHellos, IsBodyFrom, IsRouterAt, IsSentFrom, NeverDrops, NoneFound, TakesLengths, a_description, a_hello, a_request, an_acknowledgment, an_update}
+use Rattle.ospf_plan.specs.Drops.{DropsAll, DropsDescriptions, DropsHellos, IsBodyFrom, IsRouterAt, IsSentFrom, NeverDrops, NoneFound, PassesHead, TakesLengths, a_description, a_hello, a_request, an_acknowledgment, an_update}
 use Rattle.ospf_plan.proofs.Members.{finds, flat_from, flat_to, found_from, head_in, none_in_nil}
 use Rattle.ospf_plan.proofs.Order.{ends_rise, finds_first, map_from}
 use Rattle.ospf_plan.proofs.FindingLemmas.{held_told, others_take, told_holds, told_refuse}
@@ -182,7 +183,7 @@ own_dropped false false own there off o up same is = absurd (not_both same)
 own_dropped false true false there off o up same is = absurd (not_both is)
 own_dropped false true true there off o up same is = refl
 
-arrived : (down area own there off : Bool) (o : Option Dropped) → down ≡ false → area ≡ true → own ≡ false → there ≡ true → off ≡ false → by_head down area own there off o ≡ o
+pub arrived : (down area own there off : Bool) (o : Option Dropped) → down ≡ false → area ≡ true → own ≡ false → there ≡ true → off ≡ false → by_head down area own there off o ≡ o
 arrived down area own there off o up same other at on = rw (up, same, other, at, on) refl
 
 module _ (o : Option Dropped) (rest : IsFrom 6 o) where
@@ -217,10 +218,10 @@ not_hello_by false true false true false o rest is = between o 7 6 rest is (omeg
 
 -- ---- packets
 
-abbrev off : Iface → Addr → Bool
+abbrev pub off : Iface → Addr → Bool
 off i source = is_broadcast i && not (bit_and source.0 i.settings.mask == bit_and i.settings.address.0 i.settings.mask)
 
-abbrev brought : Local → Iface → List NeighbourValue → Addr → Meaning → Option Dropped
+abbrev pub brought : Local → Iface → List NeighbourValue → Addr → Meaning → Option Dropped
 brought local i ns source m = drop_by_body local m.body i ns m.router (sender_in i ns m.router source)
 
 low : (local : Local) (i : Iface) (ns : List NeighbourValue) (source : Addr) (m : Meaning) → IsFrom 6 (brought local i ns source m)
@@ -291,7 +292,7 @@ shares_network e d one local area i ns source destination m at from is =
     not_subnet_by o (low local i ns source m) (is_down i.state) (m.area.0 == area.0) (m.router.0 == i.settings.router.0) (is_destination i destination)
     (ap (λ f. number (by_head (is_down i.state) (m.area.0 == area.0) (m.router.0 == i.settings.router.0) (is_destination i destination) f o)) (sym on) ∙ ap number is)
 
-drops_hellos : (e d : LinkEnd) → RefusesHellos e d → DropsHellos e d
+pub drops_hellos : (e d : LinkEnd) → RefusesHellos e d → DropsHellos e d
 drops_hellos e d refuses local area i j ns source destination m heard at of_j is here =
     arrived (is_down i.state) (m.area.0 == area.0) (m.router.0 == i.settings.router.0) (is_destination i destination) (off i source) (brought local i ns source m)
     here.up here.area here.other here.destination here.network
@@ -393,6 +394,54 @@ short_answer local q d headers n state.Full is fits =
 takes_lengths : (e d : LinkEnd) → nat_lt e.mtu d.mtu ≡ false → TakesLengths e d
 takes_lengths e d fits local area i q fields headers n at from is =
     not_both (sym (short_answer local q fields headers n n.state refl (mtus e d false local area i fields headers fits at from)) ∙ ap is_mtu is)
+
+-- ---- what is dropped for some cause
+
+-- what drops a packet without its head drops it for some cause
+still : (down area own there off : Bool) (o : Option Dropped) (c : Dropped) → o ≡ Some c → (cause : Dropped) × (by_head down area own there off o ≡ Some cause)
+still true area own there off o c is = (dropped.Packet, refl)
+still false false own there off o c is = (dropped.Area, refl)
+still false true true there off o c is = (dropped.OwnPacket, refl)
+still false true false false off o c is = (dropped.Destination, refl)
+still false true false true true o c is = (dropped.Subnet, refl)
+still false true false true false o c is = (c, is)
+
+module _ (local : Local) (area : AreaId) (i : Iface) (ns : List NeighbourValue) (source destination : Addr) (m : Meaning) where
+  pub dropped_still : (c : Dropped) → brought local i ns source m ≡ Some c → (cause : Dropped) × (drop_of_packet local i ns area source destination m ≡ Some cause)
+  dropped_still c is = still (is_down i.state) (m.area.0 == area.0) (m.router.0 == i.settings.router.0) (is_destination i destination) (off i source) (brought local i ns source m) c is
+
+  -- where the head of the packet does not, for the cause that its body brings
+  pub here_dropped : (c cause : Dropped) → brought local i ns source m ≡ Some c → drop_of_packet local i ns area source destination m ≡ Some cause → PassesHead i area source destination m → cause ≡ c
+  here_dropped c cause body is here =
+      same_Some cause c (sym is
+      ∙ arrived (is_down i.state) (m.area.0 == area.0) (m.router.0 == i.settings.router.0) (is_destination i destination) (off i source) (brought local i ns source m)
+      here.up here.area here.other here.destination here.network
+      ∙ body)
+
+  pub hello_brings : (e d : LinkEnd) (j : Iface) (heard : List RouterId) → RefusesHellos e d → IsRouterAt e local area i → IsIfaceOf d j → m.body ≡ hello (own_hello j) heard → brought local i ns source m ≡ Some dropped.HelloMismatch
+  hello_brings e d j heard refuses at of_j is = by_mismatch local i ns m.router (sender_in i ns m.router source) d m.body j heard is (refuses i j at.iface of_j)
+
+  by_sender : (e d : LinkEnd) (fields : Description) (headers : List LsaHeader) → DropsDescriptions e d → IsRouterAt e local area i → IsBodyFrom d (description fields headers) → (sender : Option NeighbourValue)
+      → (c : Dropped) × (drop_of_description local m.router fields headers sender ≡ Some c)
+  by_sender e d fields headers drops at from None = (dropped.NoNeighbour, refl)
+  by_sender e d fields headers drops at from (Some n) = by_test (n.router.0 == m.router.0) refl
+    where
+      by_test : (b : Bool) → (n.router.0 == m.router.0) ≡ b → (c : Dropped) × (drop_of_description local m.router fields headers (Some n) ≡ Some c)
+      by_test true same = (dropped.State, (drops local area i m.router fields headers n at from same).0)
+      by_test false other = (dropped.WrongRouter, rw other refl)
+
+  pub description_brings : (e d : LinkEnd) (fields : Description) (headers : List LsaHeader) → DropsDescriptions e d → IsRouterAt e local area i → IsBodyFrom d m.body → m.body ≡ description fields headers
+      → (c : Dropped) × (brought local i ns source m ≡ Some c)
+  description_brings e d fields headers drops at from is =
+      let (c, brings) = by_sender e d fields headers drops at (subst (λ (b : BodyMeaning). IsBodyFrom d b) is from) (sender_in i ns m.router source) in
+      (c, ap (λ (b : BodyMeaning). drop_by_body local b i ns m.router (sender_in i ns m.router source)) is ∙ brings)
+
+  pub description_of : (e d : LinkEnd) (fields : Description) (headers : List LsaHeader) (n : NeighbourValue) → DropsDescriptions e d → IsRouterAt e local area i → IsBodyFrom d m.body → m.body ≡ description fields headers
+      → sender_in i ns m.router source ≡ Some n → n.router ≡ m.router → brought local i ns source m ≡ Some dropped.State
+  description_of e d fields headers n drops at from is sender same =
+      ap (λ (b : BodyMeaning). drop_by_body local b i ns m.router (sender_in i ns m.router source)) is
+      ∙ ap (λ (o : Option NeighbourValue). drop_of_description local m.router fields headers o) sender
+      ∙ (drops local area i m.router fields headers n at (subst (λ (b : BodyMeaning). IsBodyFrom d b) is from) (equal n.router.0 m.router.0 (ap (λ (r : RouterId). r.0) same))).0
 
 -- ---- where something is found
 

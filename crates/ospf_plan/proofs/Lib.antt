@@ -9,3 +9,10 @@ mod UnheardLemmas
 mod Reach
 mod PartLemmas
 mod DropLemmas
+mod SettingsLemmas
+mod StepSettings
+mod SendLemmas
+mod SentLemmas
+mod StartedLemmas
+mod FurtherLemmas
+mod SlowLemmas

@@ -3,6 +3,8 @@ pub mod Findings
 pub mod Shown
 pub mod Laws
 pub mod Drops
+pub mod Started
+pub mod Further
 pub mod Wires
 pub mod Unheard
 pub mod Joins
