@@ -27,10 +27,15 @@ def packet(kind, router, body, area="0.0.0.0", authentication=0):
     return head[:12] + struct.pack(">H", summed) + head[14:] + bytes(8) + body
 
 
-def hello(router, mask, heard, interval=10, **header_fields):
+def hello(router, mask, heard, interval=10, options=OPTIONS, **header_fields):
     """A Hello with the intervals of section C.3's samples, or this HelloInterval, that has heard these routers."""
-    body = struct.pack(">IHBBIII", number(mask), interval, OPTIONS, 1, 40, 0, 0)
+    body = struct.pack(">IHBBIII", number(mask), interval, options, 1, 40, 0, 0)
     return packet(HELLO, router, body + b"".join(socket.inet_aton(one) for one in heard), **header_fields)
+
+
+def digested(sent):
+    """A packet with cryptographic authentication (appendix D.4.3): AuType 2, no checksum, and a digest behind it that its length does not count."""
+    return sent[:12] + struct.pack(">HHHBBI", 0, 2, 0, 1, 16, 1) + sent[24:] + bytes(16)
 
 
 def description(router, flags, sequence, headers=(), mtu=1500):

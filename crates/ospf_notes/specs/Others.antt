@@ -1,5 +1,5 @@
 -- LSAs of LS types that a router refuses.
-use Rattle.std.specs.Prelude.{◌==◌, ◌&&◌, not, ℕ, Bool, List, Option, None, Some, find, map, option_map}
+use Rattle.std.specs.Prelude.{◌==◌, ◌&&◌, not, nat_le, ℕ, Bool, List, Option, None, Some, find, map, option_map}
 use Rattle.ospf_exchange.specs.Rules.{is_other}
 use Rattle.ospf_lsa.specs.Lsa.{type_of}
 use Rattle.ospf_notes.specs.Refused.{ToldSet, untaken_from}
@@ -20,15 +20,29 @@ is_refused passes_over kind =
 abbrev pub first_refused : (passes_over : Bool) → List ℕ → Option ℕ
 first_refused passes_over kinds = find (is_refused passes_over) kinds
 
--- of the LSAs that a packet describes or sends, the first of an LS type that the router refuses: it
--- stands in a Database Description or in a Link State Update
+-- an LS type of opaque LSAs: 9, 10 and 11
+abbrev pub is_opaque : ℕ → Bool
+is_opaque kind = nat_le 9 kind && nat_le kind 11
+
+-- an LS type that the router refuses and whose sender waits for an acknowledgment: an opaque LSA it
+-- multicasts on a network where two others take them, and does not expect a router to acknowledge
+-- that has not set the O bit (RFC 5250, section 3.1)
+abbrev pub is_unwanted : (passes_over : Bool) → ℕ → Bool
+is_unwanted passes_over kind = not (is_opaque kind) && is_refused passes_over kind
+
+-- the first such LS type of these
+abbrev pub first_unwanted : (passes_over : Bool) → List ℕ → Option ℕ
+first_unwanted passes_over kinds = find (is_unwanted passes_over) kinds
+
+-- of the LSAs that a packet describes or sends, the first of an LS type that the router refuses: in
+-- a Database Description, or in a Link State Update, where its sender waits for an acknowledgment
 abbrev pub untaken_of : (passes_over : Bool) → BodyMeaning → Option Untaken
 untaken_of passes_over (hello fields heard) = None
 untaken_of passes_over (description fields headers) =
     option_map Described (first_refused passes_over (map (λ h. h.kind) headers))
 untaken_of passes_over (request entries) = None
 untaken_of passes_over (update lsas) =
-    option_map Sent (first_refused passes_over (map type_of lsas))
+    option_map Sent (first_unwanted passes_over (map type_of lsas))
 untaken_of passes_over (acknowledgment headers) = None
 
 -- what a packet on a link has that the router refuses, if it is a packet that has such

@@ -1,11 +1,11 @@
 //! Packets that a router drops for how their sender is set, or the router itself.
 
 ghost use Rattle.std.specs.Fmt.{WritesOnOk};
-ghost use Rattle.std.specs.Prelude.{◌≡◌};
-ghost use Rattle.ospf_notes.specs.Misfits.{IsMisfit, fault_words, is_lasting, misfit_of};
+ghost use Rattle.std.specs.Prelude.{◌≡◌, option_map};
+ghost use Rattle.ospf_notes.specs.Misfits.{IsMisfit, area_kind_words, area_words, au_type, field_words, flaw_of, flaw_words, is_alike, is_lasting, misfit_of, topic_of, typed_flaw};
 ghost use Rattle.ospf_views.specs.Drops.{detail_words};
 
-use ospf_base::Addr;
+use ospf_base::{Addr, PACKET_HEADER, u16_at};
 use ospf_journal::DroppedAt;
 use ospf_packet::{Packet, PacketFault};
 use ospf_run::Router;
@@ -15,8 +15,50 @@ use std::alloc::Global;
 use std::fmt::{self, Display, Formatter, Write};
 use std::marker::Model;
 
-// So many are told of at most, whatever comes in.
-const MOST_MISFITS: usize = 64;
+// In so many ticks a misfit is reported once, and afterwards again where it lasts.
+const PERIOD: u64 = 600;
+// So many are reported in a period for one cause on one link at most, whatever comes in.
+const MOST_ALIKE: usize = 8;
+
+// Where the AuType begins (RFC 2328, appendix A.3.1), and the values of its appendix D and of RFC
+// 7474.
+const AU_TYPE_AT: usize = 14;
+
+const SIMPLE_PASSWORD: u16 = 1;
+
+const CRYPTOGRAPHIC: u16 = 2;
+
+const EXTENDED_CRYPTOGRAPHIC: u16 = 3;
+
+// The N bit of the Options: with it and without the E bit the sender's area is an NSSA (RFC 3101).
+const N_BIT: u8 = 8;
+
+/// Why bytes are no packet that the router takes.
+#[derive(Clone, Copy, Debug, PartialEq, Eq)]
+pub enum Flaw {
+    /// The sender authenticates by a password, and the router does not.
+    Password,
+    /// The sender authenticates by a cryptographic digest, and the router does not.
+    Digest,
+    /// Another fault.
+    Fault(PacketFault),
+}
+
+/// As `cryptographic authentication there, none here`, or `P2 Version`.
+impl Display for Flaw {
+    ghost use Rattle.std.specs.Prelude.{Some};
+    ghost use Rattle.ospf_notes.specs.Misfits.{flaw_text};
+
+    ghost output = { λ flaw. Some (flaw_text flaw) };
+
+    fn fmt<W: Write>(&self, f: &mut Formatter<W>) -> fmt::Result {
+        match *self {
+            Flaw::Password => f.write_str("simple password authentication there, none here"),
+            Flaw::Digest => f.write_str("cryptographic authentication there, none here"),
+            Flaw::Fault(fault) => write!(f, "{fault}"),
+        }
+    }
+}
 
 /// A packet that was dropped for a cause that lasts as long as its sender and the router are set
 /// as they are (RFC 2328, sections 8.2, 10.5 and 10.6).
@@ -25,10 +67,18 @@ pub struct Misfit {
     pub link: usize,
     pub source: Addr,
     pub cause: Dropped,
-    /// Why it is no packet, where it is none.
-    pub fault: Option<PacketFault>,
+    /// Why it is no packet that the router takes, where it is none.
+    pub flaw: Option<Flaw>,
     /// The field that does not fit, where one explains the cause.
     pub detail: Option<Detail>,
+}
+
+/// What misfits are alike in of which few are reported: their link and cause.
+#[derive(Clone, Copy, Debug, PartialEq, Eq)]
+pub struct Topic {
+    pub link: usize,
+    pub cause: Dropped,
+    pub flaw: Option<Flaw>,
 }
 
 /// A misfit, by the name of the router's file.
@@ -51,17 +101,19 @@ impl Display for MisfitShown<'_> {
         write!(f, "{file}: link {}: what ", misfit.link)?;
         write!(f, "{} sends is dropped: ", misfit.source)?;
         write!(f, "{}", misfit.cause)?;
-        write_fault(f, misfit.fault)?;
-        write_detail(f, misfit.detail)
+        write_flaw(f, misfit.flaw)?;
+        write_field(f, misfit.detail)
     }
 }
 
-/// The misfits of one router: each is told once.
+/// The misfits of one router: in a period each is reported once, and few of one cause on one link.
 #[derive(Drop)]
 pub struct Misfits {
     // The packet that came in last, where there was room for it.
     packet: Vec<u8>,
     is_kept: bool,
+    // The period of the misfits that are kept here as reported.
+    period: u64,
     told: Vec<Misfit>,
 }
 
@@ -73,21 +125,23 @@ impl Model for Misfits {
 
     ghost view = { λ m. record {
       packet = if m.is_kept then Some m.packet.items else None;
+      period = m.period;
       told = m.told.items;
     } };
 }
 
 impl Misfits {
-    ghost use Rattle.std.specs.Prelude.{◌≡◌, ◌⊎◌, ◌∷◌, ◌++◌, [], None, Some, option_map};
-    ghost use Rattle.ospf_notes.specs.Misfits.{TellsMisfit, is_new_misfit};
+    ghost use Rattle.std.specs.Prelude.{◌≡◌, ◌⊎◌, ◌/◌, ◌∷◌, ◌++◌, [], None, Some, count_by, option_map};
+    ghost use Rattle.ospf_notes.specs.Misfits.{TellsMisfit, is_alike, is_new_misfit, period_ticks, told_at};
 
     /// None yet.
     pub fn new(alloc: Global) -> Misfits
-        ensures { result ≡ record { packet = None; told = [] } }
+        ensures { result ≡ record { packet = None; period = 0; told = [] } }
     {
         Misfits {
             packet: Vec::new(alloc),
             is_kept: false,
+            period: 0,
             told: Vec::new(alloc),
         }
     }
@@ -95,16 +149,17 @@ impl Misfits {
     /// A packet has come in.
     pub fn hears(&mut self, packet: &[u8])
         ensures packet { (self.new.packet ≡ Some packet.now) ⊎ (self.new.packet ≡ None) }
+        ensures period { self.new.period ≡ self.old.period }
         ensures told { self.new.told ≡ self.old.told }
     {
         self.packet.clear();
         self.is_kept = self.packet.extend_from_slice(packet).is_ok();
     }
 
-    /// What is to be told after a step of a router in which the packet that came in last was
-    /// dropped, if it was.
-    pub fn due(&mut self, router: &Router, dropped: Option<DroppedAt>) -> Option<Misfit>
-        ensures { TellsMisfit router.now.area self.old dropped self.new result }
+    /// What is to be reported after a step of a router, which has taken so many ticks, in which the
+    /// packet that came in last was dropped, if it was.
+    pub fn due(&mut self, router: &Router, tick: u64, dropped: Option<DroppedAt>) -> Option<Misfit>
+        ensures { TellsMisfit router.now.area tick self.old dropped self.new result }
     {
         let Some(at) = dropped else {
             return None;
@@ -115,6 +170,7 @@ impl Misfits {
         let Some(misfit) = misfit_in(router, at, packet) else {
             return None;
         };
+        self.forget(tick);
         if !self.is_new(&misfit) {
             return None;
         }
@@ -122,16 +178,37 @@ impl Misfits {
         Some(misfit)
     }
 
-    // Whether a misfit is told of: once, and of so many at most.
+    // With another period what was reported is forgotten.
+    fn forget(&mut self, tick: u64)
+        ensures packet { self.new.packet ≡ self.old.packet }
+        ensures period { self.new.period ≡ tick / period_ticks }
+        ensures told { self.new.told ≡ told_at tick self.old }
+    {
+        let period = tick / PERIOD;
+        if self.period != period {
+            self.period = period;
+            self.told.clear();
+        }
+    }
+
+    // Whether a misfit is reported: once, and few that are alike.
     fn is_new(&self, misfit: &Misfit) -> bool
         ensures { result ≡ is_new_misfit self.now.told misfit.now }
     {
-        !self.told.contains(misfit) && self.told.len() < MOST_MISFITS
+        !self.told.contains(misfit) && self.alike(misfit) < MOST_ALIKE
     }
 
-    // It is told of now. Where memory runs out it is told again.
+    // How many that are alike were reported.
+    fn alike(&self, misfit: &Misfit) -> usize
+        ensures { result ≡ count_by (λ t. is_alike t misfit.now) self.now.told }
+    {
+        self.told.iter().filter(|it| is_alike(it, misfit)).count()
+    }
+
+    // It is reported now. Where memory runs out it is reported again.
     fn add(&mut self, misfit: Misfit)
         ensures packet { self.new.packet ≡ self.old.packet }
+        ensures period { self.new.period ≡ self.old.period }
         ensures told { (self.new.told ≡ self.old.told ++ misfit ∷ [])
             ⊎ (self.new.told ≡ self.old.told) }
     {
@@ -150,52 +227,154 @@ impl Misfits {
     }
 }
 
+fn is_alike(one: &Misfit, other: &Misfit) -> bool
+    ensures { result ≡ is_alike one.now other.now }
+{
+    topic_of(one) == topic_of(other)
+}
+
+fn topic_of(misfit: &Misfit) -> Topic
+    ensures { result ≡ topic_of misfit.now }
+{
+    Topic {
+        link: misfit.link,
+        cause: misfit.cause,
+        flaw: misfit.flaw,
+    }
+}
+
 // The misfit of a packet that a router dropped, if its cause lasts.
 fn misfit_in(router: &Router, at: DroppedAt, packet: &[u8]) -> Option<Misfit>
     ensures { IsMisfit router.now.area at packet.now result }
 {
     let fault = Packet::read(packet).err();
+    let flaw = flaw_in(packet, fault);
     let detail = dropped_detail(router, at.link, at.cause, packet);
-    misfit_of(at, fault, detail)
+    misfit_of(at, flaw, detail)
 }
 
-fn misfit_of(at: DroppedAt, fault: Option<PacketFault>, detail: Option<Detail>) -> Option<Misfit>
-    ensures { result ≡ misfit_of at fault detail }
+fn misfit_of(at: DroppedAt, flaw: Option<Flaw>, detail: Option<Detail>) -> Option<Misfit>
+    ensures { result ≡ misfit_of at flaw detail }
 {
     let DroppedAt {
         link,
         source,
         cause,
     } = at;
-    is_lasting(cause, fault, detail).then_some(Misfit {
+    is_lasting(cause, flaw, detail).then_some(Misfit {
         link,
         source,
         cause,
-        fault,
+        flaw,
         detail,
     })
 }
 
 // Whether a cause lasts as long as both are set as they are. A packet for other routers is none,
 // nor is one before its sender is a neighbour, or of a neighbour that has started again.
-fn is_lasting(cause: Dropped, fault: Option<PacketFault>, detail: Option<Detail>) -> bool
-    ensures { result ≡ is_lasting cause fault detail }
+fn is_lasting(cause: Dropped, flaw: Option<Flaw>, detail: Option<Detail>) -> bool
+    ensures { result ≡ is_lasting cause flaw detail }
 {
     match cause {
-        Dropped::Packet => fault.is_some(),
+        Dropped::Packet => flaw.is_some(),
         Dropped::State => detail.is_some(),
         Dropped::Area | Dropped::OwnPacket | Dropped::Subnet | Dropped::HelloMismatch => true,
         Dropped::Destination | Dropped::NoNeighbour | Dropped::WrongRouter => false,
     }
 }
 
-// Why it is no packet, if it is none.
-fn write_fault<W: Write>(f: &mut Formatter<W>, fault: Option<PacketFault>) -> fmt::Result
-    ensures { WritesOnOk W.Write.write_str_gives f.old result (fault_words fault) f.new }
+// The flaw of bytes with this fault, if they have one.
+fn flaw_in(packet: &[u8], fault: Option<PacketFault>) -> Option<Flaw>
+    ensures { result ≡ option_map (flaw_of (au_type packet.now)) fault }
 {
     match fault {
-        Some(fault) => write!(f, ": {fault}"),
+        Some(fault) => Some(flaw_of(au_type(packet), fault)),
+        None => None,
+    }
+}
+
+// A digest makes the packet longer than its length field says and leaves its checksum 0, so that
+// those faults are found before the AuType is looked at (RFC 2328, appendix D.4.3).
+fn flaw_of(au_type: u16, fault: PacketFault) -> Flaw
+    ensures { result ≡ flaw_of au_type fault }
+{
+    match fault {
+        PacketFault::Length | PacketFault::Sum | PacketFault::Auth => typed_flaw(au_type, fault),
+        PacketFault::Short
+        | PacketFault::Version
+        | PacketFault::Kind
+        | PacketFault::Body
+        | PacketFault::TooLong => Flaw::Fault(fault),
+    }
+}
+
+fn typed_flaw(au_type: u16, fault: PacketFault) -> Flaw
+    ensures { result ≡ typed_flaw au_type fault }
+{
+    if au_type == SIMPLE_PASSWORD {
+        Flaw::Password
+    } else if au_type == CRYPTOGRAPHIC || au_type == EXTENDED_CRYPTOGRAPHIC {
+        Flaw::Digest
+    } else {
+        Flaw::Fault(fault)
+    }
+}
+
+// The AuType in the header; 0 where the bytes are too few for one.
+fn au_type(packet: &[u8]) -> u16
+    ensures { result ≡ au_type packet.now }
+{
+    if packet.len() < PACKET_HEADER {
+        0
+    } else {
+        u16_at(packet, AU_TYPE_AT)
+    }
+}
+
+// Why it is no packet, if it is none.
+fn write_flaw<W: Write>(f: &mut Formatter<W>, flaw: Option<Flaw>) -> fmt::Result
+    ensures { WritesOnOk W.Write.write_str_gives f.old result (flaw_words flaw) f.new }
+{
+    match flaw {
+        Some(flaw) => write!(f, ": {flaw}"),
         None => Ok(()),
+    }
+}
+
+// The field that does not fit, if there is one, behind the kind of the sender's area.
+fn write_field<W: Write>(f: &mut Formatter<W>, detail: Option<Detail>) -> fmt::Result
+    ensures { WritesOnOk W.Write.write_str_gives f.old result (field_words detail) f.new }
+{
+    write_area(f, detail)?;
+    write_detail(f, detail)
+}
+
+// Of which kind the sender's area is, if it is of another than the router's.
+fn write_area<W: Write>(f: &mut Formatter<W>, detail: Option<Detail>) -> fmt::Result
+    ensures { WritesOnOk W.Write.write_str_gives f.old result (area_words detail) f.new }
+{
+    match detail {
+        Some(detail) => write_kind(f, detail),
+        None => Ok(()),
+    }
+}
+
+fn write_kind<W: Write>(f: &mut Formatter<W>, detail: Detail) -> fmt::Result
+    ensures { WritesOnOk W.Write.write_str_gives f.old result (area_kind_words detail) f.new }
+{
+    match detail {
+        Detail::Options(there) => {
+            if there & N_BIT == N_BIT {
+                f.write_str(": NSSA there, normal area here")
+            } else {
+                f.write_str(": stub area there, normal area here")
+            }
+        }
+        Detail::Area(..)
+        | Detail::HelloInterval(..)
+        | Detail::DeadInterval(..)
+        | Detail::Mask(..)
+        | Detail::Mtu(..) => Ok(()),
     }
 }
 

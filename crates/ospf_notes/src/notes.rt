@@ -176,9 +176,9 @@ impl<R: Wait + Clock + Copy + Drop, F: Write + Drop, T: Write + Drop, O: Write +
         all.tell(RefusedShown { file, refused });
     }
 
-    // Tells of a packet that the router dropped for how it or its sender is set, once.
+    // Reports a packet that the router dropped for how it or its sender is set.
     fn tell_misfit(&mut self, router: &Router, dropped: Option<DroppedAt>) {
-        let Some(misfit) = self.teller.misfits.due(router, dropped) else {
+        let Some(misfit) = self.teller.misfits.due(router, self.ticks, dropped) else {
             return;
         };
         let file = &self.teller.file;

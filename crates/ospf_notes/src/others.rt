@@ -4,7 +4,7 @@ ghost use Rattle.std.specs.Prelude.{◌≡◌, map};
 ghost use Rattle.ospf_lsa.specs.Lsa.{type_of};
 ghost use Rattle.ospf_packet.specs.PacketOf.{packet_of};
 ghost use Rattle.ospf_packet.specs.Said.{body_said};
-ghost use Rattle.ospf_notes.specs.Others.{first_refused, is_refused, refused_in, untaken_of};
+ghost use Rattle.ospf_notes.specs.Others.{first_refused, first_unwanted, is_opaque, is_refused, is_unwanted, refused_in, untaken_of};
 
 use crate::refused::{RefusedLsa, ToldKey, Untaken, tell_once};
 use ospf_base::{NETWORK_LSA, ROUTER_LSA};
@@ -15,6 +15,11 @@ use ospf_run::Router;
 use std::alloc::Global;
 use std::collections::BTreeSet;
 use std::marker::Model;
+
+// The least and the greatest LS type of opaque LSAs (RFC 5250, section 3).
+const LINK_OPAQUE: u8 = 9;
+
+const AS_OPAQUE: u8 = 11;
 
 /// What a router was told of LSAs that it refuses, neighbour for neighbour.
 #[derive(Drop)]
@@ -100,7 +105,8 @@ fn refused_in(passes_over: bool, link: usize, packet: &[u8]) -> Option<RefusedLs
     })
 }
 
-// The first LSA of an LS type that the router refuses, in a Database Description or an Update.
+// The first LSA in a Database Description of an LS type that the router refuses, or in an Update
+// for which its sender waits, too.
 fn untaken_of(passes_over: bool, body: Body<'_>) -> Option<Untaken>
     ensures { result ≡ untaken_of passes_over (body_said body.entry) }
 {
@@ -125,11 +131,11 @@ fn first_described(passes_over: bool, headers: Headers<'_>) -> Option<u8>
 }
 
 fn first_sent(passes_over: bool, lsas: Lsas<'_>) -> Option<u8>
-    ensures { result ≡ first_refused passes_over (map type_of lsas.entry) }
+    ensures { result ≡ first_unwanted passes_over (map type_of lsas.entry) }
 {
     for lsa in lsas {
         let kind = type_of(lsa);
-        if is_refused(kind, passes_over) {
+        if is_unwanted(kind, passes_over) {
             return Some(kind);
         }
     }
@@ -141,6 +147,20 @@ fn type_of(lsa: &[u8]) -> u8
     ensures { result ≡ type_of lsa.now }
 {
     lsa.get(TYPE_AT).copied().unwrap_or(0)
+}
+
+// Whether a neighbour waits for an acknowledgment of a refused LSA that it sends. It does not of an
+// opaque LSA: where two others on a network take those, they multicast them.
+fn is_unwanted(kind: u8, passes_over: bool) -> bool
+    ensures { result ≡ is_unwanted passes_over kind }
+{
+    !is_opaque(kind) && is_refused(kind, passes_over)
+}
+
+fn is_opaque(kind: u8) -> bool
+    ensures { result ≡ is_opaque kind }
+{
+    kind >= LINK_OPAQUE && kind <= AS_OPAQUE
 }
 
 // Whether a router refuses LSAs of an LS type: all but router-LSAs and network-LSAs, and those that

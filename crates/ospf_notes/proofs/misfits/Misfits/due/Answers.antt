@@ -1,4 +1,6 @@
-use Rattle.std.proofs.Common.{refl, sym}
+use Rattle.std.proofs.Common.{◌≡◌, ◌⊎◌, ◌∙◌, ◌++◌, ◌∷◌, [], List, false, true, refl, subst, sym}
+use Rattle.ospf_notes.specs.Misfits.{is_new_misfit}
+use Rattle.ospf_notes.specs.declared.misfits.Misfit.{Misfit}
 use Rattle.ospf_notes.specs.Misfits.TellsMisfit.{none_dropped, not_kept, passes, is_old, is_told}
 use Rattle.ospf_notes.proofs.misfits.Misfits.due.Goals as goal
 
@@ -12,7 +14,15 @@ pub returns-in_default-misfit_in : goal.returns-in_default-misfit_in
 returns-in_default-misfit_in c = passes c.in-Some.at c.in-Some-kept.packet.now c.in-Some.is (sym c.in-Some-kept.ensures) c.in_default-misfit_in.ensures refl
 
 pub returns-then-not-is_new : goal.returns-then-not-is_new
-returns-then-not-is_new c = is_old c.in-Some.at c.in-Some-kept.packet.now c.in-Some-misfit_in.misfit c.in-Some.is (sym c.in-Some-kept.ensures) c.in-Some-misfit_in.ensures (sym c.if-not-is_new.ensures) refl
+returns-then-not-is_new c =
+    is_old c.in-Some.at c.in-Some-kept.packet.now c.in-Some-misfit_in.misfit c.in-Some.is (sym c.in-Some-kept.ensures) c.in-Some-misfit_in.ensures
+    (subst (λ (told : List Misfit). is_new_misfit told c.in-Some-misfit_in.misfit ≡ false) c.forget.ensures.told (sym c.if-not-is_new.ensures))
+    c.forget.ensures.packet c.forget.ensures.period c.forget.ensures.told
 
 pub returns : goal.returns
-returns c = is_told c.in-Some.at c.in-Some-kept.packet.now c.in-Some-misfit_in.misfit c.in-Some.is (sym c.in-Some-kept.ensures) c.in-Some-misfit_in.ensures (sym c.if-not-is_new.ensures) c.add.ensures.packet c.add.ensures.told
+returns c =
+    let m = c.in-Some-misfit_in.misfit in
+    is_told c.in-Some.at c.in-Some-kept.packet.now m c.in-Some.is (sym c.in-Some-kept.ensures) c.in-Some-misfit_in.ensures
+    (subst (λ (told : List Misfit). is_new_misfit told m ≡ true) c.forget.ensures.told (sym c.if-not-is_new.ensures))
+    (c.add.ensures.packet ∙ c.forget.ensures.packet) (c.add.ensures.period ∙ c.forget.ensures.period)
+    (subst (λ (told : List Misfit). (c.add.new.self.told ≡ told ++ m ∷ []) ⊎ (c.add.new.self.told ≡ told)) c.forget.ensures.told c.add.ensures.told)
