@@ -1,5 +1,5 @@
 -- How an answer ends.
-use Rattle.std.proofs.Common.{◌≡◌, ◌≢◌, ◌∙◌, ◌⊎◌, ℕ, List, [], ap, refl, subst, inl, inr, Option, IfSome, string_bytes}
+use Rattle.std.proofs.Common.{◌≡◌, ◌≢◌, ◌∙◌, ◌⊎◌, ℕ, List, [], ap, refl, subst, inl, inr, Option, None, Some, IfSome, string_bytes}
 use Rattle.std.specs.Io.KnownBytes.{Appends}
 use Rattle.ospf_files.specs.Status.{failure_line, failure_status}
 use Rattle.ospf_files.specs.Streams.{IsBegun, IsTold, Written, with_error, with_output}
@@ -9,17 +9,19 @@ use Rattle.ospf_files.specs.declared.status.Status.{Status}
 use Rattle.ospf_files.specs.declared.status.Status.TheVariants as status
 use Rattle.ospf_files.specs.declared.streams.FailedStreams.{FailedStreams}
 use Rattle.ospf_table.proofs.Lines.{map_some}
-use Rattle.ospf_table.specs.Line.{Reads}
+use Rattle.ospf_table.specs.Line.{LeavesOut, Reads}
 use Rattle.ospf_inspect.specs.Answer.{InspectEndsBy, IsInspectAnswerBegun, IsInspectAnswerOf, IsInspectAnswered, IsInspectCutShort, IsInspectEnding, IsInspectRefusal, IsInspectRefusalBegun, IsInspectRefusalTold, IsInspectSaid, IsInspectWarningBegun, Says, Warns, in_answer, in_refusal, in_warning, is_answered, is_refused}
 use Rattle.ospf_inspect.specs.declared.answer.InspectAnswer.{InspectAnswer}
 use Rattle.ospf_inspect.specs.declared.answer.InspectJob.{InspectJob}
 
 -- ---- an answer
 
-pub answer_made : (input : Option (List ℕ)) (job : InspectJob) (answer : InspectAnswer) (listing : List (List ℕ)) → IfSome input (λ bytes. Reads bytes [] listing)
-    → Warns job listing (string_bytes answer.warning) → Says job listing (string_bytes answer.text) → IfSome input (IsInspectAnswerOf job answer)
-answer_made input job answer listing reads warns says =
-    map_some input (λ bytes. Reads bytes [] listing) (IsInspectAnswerOf job answer) (λ bytes read. record { listing = listing; reads = read; warns = warns; says = says }) reads
+pub answer_made : (input : Option (List ℕ)) (job : InspectJob) (answer : InspectAnswer) (listing : List (List ℕ)) (left_out : ℕ) → IfSome input (λ bytes. Reads bytes [] listing)
+    → IfSome input (λ bytes. LeavesOut bytes left_out) → Warns job listing left_out (string_bytes answer.warning) → Says job listing (string_bytes answer.text)
+    → IfSome input (IsInspectAnswerOf job answer)
+answer_made None job answer listing left_out reads counted warns says = tt
+answer_made (Some bytes) job answer listing left_out reads counted warns says =
+    record { listing = listing; reads = reads; left_out = left_out; counted = counted; warns = warns; says = says }
 
 module _ (input : Option (List ℕ)) (job : InspectJob) (answer : InspectAnswer) (is : IfSome input (IsInspectAnswerOf job answer)) where
   pub answer_said : (old new : Written) (warning text : List ℕ) → warning ≡ string_bytes answer.warning → text ≡ string_bytes answer.text

@@ -1,6 +1,8 @@
 -- What is printed of the LSAs that the lines of an input are, and how that ends.
-use Rattle.std.specs.Prelude.{◌≡◌, ◌⊎◌, ℕ, List, [], IfSome, Option, length, string_bytes, vec_items}
+use Rattle.std.specs.Prelude.{◌≡◌, ◌⊎◌, ◌∷◌, ◌++◌, ℕ, List, [], IfSome, Option, length, string_bytes, vec_items}
 use Rattle.std.specs.Io.KnownBytes.{Appends}
+use Rattle.ospf_base.specs.declared.ids.Addr.{Addr}
+use Rattle.ospf_base.specs.declared.ids.RouterId.{RouterId}
 use Rattle.ospf_edges.specs.Listed.{advertisements_of}
 use Rattle.ospf_files.specs.Status.{failure_line, failure_status}
 use Rattle.ospf_files.specs.Streams.{IsBegun, IsErrorFailed, IsOfError, IsOfInput, IsOfOutput, IsOutputFailed, IsTold, Written}
@@ -9,8 +11,10 @@ use Rattle.ospf_files.specs.declared.status.Status.{Status}
 use Rattle.ospf_files.specs.declared.status.Status.TheVariants as status
 use Rattle.ospf_files.specs.declared.streams.FailedStreams.{FailedStreams}
 use Rattle.ospf_records.specs.Graph.{graph_text}
-use Rattle.ospf_table.specs.Line.{Reads, Refuses}
-use Rattle.ospf_table.specs.Output.{IsWarning}
+use Rattle.ospf_graph.specs.Routes.{IsTable}
+use Rattle.ospf_graph.specs.declared.route.Route.{Route}
+use Rattle.ospf_table.specs.Line.{LeavesOut, Reads, Refuses, left_out_text}
+use Rattle.ospf_table.specs.Output.{IsTableWarning, IsWarning}
 use Rattle.ospf_table.specs.Refusal.{refusal_line}
 use Rattle.ospf_table.specs.declared.table.EntryFault.{EntryFault}
 use Rattle.ospf_inspect.specs.Lines.{AreLines}
@@ -47,19 +51,33 @@ Says (Table router) listing text = SaysTableInJson (advertisements_of listing) r
 Says (Path from address choices) listing text =
     SaysPath (advertisements_of listing) from address.0 (vec_items choices) (length listing) text
 
--- the warning of the router whose table it is, or that a way begins at
-abbrev pub Warns : InspectJob → List (List ℕ) → List ℕ → Type 0
-Warns (Lsas f) listing text = text ≡ []
-Warns Drawing listing text = text ≡ []
-Warns (Tables f) listing text = text ≡ []
-Warns (Table router) listing text = IsWarning listing router text
-Warns (Path from address choices) listing text = IsWarning listing from text
+-- what is said of a way: of the router that it begins at, and, where its table has no route for the
+-- address, of routes outside the area
+abbrev pub WarnsOfWay : List (List ℕ) → RouterId → Addr → List ℕ → Type 0
+WarnsOfWay listing from address text =
+    (table : List Route) × IsTable (advertisements_of listing) from table
+    × IsTableWarning listing from table (address ∷ []) text
+
+-- what is said of the router whose table it is, or of the way
+abbrev pub WarnsOfJob : InspectJob → List (List ℕ) → List ℕ → Type 0
+WarnsOfJob (Lsas f) listing text = text ≡ []
+WarnsOfJob Drawing listing text = text ≡ []
+WarnsOfJob (Tables f) listing text = text ≡ []
+WarnsOfJob (Table router) listing text = IsWarning listing router text
+WarnsOfJob (Path from address choices) listing text = WarnsOfWay listing from address text
+
+-- behind how many LSAs were left out
+abbrev pub Warns : InspectJob → List (List ℕ) → ℕ → List ℕ → Type 0
+Warns job listing left_out text =
+    (more : List ℕ) × WarnsOfJob job listing more × (text ≡ left_out_text left_out ++ more)
 
 -- the answer for the LSAs that the lines of the input are, and its warning
 pub record IsInspectAnswer (job : InspectJob) (text warning input : List ℕ) : Type 0 where
   pub listing : List (List ℕ)
   pub reads : Reads input [] listing
-  pub warns : Warns job listing warning
+  pub left_out : ℕ
+  pub counted : LeavesOut input left_out
+  pub warns : Warns job listing left_out warning
   pub says : Says job listing text
 
 -- the answer stands on standard output, and its warning on standard error

@@ -4,9 +4,8 @@ ghost use Rattle.std.specs.Prelude.{◌≡◌, ◌≢◌, ◌⊎◌, List, [], O
 ghost use Rattle.ospf_files.specs.Streams.{written_on};
 ghost use Rattle.ospf_files.specs.declared.streams.FailedStreams.{FailedStreams};
 ghost use Rattle.ospf_records.specs.Graph.{graph_text};
-ghost use Rattle.ospf_table.specs.Line.{Reads, Refuses};
-ghost use Rattle.ospf_table.specs.Output.{IsWarning};
-ghost use Rattle.ospf_inspect.specs.Answer.{InspectEndsBy, IsInspectAnswerOf, IsInspectAnswered, IsInspectCutShort, IsInspectEnding, IsUnanswered, IsInspectRefusal, IsInspectRefusalTold, IsInspectSaid, Says, Warns};
+ghost use Rattle.ospf_table.specs.Line.{LeavesOut, Reads, Refuses};
+ghost use Rattle.ospf_inspect.specs.Answer.{InspectEndsBy, IsInspectAnswerOf, IsInspectAnswered, IsInspectCutShort, IsInspectEnding, IsUnanswered, IsInspectRefusal, IsInspectRefusalTold, IsInspectSaid, Says, Warns, WarnsOfJob, WarnsOfWay};
 ghost use Rattle.ospf_inspect.specs.declared.answer.InspectJob.{InspectJob};
 
 use crate::lsas::lsas_text;
@@ -17,7 +16,11 @@ use ospf_base::{Addr, RouterId};
 use ospf_files::{FailedStreams, Failure, Status};
 use ospf_lsa::Listing;
 use ospf_records::Graph;
-use ospf_table::{EntryFault, TableFault, is_unlisted, read_listing};
+use ospf_spf::RouteTable;
+use ospf_table::{
+    CountedListing, EntryFault, TableFault, left_out_text, read_counted, unlisted_text,
+    warning_text,
+};
 use std::alloc::{AllocError, Global};
 use std::io::{BufRead, Write};
 
@@ -72,8 +75,10 @@ impl From<AllocError> for Unanswered {
 /// of them: each in words or as JSON, a drawing of all, the routing table of each router or of one,
 /// or the way from a router to an address.
 ///
-/// Where LSAs are listed and the router-LSA of the router whose table it is, or that a way begins
-/// at, is not among them, `err` says so. The first line that is refused is told on `err`; then
+/// `err` says how many LSAs were left out at `MAX_AGE`, if any were; where LSAs are listed and the
+/// router-LSA of the router whose table it is, or that a way begins at, is not among them; and of a
+/// way whose first router has no route to the address, which routers are at the border of the area
+/// (`ospf_table::warning_text`). The first line that is refused is told on `err`; then
 /// nothing is printed, with status `Refused`. Status `Memory` says that memory ran out, and
 /// `Stream` that a read or a write failed; what it was is told on `err`, as far as that can be
 /// written. Then no more than a beginning is printed.
@@ -162,20 +167,22 @@ fn answer_of<R: BufRead + Drop>(
         (IsInspectAnswerOf job.now answer)) }
     ensures fault { IfErr result (IsUnanswered (R.remaining input)) }
 {
-    let listing = listing_of(alloc, input)?;
-    let warning = warning_of(alloc, job, &listing)?;
-    let text = text_of(alloc, job, &listing)?;
+    let read = listing_of(alloc, input)?;
+    let warning = warning_of(alloc, job, &read.listing, read.left_out)?;
+    let text = text_of(alloc, job, &read.listing)?;
     Ok(InspectAnswer { warning, text })
 }
 
-// The listing of the lines of an input.
-fn listing_of<R: BufRead + Drop>(alloc: Global, input: R) -> Result<Listing, Unanswered>
-    ensures whole { IfOk result (λ listing. IfSome (R.remaining input)
-        (λ bytes. Reads bytes [] listing)) }
+// The listing of the lines of an input, and how many LSAs were left out.
+fn listing_of<R: BufRead + Drop>(alloc: Global, input: R) -> Result<CountedListing, Unanswered>
+    ensures whole { IfOk result (λ read. IfSome (R.remaining input)
+        (λ bytes. Reads bytes [] read.listing)) }
+    ensures counted { IfOk result (λ read. IfSome (R.remaining input)
+        (λ bytes. LeavesOut bytes read.left_out)) }
     ensures fault { IfErr result (IsUnanswered (R.remaining input)) }
 {
-    match read_listing(alloc, input) {
-        Ok(listing) => Ok(listing),
+    match read_counted(alloc, input) {
+        Ok(read) => Ok(read),
         Err(TableFault::Entry { number, fault }) => Err(line_refused(alloc, number, fault)),
         Err(TableFault::Failure(failure)) => Err(Unanswered::Failure(failure)),
     }
@@ -192,27 +199,43 @@ fn line_refused(alloc: Global, number: u64, fault: EntryFault) -> Unanswered
     }
 }
 
-// What is said of the router whose table it is, or that a way begins at.
-fn warning_of(alloc: Global, job: &InspectJob, listing: &Listing) -> Result<String, AllocError>
-    ensures { IfOk result (λ text. Warns job.now listing.now (string_bytes text)) }
+// What is said of the LSAs that were left out, and of what is asked.
+fn warning_of(
+    alloc: Global,
+    job: &InspectJob,
+    listing: &Listing,
+    left_out: u64,
+) -> Result<String, AllocError>
+    ensures { IfOk result (λ text. Warns job.now listing.now left_out (string_bytes text)) }
+{
+    let mut text = left_out_text(alloc, left_out)?;
+    let more = job_warning(alloc, job, listing)?;
+    text.push_str(more.as_str())?;
+    Ok(text)
+}
+
+// What is said of the router whose table it is, or of the way that is asked for.
+fn job_warning(alloc: Global, job: &InspectJob, listing: &Listing) -> Result<String, AllocError>
+    ensures { IfOk result (λ text. WarnsOfJob job.now listing.now (string_bytes text)) }
 {
     match job {
         InspectJob::Lsas(_) | InspectJob::Drawing | InspectJob::Tables(_) => Ok(String::new(alloc)),
         InspectJob::Table(router) => unlisted_text(alloc, listing, *router),
-        InspectJob::Path { from, .. } => unlisted_text(alloc, listing, *from),
+        InspectJob::Path { from, address, .. } => way_warning(alloc, listing, *from, *address),
     }
 }
 
-// What is said of a router: that its router-LSA is not listed, where others are.
-fn unlisted_text(alloc: Global, listing: &Listing, router: RouterId) -> Result<String, AllocError>
-    ensures { IfOk result (λ text. IsWarning listing.now router (string_bytes text)) }
+// What is said of the router that a way begins at, and where it has no route.
+fn way_warning(
+    alloc: Global,
+    listing: &Listing,
+    from: RouterId,
+    address: Addr,
+) -> Result<String, AllocError>
+    ensures { IfOk result (λ text. WarnsOfWay listing.now from address (string_bytes text)) }
 {
-    if is_unlisted(listing, router) {
-        let text = format!(in alloc; "{router}: no router-LSA of this router\n")?;
-        Ok(text)
-    } else {
-        Ok(String::new(alloc))
-    }
+    let table = RouteTable::of(alloc, listing, from)?;
+    warning_text(alloc, listing, from, &table, &[address])
 }
 
 // What is printed of a listing.

@@ -1,11 +1,12 @@
 -- Faults of lines, and the lines of an input.
-use Rattle.std.proofs.Common.{◌≡◌, ◌≢◌, ◌<◌, ℕ, suc, ◌+◌, List, [], length, Option, None, Some, IfSome, sym, subst, refl, arith}
+use Rattle.std.proofs.Common.{◌≡◌, ◌≢◌, ◌<◌, ◌≤◌, ◌↔◌, ℕ, suc, ◌+◌, Bool, true, false, cond, IsTrue, List, [], length, Option, None, Some, IfSome, sym, subst, refl, arith}
 use Rattle.std.specs.Io.BufRead.{take_through, drop_through, DropsThrough}
+use mir.Val.{bool_byte}
 use Rattle.std.specs.Io.KnownBytes.{IsAtEnd}
 use Rattle.ospf_lsa.specs.declared.fault.LsaFault.TheVariants as lsa_fault
 use Rattle.ospf_lsa.specs.declared.listing.ListingFault.TheVariants as listing_fault
 use Rattle.ospf_table.specs.Fault.{IsMemoryFault, IsLineRefusal}
-use Rattle.ospf_table.specs.Line.{HasLineFault, IsTaken, Reads, at_end, at_line, Refuses, here, later, text_of, first_text}
+use Rattle.ospf_table.specs.Line.{HasLineFault, IsLeftOut, IsTaken, LeavesOut, Reads, at_end, at_line, no_line, no_more, one_more, Refuses, here, later, text_of, first_text}
 use Rattle.ospf_table.specs.declared.line.LineFault.TheVariants.{NotHex, Lsa}
 use Rattle.ospf_table.specs.declared.table.EntryFault.{EntryFault}
 use Rattle.ospf_table.specs.declared.table.EntryFault.TheVariants.{Line, Listing}
@@ -101,3 +102,53 @@ not_memory text listing (Listing listing_fault.Memory) h m = let e : listing_fau
 pub refusal_of : (fault : TableFault) → IsLineRefusal fault → (number : ℕ) × (entry : EntryFault) × (fault ≡ Entry number entry)
 refusal_of (Entry number entry) is = (number, entry, refl)
 refusal_of (Failure failure) is = absurd is
+
+-- ---- lines that are left out
+
+-- what is left of the input and the number so far lead to what the whole input leads to
+pub record CountsTo (whole : List ℕ) (rest : Option (List ℕ)) (count : ℕ) : Type 0 where
+  pub left : List ℕ
+  pub rest_is : rest ≡ Some left
+  pub counts : (n : ℕ) → LeavesOut left n → LeavesOut whole (count + n)
+
+pub counts_at_start : (start : Option (List ℕ)) → IfSome start (λ whole. CountsTo whole start 0)
+counts_at_start None = tt
+counts_at_start (Some whole) = record {
+  left = whole;
+  rest_is = refl;
+  counts = λ n h. let P : ℕ → Type 0 = λ k. LeavesOut whole k in subst P (omega arith) h;
+}
+
+-- a truth value as the number that is added
+pub counted_byte : (b : Bool) → (bool_byte b ≡ cond b 1 0) × (cond b 1 0 ≤ 1)
+counted_byte true = (refl, omega arith)
+counted_byte false = (refl, omega arith)
+
+counted_here : (left : List ℕ) (is : Bool) (n : ℕ) → left ≢ [] → (IsTrue is ↔ IsLeftOut (first_text left)) → LeavesOut (drop_through 10 left) n
+    → LeavesOut left (cond is 1 0 + n)
+counted_here left true n some is h =
+    let P : ℕ → Type 0 = λ k. LeavesOut left k in subst P (omega arith) (one_more some (is.0 refl) h)
+counted_here left false n some is h =
+    let P : ℕ → Type 0 = λ k. LeavesOut left k in
+    subst P (omega arith) (no_more some (λ out. absurd (let e : false ≡ true = is.1 out in cc)) h)
+
+pub counts_on : (start rest after : Option (List ℕ)) (is : Bool) (old new : ℕ) (line text : List ℕ)
+    → IfSome start (λ whole. CountsTo whole rest old) → IsRead rest line text → DropsThrough rest after 10
+    → (IsTrue is ↔ IsLeftOut text) → new ≡ old + cond is 1 0 → IfSome start (λ whole. CountsTo whole after new)
+counts_on start rest after is old new line text led r drops out new_is = map_some start _ _ (λ whole leads.
+    let at = text_here rest leads.left line text r leads.rest_is in
+    let out_here : IsTrue is ↔ IsLeftOut (first_text leads.left) = subst (λ (t : List ℕ). IsTrue is ↔ IsLeftOut t) at.0 out in
+    let made : CountsTo whole after new = record {
+      left = drop_through 10 leads.left;
+      rest_is = subst (λ (o : Option (List ℕ)). DropsThrough o after 10) leads.rest_is drops;
+      counts = λ n h.
+          let P : ℕ → Type 0 = λ k. LeavesOut whole k in
+          subst P (omega (arith, new_is)) (leads.counts (cond is 1 0 + n) (counted_here leads.left is n at.1 out_here h));
+    } in made) led
+
+pub ends_counts : (start rest : Option (List ℕ)) (count : ℕ) → IfSome start (λ whole. CountsTo whole rest count) → IsAtEnd rest
+    → IfSome start (λ whole. LeavesOut whole count)
+ends_counts start rest count led done = map_some start _ _ (λ whole leads.
+    let nil : leads.left ≡ [] = subst IsAtEnd leads.rest_is done in
+    let P : ℕ → Type 0 = λ k. LeavesOut whole k in
+    subst P (omega arith) (leads.counts 0 (subst (λ (l : List ℕ). LeavesOut l 0) (sym nil) no_line))) led

@@ -13,8 +13,8 @@ use Rattle.ospf_files.proofs.Written.{both_written, front_begun, kept_written, n
 use Rattle.ospf_files.specs.Streams.{IsBegun, Written}
 use Rattle.ospf_files.specs.declared.status.Failure.{Failure}
 use Rattle.ospf_files.specs.declared.streams.FailedStreams.{FailedStreams}
-use Rattle.ospf_table.specs.Cut.{AreLookupsBefore, AreLookupsBegun, IsLookupCut, IsOutputBefore, IsOutputBegun, IsTableCut, IsWarned, at_lookup, in_output}
-use Rattle.ospf_table.specs.Output.{IsLookupLine, AreLookups, IsTableAnswered, IsOutput, IsWarning, no_more, one_more}
+use Rattle.ospf_table.specs.Cut.{AreLookupsBefore, AreLookupsBegun, IsLookupCut, IsOutputBefore, IsOutputBegun, IsTableCut, IsTableWarningBegun, IsWarned, at_lookup, in_output}
+use Rattle.ospf_table.specs.Output.{IsLookupLine, AreLookups, IsTableAnswered, IsTableWarning, IsOutput, no_more, one_more}
 
 -- the line of one address more
 pub more_lookups : (table : List Route) (addresses : List Addr) (lines : List ℕ) (address : Addr) (line : List ℕ) → AreLookups table addresses lines
@@ -144,26 +144,47 @@ output_written a b c d table routes addresses same h lookups flushed =
     let output : IsOutput table addresses (routes_text table ++ lookups.0) = record { lookups = lookups.0; are_lookups = lookups.1; text_is = refl } in
     (routes_text table ++ lookups.0, output, kept_written a c d _ (both_written a b c _ _ routes_written lookups.2) flushed)
 
--- the answer, and the warning of the root
+-- the warning that was written
+abbrev pub HasWarned : List (List ℕ) → RouterId → List Route → List Addr → Option (List ℕ) → Option (List ℕ) → Type 0
+HasWarned listing root table addresses x y = (warning : List ℕ) × IsTableWarning listing root table addresses warning × Appends x y warning
+
+pub has_warned : (x y : Option (List ℕ)) (listing : List (List ℕ)) (root : RouterId) (table : List Route) (given addresses : List Addr) (warning told : List ℕ)
+    → given ≡ addresses → told ≡ warning → IsTableWarning listing root table given warning → Appends x y told → HasWarned listing root table addresses x y
+has_warned x y listing root table given addresses warning told same told_is warned written = (
+  warning,
+  subst (λ (those : List Addr). IsTableWarning listing root table those warning) same warned,
+  subst (Appends x y) told_is written,
+)
+
+-- a beginning of it
+pub warning_begun : (x y : Option (List ℕ)) (listing : List (List ℕ)) (root : RouterId) (table : List Route) (given addresses : List Addr) (warning told : List ℕ)
+    → given ≡ addresses → told ≡ warning → IsTableWarning listing root table given warning → IsBegun x y told → IsTableWarningBegun listing root table addresses x y
+warning_begun x y listing root table given addresses warning told same told_is warned begun = record {
+  warning = warning;
+  warned = subst (λ (those : List Addr). IsTableWarning listing root table those warning) same warned;
+  begun = subst (IsBegun x y) told_is begun;
+}
+
+-- the answer, and the warning
 pub answered : (old new : Written) (input : List ℕ) (listing : List (List ℕ)) (root : RouterId) (table : List Route) (addresses : List Addr)
-    → Reads input [] listing → ((warning : List ℕ) × IsWarning listing root warning × Appends old.err new.err warning) → IsTable (advertisements_of listing) root table
+    → Reads input [] listing → HasWarned listing root table addresses old.err new.err → IsTable (advertisements_of listing) root table
     → ((text : List ℕ) × IsOutput table addresses text × Appends old.out new.out text) → IsTableAnswered input root addresses old new
 answered old new input listing root table addresses reads warned is_table written = record {
   text = written.0;
   warning = warned.0;
-  is = record { listing = listing; reads = reads; warned = warned.1; table = table; is_table = is_table; output = written.1 };
+  is = record { listing = listing; reads = reads; table = table; is_table = is_table; warned = warned.1; output = written.1 };
   out = written.2;
   err = warned.2;
 }
 
--- the warning of the root
-pub is_warned : (x y : Option (List ℕ)) (listing : List (List ℕ)) (root : RouterId) → ((warning : List ℕ) × IsWarning listing root warning × Appends x y warning)
-    → IsWarned listing root x y
-is_warned x y listing root h = record { warning = h.0; warned = h.1; written = h.2 }
+-- the warning
+pub is_warned : (x y : Option (List ℕ)) (listing : List (List ℕ)) (root : RouterId) (table : List Route) (addresses : List Addr)
+    → HasWarned listing root table addresses x y → IsWarned listing root table addresses x y
+is_warned x y listing root table addresses h = record { warning = h.0; warned = h.1; written = h.2 }
 
 -- the table is cut in its output, or at an address
 pub table_cut : (listing : List (List ℕ)) (root : RouterId) (addresses : List Addr) (failed : FailedStreams) (old new : Written) (table : List Route) (f : Failure)
-    → IsWarned listing root old.err new.err → IsTable (advertisements_of listing) root table → IsOutputBegun table addresses old.out new.out
+    → IsWarned listing root table addresses old.err new.err → IsTable (advertisements_of listing) root table → IsOutputBegun table addresses old.out new.out
     → IsLookupCut failed (IsOutputBefore table addresses old.out new.out) f → IsTableCut listing root addresses failed old new f
 table_cut listing root addresses failed old new table f warned is begun (inl cut) = in_output table cut warned is begun
 table_cut listing root addresses failed old new table f warned is begun (inr (closed, before)) =

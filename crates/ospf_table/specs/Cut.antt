@@ -15,7 +15,7 @@ use Rattle.ospf_graph.specs.Routes.{IsTable}
 use Rattle.ospf_graph.specs.declared.route.Route.{Route}
 use Rattle.ospf_spf.specs.Listed.{advertisements_of}
 use Rattle.ospf_table.specs.Line.{Reads, Refuses}
-use Rattle.ospf_table.specs.Output.{AreLookups, IsOutput, IsWarning}
+use Rattle.ospf_table.specs.Output.{AreLookups, IsOutput, IsTableWarning}
 use Rattle.ospf_table.specs.Refusal.{refusal_line}
 use Rattle.ospf_table.specs.declared.table.EntryFault.{EntryFault}
 
@@ -68,37 +68,38 @@ pub record IsLineRefusalBegun (input old new : Option (List ℕ)) : Type 0 where
   pub refused : IfSome input (λ bytes. Refuses bytes [] number fault)
   pub begun : IsBegun old new (refusal_line number fault)
 
--- a beginning of the warning of the root was written
-pub record IsTableWarningBegun (listing : List (List ℕ)) (root : RouterId)
-    (old new : Option (List ℕ)) : Type 0 where
+-- a beginning of the warning was written
+pub record IsTableWarningBegun (listing : List (List ℕ)) (root : RouterId) (table : List Route)
+    (addresses : List Addr) (old new : Option (List ℕ)) : Type 0 where
   pub warning : List ℕ
-  pub warned : IsWarning listing root warning
+  pub warned : IsTableWarning listing root table addresses warning
   pub begun : IsBegun old new warning
 
--- the warning of the root was written
-pub record IsWarned (listing : List (List ℕ)) (root : RouterId) (old new : Option (List ℕ))
-    : Type 0 where
+-- the warning was written
+pub record IsWarned (listing : List (List ℕ)) (root : RouterId) (table : List Route)
+    (addresses : List Addr) (old new : Option (List ℕ)) : Type 0 where
   pub warning : List ℕ
-  pub warned : IsWarning listing root warning
+  pub warned : IsTableWarning listing root table addresses warning
   pub written : Appends old new warning
 
--- the table of a listing is cut: in its warning; for want of memory, before the
--- output begins; in the output; or, the published table being closed, where an
--- address was to be looked up, behind the routes and the lookups before it
+-- the table of a listing is cut: for want of memory, before anything is written; in its warning; in
+-- the output; or, the published table being closed, where an address was to be looked up, behind
+-- the routes and the lookups before it
 pub data IsTableCut (listing : List (List ℕ)) (root : RouterId) (addresses : List Addr)
     (failed : FailedStreams) (old new : Written) : Failure → Type 0 where
-  in_warning : {f : Failure} → IsErrorCut failed f
-      → IsTableWarningBegun listing root old.err new.err → new.out ≡ old.out
-      → IsTableCut listing root addresses failed old new f
-  no_table : IsWarned listing root old.err new.err → new.out ≡ old.out
+  no_table : new.err ≡ old.err → new.out ≡ old.out
       → IsTableCut listing root addresses failed old new failure.Memory
+  in_warning : {f : Failure} (table : List Route) → IsErrorCut failed f
+      → IsTable (advertisements_of listing) root table
+      → IsTableWarningBegun listing root table addresses old.err new.err → new.out ≡ old.out
+      → IsTableCut listing root addresses failed old new f
   in_output : {f : Failure} (table : List Route) → IsOutputCut failed f
-      → IsWarned listing root old.err new.err
+      → IsWarned listing root table addresses old.err new.err
       → IsTable (advertisements_of listing) root table
       → IsOutputBegun table addresses old.out new.out
       → IsTableCut listing root addresses failed old new f
   at_lookup : (table : List Route) (between : Option (List ℕ))
-      → IsWarned listing root old.err new.err
+      → IsWarned listing root table addresses old.err new.err
       → IsTable (advertisements_of listing) root table
       → Appends old.out between (routes_text table)
       → AreLookupsBefore table addresses between new.out

@@ -2,6 +2,8 @@ pub mod Entries
 pub mod Line
 pub mod Fault
 pub mod Refusal
+pub mod Apart
+pub mod Outside
 pub mod Output
 pub mod Cut
 pub mod Changes

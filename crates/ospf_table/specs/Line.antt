@@ -1,5 +1,5 @@
 -- LSAs as lines of text.
-use Rattle.std.specs.Prelude.{◌≡◌, ◌≢◌, ◌⊎◌, ◌-◌, ℕ, suc, List, [], Result, Ok, IsErr, min, nat_le, if◌then◌else◌}
+use Rattle.std.specs.Prelude.{◌≡◌, ◌≢◌, ◌⊎◌, ◌==◌, ◌-◌, ◌++◌, ℕ, suc, List, [], Result, Ok, IsErr, codes, decimal, min, nat_le, if◌then◌else◌}
 use Rattle.std.specs.Io.BufRead.{take_through, drop_through, ends_with_byte, strip_last}
 use Rattle.hex.specs.Hex.{decode_of}
 use Rattle.hex.specs.declared.error.FromHexError.{FromHexError}
@@ -88,3 +88,26 @@ pub data Refuses : List ℕ → List (List ℕ) → ℕ → EntryFault → Type 
   later : {input : List ℕ} {old next : List (List ℕ)} {number : ℕ} {fault : EntryFault} → input ≢ []
       → IsTaken (first_text input) old next → Refuses (drop_through 10 input) next number fault
       → Refuses input old (suc number) fault
+
+-- ---- what is left out
+
+-- the text spells an LSA that is at MaxAge at its plain age
+pub record IsLeftOut (text : List ℕ) : Type 0 where
+  pub not_blank : IsBlank text → ⊥
+  pub spelled : List ℕ
+  pub decoded : decode_of text ≡ Ok spelled
+  pub is_lsa : IsLsa spelled
+  pub old : (header_of (with_plain_age spelled)).age ≡ max_age
+
+-- so many of the lines of the input are left out
+pub data LeavesOut : List ℕ → ℕ → Type 0 where
+  no_line : LeavesOut [] 0
+  one_more : {input : List ℕ} {n : ℕ} → input ≢ [] → IsLeftOut (first_text input)
+      → LeavesOut (drop_through 10 input) n → LeavesOut input (suc n)
+  no_more : {input : List ℕ} {n : ℕ} → input ≢ [] → (IsLeftOut (first_text input) → ⊥)
+      → LeavesOut (drop_through 10 input) n → LeavesOut input n
+
+-- what is said of them
+abbrev pub left_out_text : ℕ → List ℕ
+left_out_text n =
+    if n == 0 then [] else codes "LSAs left out at MaxAge: " ++ decimal n ++ codes "\n"

@@ -13,6 +13,7 @@ use Rattle.ospf_files.specs.Shown.{lookup_none_line, routes_text}
 use Rattle.ospf_files.specs.Streams.{Written}
 use Rattle.ospf_spf.specs.Listed.{advertisements_of}
 use Rattle.ospf_table.specs.Line.{Reads}
+use Rattle.ospf_table.specs.Outside.{IsOutsideWarning}
 use Rattle.ospf_base.specs.declared.ids.Kind.TheVariants.{Router}
 use Rattle.ospf_lsa.specs.Listing.{HasKey}
 use Rattle.std.specs.Io.KnownBytes.{Appends}
@@ -65,15 +66,22 @@ IsWarning listing root text =
     (IsUnlisted listing root × (text ≡ unlisted_line root))
     ⊎ ((IsUnlisted listing root → ⊥) × (text ≡ []))
 
+-- what is said on standard error of a table: of the root, and of routes outside the area where an
+-- address is looked up that the table has no route for
+abbrev pub IsTableWarning : List (List ℕ) → RouterId → List Route → List Addr → List ℕ → Type 0
+IsTableWarning listing root table addresses text =
+    (own more : List ℕ) × IsWarning listing root own × IsOutsideWarning listing table addresses more
+    × (text ≡ own ++ more)
+
 -- what is printed for an input: the routing table of the root over its LSAs, and the lookups in
--- it; and the warning of the root
+-- it; and the warning
 pub record IsTableAnswer (input : List ℕ) (root : RouterId) (addresses : List Addr)
     (text warning : List ℕ) : Type 0 where
   pub listing : List (List ℕ)
   pub reads : Reads input [] listing
-  pub warned : IsWarning listing root warning
   pub table : List Route
   pub is_table : IsTable (advertisements_of listing) root table
+  pub warned : IsTableWarning listing root table addresses warning
   pub output : IsOutput table addresses text
 
 -- the answer for an input stands on standard output, and its warning on standard error

@@ -3,6 +3,7 @@
 //! `table_text` is the whole: it reads, calculates, publishes, writes and looks up.
 #![tactic(auto)]
 
+mod apart;
 mod changes;
 mod entries;
 mod line;
@@ -10,15 +11,21 @@ mod lookup;
 mod named;
 mod objects;
 mod output;
+mod outside;
 mod sums;
 mod table;
 mod totals;
 
+pub use crate::apart::apart_text;
 pub use crate::changes::{change_line, failure_lines};
 pub use crate::line::{LineFault, lsa_line};
 pub use crate::named::find_failure;
 pub use crate::objects::{add_changes, counted_members, objects_line};
 pub use crate::output::output_text;
+pub use crate::outside::{Outside, is_nowhere, outside_of, outside_text, reasons_text};
 pub use crate::sums::{Sums, sums_line};
-pub use crate::table::{EntryFault, TableFault, TableJob, is_unlisted, read_listing, table_text};
+pub use crate::table::{
+    CountedListing, EntryFault, TableFault, TableJob, left_out_text, read_counted, read_listing,
+    table_text, unlisted_text, warning_text,
+};
 pub use crate::totals::Totals;

@@ -1,21 +1,22 @@
 //! Routing tables of the LSAs of a text.
 
-ghost use Rattle.std.specs.Prelude.{◌≡◌, ◌≢◌, ◌⊎◌, ◌↔◌, ◌++◌, ◌∷◌, ℕ, List, [], Err, Ok, IfOk, IfErr, IfSome, IsTrue, OnOk, OnErr};
+ghost use Rattle.std.specs.Prelude.{◌≡◌, ◌≢◌, ◌⊎◌, ◌↔◌, ◌++◌, ◌∷◌, ℕ, List, [], Err, Ok, IfOk, IfErr, IfSome, IsTrue, OnOk, OnErr, string_bytes};
 ghost use Rattle.std.specs.Io.KnownBytes.{Appends};
 ghost use Rattle.ospf_files.specs.Streams.{IsBegun, IsErrorCut, IsOfInput, written_on};
 ghost use Rattle.ospf_files.specs.declared.status.Failure.{Failure};
 ghost use Rattle.ospf_files.specs.declared.streams.FailedStreams.{FailedStreams};
 ghost use Rattle.ospf_index.specs.Known.{opening};
-ghost use Rattle.ospf_table.specs.Cut.{IsTableAnswerCut, IsTableCutShort, IsLookupCut, IsOutputBefore, IsOutputBegun, IsTableCut, IsTableWarningBegun};
+ghost use Rattle.ospf_table.specs.Cut.{IsTableAnswerCut, IsTableCutShort, IsLookupCut, IsOutputBefore, IsOutputBegun, IsTableCut};
 ghost use Rattle.ospf_table.specs.Fault.{IsMemoryFault, IsLineRefusal};
 ghost use Rattle.ospf_table.specs.declared.table.EntryFault.{EntryFault};
-ghost use Rattle.ospf_table.specs.Output.{IsTableAnswered, IsOutput, IsUnlisted, IsWarning};
-ghost use Rattle.ospf_table.specs.Line.{IsTaken, HasLineFault, Reads, Refuses};
+ghost use Rattle.ospf_table.specs.Output.{IsTableAnswered, IsOutput, IsTableWarning, IsUnlisted, IsWarning};
+ghost use Rattle.ospf_table.specs.Line.{IsTaken, HasLineFault, IsLeftOut, LeavesOut, Reads, Refuses, left_out_text};
 ghost use Rattle.ospf_table.specs.Refusal.{IsLineRefusalTold, refusal_line};
 
 use crate::entries::LineEntries;
 use crate::line::{LineFault, is_blank, lsa_of_line, with_plain_age, without_end};
 use crate::lookup::{print_lookups, publish_once};
+use crate::outside::missing_text;
 use ospf_base::{Addr, MAX_AGE, RouterId};
 use ospf_fib::{Seat, Writer};
 use ospf_files::{FailedStreams, Failure, Status, print_routes};
@@ -128,15 +129,51 @@ pub fn read_listing<R: BufRead + Drop>(alloc: Global, input: R) -> Result<Listin
         IfSome (R.remaining input) (λ bytes. Refuses bytes [] n f) }
     ensures unread { (f : Failure) → result ≡ Err (TableFault.Failure f) → IsOfInput f }
 {
-    let entries = read_entries(alloc, input)?;
-    Ok(entries.listing(alloc)?)
+    match read_counted(alloc, input) {
+        Ok(read) => Ok(read.listing),
+        Err(fault) => Err(fault),
+    }
 }
 
-/// Whether LSAs are listed, and the router-LSA of the root is none of them.
-pub fn is_unlisted(listing: &Listing, root: RouterId) -> bool
-    ensures { IsTrue result ↔ IsUnlisted listing.now root }
+/// The listing of the lines of an input, and how many LSAs were left out of it.
+#[derive(Drop)]
+pub struct CountedListing {
+    pub listing: Listing,
+    /// The LSAs at `MAX_AGE`.
+    pub left_out: u64,
+}
+
+/// The same listing, with the number of LSAs that were left out at `MAX_AGE`.
+///
+/// The error is that of `read_listing`.
+pub fn read_counted<R: BufRead + Drop>(
+    alloc: Global,
+    input: R,
+) -> Result<CountedListing, TableFault>
+    ensures whole { IfOk result (λ read. IfSome (R.remaining input)
+        (λ bytes. Reads bytes [] read.listing)) }
+    ensures counted { IfOk result (λ read. IfSome (R.remaining input)
+        (λ bytes. LeavesOut bytes read.left_out)) }
+    ensures refused { (n : ℕ) (f : EntryFault) → result ≡ Err (TableFault.Entry n f) →
+        IfSome (R.remaining input) (λ bytes. Refuses bytes [] n f) }
+    ensures unread { (f : Failure) → result ≡ Err (TableFault.Failure f) → IsOfInput f }
 {
-    !listing.lsas().is_empty() && listing.router(root).is_none()
+    let (entries, left_out) = read_entries(alloc, input)?;
+    let listing = entries.listing(alloc)?;
+    Ok(CountedListing { listing, left_out })
+}
+
+/// How many LSAs were left out at `MAX_AGE`, as it is said; nothing where none was.
+///
+/// `AllocError` where memory runs out.
+pub fn left_out_text(alloc: Global, left_out: u64) -> Result<String, AllocError>
+    ensures { IfOk result (λ text. string_bytes text ≡ left_out_text left_out) }
+{
+    if left_out == 0 {
+        Ok(String::new(alloc))
+    } else {
+        Ok(format!(in alloc; "LSAs left out at MaxAge: {left_out}\n")?)
+    }
 }
 
 /// Reads LSAs, a line of hexadecimal each, and writes a router's table and the lookups in it.
@@ -144,12 +181,13 @@ pub fn is_unlisted(listing: &Listing, root: RouterId) -> bool
 /// A line ends in a line feed, which a carriage return may precede, or at the end of the input. One
 /// of spaces alone is skipped. An LSA at `MAX_AGE` is checked, and left out of the table; the bit
 /// DoNotAge of an age (RFC 1793) does not count. Once all is read the table is published, by `rt`,
-/// and written, and the addresses are looked up from a seat that learned it. Where LSAs are listed
-/// and the root's router-LSA is not among them, `err` says so. The first line that is refused is
-/// told on `err`, with status `Refused`. Status `Memory` says that memory ran out, or there was no
-/// place for the seat, and `Stream` that a read or a write failed, or the published table was
-/// closed; what it was is told on `err`, as far as that can be written. Then no more than a
-/// beginning of the table and the lookups is written, and nothing where the input was not read.
+/// and written, and the addresses are looked up from a seat that learned it. `err` says where LSAs
+/// are listed and the root's router-LSA is not among them, and where the table has no route for an
+/// address and the LSAs show why (`warning_text`). The first line that is refused is told on `err`,
+/// with status `Refused`. Status `Memory` says that memory ran out, or there was no place for the
+/// seat, and `Stream` that a read or a write failed, or the published table was closed; what it was
+/// is told on `err`, as far as that can be written. Then no more than a beginning of the table and
+/// the lookups is written, and nothing where the input was not read.
 pub fn table_text<W: Wait + Drop, R: BufRead + Drop, O: Write, E: Write>(
     alloc: Global,
     rt: W,
@@ -178,48 +216,57 @@ pub fn table_text<W: Wait + Drop, R: BufRead + Drop, O: Write, E: Write>(
     table_noted(alloc, rt, job, input, out, err, &mut FailedStreams::none())
 }
 
-// The LSAs of the lines up to the end of the input.
-fn read_entries<R: BufRead + Drop>(alloc: Global, mut input: R) -> Result<LineEntries, TableFault>
-    ensures whole { IfOk result (λ entries. IfSome (R.remaining input)
-        (λ bytes. Reads bytes [] entries)) }
+// The LSAs of the lines up to the end of the input, and how many were left out.
+fn read_entries<R: BufRead + Drop>(
+    alloc: Global,
+    mut input: R,
+) -> Result<(LineEntries, u64), TableFault>
+    ensures whole { IfOk result (λ read. IfSome (R.remaining input)
+        (λ bytes. Reads bytes [] read.0)) }
+    ensures counted { IfOk result (λ read. IfSome (R.remaining input)
+        (λ bytes. LeavesOut bytes read.1)) }
     ensures refused { (n : ℕ) (f : EntryFault) → result ≡ Err (TableFault.Entry n f) →
         IfSome (R.remaining input) (λ bytes. Refuses bytes [] n f) }
     ensures unread { (f : Failure) → result ≡ Err (TableFault.Failure f) → IsOfInput f }
 {
     let mut entries = LineEntries::new(alloc);
     let mut line = Vec::new(alloc);
+    let mut left_out = 0;
     for number in 1..u64::MAX {
         line.clear();
         match input.read_until(b'\n', &mut line) {
-            Ok(0) => return Ok(entries),
+            Ok(0) => return Ok((entries, left_out)),
             Ok(_) => {}
             Err(error) => return Err(TableFault::of_reading(error)),
         }
-        if let Err(fault) = take_entry(alloc, &mut entries, without_end(&line)) {
-            return Err(TableFault::of_entry(number, fault));
+        match take_entry(alloc, &mut entries, without_end(&line)) {
+            Ok(is_left_out) => left_out += u64::from(is_left_out),
+            Err(fault) => return Err(TableFault::of_entry(number, fault)),
         }
     }
     Err(TableFault::Failure(Failure::Input))
 }
 
-// Takes the LSA of a text, unless the text is blank or the LSA is at `MAX_AGE`.
-fn take_entry(alloc: Global, entries: &mut LineEntries, text: &[u8]) -> Result<(), EntryFault>
+// Takes the LSA of a text, unless the text is blank or the LSA is at `MAX_AGE`. Whether the LSA is
+// left out.
+fn take_entry(alloc: Global, entries: &mut LineEntries, text: &[u8]) -> Result<bool, EntryFault>
     ensures ok { OnOk result (IsTaken text.now entries.old entries.new) }
+    ensures left_out { IfOk result (λ is. IsTrue is ↔ IsLeftOut text.now) }
     ensures err { OnErr result (entries.new ≡ entries.old) }
     ensures fault { IfErr result (λ e. IsMemoryFault e ⊎ HasLineFault text.now entries.old e) }
 {
     if is_blank(text) {
-        return Ok(());
+        return Ok(false);
     }
     let lsa = match lsa_of_line(alloc, text) {
         Ok(lsa) => with_plain_age(lsa),
         Err(fault) => return Err(EntryFault::Line(fault)),
     };
     if lsa.view().header().age.ticks() == MAX_AGE {
-        return Ok(());
+        return Ok(true);
     }
     match entries.add(lsa) {
-        Ok(()) => Ok(()),
+        Ok(()) => Ok(false),
         Err(fault) => Err(EntryFault::Listing(fault)),
     }
 }
@@ -323,7 +370,7 @@ fn answer<W: Wait + Drop, R: BufRead + Drop, O: Write, E: Write>(
     Ok(())
 }
 
-// Prints the table of a listing and what it says of the addresses, behind the warning of the root.
+// Prints the table of a listing and what it says of the addresses, behind the warning.
 fn answer_of<W: Wait + Drop, O: Write, E: Write>(
     alloc: Global,
     rt: W,
@@ -341,30 +388,53 @@ fn answer_of<W: Wait + Drop, O: Write, E: Write>(
         streams.new (written_on (O.contents out.old) (E.contents err.old))
         (written_on (O.contents out.new) (E.contents err.new))) }
 {
-    warn(alloc, listing, job.root, err, streams)?;
     let table = RouteTable::of(alloc, listing, job.root)?;
-    print_answer(alloc, rt, &table, &job.addresses, out, streams)
+    let addresses = job.addresses.as_slice();
+    let warning = warning_text(alloc, listing, job.root, &table, addresses)?;
+    streams.tell(err, warning.as_str())?;
+    print_answer(alloc, rt, &table, addresses, out, streams)
 }
 
-// Tells that the root's router-LSA is not listed, where that is so and others are.
-fn warn<E: Write>(
+/// What is said of a router's table on standard error: that the router-LSA of the router is not
+/// listed, where others are; and where the table has no route for one of these addresses, why it
+/// may have none (`reasons_text`).
+///
+/// `AllocError` where memory runs out.
+pub fn warning_text(
     alloc: Global,
     listing: &Listing,
     root: RouterId,
-    err: &mut E,
-    streams: &mut FailedStreams,
-) -> Result<(), Failure>
-    ensures told { OnOk result ((text : List ℕ) × IsWarning listing.now root text
-        × Appends (E.contents err.old) (E.contents err.new) text) }
-    ensures begun { OnErr result (IsTableWarningBegun listing.now root (E.contents err.old)
-        (E.contents err.new)) }
-    ensures cut { IfErr result (IsErrorCut streams.new) }
+    table: &RouteTable,
+    addresses: &[Addr],
+) -> Result<String, AllocError>
+    ensures { IfOk result (λ text. IsTableWarning listing.now root table.now addresses.now
+        (string_bytes text)) }
 {
-    if !is_unlisted(listing, root) {
-        return Ok(());
+    let mut text = unlisted_text(alloc, listing, root)?;
+    let more = missing_text(alloc, listing, table, addresses)?;
+    text.push_str(more.as_str())?;
+    Ok(text)
+}
+
+/// What is said of a router: that its router-LSA is not listed, where others are.
+///
+/// `AllocError` where memory runs out.
+pub fn unlisted_text(alloc: Global, listing: &Listing, root: RouterId) -> Result<String, AllocError>
+    ensures { IfOk result (λ text. IsWarning listing.now root (string_bytes text)) }
+{
+    if is_unlisted(listing, root) {
+        let text = format!(in alloc; "{root}: no router-LSA of this router\n")?;
+        Ok(text)
+    } else {
+        Ok(String::new(alloc))
     }
-    let line = format!(in alloc; "{root}: no router-LSA of this router\n")?;
-    streams.tell(err, &line)
+}
+
+// Whether LSAs are listed, and the router-LSA of the root is none of them.
+fn is_unlisted(listing: &Listing, root: RouterId) -> bool
+    ensures { IsTrue result ↔ IsUnlisted listing.now root }
+{
+    !listing.lsas().is_empty() && listing.router(root).is_none()
 }
 
 // Publishes a table, and prints it, and what it says of the addresses.

@@ -333,11 +333,63 @@ fn way_ends_where_there_is_no_route(rt: HostRuntime) -> Result<(), Fail> {
     let alloc = rt.alloc();
     let input = lines(alloc, &area(alloc)?)?;
     let job = path(alloc, FIRST, 0x0a09_0001, &[])?;
-    expect(&rt, alloc, &job, &input, (Status::Done, "1.1.1.1 no route\n", ""))?;
+    let told = "3.3.3.3: virtual link: routes over it are not computed\n";
+    expect(&rt, alloc, &job, &input, (Status::Done, "1.1.1.1 no route\n", told))?;
     let stranger = path(alloc, RouterId(0x0909_0909), 0xac10_0003, &[])?;
-    let told = "9.9.9.9: no router-LSA of this router\n";
+    let told = "9.9.9.9: no router-LSA of this router\n\
+        3.3.3.3: virtual link: routes over it are not computed\n";
     expect(&rt, alloc, &stranger, &input, (Status::Done, "9.9.9.9 no route\n", told))?;
     expect(&rt, alloc, &job, "", (Status::Done, "1.1.1.1 no route\n", ""))
+}
+
+#[test]
+fn way_that_may_lead_out_of_the_area_is_told_of(rt: HostRuntime) -> Result<(), Fail> {
+    let alloc = rt.alloc();
+    let way = path(alloc, FIRST, 0x0a09_0001, &[])?;
+    let told = "1.1.1.1: AS boundary router, 1.1.1.1: border router: routes outside the area are not computed\n";
+    expect(&rt, alloc, &way, FLAGGED, (Status::Done, "1.1.1.1 no route\n", told))
+}
+
+// 10.0.0.0/24 between the first two routers, which the first takes for a point-to-point link and the second, its Designated
+// Router, for a broadcast network; behind it a stub of the second. With a link back from the second nothing is told.
+#[test]
+fn link_that_is_broadcast_at_one_end_is_told_of(rt: HostRuntime) -> Result<(), Fail> {
+    let alloc = rt.alloc();
+    let (here, there, behind) = (0x0a00_0001, 0x0a00_0002, stub(0xac10_0000, NETWORK, 1));
+    let transit = link(LinkKind::Transit, there, there, 10);
+    let told = "1.1.1.1: point-to-point link to a broadcast interface: no route leads over it\n";
+    for (links, told) in [
+        (&[transit, behind][..], told),
+        (&[transit, behind, to(FIRST, 0x0a00_0006, 99)][..], ""),
+    ] {
+        let mut lsas = Vec::new(alloc);
+        lsas.push(router(alloc, FIRST, 1, &[to(SECOND, here, 10)])?)?;
+        lsas.push(router(alloc, SECOND, 1, links)?)?;
+        lsas.push(Lsa::network(alloc, there, SECOND, FIRST_NUMBER, NETWORK, &[FIRST, SECOND])?)?;
+        let input = lines(alloc, &lsas)?;
+        let way = path(alloc, FIRST, 0x0a09_0001, &[])?;
+        expect(&rt, alloc, &way, &input, (Status::Done, "1.1.1.1 no route\n", told))?;
+    }
+    Ok(())
+}
+
+// Two LSAs at MaxAge, one of them with the bit DoNotAge.
+static EXPIRED: &str = "0e100201010101010101010180000001e22c003000000002020202020a0000010100000a0a000000fffffffc0300000a\n\n\
+    8e100201020202020202020280000001ec64001802000000\n";
+
+#[test]
+fn lsas_at_max_age_are_counted(rt: HostRuntime) -> Result<(), Fail> {
+    let alloc = rt.alloc();
+    let told = "LSAs left out at MaxAge: 2\n";
+    for (job, wanted) in [
+        (InspectJob::Lsas(Form::Text), ""),
+        (InspectJob::Lsas(Form::Json), "[]\n"),
+        (InspectJob::Tables(Form::Text), ""),
+        (path(alloc, FIRST, 0x0a09_0001, &[])?, "1.1.1.1 no route\n"),
+    ] {
+        expect(&rt, alloc, &job, EXPIRED, (Status::Done, wanted, told))?;
+    }
+    Ok(())
 }
 
 #[test]

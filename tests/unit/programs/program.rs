@@ -25,7 +25,7 @@ struct Case {
 }
 
 // Input that has a table.
-static TABLES: [Case; 17] = [
+static TABLES: [Case; 21] = [
     Case {
         name: "age above the greatest",
         words: "table 1.1.1.1",
@@ -160,6 +160,38 @@ static TABLES: [Case; 17] = [
         input: "00000201010101010101010180000001b563003000000002020202020a0000010100000a0a000000fffffffc03000000\n",
         out: "10.0.0.0/30 0 attached\n",
         err: "",
+        status: 0,
+    },
+    Case {
+        name: "routes outside the AS that are not asked for",
+        words: "table 2.2.2.2",
+        input: "00010201020202020202020280000001ec64001802000000\n",
+        out: "",
+        err: "",
+        status: 0,
+    },
+    Case {
+        name: "an AS boundary router, and no route",
+        words: "table 2.2.2.2 10.9.9.9 10.8.8.8",
+        input: "00010201020202020202020280000001ec64001802000000\n",
+        out: "lookup 10.9.9.9 none\nlookup 10.8.8.8 none\n",
+        err: "2.2.2.2: AS boundary router: external routes are not computed\n",
+        status: 0,
+    },
+    Case {
+        name: "a border router, and no route",
+        words: "table 2.2.2.2 10.9.9.9",
+        input: "00010201020202020202020280000001e968001801000000\n",
+        out: "lookup 10.9.9.9 none\n",
+        err: "2.2.2.2: border router: routes to and through other areas are not computed\n",
+        status: 0,
+    },
+    Case {
+        name: "both, and no router-LSA of the root",
+        words: "table 9.9.9.9 10.9.9.9",
+        input: "0001020101010101010101018000000190ab00181f000000\n00010201020202020202020280000001ec64001802000000\n",
+        out: "lookup 10.9.9.9 none\n",
+        err: "9.9.9.9: no router-LSA of this router\n1.1.1.1: AS boundary router, 1.1.1.1: border router: routes outside the area are not computed\n",
         status: 0,
     },
 ];
