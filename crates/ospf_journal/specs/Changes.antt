@@ -1,7 +1,9 @@
 -- What changes of a router in a step, as a journal tells it.
-use Rattle.std.specs.Prelude.{◌≡◌, ◌==◌, ◌&&◌, ◌++◌, ◌↔◌, ℕ, zero, suc, Bool, true, false, not, List, [], ◌∷◌, AllPairs, Contains, Option, None, Some, find, flat_map, is_some, length, map, max, slice_get, if◌then◌else◌}
+use Rattle.std.specs.Prelude.{◌≡◌, ◌==◌, ◌&&◌, ◌++◌, ◌↔◌, ℕ, ℤ, zero, suc, Bool, true, false, not, List, [], ◌∷◌, AllPairs, Contains, Option, None, Some, find, flat_map, is_some, length, map, max, slice_get, if◌then◌else◌}
+use Rattle.std.specs.Ordering.{int_eq}
 use Rattle.ospf_base.specs.Addresses.{nowhere}
 use Rattle.ospf_base.specs.Keys.{same_key}
+use Rattle.ospf_base.specs.declared.ids.Instance.{Instance}
 use Rattle.ospf_base.specs.declared.ids.LsaKey.{LsaKey}
 use Rattle.ospf_base.specs.declared.ids.RouterId.{RouterId}
 use Rattle.ospf_base.specs.declared.prefix.Prefix.{Prefix}
@@ -13,10 +15,12 @@ use Rattle.ospf_neighbour.specs.declared.machine.NeighbourState.TheVariants as s
 use Rattle.ospf_spf.specs.Changes as tables
 use Rattle.ospf_spf.specs.declared.changes.Change as spf
 use Rattle.ospf_spf.specs.declared.changes.Change.TheVariants as put
+use Rattle.ospf_journal.specs.Reports.{ReportedValue}
 use Rattle.ospf_journal.specs.Seen.{SeenLinkValue, SeenValue}
 use Rattle.ospf_journal.specs.declared.change.RouterChange.{RouterChange}
 use Rattle.ospf_journal.specs.declared.change.RouterChange.TheVariants as change
 use Rattle.ospf_journal.specs.declared.change.DroppedAt.{DroppedAt}
+use Rattle.ospf_journal.specs.declared.seen.SeenCopy.{SeenCopy}
 use Rattle.ospf_journal.specs.declared.seen.SeenIface.{SeenIface}
 use Rattle.ospf_journal.specs.declared.seen.SeenNeighbour.{SeenNeighbour}
 use Rattle.ospf_journal.specs.declared.seen.SeenOwn.{SeenOwn}
@@ -141,49 +145,44 @@ ifaces_changes before now (suc link) =
 abbrev pub own_as : List SeenOwn → LsaKey → Option SeenOwn
 own_as owns key = find (λ o. same_key o.key key) owns
 
--- it was issued at this tick, which is not that of the last time (12.4)
-abbrev pub is_issued : (before now : Option ℕ) → Bool
-is_issued before None = false
-is_issued None (Some at) = true
-is_issued (Some last) (Some at) = not (last == at)
+-- the copy of an LSA of which this was seen, if anything was
+abbrev pub copy_in : Option SeenOwn → Option SeenCopy
+copy_in None = None
+copy_in (Some o) = o.copy
 
--- the tick at which the LSA had last been issued, if it had
-abbrev pub issued_before : Option SeenOwn → Option ℕ
-issued_before None = None
-issued_before (Some o) = o.issued_at
+-- an instance that was issued (12.4)
+abbrev pub issue_change : Instance → RouterChange
+issue_change i = change.Issued i.key i.number
 
--- the LSA had been flushed
-abbrev pub flushed_before : Option SeenOwn → Bool
-flushed_before None = false
-flushed_before (Some o) = o.is_flushed
+-- the database had this number of the LSA at MaxAge
+abbrev pub was_flushed : Option SeenCopy → ℤ → Bool
+was_flushed None number = false
+was_flushed (Some copy) number = copy.is_flushed && int_eq copy.number number
 
--- the LSA was in the database
-abbrev pub held_before : Option SeenOwn → Bool
-held_before None = false
-held_before (Some o) = o.is_held
+-- this copy came to MaxAge (14.1): the database did not have its number there before
+abbrev pub comes_to_max_age : Option SeenCopy → SeenCopy → Bool
+comes_to_max_age before copy = copy.is_flushed && not (was_flushed before copy.number)
 
--- that it was issued, if it was
-abbrev pub issue_change : Option SeenOwn → SeenOwn → List RouterChange
-issue_change before o =
-    if is_issued (issued_before before) o.issued_at then change.Issued o.key o.number ∷ [] else []
+-- that it did, if it did
+abbrev pub flush_change : LsaKey → Option SeenCopy → SeenCopy → List RouterChange
+flush_change key before copy =
+    if comes_to_max_age before copy then change.Flushed key copy.number ∷ [] else []
 
--- it came to MaxAge (14.1)
-abbrev pub flush_change : Option SeenOwn → SeenOwn → List RouterChange
-flush_change before o =
-    if o.is_flushed && not (flushed_before before) then change.Flushed o.key o.number ∷ [] else []
+-- the database has no copy of an LSA: one that it had left it, which it does at MaxAge (14), and
+-- one that was below MaxAge before came there meanwhile
+abbrev pub leave_changes : LsaKey → Option SeenCopy → List RouterChange
+leave_changes key None = []
+leave_changes key (Some copy) =
+    (if copy.is_flushed then [] else change.Flushed key copy.number ∷ []) ++ change.Removed key ∷ []
 
--- it left the database (14)
-abbrev pub removal_change : Option SeenOwn → SeenOwn → List RouterChange
-removal_change before o =
-    if held_before before && not o.is_held then change.Removed o.key ∷ [] else []
-
--- what became of the LSA: issued, flushed, gone from the database
-abbrev pub change_of_own : Option SeenOwn → SeenOwn → List RouterChange
-change_of_own before o = issue_change before o ++ flush_change before o ++ removal_change before o
+-- what became of the database's copy of an LSA: it came to MaxAge, or it left the database
+abbrev pub copy_changes : LsaKey → (before now : Option SeenCopy) → List RouterChange
+copy_changes key before None = leave_changes key before
+copy_changes key before (Some copy) = flush_change key before copy
 
 -- what became of an LSA that is seen now
 abbrev pub own_change : List SeenOwn → SeenOwn → List RouterChange
-own_change before o = change_of_own (own_as before o.key) o
+own_change before o = copy_changes o.key (copy_in (own_as before o.key)) o.copy
 
 -- what became of all of them
 abbrev pub own_changes : (before now : List SeenOwn) → List RouterChange
@@ -211,13 +210,14 @@ drop_change None = []
 drop_change (Some dropped) = change.Dropped dropped ∷ []
 
 -- all but the routes: that the router has started or stopped, the datagram that is dropped, the
--- neighbours whose state is another one, link by link, then the interfaces, and then the own LSAs
-abbrev pub standing_changes : (before now : SeenValue) → Option DroppedAt → List RouterChange
-standing_changes before now dropped =
-    run_change before.links now.links ++ drop_change dropped
+-- neighbours whose state is another one, link by link, then the interfaces, the LSAs that the step
+-- issued, and what became of the database's copies of own LSAs
+abbrev pub standing_changes : (before now : SeenValue) → ReportedValue → List RouterChange
+standing_changes before now reported =
+    run_change before.links now.links ++ drop_change reported.dropped
     ++ links_changes before.links now.links (max (length before.links) (length now.links))
     ++ ifaces_changes before.links now.links (max (length before.links) (length now.links))
-    ++ own_changes before.own now.own
+    ++ map issue_change reported.issued ++ own_changes before.own now.own
 
 -- the changes of a table go on from these changes to those
 pub record LeadsAlong (before now : List Route) (changes changes' : List RouterChange)
@@ -226,8 +226,8 @@ pub record LeadsAlong (before now : List Route) (changes changes' : List RouterC
   pub leads : LeadsOn before now routes
   pub all : changes' ≡ changes ++ map route_change routes
 
--- the changes of a step that leads from the one to the other: these, and behind
+-- the changes of a step that leads from the one to the other and reports this: these, and behind
 -- them the routes that are others
-abbrev pub AreChanges : (before now : SeenValue) → Option DroppedAt → List RouterChange → Type 0
-AreChanges before now dropped changes =
-    LeadsAlong before.table now.table (standing_changes before now dropped) changes
+abbrev pub AreChanges : (before now : SeenValue) → ReportedValue → List RouterChange → Type 0
+AreChanges before now reported changes =
+    LeadsAlong before.table now.table (standing_changes before now reported) changes

@@ -1,4 +1,5 @@
 pub mod Seen
+pub mod Reports
 pub mod Changes
 pub mod Lines
 pub mod Objects

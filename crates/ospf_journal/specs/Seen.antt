@@ -1,13 +1,14 @@
 -- What a journal keeps of a router: of each link its interface and its neighbours, its
 -- own LSAs, and its routing table.
-use Rattle.std.specs.Prelude.{Bool, false, not, List, [], Option, None, Some, is_some, map}
+use Rattle.std.specs.Prelude.{not, List, [], Option, None, Some, map, option_map}
 use Rattle.ospf_area.specs.State.{AreaValue, LinkValue}
 use Rattle.ospf_area.specs.declared.state.Numbering.{Numbering}
 use Rattle.ospf_graph.specs.declared.route.Route.{Route}
 use Rattle.ospf_iface.specs.declared.machine.Iface.{Iface}
-use Rattle.ospf_lsdb.specs.Database.{Entry, Held, entry_of, is_fresh}
+use Rattle.ospf_lsdb.specs.Database.{Entry, Held, entry_of, header_at, is_fresh}
 use Rattle.ospf_neighbour.specs.Neighbour.{NeighbourValue}
 use Rattle.ospf_router.specs.Routers.{RouterValue}
+use Rattle.ospf_journal.specs.declared.seen.SeenCopy.{SeenCopy}
 use Rattle.ospf_journal.specs.declared.seen.SeenIface.{SeenIface}
 use Rattle.ospf_journal.specs.declared.seen.SeenNeighbour.{SeenNeighbour}
 use Rattle.ospf_journal.specs.declared.seen.SeenOwn.{SeenOwn}
@@ -40,21 +41,13 @@ abbrev pub seen_link : LinkValue → SeenLinkValue
 seen_link link =
     record { iface = seen_iface link.iface; neighbours = map seen_neighbour link.neighbours }
 
--- an entry that may not be there is at MaxAge (14)
-abbrev pub is_flushed_in : Option Entry → Bool
-is_flushed_in None = false
-is_flushed_in (Some e) = not (is_fresh e)
+-- the database's copy of an own LSA: its number, and whether it is at MaxAge (12.1.6, 14)
+abbrev pub seen_copy : Entry → SeenCopy
+seen_copy e = record { number = (header_at e).number; is_flushed = not (is_fresh e) }
 
--- an own LSA that was numbered: the tick of its last issue, its number, and whether the database
--- has it, and at MaxAge (12.1.6, 14)
+-- an own LSA that was numbered: its copy in the database, if there is one
 abbrev pub seen_own : List Held → Numbering → SeenOwn
-seen_own db n = record {
-  key = n.key;
-  number = n.kept;
-  issued_at = n.issued_at;
-  is_held = is_some (entry_of db n.key);
-  is_flushed = is_flushed_in (entry_of db n.key);
-}
+seen_own db n = record { key = n.key; copy = option_map seen_copy (entry_of db n.key) }
 
 -- what is kept of the links of a router, which may not run
 abbrev pub seen_links : Option AreaValue → List SeenLinkValue

@@ -37,12 +37,12 @@ pub enum RouterChange {
         before: IfaceState,
         now: SeenIface,
     },
-    /// An LSA of the router's own was issued, with this number.
+    /// The step issued an LSA of the router's own, with this number.
     Issued {
         key: LsaKey,
         number: i32,
     },
-    /// An LSA of the router's own came to `MAX_AGE`.
+    /// This number of an LSA of the router's own came to `MAX_AGE`.
     Flushed {
         key: LsaKey,
         number: i32,

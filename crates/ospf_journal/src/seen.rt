@@ -1,11 +1,12 @@
 //! What is kept of a router from step to step.
 
-ghost use Rattle.std.specs.Prelude.{◌≡◌, IfOk, map};
+ghost use Rattle.std.specs.Prelude.{◌≡◌, IfOk, map, option_map};
 ghost use Rattle.std.specs.Option.{option_copied};
-ghost use Rattle.ospf_journal.specs.Seen.{is_flushed_in, seen_iface, seen_link, seen_links, seen_neighbour, seen_own, seen_owns};
+ghost use Rattle.ospf_journal.specs.Seen.{seen_copy, seen_iface, seen_link, seen_links, seen_neighbour, seen_own, seen_owns};
 
-use crate::change::{DroppedAt, RouterChange};
-use crate::told::{lead, push_drop, push_ifaces, push_neighbours, push_own, push_run};
+use crate::change::RouterChange;
+use crate::reported::Reported;
+use crate::told::{lead, push_drop, push_ifaces, push_issues, push_neighbours, push_own, push_run};
 use ospf_area::{Area, AreaLink, Numbering};
 use ospf_base::{Addr, LsaKey, MAX_AGE, RouterId};
 use ospf_iface::{Iface, IfaceState};
@@ -32,15 +33,19 @@ pub struct SeenIface {
     pub backup: Addr,
 }
 
-/// What is kept of an LSA of the router's own: the number and the tick of its last issue, whether
-/// the database has it, and whether it stands there at `MAX_AGE`.
+/// What is kept of the database's copy of an LSA of the router's own: its number, and whether it is
+/// at `MAX_AGE`.
+#[derive(Clone, Copy, Debug, PartialEq, Eq)]
+pub struct SeenCopy {
+    pub number: i32,
+    pub is_flushed: bool,
+}
+
+/// What is kept of an LSA of the router's own: its copy in the database, if there is one.
 #[derive(Clone, Copy, Debug, PartialEq, Eq)]
 pub struct SeenOwn {
     pub key: LsaKey,
-    pub number: i32,
-    pub issued_at: Option<u64>,
-    pub is_held: bool,
-    pub is_flushed: bool,
+    pub copy: Option<SeenCopy>,
 }
 
 /// What is kept of a link.
@@ -77,6 +82,7 @@ impl Model for Seen {
 impl Seen {
     ghost use Rattle.std.specs.Prelude.{◌≡◌, IfOk, OnErr, OnOk};
     ghost use Rattle.ospf_journal.specs.Changes.{AreChanges};
+    ghost use Rattle.ospf_journal.specs.Reports.{nothing_reported};
     ghost use Rattle.ospf_journal.specs.Seen.{nothing_seen, seen_of};
 
     /// Nothing is seen yet: the router does not run. No memory is taken.
@@ -102,32 +108,32 @@ impl Seen {
         Ok(Seen { links, own, table })
     }
 
-    /// What changed of the router since it was seen, with the datagram that it dropped meanwhile,
-    /// if it did; it is seen as it is from now on.
+    /// What changed of the router by the step since it was seen, which reported this; it is seen as
+    /// it is from now on.
     ///
     /// `AllocError` where memory runs out; then it is seen as before.
     pub fn follow(
         &mut self,
         router: &Router,
-        dropped: Option<DroppedAt>,
+        reported: Reported,
         alloc: Global,
     ) -> Result<Vec<RouterChange>, AllocError>
-        ensures changes { IfOk result (λ changes. AreChanges self.old (seen_of router.now) dropped
+        ensures changes { IfOk result (λ changes. AreChanges self.old (seen_of router.now) reported
             changes.items) }
         ensures seen { OnOk result (self.new ≡ seen_of router.now) }
         ensures err { OnErr result (self.new ≡ self.old) }
     {
         let links = links_in(router.area(), alloc)?;
         let own = own_in(router.area(), alloc)?;
-        self.go_to(SeenState { links, own }, router.table(), dropped, alloc)
+        self.go_to(SeenState { links, own }, router.table(), reported, alloc)
     }
 
     /// What changed as the router stopped; nothing is seen of it from now on.
     ///
     /// `AllocError` where memory runs out; then it is seen as before.
     pub fn end(&mut self, alloc: Global) -> Result<Vec<RouterChange>, AllocError>
-        ensures changes { IfOk result (λ changes. AreChanges self.old nothing_seen None
-            changes.items) }
+        ensures changes { IfOk result (λ changes. AreChanges self.old nothing_seen
+            nothing_reported changes.items) }
         ensures seen { OnOk result (self.new ≡ nothing_seen) }
         ensures err { OnErr result (self.new ≡ self.old) }
     {
@@ -136,7 +142,7 @@ impl Seen {
             own: Vec::new(alloc),
         };
         let table = RouteTable::empty(alloc);
-        self.go_to(standing, &table, None, alloc)
+        self.go_to(standing, &table, Reported::nothing(alloc), alloc)
     }
 
     // What changes to these links, these own LSAs and this table, which are seen from now on.
@@ -144,12 +150,12 @@ impl Seen {
         &mut self,
         standing: SeenState,
         table: &RouteTable,
-        dropped: Option<DroppedAt>,
+        reported: Reported,
         alloc: Global,
     ) -> Result<Vec<RouterChange>, AllocError>
         ensures changes { IfOk result (λ changes. AreChanges self.old
             (record { links = standing.links.items; own = standing.own.items; table = table.now })
-            dropped changes.items) }
+            reported changes.items) }
         ensures seen { OnOk result (self.new ≡ record {
           links = standing.links.items;
           own = standing.own.items;
@@ -159,9 +165,10 @@ impl Seen {
     {
         let mut changes = Vec::new(alloc);
         push_run(&mut changes, &self.links, &standing.links)?;
-        push_drop(&mut changes, dropped)?;
+        push_drop(&mut changes, reported.dropped)?;
         push_neighbours(&mut changes, &self.links, &standing.links)?;
         push_ifaces(&mut changes, &self.links, &standing.links)?;
+        push_issues(&mut changes, &reported.issued)?;
         push_own(&mut changes, &self.own, &standing.own)?;
         lead(&mut self.table, table, &mut changes, alloc)?;
         let SeenState { links, own } = standing;
@@ -270,22 +277,19 @@ fn own_of(
 fn own_at(database: &Lsdb, numbered: &Numbering) -> SeenOwn
     ensures { result ≡ seen_own database.now numbered.now }
 {
-    let entry = database.get(&numbered.key);
     SeenOwn {
         key: numbered.key,
-        number: numbered.kept,
-        issued_at: numbered.issued_at,
-        is_held: entry.is_some(),
-        is_flushed: is_flushed(entry),
+        copy: copy_of(database.get(&numbered.key)),
     }
 }
 
-// Whether an entry, which may not be there, is at `MAX_AGE`.
-fn is_flushed(entry: Option<EntryView<'_>>) -> bool
-    ensures { result ≡ is_flushed_in entry.entry }
+// What is kept of an entry, if there is one.
+fn copy_of(entry: Option<EntryView<'_>>) -> Option<SeenCopy>
+    ensures { result ≡ option_map seen_copy entry.entry }
 {
-    match entry {
-        Some(entry) => entry.age().ticks() >= MAX_AGE,
-        None => false,
-    }
+    let entry = entry?;
+    Some(SeenCopy {
+        number: entry.header().number,
+        is_flushed: entry.age().ticks() >= MAX_AGE,
+    })
 }

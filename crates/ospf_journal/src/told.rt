@@ -3,11 +3,11 @@
 ghost use Rattle.ospf_spf.specs.Changes.{IsChangeBefore, PutsHops, edited};
 ghost use Rattle.std.specs.Prelude.{◌≡◌, ◌++◌, All, AllPairs, IfOk, OnErr, OnOk, flat_map, length, map, max};
 ghost use Rattle.std.specs.Option.{option_copied};
-ghost use Rattle.ospf_journal.specs.Changes.{LeadsAlong, change_of_own, drop_change, flushed_before, gone_change, held_before, iface_change, iface_on, iface_place, ifaces_changes, is_issued, is_same_iface, issued_before, link_changes, links_changes, own_as, own_changes, route_change, run_change, runs_with, seen_as, seen_on, seen_state, standing_change, state_change, state_place};
+ghost use Rattle.ospf_journal.specs.Changes.{LeadsAlong, copy_changes, copy_in, drop_change, flush_change, gone_change, iface_change, iface_on, iface_place, ifaces_changes, is_same_iface, issue_change, leave_changes, link_changes, links_changes, own_as, own_changes, route_change, run_change, runs_with, seen_as, seen_on, seen_state, standing_change, state_change, state_place, was_flushed};
 
 use crate::change::{DroppedAt, RouterChange};
-use crate::seen::{SeenIface, SeenLink, SeenNeighbour, SeenOwn};
-use ospf_base::{Addr, LsaKey, RouterId};
+use crate::seen::{SeenCopy, SeenIface, SeenLink, SeenNeighbour, SeenOwn};
+use ospf_base::{Addr, Instance, LsaKey, RouterId};
 use ospf_iface::IfaceState;
 use ospf_neighbour::NeighbourState;
 use ospf_spf::{self as spf, RouteTable};
@@ -95,7 +95,21 @@ pub(crate) fn push_ifaces(
     Ok(())
 }
 
-/// Adds what changed of the router's own LSAs.
+/// Adds the own LSAs that were issued.
+pub(crate) fn push_issues(
+    changes: &mut Vec<RouterChange>,
+    issued: &[Instance],
+) -> Result<(), AllocError>
+    ensures { OnOk result (changes.new.items ≡ changes.old.items ++ map issue_change issued.now) }
+{
+    for instance in issued {
+        let Instance { key, number, .. } = *instance;
+        changes.push(RouterChange::Issued { key, number })?;
+    }
+    Ok(())
+}
+
+/// Adds what became of the database's copies of the router's own LSAs.
 pub(crate) fn push_own(
     changes: &mut Vec<RouterChange>,
     before: &[SeenOwn],
@@ -105,7 +119,8 @@ pub(crate) fn push_own(
         ++ own_changes before.now now.now) }
 {
     for own in now {
-        push_context_of(changes, own_as(before, &own.key), own)?;
+        let was = copy_in(own_as(before, &own.key));
+        push_copy(changes, own.key, was, own.copy)?;
     }
     Ok(())
 }
@@ -333,65 +348,72 @@ fn own_as<'a>(own: &'a [SeenOwn], key: &LsaKey) -> Option<&'a SeenOwn>
     own.iter().find(|o| o.key.is_same(key))
 }
 
-// Adds what changed of an own LSA.
-fn push_context_of(
-    changes: &mut Vec<RouterChange>,
-    before: Option<&SeenOwn>,
-    own: &SeenOwn,
-) -> Result<(), AllocError>
-    ensures { OnOk result (changes.new.items ≡ changes.old.items
-        ++ change_of_own (option_copied before.entry) own.now) }
+// The copy of an LSA of which this was seen.
+fn copy_in(own: Option<&SeenOwn>) -> Option<SeenCopy>
+    ensures { result ≡ copy_in (option_copied own.entry) }
 {
-    let SeenOwn { key, number, .. } = *own;
-    if is_issued(issued_before(before), own.issued_at) {
-        changes.push(RouterChange::Issued { key, number })?;
-    }
-    if own.is_flushed && !flushed_before(before) {
-        changes.push(RouterChange::Flushed { key, number })?;
-    }
-    if held_before(before) && !own.is_held {
-        changes.push(RouterChange::Removed { key })?;
-    }
-    Ok(())
-}
-
-// Whether an LSA was issued, by the tick of the last time before and now.
-fn is_issued(before: Option<u64>, now: Option<u64>) -> bool
-    ensures { result ≡ is_issued before now }
-{
-    match (before, now) {
-        (_, None) => false,
-        (None, Some(_)) => true,
-        (Some(last), Some(at)) => last != at,
-    }
-}
-
-// The tick at which an own LSA had last been issued.
-fn issued_before(before: Option<&SeenOwn>) -> Option<u64>
-    ensures { result ≡ issued_before (option_copied before.entry) }
-{
-    match before {
-        Some(own) => own.issued_at,
+    match own {
+        Some(own) => own.copy,
         None => None,
     }
 }
 
-// Whether it was at `MAX_AGE`.
-fn flushed_before(before: Option<&SeenOwn>) -> bool
-    ensures { result ≡ flushed_before (option_copied before.entry) }
+// Adds what became of the database's copy of an own LSA.
+fn push_copy(
+    changes: &mut Vec<RouterChange>,
+    key: LsaKey,
+    before: Option<SeenCopy>,
+    now: Option<SeenCopy>,
+) -> Result<(), AllocError>
+    ensures { OnOk result (changes.new.items ≡ changes.old.items ++ copy_changes key before now) }
 {
-    match before {
-        Some(own) => own.is_flushed,
-        None => false,
+    match now {
+        Some(copy) => push_flush(changes, key, before, copy),
+        None => push_leaving(changes, key, before),
     }
 }
 
-// Whether the database had it.
-fn held_before(before: Option<&SeenOwn>) -> bool
-    ensures { result ≡ held_before (option_copied before.entry) }
+// Adds that a copy came to `MAX_AGE`, if it did.
+fn push_flush(
+    changes: &mut Vec<RouterChange>,
+    key: LsaKey,
+    before: Option<SeenCopy>,
+    copy: SeenCopy,
+) -> Result<(), AllocError>
+    ensures { OnOk result (changes.new.items ≡ changes.old.items ++ flush_change key before copy) }
+{
+    let number = copy.number;
+    if copy.is_flushed && !was_flushed(before, number) {
+        changes.push(RouterChange::Flushed { key, number })?;
+    }
+    Ok(())
+}
+
+// Adds that a copy left the database, if there was one.
+fn push_leaving(
+    changes: &mut Vec<RouterChange>,
+    key: LsaKey,
+    before: Option<SeenCopy>,
+) -> Result<(), AllocError>
+    ensures { OnOk result (changes.new.items ≡ changes.old.items ++ leave_changes key before) }
+{
+    let Some(copy) = before else {
+        return Ok(());
+    };
+    let number = copy.number;
+    if !copy.is_flushed {
+        changes.push(RouterChange::Flushed { key, number })?;
+    }
+    changes.push(RouterChange::Removed { key })?;
+    Ok(())
+}
+
+// Whether the database had this number of an LSA at `MAX_AGE`.
+fn was_flushed(before: Option<SeenCopy>, number: i32) -> bool
+    ensures { result ≡ was_flushed before number }
 {
     match before {
-        Some(own) => own.is_held,
+        Some(copy) => copy.is_flushed && copy.number == number,
         None => false,
     }
 }

@@ -1,12 +1,12 @@
 //! Journals in files.
 
-ghost use Rattle.std.specs.Prelude.{◌≡◌, true, IfOk, string_bytes};
+ghost use Rattle.std.specs.Prelude.{◌≡◌, IfErr, IfOk, OnErr, OnOk, string_bytes};
 ghost use Rattle.std.specs.Io.KnownBytes.{Appends};
-ghost use Rattle.ospf_files.specs.Streams.{IsBegun};
+ghost use Rattle.ospf_files.specs.Streams.{IsBegun, IsOutputCut};
 ghost use Rattle.ospf_records.specs.Journals.{entries_text, entry_text};
 
 use ospf_base::RouterId;
-use ospf_files::write_text;
+use ospf_files::{FailedStreams, Failure};
 use ospf_journal::{JournalLine, Object, RouterChange};
 use std::alloc::{AllocError, Global};
 use std::io::Write;
@@ -17,7 +17,9 @@ use std::marker::Model;
 pub struct Journal<F: Write + Drop> {
     file: F,
     is_json: bool,
-    is_written: bool,
+    streams: FailedStreams,
+    // Why it is written no more.
+    failure: Option<Failure>,
 }
 
 impl<F: Write + Drop> Model for Journal<F> {
@@ -28,37 +30,49 @@ impl<F: Write + Drop> Model for Journal<F> {
     ghost view = { λ j. record {
       contents = F.contents j.file;
       is_json = j.is_json;
-      is_written = j.is_written;
+      streams = j.streams;
+      failure = j.failure;
     } };
 }
 
 impl<F: Write + Drop> Journal<F> {
-    ghost use Rattle.std.specs.Prelude.{◌≡◌, true, false, IfOk, IsErr};
+    ghost use Rattle.std.specs.Prelude.{◌≡◌, IfOk, IfSome, IsErr, IsSome, None, is_none};
     ghost use Rattle.std.specs.Io.KnownBytes.{Appends};
-    ghost use Rattle.ospf_files.specs.Streams.{IsBegun};
-    ghost use Rattle.ospf_records.specs.Journals.{entries_text};
+    ghost use Rattle.ospf_files.specs.Streams.{IsBegun, IsOutputCut, IsOutputFailed};
+    ghost use Rattle.ospf_records.specs.Journals.{entries_text, without_memory};
 
     /// No line yet. The lines will be JSON objects, or text.
     pub fn new(file: F, is_json: bool) -> Journal<F>
-        ensures { result
-            ≡ record { contents = F.contents file; is_json = is_json; is_written = true } }
+        ensures contents { result.contents ≡ F.contents file }
+        ensures is_json { result.is_json ≡ is_json }
+        ensures streams { IsOutputFailed result.streams → ⊥ }
+        ensures failure { result.failure ≡ None }
     {
         Journal {
             file,
             is_json,
-            is_written: true,
+            streams: FailedStreams::none(),
+            failure: None,
         }
     }
 
     /// Whether all could be written so far.
     pub fn is_written(&self) -> bool
-        ensures { result ≡ self.now.is_written }
+        ensures { result ≡ is_none self.now.failure }
     {
-        self.is_written
+        self.failure.is_none()
+    }
+
+    /// Why not all could be written, if that is so: memory ran out, or else `Failure::Output`: the
+    /// file could not be written.
+    pub fn failure(&self) -> Option<Failure>
+        ensures { result ≡ self.now.failure }
+    {
+        self.failure
     }
 
     /// Writes what changed of a router that has taken so many ticks, up to the first line that
-    /// fails; none where that is not known, and none behind one that failed.
+    /// fails; none where memory ran out before that is known, and none after one that failed.
     pub fn write(
         &mut self,
         alloc: Global,
@@ -67,87 +81,73 @@ impl<F: Write + Drop> Journal<F> {
         changes: Result<Vec<RouterChange>, AllocError>,
     )
         ensures settings { self.new.is_json ≡ self.old.is_json }
-        // The lines stand there, or a beginning of them and the journal is not written.
-        ensures written { IfOk changes (λ changes. self.new.is_written ≡ true →
+        // All lines are in the file, or a beginning of them, and there is a failure.
+        ensures written { IfOk changes (λ changes. self.new.failure ≡ None →
             Appends self.old.contents self.new.contents
             (entries_text self.old.is_json tick router changes.items)) }
         ensures begun { IfOk changes (λ changes. IsBegun self.old.contents self.new.contents
             (entries_text self.old.is_json tick router changes.items)) }
-        ensures unknown { IsErr changes → self.new ≡ record self.old { is_written = false } }
-        ensures ended { self.old.is_written ≡ false → self.new ≡ self.old }
+        // A new failure is that memory ran out, or that a write or a flush of the file failed.
+        ensures cut { self.old.failure ≡ None →
+            IfSome self.new.failure (IsOutputCut self.new.streams) }
+        ensures unknown { IsErr changes → self.new ≡ without_memory self.old }
+        ensures ended { IsSome self.old.failure → self.new ≡ self.old }
     {
         let Ok(changes) = changes else {
-            self.is_written = false;
+            self.failure = Some(self.failure.unwrap_or(Failure::Memory));
             return;
         };
-        if self.is_written {
-            self.is_written = write_all(
-                &mut self.file,
-                self.is_json,
-                alloc,
-                tick,
-                router,
-                &changes,
-            );
+        if self.failure.is_none() {
+            let (file, streams) = (&mut self.file, &mut self.streams);
+            let written = write_all(file, streams, self.is_json, alloc, tick, router, &changes);
+            self.failure = written.err();
         }
     }
 }
 
-// Writes changes of a router, up to the first that fails; whether all could be written.
+// Writes changes of a router, up to the first that fails.
 fn write_all<F: Write>(
     file: &mut F,
+    streams: &mut FailedStreams,
     is_json: bool,
     alloc: Global,
     tick: u64,
     router: RouterId,
     changes: &[RouterChange],
-) -> bool
-    ensures written { result ≡ true → Appends (F.contents file.old) (F.contents file.new)
-        (entries_text is_json tick router changes.now) }
+) -> Result<(), Failure>
+    ensures written { OnOk result (Appends (F.contents file.old) (F.contents file.new)
+        (entries_text is_json tick router changes.now)) }
     ensures begun { IsBegun (F.contents file.old) (F.contents file.new)
         (entries_text is_json tick router changes.now) }
+    ensures cut { IfErr result (IsOutputCut streams.new) }
 {
     for change in changes {
-        if !write_one(file, is_json, alloc, tick, router, change) {
-            return false;
-        }
+        write_one(file, streams, is_json, alloc, tick, router, change)?;
     }
-    true
+    Ok(())
 }
 
-// Writes a change of a router; whether all of it could be written.
+// Writes a change of a router.
 fn write_one<F: Write>(
     file: &mut F,
+    streams: &mut FailedStreams,
     is_json: bool,
     alloc: Global,
     tick: u64,
     router: RouterId,
     change: &RouterChange,
-) -> bool
-    ensures written { result ≡ true → Appends (F.contents file.old) (F.contents file.new)
-        (entry_text is_json tick router change.now) }
-    ensures begun { IsBegun (F.contents file.old) (F.contents file.new)
-        (entry_text is_json tick router change.now) }
+) -> Result<(), Failure>
+    ensures written { OnOk result (Appends (F.contents file.old) (F.contents file.new)
+        (entry_text is_json tick router change.now)) }
+    ensures begun { OnErr result (IsBegun (F.contents file.old) (F.contents file.new)
+        (entry_text is_json tick router change.now)) }
+    ensures cut { IfErr result (IsOutputCut streams.new) }
 {
-    match entry_text(alloc, is_json, tick, router, change) {
-        Ok(text) => is_written(file, &text),
-        Err(AllocError) => false,
-    }
+    let text = entry_text(alloc, is_json, tick, router, change)?;
+    streams.print(file, &text)
 }
 
-// Writes a text; whether all of it could be written.
-fn is_written<F: Write>(file: &mut F, text: &str) -> bool
-    ensures written { result ≡ true →
-        Appends (F.contents file.old) (F.contents file.new) text.now }
-    ensures begun { IsBegun (F.contents file.old) (F.contents file.new) text.now }
-{
-    match write_text(file, text) {
-        Ok(()) => true,
-        Err(_) => false,
-    }
-}
-
-// A change of a router as it stands in a journal.
+// A change of a router as the journal has it.
 fn entry_text(
     alloc: Global,
     is_json: bool,

@@ -5,7 +5,7 @@ use Rattle.std.specs.Global.{Vec}
 use Rattle.std.specs.Io.KnownBytes.{Appends}
 use Rattle.std.specs.Map.{lookup}
 use Rattle.std.specs.Ordering.{is_eq, nat_cmp}
-use Rattle.std.specs.Prelude.{IfOk, IsErr, if◌then◌else◌, is_some, max}
+use Rattle.std.specs.Prelude.{IfOk, IfSome, IsErr, IsSome, if◌then◌else◌, is_some, max}
 use Rattle.std.specs.declared.alloc.AllocError.{AllocError}
 use Rattle.ospf_base.proofs.KeyMaps.{is_eq-nat_cmp}
 use Rattle.ospf_base.specs.declared.ids.RouterId.{RouterId}
@@ -15,13 +15,13 @@ use Rattle.ospf_headline.specs.World.{Member, Running, World, member, router_at}
 use Rattle.ospf_event.specs.declared.event.WorldEvent.{WorldEvent}
 use Rattle.ospf_event.specs.declared.event.WorldFault.{WorldFault}
 use Rattle.ospf_world.specs.Worlds.{Lends, WorldValue}
-use Rattle.ospf_files.specs.Streams.{IsBegun}
+use Rattle.ospf_files.specs.Streams.{IsBegun, IsOutputCut}
 use Rattle.ospf_journal.specs.Changes.{AreChanges}
+use Rattle.ospf_journal.specs.Reports.{ReportedValue, nothing_reported}
 use Rattle.ospf_journal.specs.Seen.{SeenValue, seen_of}
-use Rattle.ospf_journal.specs.declared.change.DroppedAt.{DroppedAt}
 use Rattle.ospf_journal.specs.declared.change.RouterChange.{RouterChange}
-use Rattle.ospf_sim.specs.Followed.{EventsValue, FollowedRouter, FollowsEvent, JournalGoesOn, OthersStay, drop_seen, drop_taken, followed_in, followed_of, not_followed, seen_in, seen_running, ticks_then}
-use Rattle.ospf_records.specs.Journals.{JournalValue, entries_text}
+use Rattle.ospf_sim.specs.Followed.{EventsValue, FollowedRouter, FollowsEvent, JournalGoesOn, OthersStay, followed_in, followed_of, not_followed, report_of, seen_in, seen_running, ticks_then}
+use Rattle.ospf_records.specs.Journals.{JournalValue, entries_text, without_memory}
 
 -- a router that is lent runs so
 pub record LentRuns (w : World) (q : RouterId) (r : RouterValue) : Type 0 where
@@ -57,15 +57,15 @@ not_lent w q result f (Lends.NotRunning m at none err) is = runs_at w q m at ∙
 pub lent_seen : (w : World) (q : RouterId) (r : RouterValue) → LentRuns w q r → seen_of r ≡ seen_running (router_at w q)
 lent_seen w q r lent = rw (lent.area, lent.table, lent.runs) refl
 
--- what changed of a router that may run so, of which this is seen, with a drop that is told where it runs
-abbrev pub Changed : SeenValue → Option Running → Option DroppedAt → Result (Vec RouterChange) AllocError → Type 0
-Changed before x dropped result = IfOk result (λ changes. AreChanges before (seen_running x) (if is_some x then dropped else None) changes.items)
+-- what changed of a router that may run so, of which this is seen, with what is reported where it runs
+abbrev pub Changed : SeenValue → Option Running → ReportedValue → Result (Vec RouterChange) AllocError → Type 0
+Changed before x reported result = IfOk result (λ changes. AreChanges before (seen_running x) (if is_some x then reported else nothing_reported) changes.items)
 
-pub lent_changed : (w : World) (q : RouterId) (r : RouterValue) (before : SeenValue) (dropped : Option DroppedAt) (result : Result (Vec RouterChange) AllocError) → LentRuns w q r
-    → IfOk result (λ changes. AreChanges before (seen_of r) dropped changes.items) → Changed before (router_at w q) dropped result
-lent_changed w q r before dropped result lent are =
-    subst (λ (x : Option Running). Changed before x dropped result) (sym lent.runs)
-    (subst (λ (s : SeenValue). IfOk result (λ changes. AreChanges before s dropped changes.items)) (lent_seen w q r lent ∙ ap seen_running lent.runs) are)
+pub lent_changed : (w : World) (q : RouterId) (r : RouterValue) (before : SeenValue) (reported : ReportedValue) (result : Result (Vec RouterChange) AllocError) → LentRuns w q r
+    → IfOk result (λ changes. AreChanges before (seen_of r) reported changes.items) → Changed before (router_at w q) reported result
+lent_changed w q r before reported result lent are =
+    subst (λ (x : Option Running). Changed before x reported result) (sym lent.runs)
+    (subst (λ (s : SeenValue). IfOk result (λ changes. AreChanges before s reported changes.items)) (lent_seen w q r lent ∙ ap seen_running lent.runs) are)
 
 -- it has this area
 pub lent_state : (w : World) (q : RouterId) (r : RouterValue) → LentRuns w q r → r.area ≡ option_map (λ (x : Running). x.state) (router_at w q)
@@ -84,20 +84,21 @@ put_elsewhere before after k q o at differs = go (is_eq (nat_cmp k.0 q.0)) refl
     go false other = ap (λ (o : Option FollowedRouter). unwrap_or o not_followed) (at ∙ ap (λ (b : Bool). cond b o (lookup (is_at (λ (j : RouterId). nat_cmp q.0 j.0)) before)) other)
 
 module _ (w : WorldValue) (event : WorldEvent) (answer : Result (Unit {0}) WorldFault) (before after : EventsValue) (j j' : JournalValue) where
-  -- what stands of each event in a journal that is written, where it is known what changed, and where it is not
-  pub follows : (q : RouterId) (r : Result (Vec RouterChange) AllocError) → q ≡ router_in event → before.journal ≡ Some j → after.journal ≡ Some j' → after.dropped ≡ None → OthersStay event before after
+  -- what each event leaves in a journal that is written, where it is known what changed, and where it is not
+  pub follows : (q : RouterId) (r : Result (Vec RouterChange) AllocError) → q ≡ router_in event → before.journal ≡ Some j → after.journal ≡ Some j' → after.coming ≡ before.coming → OthersStay event before after
       → OnOk r ((followed_of after (router_in event)).seen ≡ seen_in w (router_in event))
       → OnOk r ((followed_of after (router_in event)).ticks ≡ ticks_then event answer (followed_of before (router_in event)).ticks)
       → after.most_ticks ≡ max before.most_ticks (followed_of after (router_in event)).ticks
-      → IfOk r (λ changes. AreChanges (followed_of before (router_in event)).seen (seen_in w (router_in event)) (drop_seen w (router_in event) (drop_taken answer before.dropped)) changes.items)
+      → IfOk r (λ changes. AreChanges (followed_of before (router_in event)).seen (seen_in w (router_in event)) (report_of w (router_in event) answer before.coming) changes.items)
       → j'.is_json ≡ j.is_json
-      → IfOk r (λ changes. j'.is_written ≡ true → Appends j.contents j'.contents (entries_text j.is_json after.most_ticks q changes.items))
+      → IfOk r (λ changes. j'.failure ≡ None → Appends j.contents j'.contents (entries_text j.is_json after.most_ticks q changes.items))
       → IfOk r (λ changes. IsBegun j.contents j'.contents (entries_text j.is_json after.most_ticks q changes.items))
-      → (IsErr r → j' ≡ record j { is_written = false })
-      → (j.is_written ≡ false → j' ≡ j)
+      → (j.failure ≡ None → IfSome j'.failure (IsOutputCut j'.streams))
+      → (IsErr r → j' ≡ without_memory j)
+      → (IsSome j.failure → j' ≡ j)
       → FollowsEvent w event answer before after
-  follows q (Ok changes) is was now dropped others seen ticks most are_changes settings written begun unknown ended =
-      FollowsEvent.Journalled j j' was now dropped others (record {
+  follows q (Ok changes) is was now coming others seen ticks most are_changes settings written begun cut unknown ended =
+      FollowsEvent.Journalled j j' was now coming others (record {
         seen = seen;
         ticks = ticks;
         most = most;
@@ -107,8 +108,9 @@ module _ (w : WorldValue) (event : WorldEvent) (answer : Result (Unit {0}) World
           settings = settings;
           written = written;
           begun = begun;
+          cut = cut;
           ended = ended;
         });
       })
-  follows q (Err e) is was now dropped others seen ticks most are_changes settings written begun unknown ended =
-      FollowsEvent.NoMemory j was (now ∙ ap (λ (j : JournalValue). Some j) (unknown refl)) dropped others
+  follows q (Err e) is was now coming others seen ticks most are_changes settings written begun cut unknown ended =
+      FollowsEvent.NoMemory j was (now ∙ ap (λ (j : JournalValue). Some j) (unknown refl)) coming others

@@ -6,3 +6,4 @@ pub mod Pieces
 pub mod Sessions
 pub mod Consoles
 pub mod EventFacts
+mod IssueFacts

@@ -1,12 +1,13 @@
 -- What the journal of a simulation makes of the events that it is told of.
-use Rattle.std.specs.Prelude.{◌≡◌, ◌≢◌, ◌+◌, ◌-◌, ◌^◌, ◌&&◌, ℕ, Bool, true, false, List, Option, None, Some, Result, is_some, max, min, option_map, slice_get, unwrap_or, if◌then◌else◌}
+use Rattle.std.specs.Prelude.{◌≡◌, ◌≢◌, ◌+◌, ◌-◌, ◌^◌, ◌&&◌, ℕ, Bool, true, false, List, Option, None, Some, IfSome, IsSome, Result, drop, is_some, length, map, max, min, option_map, slice_get, unwrap_or, if◌then◌else◌}
 use Rattle.std.specs.BTreeMap.{is_at}
 use Rattle.std.specs.Map.{lookup}
 use Rattle.std.specs.Ordering.{nat_cmp}
 use Rattle.std.specs.Result.{is_ok}
 use Rattle.std.specs.Io.KnownBytes.{Appends}
+use Rattle.ospf_base.specs.declared.ids.Instance.{Instance}
 use Rattle.ospf_base.specs.declared.ids.RouterId.{RouterId}
-use Rattle.ospf_files.specs.Streams.{IsBegun}
+use Rattle.ospf_files.specs.Streams.{IsBegun, IsOutputCut}
 use Rattle.ospf_headline.specs.Running.{delivery}
 use Rattle.ospf_event.specs.Events.{router_in}
 use Rattle.ospf_headline.specs.World.{Running, router_at}
@@ -14,14 +15,18 @@ use Rattle.ospf_event.specs.declared.event.WorldEvent.{WorldEvent}
 use Rattle.ospf_event.specs.declared.event.WorldEvent.TheVariants.{Start, Stop, Tick, LinkUp, LinkDown, Deliver}
 use Rattle.ospf_event.specs.declared.event.WorldFault.{WorldFault}
 use Rattle.ospf_headline.specs.declared.logs.Datagram.{Datagram}
+use Rattle.ospf_headline.specs.declared.logs.Issued.{Issued}
 use Rattle.ospf_journal.specs.Causes.{cause_of}
 use Rattle.ospf_journal.specs.Changes.{AreChanges}
+use Rattle.ospf_journal.specs.Reports.{ReportedValue, nothing_reported}
 use Rattle.ospf_journal.specs.Seen.{SeenValue, nothing_seen, seen_links, seen_owns}
 use Rattle.ospf_journal.specs.declared.change.DroppedAt.{DroppedAt}
 use Rattle.ospf_journal.specs.declared.change.RouterChange.{RouterChange}
 use Rattle.ospf_world.specs.Watching.{ComesRule}
 use Rattle.ospf_world.specs.Worlds.{WorldValue, world_of}
-use Rattle.ospf_records.specs.Journals.{JournalValue, entries_text}
+use Rattle.ospf_lsa.specs.Lsa.{instance_of}
+use Rattle.ospf_records.specs.Journals.{JournalValue, entries_text, without_memory}
+use Rattle.ospf_sim.specs.declared.events.Coming.{Coming}
 
 -- ---- what is kept
 
@@ -39,13 +44,17 @@ abbrev pub followed_in : List (RouterId × FollowedRouter) → RouterId → Foll
 followed_in routers q =
     unwrap_or (lookup (is_at (λ k. nat_cmp q.0 k.0)) routers) not_followed
 
--- of a simulation: the journal, where one is written; what is kept of each router; what the
--- delivery that comes next is dropped for; and the most ticks that a router has taken
+-- of a simulation: the journal, where one is written; what is kept of each router; what was known
+-- before the event that comes; and the most ticks that a router has taken
 pub record EventsValue : Type 0 where
   pub journal : Option JournalValue
   pub routers : List (RouterId × FollowedRouter)
-  pub dropped : Option DroppedAt
+  pub coming : Coming
   pub most_ticks : ℕ
+
+-- before the first event
+abbrev pub nothing_coming : Coming
+nothing_coming = record { dropped = None; issued = 0 }
 
 -- of one of its routers
 abbrev pub followed_of : EventsValue → RouterId → FollowedRouter
@@ -70,15 +79,19 @@ drop_coming w (LinkDown q link) = None
 drop_coming w (Deliver d q link) =
     delivery_drop link (slice_get w.logs.datagrams d) (router_at (world_of w) q)
 
--- an event comes: it is looked up what it is dropped for, where a journal is written
+-- what is known before an event: what it is dropped for, and how many LSAs were issued so far
+abbrev pub known_before : WorldValue → WorldEvent → Coming
+known_before w event = record { dropped = drop_coming w event; issued = length w.logs.issued }
+
+-- an event comes: that is looked up, where a journal is written
 abbrev pub LooksAhead : ComesRule EventsValue
 LooksAhead w event before after =
     after
     ≡ record before {
-      dropped = if is_some before.journal then drop_coming w event else before.dropped;
+      coming = if is_some before.journal then known_before w event else before.coming;
     }
 
--- ---- behind an event
+-- ---- after an event
 
 -- what is seen of a router that runs so, if it does
 abbrev pub seen_running : Option Running → SeenValue
@@ -93,13 +106,28 @@ seen_running (Some x) = record {
 abbrev pub seen_in : WorldValue → RouterId → SeenValue
 seen_in w q = seen_running (router_at (world_of w) q)
 
--- the drop that is told of a router of a world: of one that does not run, none
-abbrev pub drop_seen : WorldValue → RouterId → Option DroppedAt → Option DroppedAt
-drop_seen w q dropped = if is_some (router_at (world_of w) q) then dropped else None
+-- the instance of an LSA that was issued (12.1)
+abbrev pub issued_instance : Issued → Instance
+issued_instance i = instance_of i.lsa
 
--- the drop of an event: of one that was refused, none
-abbrev pub drop_taken : Result (Unit {0}) WorldFault → Option DroppedAt → Option DroppedAt
-drop_taken answer dropped = if is_ok answer then dropped else None
+-- what an event reported, before which this was known: what it was dropped for, and the LSAs that
+-- the log of issued LSAs has since. One that was refused reports nothing
+abbrev pub report_taken : WorldValue → Result (Unit {0}) WorldFault → Coming → ReportedValue
+report_taken w answer before =
+    if is_ok answer then record {
+      dropped = before.dropped;
+      issued = map issued_instance (drop before.issued w.logs.issued);
+    }
+    else nothing_reported
+
+-- the report on a router of a world: on one that does not run, nothing
+abbrev pub report_seen : WorldValue → RouterId → ReportedValue → ReportedValue
+report_seen w q reported = if is_some (router_at (world_of w) q) then reported else nothing_reported
+
+-- what an event reported on its router
+abbrev pub report_of : WorldValue → RouterId → Result (Unit {0}) WorldFault → Coming
+    → ReportedValue
+report_of w q answer before = report_seen w q (report_taken w answer before)
 
 -- it is a tick
 abbrev pub is_tick : WorldEvent → Bool
@@ -115,18 +143,21 @@ abbrev pub ticks_then : WorldEvent → Result (Unit {0}) WorldFault → ℕ → 
 ticks_then event answer ticks =
     if is_tick event && is_ok answer then min (ticks + 1) (2 ^ 64 - 1) else ticks
 
--- the journal goes on by these changes of a router, each with this tick: they stand there, or a
--- beginning of them and it is not written; one that is not written stays
+-- the journal goes on by these changes of a router, each with this tick: it has them all, or a
+-- beginning of them and a failure, which is that memory ran out or that the file was not written;
+-- one that has failed stays
 pub record JournalGoesOn (tick : ℕ) (q : RouterId) (changes : List RouterChange)
     (before after : JournalValue) : Type 0 where
   pub settings : after.is_json ≡ before.is_json
-  pub written : after.is_written ≡ true
+  pub written : after.failure ≡ None
       → Appends before.contents after.contents (entries_text before.is_json tick q changes)
   pub begun : IsBegun before.contents after.contents (entries_text before.is_json tick q changes)
-  pub ended : before.is_written ≡ false → after ≡ before
+  pub cut : before.failure ≡ None → IfSome after.failure (IsOutputCut after.streams)
+  pub ended : IsSome before.failure → after ≡ before
 
 -- of the router that an event names, what is seen and its ticks are as they now are; what changed
--- of it, with the drop, goes into the journal, with the most ticks that a router has taken
+-- of it, with what the event reported, goes into the journal, with the most ticks that a router has
+-- taken
 pub record IsJournalled (w : WorldValue) (event : WorldEvent)
     (answer : Result (Unit {0}) WorldFault) (before after : EventsValue) (j j' : JournalValue)
     : Type 0 where
@@ -137,7 +168,7 @@ pub record IsJournalled (w : WorldValue) (event : WorldEvent)
   pub changes : List RouterChange
   pub are_changes : AreChanges (followed_of before (router_in event)).seen
       (seen_in w (router_in event))
-      (drop_seen w (router_in event) (drop_taken answer before.dropped)) changes
+      (report_of w (router_in event) answer before.coming) changes
   pub goes_on : JournalGoesOn after.most_ticks (router_in event) changes j j'
 
 -- the routers that an event does not name stay
@@ -146,13 +177,13 @@ OthersStay event before after =
     (q : RouterId) → q ≢ router_in event → followed_of after q ≡ followed_of before q
 
 -- an event has come to this: where no journal is written nothing changes. Where one is, what
--- changed goes into it; or memory ran out, and it is not written from then on
+-- changed goes into it; or memory ran out, and nothing is written from then on
 pub data FollowsEvent (w : WorldValue) (event : WorldEvent) (answer : Result (Unit {0}) WorldFault)
     (before after : EventsValue) : Type 0 where
   NoJournal : before.journal ≡ None → after ≡ before → FollowsEvent w event answer before after
   Journalled : (j j' : JournalValue) → before.journal ≡ Some j → after.journal ≡ Some j'
-      → after.dropped ≡ None → OthersStay event before after
+      → after.coming ≡ before.coming → OthersStay event before after
       → IsJournalled w event answer before after j j' → FollowsEvent w event answer before after
   NoMemory : (j : JournalValue) → before.journal ≡ Some j
-      → after.journal ≡ Some (record j { is_written = false }) → after.dropped ≡ None
+      → after.journal ≡ Some (without_memory j) → after.coming ≡ before.coming
       → OthersStay event before after → FollowsEvent w event answer before after

@@ -6,3 +6,4 @@ pub mod Begun
 pub mod Stopped
 pub mod Consoles
 pub mod Followed
+pub mod Issues

@@ -1,6 +1,6 @@
 //! The journal of a simulation.
 
-ghost use Rattle.std.specs.Prelude.{◌≡◌, ◌≢◌, None, Some, IfOk, OnOk, option_map};
+ghost use Rattle.std.specs.Prelude.{◌≡◌, ◌≢◌, ◌≤◌, None, Some, IfOk, OnOk, drop, length, map, option_map};
 ghost use Rattle.ospf_base.specs.declared.ids.RouterId.{RouterId};
 ghost use Rattle.ospf_headline.specs.Running.{delivery};
 ghost use Rattle.ospf_event.specs.Events.{router_in};
@@ -9,14 +9,15 @@ ghost use Rattle.ospf_event.specs.declared.event.WorldEvent.TheVariants.{Deliver
 ghost use Rattle.ospf_journal.specs.Causes.{cause_of};
 ghost use Rattle.ospf_journal.specs.Changes.{AreChanges};
 ghost use Rattle.ospf_step.specs.Step.Event.{Datagram};
-ghost use Rattle.ospf_sim.specs.Followed.{drop_coming, drop_seen, drop_taken, followed_in, not_followed, seen_in, ticks_then};
+ghost use Rattle.ospf_sim.specs.Followed.{drop_coming, followed_in, issued_instance, known_before, not_followed, report_of, report_seen, report_taken, seen_in, ticks_then};
 ghost use Rattle.ospf_world.specs.Worlds.{world_of};
 
-use ospf_base::RouterId;
-use ospf_journal::{Dropped, DroppedAt, RouterChange, Seen, dropped_of};
+use ospf_base::{Instance, RouterId};
+use ospf_files::Failure;
+use ospf_journal::{Dropped, DroppedAt, Reported, RouterChange, Seen, dropped_of};
 use ospf_records::Journal;
 use ospf_router::{Router, Sent};
-use ospf_world::{EventWatch, World, WorldEvent, WorldFault};
+use ospf_world::{EventWatch, Issued, World, WorldEvent, WorldFault};
 use std::alloc::{AllocError, Global};
 use std::collections::BTreeMap;
 use std::io::Write;
@@ -30,8 +31,8 @@ pub struct Events<F: Write + Drop> {
     alloc: Global,
     journal: Option<Journal<F>>,
     routers: BTreeMap<RouterId, Followed>,
-    // What the delivery that comes next is dropped for.
-    dropped: Option<DroppedAt>,
+    // What was known before the event that comes.
+    coming: Coming,
     // The most ticks that a router has taken.
     most_ticks: u64,
 }
@@ -44,40 +45,43 @@ impl<F: Write + Drop> Model for Events<F> {
     ghost view = { λ e. record {
       journal = e.journal;
       routers = e.routers.entries;
-      dropped = e.dropped;
+      coming = e.coming;
       most_ticks = e.most_ticks;
     } };
 }
 
 impl<F: Write + Drop> Events<F> {
-    ghost use Rattle.std.specs.Prelude.{◌≡◌, IfNone, IfSome, None, true};
+    ghost use Rattle.std.specs.Prelude.{◌≡◌, IfNone, IfSome, None};
     ghost use Rattle.ospf_base.specs.declared.ids.RouterId.{RouterId};
-    ghost use Rattle.ospf_sim.specs.Followed.{followed_of, not_followed};
+    ghost use Rattle.ospf_sim.specs.Followed.{followed_of, not_followed, nothing_coming};
 
     /// Nothing has happened yet.
     pub fn new(alloc: Global, journal: Option<Journal<F>>) -> Events<F>
         ensures journal { result.journal ≡ journal }
         ensures routers { (q : RouterId) → followed_of result q ≡ not_followed }
-        ensures dropped { result.dropped ≡ None }
+        ensures coming { result.coming ≡ nothing_coming }
         ensures most_ticks { result.most_ticks ≡ 0 }
     {
         Events {
             alloc,
             journal,
             routers: BTreeMap::new(alloc),
-            dropped: None,
+            coming: Coming {
+                dropped: None,
+                issued: 0,
+            },
             most_ticks: 0,
         }
     }
 
-    /// Whether all could be written so far.
-    pub fn is_written(&self) -> bool
-        ensures some { IfSome self.now.journal (λ journal. result ≡ journal.is_written) }
-        ensures none { IfNone self.now.journal (result ≡ true) }
+    /// Why not all could be written to the journal, if that is so (`Journal::failure`).
+    pub fn failure(&self) -> Option<Failure>
+        ensures some { IfSome self.now.journal (λ journal. result ≡ journal.failure) }
+        ensures none { IfNone self.now.journal (result ≡ None) }
     {
         match &self.journal {
-            Some(journal) => journal.is_written(),
-            None => true,
+            Some(journal) => journal.failure(),
+            None => None,
         }
     }
 }
@@ -91,7 +95,7 @@ impl<F: Write + Drop> EventWatch for Events<F> {
 
     fn comes(&mut self, world: &World, event: &WorldEvent) {
         if self.journal.is_some() {
-            self.dropped = drop_coming(world, event);
+            self.coming = known_before(world, event);
         }
     }
 
@@ -100,11 +104,17 @@ impl<F: Write + Drop> EventWatch for Events<F> {
             return;
         };
         let (alloc, router) = (self.alloc, event.router());
-        let dropped = self.dropped.take();
-        let changes = follow(&mut self.routers, world, event, answer, dropped, alloc);
+        let changes = follow(&mut self.routers, world, event, answer, self.coming, alloc);
         self.most_ticks = self.most_ticks.max(ticks_of(&self.routers, router));
         journal.write(alloc, self.most_ticks, router, changes);
     }
+}
+
+// What was known before an event: what a delivery is dropped for, and how many LSAs were issued.
+#[derive(Clone, Copy, Debug, PartialEq, Eq)]
+pub(crate) struct Coming {
+    pub(crate) dropped: Option<DroppedAt>,
+    pub(crate) issued: usize,
 }
 
 // What is kept of a router.
@@ -133,25 +143,24 @@ impl Followed {
         }
     }
 
-    // What changed of it by an event there, with what that was dropped for.
+    // What changed of it by an event there, before which this was known.
     fn follow(
         &mut self,
         world: &World,
         event: &WorldEvent,
         answer: &Result<(), WorldFault>,
-        dropped: Option<DroppedAt>,
+        coming: Coming,
         alloc: Global,
     ) -> Result<Vec<RouterChange>, AllocError>
         ensures changes { IfOk result (λ changes. AreChanges self.old.seen
             (seen_in world.now (router_in event.now))
-            (drop_seen world.now (router_in event.now) (drop_taken answer.now dropped))
-            changes.items) }
+            (report_of world.now (router_in event.now) answer.now coming) changes.items) }
         ensures seen { OnOk result (self.new.seen ≡ seen_in world.now (router_in event.now)) }
         ensures ticks { self.new.ticks ≡ ticks_then event.now answer.now self.old.ticks }
     {
         self.ticks = ticks_then(event, answer, self.ticks);
-        let dropped = drop_taken(answer, dropped);
-        go_to(&mut self.seen, world, event.router(), dropped, alloc)
+        let reported = report_of(world, answer, coming, alloc)?;
+        go_to(&mut self.seen, world, event.router(), reported, alloc)
     }
 }
 
@@ -161,14 +170,13 @@ fn follow(
     world: &World,
     event: &WorldEvent,
     answer: &Result<(), WorldFault>,
-    dropped: Option<DroppedAt>,
+    coming: Coming,
     alloc: Global,
 ) -> Result<Vec<RouterChange>, AllocError>
     ensures changes { IfOk result (λ changes. AreChanges
         (followed_in routers.old.entries (router_in event.now)).seen
         (seen_in world.now (router_in event.now))
-        (drop_seen world.now (router_in event.now) (drop_taken answer.now dropped))
-        changes.items) }
+        (report_of world.now (router_in event.now) answer.now coming) changes.items) }
     ensures seen { OnOk result ((followed_in routers.new.entries (router_in event.now)).seen
         ≡ seen_in world.now (router_in event.now)) }
     ensures ticks { OnOk result ((followed_in routers.new.entries (router_in event.now)).ticks
@@ -179,7 +187,7 @@ fn follow(
 {
     let router = event.router();
     let mut followed = take(routers, router, alloc);
-    let changes = followed.follow(world, event, answer, dropped, alloc);
+    let changes = followed.follow(world, event, answer, coming, alloc);
     put(routers, router, followed)?;
     changes
 }
@@ -222,20 +230,21 @@ fn ticks_of(routers: &BTreeMap<RouterId, Followed>, router: RouterId) -> u64
     }
 }
 
-// What changed of a router in a world since it was seen. It is seen as it is from now on.
+// What changed of a router in a world since it was seen, by an event that reported this. It is seen
+// as it is from now on.
 fn go_to(
     seen: &mut Seen,
     world: &World,
     router: RouterId,
-    dropped: Option<DroppedAt>,
+    reported: Reported,
     alloc: Global,
 ) -> Result<Vec<RouterChange>, AllocError>
     ensures changes { IfOk result (λ changes. AreChanges seen.old (seen_in world.now router)
-        (drop_seen world.now router dropped) changes.items) }
+        (report_seen world.now router reported) changes.items) }
     ensures seen { OnOk result (seen.new ≡ seen_in world.now router) }
 {
     match world.router(router) {
-        Ok(router) => seen.follow(router, dropped, alloc),
+        Ok(router) => seen.follow(router, reported, alloc),
         Err(_) => seen.end(alloc),
     }
 }
@@ -250,13 +259,52 @@ fn ticks_then(event: &WorldEvent, answer: &Result<(), WorldFault>, ticks: u64) -
     }
 }
 
-// The drop of an event, which is none where it was refused.
-fn drop_taken(answer: &Result<(), WorldFault>, dropped: Option<DroppedAt>) -> Option<DroppedAt>
-    ensures { result ≡ drop_taken answer.now dropped }
+// What an event reported, before which this was known: nothing where it was refused.
+fn report_of(
+    world: &World,
+    answer: &Result<(), WorldFault>,
+    coming: Coming,
+    alloc: Global,
+) -> Result<Reported, AllocError>
+    ensures { IfOk result (λ reported. reported ≡ report_taken world.now answer.now coming) }
 {
     match answer {
-        Ok(()) => dropped,
-        Err(_) => None,
+        Ok(()) => Ok(Reported {
+            dropped: coming.dropped,
+            issued: instances_of(since(world.issued(), coming.issued), alloc)?,
+        }),
+        Err(_) => Ok(Reported::nothing(alloc)),
+    }
+}
+
+// The LSAs that were issued after the first so many.
+fn since(issued: &[Issued], first: usize) -> &[Issued]
+    ensures { result.now ≡ drop first issued.now }
+{
+    match issued.get(first..) {
+        Some(rest) => rest,
+        None => &[],
+    }
+}
+
+// The instances of LSAs that were issued.
+fn instances_of(issued: &[Issued], alloc: Global) -> Result<Vec<Instance>, AllocError>
+    ensures { IfOk result (λ instances. instances.items ≡ map issued_instance issued.now) }
+{
+    let mut instances = Vec::with_capacity(alloc, issued.len())?;
+    for one in issued {
+        instances.push(one.lsa.view().instance())?;
+    }
+    Ok(instances)
+}
+
+// What is known before an event.
+fn known_before(world: &World, event: &WorldEvent) -> Coming
+    ensures { result ≡ known_before world.now event.now }
+{
+    Coming {
+        dropped: drop_coming(world, event),
+        issued: world.issued().len(),
     }
 }
 

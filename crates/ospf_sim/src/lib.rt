@@ -3,15 +3,17 @@
 //!
 //! `sim_text` runs a script in a network of routers that files configure (`specs/Simulations`), and
 //! `console_text` the lines that are given at a console (`specs/Consoles`). What each command does
-//! stands in `specs/Commands` of `ospf_commands`. `Events` and `Recording` write the journal and
-//! the capture of a simulation as it goes; what an event adds to the journal stands in
-//! `specs/Followed`.
+//! is in `specs/Commands` of `ospf_commands`.
+//! `Events` and `Recording` write the journal and the capture of a simulation as it goes; what an
+//! event adds to the journal is in `specs/Followed`, and that it has each LSA that a step issues is
+//! a law (`journals_have_issues`).
 #![tactic(auto)]
 
 mod configs;
 mod console;
 mod events;
 mod hint;
+mod laws;
 mod recording;
 mod script;
 mod text;
@@ -19,6 +21,7 @@ mod text;
 pub use crate::console::{Console, console_text};
 pub use crate::events::Events;
 pub use crate::hint::Hint;
+pub use crate::laws::journals_have_issues;
 pub use crate::recording::Recording;
 pub use crate::text::{Simulated, sim_text};
 pub use ospf_commands::{Simulation, Watch};

@@ -1,6 +1,7 @@
 //! How far a simulation, or the failures of an area, have come, on a terminal.
 
 use ospf_failures::Progress;
+use ospf_files::Failure;
 use ospf_notes::StatusLine;
 use ospf_sim::{EventWatch, Events, Recording, Watch, World, WorldEvent, WorldFault};
 use std::io::Write;
@@ -33,9 +34,9 @@ impl<R: Runtime + Clock + Drop, T: Write + Drop, F: Write + Drop> Screen<R, T, F
         }
     }
 
-    /// Whether the journal, if there is one, could be written so far.
-    pub(crate) fn is_logged(&self) -> bool {
-        self.events.is_written()
+    /// Why not all could be written to the journal, if there is one and that is so.
+    pub(crate) fn journal_failure(&self) -> Option<Failure> {
+        self.events.failure()
     }
 }
 

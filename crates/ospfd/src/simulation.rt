@@ -3,7 +3,9 @@
 use crate::names::tell_overwritten;
 use crate::outputs::open_journal;
 use crate::screen::Screen;
-use ospf_files::{NamedFile, Status, read_file, read_files, tell_unwritten};
+use ospf_files::{
+    FailedStreams, Failure, NamedFile, Status, read_file, read_files, tell_unwritten,
+};
 use ospf_notes::StatusLine;
 use ospf_records::write_records;
 use ospf_sim::{Console, Events, Recording, Simulated, Watch, console_text, sim_text};
@@ -62,25 +64,37 @@ pub(crate) fn run_sim<
         Some(script) => sim_text(rt.alloc(), &script, &files, out, err, &mut screen),
         None => run_console(rt, &files, out, err, &mut screen, is_typed)?,
     };
-    let is_logged = was_logged(log.as_deref(), screen.is_logged(), err);
+    let journal = screen.journal_failure();
+    // One line says that memory ran out.
+    if journal != Some(Failure::Memory) || status != Status::Memory {
+        report_journal(log.as_deref(), journal, err);
+    }
     let (dot, pcap) = (dot.as_deref(), pcap.as_deref());
     let is_recorded = match &left {
         Some(left) => write_records(rt, &left.world, left.walk.as_ref(), dot, pcap, err)?,
         None => true,
     };
-    if !is_logged || !is_recorded {
+    if let Some(failure) = journal {
+        return Ok(ExitCode::from(failure.status()));
+    }
+    if !is_recorded {
         return Ok(ExitCode::from(Status::Stream));
     }
     let is_unmet = matches!(&left, Some(left) if left.is_unmet);
     Ok(code_of(status, is_unmet))
 }
 
-// Whether the journal of this name, if there is one, could be written: that it could not is told.
-fn was_logged<E: Write>(name: Option<&str>, is_logged: bool, err: &mut E) -> bool {
-    if let (Some(name), false) = (name, is_logged) {
-        let _ = tell_unwritten(name, err);
+// Reports why the journal of this name is incomplete, if it is.
+fn report_journal<E: Write>(name: Option<&str>, failure: Option<Failure>, err: &mut E) {
+    match (name, failure) {
+        (_, None) | (None, _) => {}
+        (_, Some(Failure::Memory)) => {
+            Failure::Memory.tell(err, &mut FailedStreams::none());
+        }
+        (Some(name), Some(_)) => {
+            let _ = tell_unwritten(name, err);
+        }
     }
-    is_logged
 }
 
 // The name of the file that a script is in, if it is in one.

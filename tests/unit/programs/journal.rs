@@ -1,11 +1,11 @@
 //! What a journal tells of routers, as text and as JSON.
 
 use super::made::{FIRST, SECOND, key_of};
-use super::worlds::{start, two_on_a_link};
+use super::worlds::{routers_of, start, three_on_a_network, two_on_a_link};
 use ospf_base::{Addr, Kind, LsaKey, Prefix, RouterId};
 use ospf_graph::{Hops, NextHop, Route};
 use ospf_iface::IfaceState;
-use ospf_journal::{Dropped, DroppedAt, JournalLine, Object, RouterChange, Seen, SeenIface, dropped_of};
+use ospf_journal::{Dropped, DroppedAt, JournalLine, Object, Reported, RouterChange, Seen, SeenIface, dropped_of};
 use ospf_neighbour::NeighbourState;
 use ospf_world::{World, WorldEvent};
 use std::alloc::Global;
@@ -123,8 +123,13 @@ fn said(
     event: WorldEvent,
     alloc: Global,
 ) -> Result<String, Fail> {
+    let before = world.issued().len();
     world.step(event, alloc)?;
-    let changes = seen.follow(world.router(FIRST)?, None, alloc)?;
+    let mut reported = Reported::nothing(alloc);
+    for one in world.issued().iter().skip(before) {
+        reported.issued.push(one.lsa.view().instance())?;
+    }
+    let changes = seen.follow(world.router(FIRST)?, reported, alloc)?;
     lines(0, &changes, alloc)
 }
 
@@ -169,10 +174,43 @@ fn an_end_is_told(rt: HostRuntime) -> Result<(), Fail> {
     let alloc = rt.alloc();
     let world = first_of_two(alloc)?;
     let mut seen = Seen::of(world.router(FIRST)?, alloc)?;
-    let same = seen.follow(world.router(FIRST)?, None, alloc)?;
+    let same = seen.follow(world.router(FIRST)?, Reported::nothing(alloc), alloc)?;
     assert_eq!(rt; same.len(), 0);
     let changes = seen.end(alloc)?;
     assert_eq!(rt; lines(7, &changes, alloc)?.as_str(), "7 1.1.1.1 stopped\n7 1.1.1.1 link 0 interface Point-to-point Down dr 0.0.0.0 backup 0.0.0.0\n7 1.1.1.1 no route 10.0.0.0/30\n");
+    Ok(())
+}
+
+// A Designated Router whose link goes down flushes its network-LSA. No neighbour is left to acknowledge that, so the LSA leaves the database
+// in the same step.
+#[test]
+fn a_flush_and_a_removal_in_one_step(rt: HostRuntime) -> Result<(), Fail> {
+    let alloc = rt.alloc();
+    let mut world = three_on_a_network(alloc)?;
+    for router in routers_of(&world, alloc)? {
+        world.step(start(router, 1), alloc)?;
+        world.step(WorldEvent::LinkUp { router, link: 0 }, alloc)?;
+    }
+    for _ in 0..120 {
+        world.round(alloc)?;
+    }
+    let mut seen = Seen::of(world.router(SECOND)?, alloc)?;
+    world.step(WorldEvent::LinkDown { router: SECOND, link: 0 }, alloc)?;
+    let changes = seen.follow(world.router(SECOND)?, Reported::nothing(alloc), alloc)?;
+    let mut own = Vec::new(alloc);
+    for change in &changes {
+        match change {
+            RouterChange::Flushed { key, .. } => own.push(("flushed", *key))?,
+            RouterChange::Removed { key } => own.push(("removed", *key))?,
+            _ => {}
+        }
+    }
+    let network = LsaKey {
+        kind: Kind::Network,
+        id: 0x0a01_0002,
+        router: SECOND,
+    };
+    assert_eq!(rt; own.as_slice(), [("flushed", network), ("removed", network)].as_slice());
     Ok(())
 }
 

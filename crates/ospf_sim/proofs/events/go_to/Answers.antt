@@ -4,7 +4,7 @@ use Rattle.ospf_sim.proofs.EventFacts.{lent_changed, lent_runs, lent_seen, not_l
 use Rattle.ospf_sim.proofs.events.go_to.Goals as goal
 
 pub returns-in-Ok-clause-changes : goal.returns-in-Ok-clause-changes
-returns-in-Ok-clause-changes c = lent_changed _ _ _ _ c.args.dropped _ (lent_runs _ _ _ _ c.router.ensures c.in-Ok.is) c.follow.ensures.changes
+returns-in-Ok-clause-changes c = lent_changed _ _ _ _ c.args.reported _ (lent_runs _ _ _ _ c.router.ensures c.in-Ok.is) c.follow.ensures.changes
 
 pub returns-in-Ok-clause-seen : goal.returns-in-Ok-clause-seen
 returns-in-Ok-clause-seen c = subst (λ (s : SeenValue). OnOk c.follow.result (c.follow.new.self ≡ s)) (lent_seen _ _ _ (lent_runs _ _ _ _ c.router.ensures c.in-Ok.is)) c.follow.ensures.seen

@@ -8,8 +8,7 @@ use Rattle.ospf_sim.proofs.events.EventsEventWatch.came.Goals as goal
 pub returns : goal.returns
 returns g c =
     let ticks = c.ticks_of.ensures ∙ ap (λ (q : RouterId). (followed_in c.follow-changes.new.routers.entries q).ticks) c.router-router.ensures in
-    let changes = rw c.take-dropped.ensures.value at c.follow-changes.ensures.changes in
     rw (← c.self.view_is)
-    (follows _ _ _ _ _ _ _ c.router-router.result c.follow-changes.result c.router-router.ensures c.in-Some.is refl c.take-dropped.ensures.after c.follow-changes.ensures.others c.follow-changes.ensures.seen
-    c.follow-changes.ensures.ticks (c.max-self-inside.ensures ∙ ap (max c.self.inside.most_ticks) ticks) changes c.write.ensures.settings (search rules) c.write.ensures.begun c.write.ensures.unknown
-    c.write.ensures.ended)
+    (follows _ _ _ _ _ _ _ c.router-router.result c.follow-changes.result c.router-router.ensures c.in-Some.is refl refl c.follow-changes.ensures.others c.follow-changes.ensures.seen
+    c.follow-changes.ensures.ticks (c.max-self-inside.ensures ∙ ap (max c.self.inside.most_ticks) ticks) c.follow-changes.ensures.changes c.write.ensures.settings (search rules) c.write.ensures.begun c.write.ensures.cut
+    c.write.ensures.unknown c.write.ensures.ended)
