@@ -16,7 +16,7 @@ use crate::tables::Tables;
 use ospf_base::{Addr, MOST_INTERFACES, RouterId};
 use ospf_config::Interface;
 use ospf_files::{Failure, NamedFile, tell_unwritten};
-use ospf_journal::{DroppedAt, RouterChange, Seen};
+use ospf_journal::{DroppedAt, Reported, RouterChange, Seen};
 use ospf_neighbour::NeighbourState;
 use ospf_records::{Journal, write_header};
 use ospf_run::{Config, Drops, Ending, Router, Sent, Step, Tap};
@@ -142,7 +142,7 @@ impl<R: Wait + Clock + Copy + Drop, F: Write + Drop, T: Write + Drop, O: Write +
         if let (Some(counts), Some(at)) = (&mut self.counts, dropped) {
             count_dropped(counts, Some(at.link), Some(at.cause));
         }
-        self.log(router, dropped);
+        self.log(router, step, dropped);
         if self.has_ticked {
             self.has_ticked = false;
             self.print_table(router);
@@ -150,13 +150,16 @@ impl<R: Wait + Clock + Copy + Drop, F: Write + Drop, T: Write + Drop, O: Write +
         }
     }
 
-    // Writes what the router dropped, if it did, and what changed of it
+    // Writes what the step dropped, if it did, and issued, and what changed of the router
     // into the journal, if there is one.
-    fn log(&mut self, router: &Router, dropped: Option<DroppedAt>) {
+    fn log(&mut self, router: &Router, step: &Step, dropped: Option<DroppedAt>) {
         let Some(seen) = &mut self.seen else {
             return;
         };
-        let changes = seen.follow(router, dropped, self.alloc);
+        let changes = match Reported::of(dropped, &step.out.issued, self.alloc) {
+            Ok(reported) => seen.follow(router, reported, self.alloc),
+            Err(error) => Err(error),
+        };
         if let Ok(changes) = &changes {
             if changes.is_empty() {
                 return;
