@@ -9,7 +9,7 @@ abbrev pub Answer : Type 0
 Answer = Result (Unit {0}) WorldFault
 
 -- a simulation in this world before its first line: nothing is lost, labelled or settled, no walk
--- was asked for, and nothing was expected
+-- was asked for, nothing was expected, and no line was refused
 abbrev pub begun_in : WorldValue → Simulation
 begun_in w =
     record {
@@ -19,6 +19,7 @@ begun_in w =
       is_labelled = false;
       is_settled = false;
       is_unmet = false;
+      is_refused = false;
     }
 
 -- it is asked for that something comes about: it is not known to have settled

@@ -20,6 +20,8 @@ pub struct Simulation {
     pub is_settled: bool,
     /// Whether something was not as it was expected.
     pub is_unmet: bool,
+    /// Whether a line was refused.
+    pub is_refused: bool,
 }
 
 impl Simulation {
@@ -34,6 +36,7 @@ impl Simulation {
             is_labelled: false,
             is_settled: false,
             is_unmet: false,
+            is_refused: false,
         }
     }
 }

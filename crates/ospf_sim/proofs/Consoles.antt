@@ -33,7 +33,7 @@ console_unread input prompt files s failed old new not told (inr stream) = is_un
 -- all lines are answered, in a world of the configurations
 pub consoled : (found : Option WorldValue) (start : WorldValue) (input : Option (List ℕ)) (prompt : Text) (files : List NamedFile) (s end : Simulation) (simulated : Simulated) (a x y : Option (List ℕ)) (new : Written)
     → found ≡ Some start → WorldComes files found x y → AreFilesRead files → s ≡ begun_in start → simulated.left ≡ Some end → IsAllAnswered input prompt s end (written_on a y) new
-    → IsConsoled input prompt files simulated (written_on a x) new
+    → IsConsoled input prompt files simulated.left (written_on a x) new
 consoled None start input prompt files s end simulated a x y new is comes read begins left all = absurd (cc is)
 consoled (Some w) start input prompt files s end simulated a x y new is comes read begins left all =
     let one : w ≡ start = cc is in
@@ -43,7 +43,7 @@ consoled (Some w) start input prompt files s end simulated a x y new is comes re
       start = start;
       end = end;
       starts = world.0;
-      left = left;
+      left_is = left;
       all = subst (λ (old : Option (List ℕ)). IsAllAnswered input prompt (begun_in start) end (written_on a old) new) world.1
           (subst (λ (v : Simulation). IsAllAnswered input prompt v end (written_on a y) new) begins all);
     }

@@ -13,7 +13,7 @@ use Rattle.ospf_commands.specs.declared.simulation.Simulation.{Simulation}
 use Rattle.ospf_files.proofs.Written.{both_written, kept_written, nothing_written}
 use Rattle.ospf_commands.specs.Commands.{IsDone}
 use Rattle.ospf_commands.specs.Simulations.{Answer}
-use Rattle.ospf_sim.specs.Scripts.{IsScriptRun, IsRunLine, LineComes, EndsEarly, RunsLine, RunsLines, is_taken, no_line, one_line, told_of, unreadable_line}
+use Rattle.ospf_sim.specs.Scripts.{IsScriptRun, IsRunLine, LineComes, EndsEarly, RunsLine, RunsLines, answered, is_taken, no_line, one_line, told_of, unreadable_line}
 
 -- the line of this number is the first that cannot be read, and those before it have run
 pub record EndsAtLine (lines : List (ℕ × Text)) (number : ℕ) (line : Text) (w w' : Simulation)
@@ -79,12 +79,12 @@ line_ends lines i d w mid w' old between new false within is so_far last =
     }
 
 -- a command that is done, and told of
-pub line_taken : (number : ℕ) (line : Text) (c : Command) (w w' : Simulation) (answer : Answer) (a b z x y : Option (List ℕ)) → SpellsCommand (line_words line) c → IsDone c w answer w' a b
-    → Appends b z [] → Appends x y (told_of number answer) → IsRunLine number line w w' (written_on a x) (written_on z y)
-line_taken number line c w w' answer a b z x y spelled done out err = record {
+pub line_taken : (number : ℕ) (line : Text) (c : Command) (w mid w' : Simulation) (answer : Answer) (a b z x y : Option (List ℕ)) → SpellsCommand (line_words line) c → IsDone c w answer mid a b
+    → w' ≡ answered answer mid → Appends b z [] → Appends x y (told_of number answer) → IsRunLine number line w w' (written_on a x) (written_on z y)
+line_taken number line c w mid w' answer a b z x y spelled done noted out err = record {
   out = done.text;
   err = told_of number answer;
-  runs = is_taken c answer spelled done.is_so refl;
+  runs = is_taken c answer mid spelled done.is_so noted refl;
   out_written = subst (Appends a z) (append-nil done.text) (both_written a b z done.text [] done.written out);
   err_written = err;
 }

@@ -14,7 +14,7 @@ use Rattle.ospf_files.specs.declared.line.Line.{Line}
 use Rattle.ospf_sim.proofs.Pieces.{closed_append, ends_closed, numbered_more, one_line}
 use Rattle.ospf_sim.specs.Consoles.{AnswersLine, AnswersLines, AreAnswered, IsAllAnswered, AreWholeLines, IsLineAnswered, IsPiece, IsPieceRead, IsReadOf, IsSessionCut, IsTurnCut, at_end, in_line, in_prompt, in_reading, is_run, is_unreadable, one_line as one_answer}
 use Rattle.ospf_sim.specs.Begun.{IsLineCut, IsTellingCut, in_unreadable}
-use Rattle.ospf_sim.specs.Scripts.{LineComes, unreadable_line}
+use Rattle.ospf_sim.specs.Scripts.{LineComes, unreadable_line, with_refusal}
 
 -- ---- one line
 
@@ -31,14 +31,14 @@ run_answered line true w w' old new is run = record {
 }
 
 -- a line that cannot be read, of which that is told
-pub told_answered : {T : Type 0} (r : Result T Failure) (line : Line) (read : Bool) (w w' : Simulation) (old : Written) (b c y z : Option (List ℕ)) → read ≡ false → LineComes read line w w' old (written_on b y)
-    → OnOk r (Appends b c []) → OnOk r (Appends y z (unreadable_line line.number line.text.now)) → OnOk r (IsLineAnswered line.number line.text.now w w' old (written_on c z))
-told_answered (Err f) line read w w' old b c y z is not_read kept told = tt
-told_answered (Ok done) line true w w' old b c y z is not_read kept told = absurd (cc is)
-told_answered (Ok done) line false w w' old b c y z is not_read kept told = record {
+pub told_answered : {T : Type 0} (r : Result T Failure) (line : Line) (read : Bool) (w mid : Simulation) (old : Written) (b c y z : Option (List ℕ)) → read ≡ false → LineComes read line w mid old (written_on b y)
+    → OnOk r (Appends b c []) → OnOk r (Appends y z (unreadable_line line.number line.text.now)) → OnOk r (IsLineAnswered line.number line.text.now w (with_refusal mid) old (written_on c z))
+told_answered (Err f) line read w mid old b c y z is not_read kept told = tt
+told_answered (Ok done) line true w mid old b c y z is not_read kept told = absurd (cc is)
+told_answered (Ok done) line false w mid old b c y z is not_read kept told = record {
   out = [];
   err = unreadable_line line.number line.text.now;
-  answers = is_unreadable not_read.unreadable not_read.same_world refl refl;
+  answers = is_unreadable not_read.unreadable (ap with_refusal not_read.same_world) refl refl;
   out_written = subst (λ (written : Written). Appends written.out c []) not_read.same_written kept;
   err_written = subst (λ (written : Written). Appends written.err z (unreadable_line line.number line.text.now)) not_read.same_written told;
 }

@@ -73,13 +73,13 @@ runs_to false script text w s end simulated old new is begins same left comes =
     (record { end = end; left = left; comes = subst (λ t. ScriptComes false t (begun_in w) end old new) same (subst (λ v. ScriptComes false text v end old new) begins comes) })
 
 run_comes : (status : Status) (start : WorldValue) (script : NamedFile) (files : List NamedFile) (simulated : Simulated) (a x y : Option (List ℕ)) (new : Written)
-    → WorldComes files (Some start) x y → AreFilesRead (script ∷ files) → ScriptRunsTo status script start simulated (written_on a y) new → ComesOfScript status script files simulated (written_on a x) new
+    → WorldComes files (Some start) x y → AreFilesRead (script ∷ files) → ScriptRunsTo status script start simulated (written_on a y) new → ComesOfScript status script files simulated.left (written_on a x) new
 run_comes Done start script files simulated a x y new comes read run = record {
   read = read;
   start = start;
   end = run.end;
   starts = comes.0;
-  left = run.left;
+  left_is = run.left;
   run = subst (λ old. ScriptComes true (text_in script) (begun_in start) run.end (written_on a old) new) comes.1 run.comes;
 }
 run_comes Refused start script files simulated a x y new comes read run = inr (record {
@@ -87,7 +87,7 @@ run_comes Refused start script files simulated a x y new comes read run = inr (r
   start = start;
   end = run.end;
   starts = comes.0;
-  left = run.left;
+  left_is = run.left;
   early = subst (λ old. ScriptComes false (text_in script) (begun_in start) run.end (written_on a old) new) comes.1 run.comes;
 })
 run_comes Words start script files simulated a x y new comes read run = tt
@@ -95,7 +95,7 @@ run_comes Memory start script files simulated a x y new comes read run = tt
 run_comes Stream start script files simulated a x y new comes read run = tt
 
 pub found_runs : (found : Option WorldValue) (start : WorldValue) (status : Status) (script : NamedFile) (files : List NamedFile) (simulated : Simulated) (a x y : Option (List ℕ)) (new : Written)
-    → found ≡ Some start → WorldComes files found x y → AreFilesRead (script ∷ files) → ScriptRunsTo status script start simulated (written_on a y) new → ComesOfScript status script files simulated (written_on a x) new
+    → found ≡ Some start → WorldComes files found x y → AreFilesRead (script ∷ files) → ScriptRunsTo status script start simulated (written_on a y) new → ComesOfScript status script files simulated.left (written_on a x) new
 found_runs None start status script files simulated a x y new is comes read run = absurd (cc is)
 found_runs (Some w) start status script files simulated a x y new is comes read run =
     let one : w ≡ start = cc is in

@@ -19,17 +19,17 @@ use Rattle.ospf_commands.specs.Simulations.{begun_in}
 use Rattle.ospf_commands.specs.Worlds.{WorldValue}
 use Rattle.ospf_commands.specs.declared.simulation.Simulation.{Simulation}
 use Rattle.ospf_sim.specs.Begun.{IsLineCut, IsWorldCut}
-use Rattle.ospf_sim.specs.Scripts.{RunsLine, unreadable_line}
+use Rattle.ospf_sim.specs.Scripts.{RunsLine, unreadable_line, with_refusal}
 use Rattle.ospf_sim.specs.Simulations.{IsNoWorld, IsWorldOf}
-use Rattle.ospf_sim.specs.declared.text.Simulated.{Simulated}
 
 -- ---- lines
 
--- what a line of this number comes to: it is run as in a script, or it cannot be read,
--- changes nothing, and that is told
+-- what a line of this number comes to: it is run as in a script, or it cannot be read and is
+-- refused: nothing else changes, and standard error says so
 pub data AnswersLine (number : ℕ) (line : Text) (w w' : Simulation) (out err : Text) : Type 0 where
   is_run : RunsLine number line w w' out err → AnswersLine number line w w' out err
-  is_unreadable : IsUnreadable line → w' ≡ w → out ≡ [] → err ≡ unreadable_line number line
+  is_unreadable : IsUnreadable line → w' ≡ with_refusal w → out ≡ []
+      → err ≡ unreadable_line number line
       → AnswersLine number line w w' out err
 
 -- lines with their numbers, one after another, up to the end: the prompt stands
@@ -139,28 +139,28 @@ pub data IsSessionCut (input : Option (List ℕ)) (prompt : Text) (w : Simulatio
 
 -- all lines of the input are answered, in a world of the configurations
 pub record IsConsoled (input : Option (List ℕ)) (prompt : Text) (files : List NamedFile)
-    (simulated : Simulated) (old new : Written) : Type 0 where
+    (left : Option Simulation) (old new : Written) : Type 0 where
   pub read : AreFilesRead files
   pub start : WorldValue
   pub end : Simulation
   pub starts : IsWorldOf files start
-  pub left : simulated.left ≡ Some end
+  pub left_is : left ≡ Some end
   pub all : IsAllAnswered input prompt (begun_in start) end old new
 
 -- no line is answered, since there is no world of the configurations, of which it is told why
-pub record IsNoConsole (files : List NamedFile) (simulated : Simulated) (old new : Written)
+pub record IsNoConsole (files : List NamedFile) (left : Option Simulation) (old new : Written)
     : Type 0 where
   pub read : AreFilesRead files
   pub no_world : IsNoWorld files old.err new.err
-  pub none : simulated.left ≡ None
+  pub none : left ≡ None
   pub same_out : new.out ≡ old.out
 
 -- what comes of a console, by its status
-abbrev pub ConsoleComes : Status → Option (List ℕ) → Text → List NamedFile → Simulated → Written
-    → Written → Type 0
+abbrev pub ConsoleComes : Status → Option (List ℕ) → Text → List NamedFile → Option Simulation
+    → Written → Written → Type 0
 ConsoleComes status.Done input prompt files = IsConsoled input prompt files
 ConsoleComes status.Refused input prompt files = IsNoConsole files
-ConsoleComes _ input prompt files = λ simulated old new. ⊤
+ConsoleComes _ input prompt files = λ left old new. ⊤
 
 -- the first file that could not be read is told, and no line is answered
 pub record IsUnreadOf (files : List NamedFile) (left : Option Simulation) (old new : Written)

@@ -52,7 +52,7 @@ abbrev pub hint_of : Text → Option Name → Text
 hint_of word None =
     word_text word
     ++ codes
-    ": no command; there are start, stop, tick, up, down, deliver, cut, mend, round, batch, random, settle, neighbours, listing, table, walk, floor, say, why, datagrams, drops, lsas, loss, expect, label; alone each but say tells its form"
+    ": no such command; the commands are start, stop, tick, up, down, deliver, cut, mend, round, batch, random, settle, neighbours, listing, table, walk, floor, say, why, datagrams, drops, lsas, loss, expect, label; each one alone, except say, shows its form"
 hint_of word (Some n) = form_text n
 
 -- of the words of a line

@@ -6,4 +6,5 @@ pub mod Begun
 pub mod Stopped
 pub mod Consoles
 pub mod Followed
+pub mod Ends
 pub mod Issues

@@ -37,12 +37,21 @@ abbrev pub told_of : ℕ → Answer → Text
 told_of number (Ok done) = []
 told_of number (Err fault) = world_refusal_line number fault
 
+-- a line was refused
+abbrev pub with_refusal : Simulation → Simulation
+with_refusal w = record w { is_refused = true }
+
+-- the simulation after a line with this answer
+abbrev pub answered : Answer → Simulation → Simulation
+answered (Ok done) w = w
+answered (Err fault) w = with_refusal w
+
 -- what a line of this number comes to: the simulation after it, and what is written on
 -- standard output and on standard error
 pub data RunsLine (number : ℕ) (line : Text) (w w' : Simulation) (out err : Text) : Type 0 where
   is_passed_over : IsBlank line → w' ≡ w → out ≡ [] → err ≡ [] → RunsLine number line w w' out err
-  is_taken : (c : Command) (answer : Answer) → SpellsCommand (line_words line) c
-      → DoesCommand c w answer out w' → err ≡ told_of number answer
+  is_taken : (c : Command) (answer : Answer) (mid : Simulation) → SpellsCommand (line_words line) c
+      → DoesCommand c w answer out mid → w' ≡ answered answer mid → err ≡ told_of number answer
       → RunsLine number line w w' out err
 
 -- lines with their numbers, one after another: a refused one ends nothing

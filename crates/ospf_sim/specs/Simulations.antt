@@ -17,7 +17,6 @@ use Rattle.ospf_commands.specs.declared.simulation.Simulation.{Simulation}
 use Rattle.ospf_config.specs.Configs.{ShareRouter}
 use Rattle.ospf_world.specs.Watching.{CameRule, ComesRule}
 use Rattle.ospf_world.specs.Worlds.{new_world}
-use Rattle.ospf_sim.specs.declared.text.Simulated.{Simulated}
 
 -- ---- worlds
 
@@ -59,44 +58,45 @@ status_of_script true = status.Done
 status_of_script false = status.Refused
 
 -- the whole script has run, in a world of the configurations
-pub record IsSimulated (script : NamedFile) (files : List NamedFile) (simulated : Simulated)
+pub record IsSimulated (script : NamedFile) (files : List NamedFile) (left : Option Simulation)
     (old new : Written) : Type 0 where
   pub read : AreFilesRead (script ∷ files)
   pub start : WorldValue
   pub end : Simulation
   pub starts : IsWorldOf files start
-  pub left : simulated.left ≡ Some end
+  pub left_is : left ≡ Some end
   pub run : IsScriptRun (numbered_from 1 (text_in script)) (begun_in start) end old new
 
 -- the script has run up to a line that cannot be read, of which that is told
-pub record IsScriptCutShort (script : NamedFile) (files : List NamedFile) (simulated : Simulated)
-    (old new : Written) : Type 0 where
+pub record IsScriptCutShort (script : NamedFile) (files : List NamedFile)
+    (left : Option Simulation) (old new : Written) : Type 0 where
   pub read : AreFilesRead (script ∷ files)
   pub start : WorldValue
   pub end : Simulation
   pub starts : IsWorldOf files start
-  pub left : simulated.left ≡ Some end
+  pub left_is : left ≡ Some end
   pub early : EndsEarly (text_in script) (begun_in start) end old new
 
 -- no line has run, since there is no world of the configurations, of which it is told why
-pub record IsNotBegun (script : NamedFile) (files : List NamedFile) (simulated : Simulated)
+pub record IsNotBegun (script : NamedFile) (files : List NamedFile) (left : Option Simulation)
     (old new : Written) : Type 0 where
   pub read : AreFilesRead (script ∷ files)
   pub no_world : IsNoWorld files old.err new.err
-  pub none : simulated.left ≡ None
+  pub none : left ≡ None
   pub same_out : new.out ≡ old.out
 
 -- what is refused: the configurations, or a line
-abbrev pub IsScriptRefused : NamedFile → List NamedFile → Simulated → Written → Written → Type 0
-IsScriptRefused script files simulated old new =
-    IsNotBegun script files simulated old new ⊎ IsScriptCutShort script files simulated old new
+abbrev pub IsScriptRefused : NamedFile → List NamedFile → Option Simulation → Written → Written
+    → Type 0
+IsScriptRefused script files left old new =
+    IsNotBegun script files left old new ⊎ IsScriptCutShort script files left old new
 
 -- what comes of a simulation, by its status
-abbrev pub ComesOfScript : Status → NamedFile → List NamedFile → Simulated → Written → Written
-    → Type 0
+abbrev pub ComesOfScript : Status → NamedFile → List NamedFile → Option Simulation → Written
+    → Written → Type 0
 ComesOfScript status.Done = IsSimulated
 ComesOfScript status.Refused = IsScriptRefused
-ComesOfScript _ = λ script files simulated old new. ⊤
+ComesOfScript _ = λ script files left old new. ⊤
 
 -- ---- watches
 

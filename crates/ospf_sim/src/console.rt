@@ -9,6 +9,7 @@ ghost use Rattle.ospf_files.specs.Streams.{IsOfInput, written_on};
 ghost use Rattle.ospf_rounds.specs.Progress.{ToldOn};
 ghost use Rattle.ospf_sim.specs.Begun.{IsLineCut};
 ghost use Rattle.ospf_sim.specs.Consoles.{ConsoleComes, IsLineAnswered, IsConsoleCut, IsConsoleStopped, IsConsoled, IsNoConsole, IsPiece, IsAllAnswered, IsSessionCut, IsUnreadOf};
+ghost use Rattle.ospf_sim.specs.Ends.{sim_end_by};
 ghost use Rattle.ospf_sim.specs.Simulations.{IsToldFrom};
 
 use crate::script::{run_line, tell_unreadable};
@@ -28,7 +29,8 @@ pub struct Console<'a, R: BufRead + Drop> {
 }
 
 /// Runs the lines of an input, each as soon as it is read, in a world of the
-/// configurations that files hold.
+/// configurations that files hold. Where the simulation is strict, a line that is refused, or that
+/// cannot be read, counts as an expectation that is not met.
 ///
 /// The prompt is printed before each line is read, and again before the end; by then all that the
 /// lines before print and tell is written and flushed. A line ends with a line feed, which a
@@ -45,6 +47,7 @@ pub fn console_text<R: BufRead + Drop, O: Write, E: Write, V: Watch>(
     alloc: Global,
     console: Console<'_, R>,
     files: &[NamedFile],
+    strict: bool,
     out: &mut O,
     err: &mut E,
     watch: &mut V,
@@ -53,10 +56,10 @@ pub fn console_text<R: BufRead + Drop, O: Write, E: Write, V: Watch>(
     ensures done { let old = written_on (O.contents out.old) (E.contents err.old) in
         let new = written_on (O.contents out.new) (E.contents err.new) in
         result.status ≡ Status.Done → IsConsoled (R.remaining console.entry.input)
-        console.entry.prompt.now files.now result old new }
+        console.entry.prompt.now files.now result.left old new }
     ensures refused { let old = written_on (O.contents out.old) (E.contents err.old) in
         let new = written_on (O.contents out.new) (E.contents err.new) in
-        result.status ≡ Status.Refused → IsNoConsole files.now result old new }
+        result.status ≡ Status.Refused → IsNoConsole files.now result.left old new }
     // Where a file could not be read, that or memory ends it, and nothing is printed.
     ensures unread { (file : NamedFile) → IsFirstUnread file files.now →
         (result.status ≡ Status.Stream) ⊎ (result.status ≡ Status.Memory) }
@@ -69,14 +72,16 @@ pub fn console_text<R: BufRead + Drop, O: Write, E: Write, V: Watch>(
         (failed : FailedStreams) × IsConsoleStopped (R.remaining console.entry.input)
         console.entry.prompt.now files.now result.left failed result.status old new }
     ensures not_words { result.status ≢ Status.Words }
+    // The exit status is that, or says that what is left is not as the lines ask.
+    ensures ends { result.end ≡ sim_end_by strict result.status result.left }
     // Of all that led to what is left the watch was told.
     ensures told { IfSome result.left (λ end. IsToldFrom V.comes_gives V.came_gives V.goes_on_gives
         files.now watch.old end watch.new) }
 {
     let mut streams = FailedStreams::none();
     match converse(alloc, console, files, out, err, watch, &mut streams) {
-        Ok(simulated) => simulated,
-        Err(failure) => end_failed(failure, err, &mut streams),
+        Ok(simulated) => simulated.judged(strict),
+        Err(failure) => end_failed(failure, err, &mut streams).judged(strict),
     }
 }
 
@@ -94,7 +99,7 @@ fn converse<R: BufRead + Drop, O: Write, E: Write, V: Watch>(
     ensures comes { let old = written_on (O.contents out.old) (E.contents err.old) in
         let new = written_on (O.contents out.new) (E.contents err.new) in
         IfOk result (λ s. ConsoleComes s.status (R.remaining console.entry.input)
-        console.entry.prompt.now files.now s old new) }
+        console.entry.prompt.now files.now s.left old new) }
     ensures not_words { IfOk result (λ s. s.status ≢ Status.Words) }
     ensures not_memory { IfOk result (λ s. s.status ≢ Status.Memory) }
     // Where a file could not be read, the first such is told, and nothing is printed.
@@ -217,6 +222,7 @@ fn answer_line<O: Write, E: Write, V: Watch>(
     if run_line(simulation, line, out, err, alloc, watch, streams)? {
         Ok(())
     } else {
+        simulation.is_refused = true;
         tell_unreadable(alloc, line, out, err, streams)
     }
 }

@@ -5,7 +5,7 @@ ghost use Rattle.std.specs.Io.KnownBytes.{Appends};
 ghost use Rattle.ospf_files.specs.Streams.{written_on};
 ghost use Rattle.ospf_rounds.specs.Progress.{ToldOn};
 ghost use Rattle.ospf_sim.specs.Begun.{IsEventAnswerCut, IsLineCut, IsScriptCut, IsTellingCut};
-ghost use Rattle.ospf_sim.specs.Scripts.{LineComes, ScriptComes, hint_line, not_a_command_line, world_refusal_line, told_of, unreadable_line};
+ghost use Rattle.ospf_sim.specs.Scripts.{LineComes, ScriptComes, answered, hint_line, not_a_command_line, world_refusal_line, told_of, unreadable_line};
 
 use crate::hint::Hint;
 use ospf_commands::{Simulation, Watch, run_command};
@@ -74,11 +74,22 @@ pub(crate) fn run_line<O: Write, E: Write, V: Watch>(
         Ok(Some(command)) => {
             let answer = run_command(simulation, &command, out, alloc, watch, streams)?;
             watch.ends_line();
+            note_answer(simulation, &answer);
             tell_answer(alloc, line.number, answer, out, err, streams)?;
             Ok(true)
         }
         Err(CommandFault::NotACommand) => Ok(false),
         Err(CommandFault::Memory) => Err(Failure::Memory),
+    }
+}
+
+// Notes whether a line was refused.
+fn note_answer(simulation: &mut Simulation, answer: &Result<(), WorldFault>)
+    ensures noted { simulation.new ≡ answered answer.now simulation.old }
+    ensures world { simulation.new.world ≡ simulation.old.world }
+{
+    if answer.is_err() {
+        simulation.is_refused = true;
     }
 }
 

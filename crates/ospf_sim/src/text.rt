@@ -9,12 +9,14 @@ ghost use Rattle.ospf_files.specs.Listed.{AreFilesRead, IsFirstUnread};
 ghost use Rattle.ospf_files.specs.Status.{failure_line, failure_status};
 ghost use Rattle.ospf_files.specs.Streams.{IsBegun, IsErrorCut, IsTold, written_on};
 ghost use Rattle.ospf_sim.specs.Begun.{IsSimulationCut, IsOpeningCut, IsWorldCut};
+ghost use Rattle.ospf_sim.specs.Ends.{sim_end_by};
 ghost use Rattle.ospf_sim.specs.Simulations.{ComesOfScript, IsScriptRefused, IsSimulated, IsToldFrom, OpensWorld, WorldComes, status_of_script};
 ghost use Rattle.ospf_sim.specs.Stopped.{IsStopped, IsScriptUnreadTold};
 ghost use Rattle.ospf_files.specs.Twins.{AreFirstTwins};
 ghost use Rattle.ospf_sim.specs.Twins.{AreTwinsTold};
 
 use crate::configs::read_configs;
+use crate::end::{SimStatus, end_by};
 use crate::script::run_script;
 use ospf_commands::{Simulation, Watch};
 use ospf_config::Config;
@@ -29,25 +31,45 @@ use std::io::Write;
 /// What came of a simulation.
 #[derive(Drop)]
 pub struct Simulated {
-    /// The status to end with.
+    /// How far it came: `Done` where all lines have run.
     pub status: Status,
+    /// How it ends: as its status says, or, where all lines have run, whether what they left is as
+    /// they expected.
+    pub end: SimStatus,
     /// What the script left, where it has run.
     pub left: Option<Simulation>,
 }
 
 impl Simulated {
     ghost use Rattle.std.specs.Prelude.{◌≡◌, None};
+    ghost use Rattle.ospf_sim.specs.Ends.{sim_end_by};
 
     // No line has run, or it is not known what the lines that have run have left.
     pub(crate) fn without(status: Status) -> Simulated
         ensures status { result.status ≡ status }
         ensures left { result.left ≡ None }
     {
-        Simulated { status, left: None }
+        Simulated {
+            status,
+            end: SimStatus::Ended(status),
+            left: None,
+        }
+    }
+
+    // How it ends, which may be asked to be strict.
+    pub(crate) fn judged(self, strict: bool) -> Simulated
+        ensures status { result.status ≡ self.status }
+        ensures left { result.left ≡ self.left }
+        ensures ends { result.end ≡ sim_end_by strict self.status self.left }
+    {
+        let Simulated { status, left, .. } = self;
+        let end = end_by(strict, status, &left);
+        Simulated { status, end, left }
     }
 }
 
-/// Runs the lines of a script, in order, in a world of the configurations that files hold.
+/// Runs the lines of a script, in order, in a world of the configurations that files hold. Where
+/// the simulation is strict, a line that is refused counts as an expectation that is not met.
 ///
 /// What the printing lines print is written to `out`. A line that is refused is told on `err`, and
 /// the script goes on; the first that cannot be read ends it, and is told on `err`, with status
@@ -64,6 +86,7 @@ pub fn sim_text<O: Write, E: Write, V: Watch>(
     alloc: Global,
     script: &NamedFile,
     files: &[NamedFile],
+    strict: bool,
     out: &mut O,
     err: &mut E,
     watch: &mut V,
@@ -71,10 +94,11 @@ pub fn sim_text<O: Write, E: Write, V: Watch>(
     // The whole script has run; or what is refused is told.
     ensures done { let old = written_on (O.contents out.old) (E.contents err.old) in
         let new = written_on (O.contents out.new) (E.contents err.new) in
-        result.status ≡ Status.Done → IsSimulated script.now files.now result old new }
+        result.status ≡ Status.Done → IsSimulated script.now files.now result.left old new }
     ensures refused { let old = written_on (O.contents out.old) (E.contents err.old) in
         let new = written_on (O.contents out.new) (E.contents err.new) in
-        result.status ≡ Status.Refused → IsScriptRefused script.now files.now result old new }
+        result.status ≡ Status.Refused → IsScriptRefused script.now files.now result.left old
+        new }
     // Where a file could not be read, that or memory ends it, and nothing is printed.
     ensures unread { (file : NamedFile) → IsFirstUnread file (script.now ∷ files.now) →
         (result.status ≡ Status.Stream) ⊎ (result.status ≡ Status.Memory) }
@@ -87,14 +111,16 @@ pub fn sim_text<O: Write, E: Write, V: Watch>(
         (failed : FailedStreams)
         × IsStopped script.now files.now result.left failed result.status old new }
     ensures not_words { result.status ≢ Status.Words }
+    // The exit status is that, or says that what is left is not as the script asks.
+    ensures ends { result.end ≡ sim_end_by strict result.status result.left }
     // Of all that led to what is left the watch was told.
     ensures told { IfSome result.left (λ end. IsToldFrom V.comes_gives V.came_gives V.goes_on_gives
         files.now watch.old end watch.new) }
 {
     let mut streams = FailedStreams::none();
     match simulate(alloc, script, files, out, err, watch, &mut streams) {
-        Ok(simulated) => simulated,
-        Err(failure) => end_failed(failure, err, &mut streams),
+        Ok(simulated) => simulated.judged(strict),
+        Err(failure) => end_failed(failure, err, &mut streams).judged(strict),
     }
 }
 
@@ -111,7 +137,7 @@ fn simulate<O: Write, E: Write, V: Watch>(
     // The whole script has run, or what is refused is told; no status says that memory ran out.
     ensures comes { let old = written_on (O.contents out.old) (E.contents err.old) in
         let new = written_on (O.contents out.new) (E.contents err.new) in
-        IfOk result (λ s. ComesOfScript s.status script.now files.now s old new) }
+        IfOk result (λ s. ComesOfScript s.status script.now files.now s.left old new) }
     ensures not_words { IfOk result (λ s. s.status ≢ Status.Words) }
     ensures not_memory { IfOk result (λ s. s.status ≢ Status.Memory) }
     // Where a file could not be read, the first such is told, and nothing is printed.
@@ -248,6 +274,7 @@ pub(crate) fn left_of(simulation: Simulation, whole: bool) -> Simulated
     let status = if whole { Status::Done } else { Status::Refused };
     Simulated {
         status,
+        end: SimStatus::Ended(status),
         left: Some(simulation),
     }
 }

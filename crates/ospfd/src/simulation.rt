@@ -16,9 +16,6 @@ use std::process::ExitCode;
 use std::rt::Runtime;
 use std::time::Clock;
 
-// The exit status of a simulation in which something was not as a line expected it.
-const UNMET: u8 = 1;
-
 // The word for standard input, in place of a script's name.
 const STANDARD_INPUT: &str = "-";
 
@@ -48,6 +45,7 @@ pub(crate) fn run_sim<
         log,
         json,
     } = job;
+    let strict = false;
     let written = [dot.as_deref(), pcap.as_deref(), log.as_deref()];
     if tell_overwritten(file_of(script.as_str()), &files, &written, err) {
         return Ok(ExitCode::from(Status::Words));
@@ -60,9 +58,12 @@ pub(crate) fn run_sim<
     let events = Events::new(rt.alloc(), journal);
     let recording = Recording::new(*rt, rt.alloc(), name_of(rt.alloc(), pcap.as_deref())?);
     let mut screen = Screen::new(*rt, line, events, recording);
-    let Simulated { status, left } = match script {
-        Some(script) => sim_text(rt.alloc(), &script, &files, out, err, &mut screen),
-        None => run_console(rt, &files, out, err, &mut screen, is_typed)?,
+    let Simulated { status, end, left } = match script {
+        Some(script) => sim_text(rt.alloc(), &script, &files, strict, out, err, &mut screen),
+        None => {
+            let typed = Typed { is_typed, strict };
+            run_console(rt, &files, typed, out, err, &mut screen)?
+        }
     };
     let journal = screen.journal_failure();
     // One line says that memory ran out.
@@ -74,14 +75,7 @@ pub(crate) fn run_sim<
         Some(left) => write_records(rt, &left.world, left.walk.as_ref(), dot, pcap, err)?,
         None => true,
     };
-    if let Some(failure) = journal {
-        return Ok(ExitCode::from(failure.status()));
-    }
-    if !is_recorded {
-        return Ok(ExitCode::from(Status::Stream));
-    }
-    let is_unmet = matches!(&left, Some(left) if left.is_unmet);
-    Ok(code_of(status, is_unmet))
+    Ok(ExitCode::from(end.with_files(journal, is_recorded)))
 }
 
 // Reports why the journal of this name is incomplete, if it is.
@@ -95,6 +89,14 @@ fn report_journal<E: Write>(name: Option<&str>, failure: Option<Failure>, err: &
             let _ = tell_unwritten(name, err);
         }
     }
+}
+
+// How the lines of standard input run: whether somebody types them, and whether the simulation is
+// strict.
+#[derive(Clone, Copy)]
+struct Typed {
+    is_typed: bool,
+    strict: bool,
 }
 
 // The name of the file that a script is in, if it is in one.
@@ -128,27 +130,19 @@ fn script_of<R: Runtime + AllocGlobal>(rt: &R, name: String) -> io::Result<Optio
 fn run_console<R: Runtime + AllocGlobal, O: Write, E: Write, V: Watch>(
     rt: &R,
     files: &[NamedFile],
+    typed: Typed,
     out: &mut O,
     err: &mut E,
     watch: &mut V,
-    is_typed: bool,
 ) -> io::Result<Simulated> {
+    let Typed { is_typed, strict } = typed;
     let console = Console {
         input: BufReader::new(rt.alloc(), rt.reader())?,
         prompt: if is_typed { PROMPT } else { "" },
     };
-    let simulated = console_text(rt.alloc(), console, files, out, err, watch);
+    let simulated = console_text(rt.alloc(), console, files, strict, out, err, watch);
     if is_typed && simulated.status == Status::Done {
         let _ = writeln!(out).and_then(|_| out.flush());
     }
     Ok(simulated)
-}
-
-// How a simulation ends, in which something was not as it was expected, or all was.
-fn code_of(status: Status, is_unmet: bool) -> ExitCode {
-    if is_unmet && status == Status::Done {
-        ExitCode::from(UNMET)
-    } else {
-        ExitCode::from(status)
-    }
 }

@@ -58,7 +58,7 @@ static CASES: [Case; 6] = [
     Case {
         input: "start 1.1.1.1 1\nup 1.1.1.1 0\nfly\nexpect full 1.1.1.1 2.2.2.2\ntable 1.1.1.1\n",
         out: "> > > > not met: expect full 1.1.1.1 2.2.2.2\n> 10.0.0.0/30 10 attached\n> ",
-        err: "line 3: not a command\n  fly: no command; there are start, stop, tick, up, down, deliver, cut, mend, round, batch, random, settle, neighbours, listing, table, walk, floor, say, why, datagrams, drops, lsas, loss, expect, label; alone each but say tells its form\n",
+        err: "line 3: not a command\n  fly: no such command; the commands are start, stop, tick, up, down, deliver, cut, mend, round, batch, random, settle, neighbours, listing, table, walk, floor, say, why, datagrams, drops, lsas, loss, expect, label; each one alone, except say, shows its form\n",
         is_unmet: true,
     },
 ];
@@ -86,7 +86,7 @@ fn outcome<R: Read + Drop>(
         prompt: PROMPT,
     };
     let files = [file(alloc, text)?];
-    let simulated = console_text(alloc, console, &files, &mut out, &mut err, &mut Nobody);
+    let simulated = console_text(alloc, console, &files, false, &mut out, &mut err, &mut Nobody);
     Ok((simulated, out, err))
 }
 
@@ -160,7 +160,7 @@ fn unwritten_output_is_told(rt: HostRuntime) -> Result<(), Fail> {
         };
         let mut err = Vec::new(alloc);
         let mut out = Failing { left };
-        let simulated = console_text(alloc, console, &files, &mut out, &mut err, &mut Nobody);
+        let simulated = console_text(alloc, console, &files, false, &mut out, &mut err, &mut Nobody);
         if simulated.status == Status::Done {
             break;
         }

@@ -97,7 +97,7 @@ fn sim<O: Write, E: Write>(
     };
     let script = file(alloc, "script", script)?;
     let files = [file(alloc, "a.toml", CONFIG)?];
-    Ok(sim_text(alloc, &script, &files, out, err, &mut Nobody).status)
+    Ok(sim_text(alloc, &script, &files, false, out, err, &mut Nobody).status)
 }
 
 // A configuration, or none.

@@ -475,7 +475,7 @@ fn unreadable(rt: HostRuntime) {
     }
 }
 
-const NAMES: &str = "start, stop, tick, up, down, deliver, cut, mend, round, batch, random, settle, neighbours, listing, table, walk, floor, say, why, datagrams, drops, lsas, loss, expect, label; alone each but say tells its form";
+const NAMES: &str = "start, stop, tick, up, down, deliver, cut, mend, round, batch, random, settle, neighbours, listing, table, walk, floor, say, why, datagrams, drops, lsas, loss, expect, label; each one alone, except say, shows its form";
 
 #[test]
 fn hints(rt: HostRuntime) -> Result<(), Fail> {
@@ -514,7 +514,7 @@ fn hints(rt: HostRuntime) -> Result<(), Fail> {
         (b"\x7f~!\xc3\xa9", "\\x7f~!\\xc3\\xa9"),
     ];
     for (line, word) in words {
-        let hint = format!(in alloc; "{word}: no command; there are {NAMES}")?;
+        let hint = format!(in alloc; "{word}: no such command; the commands are {NAMES}")?;
         assert_eq!(rt; format!(in alloc; "{}", Hint(line))?, hint);
     }
     Ok(())

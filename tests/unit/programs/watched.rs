@@ -75,7 +75,7 @@ fn told_of(rt: &impl Abort, alloc: Global, script: &str) -> Result<Told, AllocEr
     }];
     let (mut out, mut err) = (Vec::new(alloc), Vec::new(alloc));
     let mut told = NOTHING;
-    let simulated = sim_text(alloc, &script, &files, &mut out, &mut err, &mut told);
+    let simulated = sim_text(alloc, &script, &files, false, &mut out, &mut err, &mut told);
     assert_eq!(rt; simulated.status, Status::Done);
     Ok(told)
 }

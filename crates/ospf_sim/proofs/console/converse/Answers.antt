@@ -39,7 +39,7 @@ pub returns-in_ok-answer_lines-in-Some-2-clause-comes : goal.returns-in_ok-answe
 returns-in_ok-answer_lines-in-Some-2-clause-comes g c =
     let all = consoled c.in_ok-world.field-0 c.in-Some-2.world (g.R.Read.remaining c.args.console.input) c.args.console.prompt.now c.args.files.now c.new-started.result c.answer_lines.new.simulation
     c.left_of.result _ _ _ _ c.in-Some-2.is c.in_ok-world.ensures.comes c.in_default.ensures.none c.new-started.ensures c.left_of.ensures.left c.in_ok-answer_lines-in-Some-2.ensures.answered in
-    subst (λ (status : Status). ConsoleComes status (g.R.Read.remaining c.args.console.input) c.args.console.prompt.now c.args.files.now c.left_of.result (written_on (g.O.Write.contents c.args.out.now) (g.E.Write.contents c.args.err.now)) (written_on (g.O.Write.contents c.answer_lines.new.out) (g.E.Write.contents c.answer_lines.new.err)))
+    subst (λ (status : Status). ConsoleComes status (g.R.Read.remaining c.args.console.input) c.args.console.prompt.now c.args.files.now c.left_of.result.left (written_on (g.O.Write.contents c.args.out.now) (g.E.Write.contents c.args.err.now)) (written_on (g.O.Write.contents c.answer_lines.new.out) (g.E.Write.contents c.answer_lines.new.err)))
     (sym c.left_of.ensures.status) all
 
 pub returns-in_ok-answer_lines-in-Some-2-clause-unread : goal.returns-in_ok-answer_lines-in-Some-2-clause-unread
@@ -50,13 +50,13 @@ returns-in_ok-answer_lines-in-Some-2-clause-unwritten g c = λ file first. absur
 
 pub returns-in-None-clause-comes : goal.returns-in-None-clause-comes
 returns-in-None-clause-comes g c =
-    let refused : IsNoConsole c.args.files.now c.without.result (written_on (g.O.Write.contents c.args.out.now) (g.E.Write.contents c.args.err.now)) (written_on (g.O.Write.contents c.args.out.now) (g.E.Write.contents c.new_world.new.err)) = record {
+    let refused : IsNoConsole c.args.files.now c.without.result.left (written_on (g.O.Write.contents c.args.out.now) (g.E.Write.contents c.args.err.now)) (written_on (g.O.Write.contents c.args.out.now) (g.E.Write.contents c.new_world.new.err)) = record {
       read = c.in_default.ensures.none;
       no_world = no_world_told c.in_ok-world.field-0 _ _ _ c.in-None.is c.in_ok-world.ensures.comes;
       none = c.without.ensures.left;
       same_out = refl;
     } in
-    subst (λ (status : Status). ConsoleComes status (g.R.Read.remaining c.args.console.input) c.args.console.prompt.now c.args.files.now c.without.result (written_on (g.O.Write.contents c.args.out.now) (g.E.Write.contents c.args.err.now)) (written_on (g.O.Write.contents c.args.out.now) (g.E.Write.contents c.new_world.new.err)))
+    subst (λ (status : Status). ConsoleComes status (g.R.Read.remaining c.args.console.input) c.args.console.prompt.now c.args.files.now c.without.result.left (written_on (g.O.Write.contents c.args.out.now) (g.E.Write.contents c.args.err.now)) (written_on (g.O.Write.contents c.args.out.now) (g.E.Write.contents c.new_world.new.err)))
     (sym c.without.ensures.status) refused
 
 pub returns-in-None-clause-unread : goal.returns-in-None-clause-unread

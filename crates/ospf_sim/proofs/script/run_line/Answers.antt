@@ -23,7 +23,7 @@ returns-in-Ok-None-clause-comes g c =
 pub returns-in_ok-tell_answer-in-Ok-Some-clause-comes : goal.returns-in_ok-tell_answer-in-Ok-Some-clause-comes
 returns-in_ok-tell_answer-in-Ok-Some-clause-comes g c =
     let spelled = rw c.in-Ok-Some.field-0-is at c.in-Ok-Some.ensures.command in
-    line_taken _ _ _ _ _ _ _ _ _ _ _ spelled c.in_ok-answer-in-Ok-Some.ensures.done c.in_ok-tell_answer-in-Ok-Some.ensures.out c.in_ok-tell_answer-in-Ok-Some.ensures.err
+    line_taken _ _ _ _ _ _ _ _ _ _ _ _ spelled c.in_ok-answer-in-Ok-Some.ensures.done c.note_answer.ensures.noted c.in_ok-tell_answer-in-Ok-Some.ensures.out c.in_ok-tell_answer-in-Ok-Some.ensures.err
 
 pub returns-in_err-answer-in-Ok-Some-clause-cut : goal.returns-in_err-answer-in-Ok-Some-clause-cut
 returns-in_err-answer-in-Ok-Some-clause-cut g c =
@@ -49,10 +49,10 @@ pub returns-in-Ok-None-clause-told : goal.returns-in-Ok-None-clause-told
 returns-in-Ok-None-clause-told g c = search (rules, on_nowhere)
 
 pub returns-in_ok-tell_answer-in-Ok-Some-clause-told : goal.returns-in_ok-tell_answer-in-Ok-Some-clause-told
-returns-in_ok-tell_answer-in-Ok-Some-clause-told g c = search (rules, on_further, on_word)
+returns-in_ok-tell_answer-in-Ok-Some-clause-told g c = rw c.note_answer.ensures.world (search (rules, on_further, on_word))
 
 pub returns-in_err-tell_answer-in-Ok-Some-clause-told : goal.returns-in_err-tell_answer-in-Ok-Some-clause-told
-returns-in_err-tell_answer-in-Ok-Some-clause-told g c = search (rules, on_further, on_word)
+returns-in_err-tell_answer-in-Ok-Some-clause-told g c = rw c.note_answer.ensures.world (search (rules, on_further, on_word))
 
 pub returns-in_err-answer-in-Ok-Some-clause-told : goal.returns-in_err-answer-in-Ok-Some-clause-told
 returns-in_err-answer-in-Ok-Some-clause-told g c = c.run_command.ensures.told

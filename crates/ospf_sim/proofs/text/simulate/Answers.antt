@@ -55,13 +55,13 @@ returns-in_ok-whole-in-Some-2-clause-unwritten g c = λ file first. absurd (none
 
 pub returns-in-None-clause-comes : goal.returns-in-None-clause-comes
 returns-in-None-clause-comes g c =
-    let refused : IsScriptRefused c.args.script.now c.args.files.now c.without.result (written_on (g.O.Write.contents c.args.out.now) (g.E.Write.contents c.args.err.now)) (written_on (g.O.Write.contents c.args.out.now) (g.E.Write.contents c.new_world.new.err)) = inl (record {
+    let refused : IsScriptRefused c.args.script.now c.args.files.now c.without.result.left (written_on (g.O.Write.contents c.args.out.now) (g.E.Write.contents c.args.err.now)) (written_on (g.O.Write.contents c.args.out.now) (g.E.Write.contents c.new_world.new.err)) = inl (record {
       read = c.in_default.ensures.none;
       no_world = no_world_told c.in_ok-world.field-0 _ _ _ c.in-None.is c.in_ok-world.ensures.comes;
       none = c.without.ensures.left;
       same_out = refl;
     }) in
-    subst (λ (status : Status). ComesOfScript status c.args.script.now c.args.files.now c.without.result (written_on (g.O.Write.contents c.args.out.now) (g.E.Write.contents c.args.err.now)) (written_on (g.O.Write.contents c.args.out.now) (g.E.Write.contents c.new_world.new.err)))
+    subst (λ (status : Status). ComesOfScript status c.args.script.now c.args.files.now c.without.result.left (written_on (g.O.Write.contents c.args.out.now) (g.E.Write.contents c.args.err.now)) (written_on (g.O.Write.contents c.args.out.now) (g.E.Write.contents c.new_world.new.err)))
     (sym c.without.ensures.status) refused
 
 pub returns-in-None-clause-unread : goal.returns-in-None-clause-unread
