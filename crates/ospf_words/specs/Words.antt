@@ -121,16 +121,19 @@ path_app =
 abbrev pub option_rule : Text → Rule
 option_rule name = record (new_rule name) { long = Some name; value_names = 1 }
 
--- the command `sim`: a script, files, and the options of what is to be written
+-- the command `sim`: a script, files, the options of what is to be written, and whether refused
+-- lines count
 abbrev pub sim_app : App
 sim_app =
-    with_rule (with_rule (with_rule (with_rule (with_rule (with_rule (new_app (codes "sim"))
+    with_rule (with_rule (with_rule (with_rule (with_rule (with_rule (with_rule
+    (new_app (codes "sim"))
     script_rule)
     files_rule)
     (option_rule (codes "dot")))
     (option_rule (codes "pcap")))
     (option_rule (codes "log")))
-    (flag_rule (codes "json"))
+    (flag_rule (codes "json")))
+    (flag_rule (codes "strict"))
 
 -- how many ticks: a number of at least one
 abbrev pub ticks_rule : Rule
@@ -357,8 +360,8 @@ pub record IsCheckJob (rows : List Row) (c : CheckJob) : Type 0 where
   pub json : IsFlag (one_of (codes "json") rows) c.json
   pub apart : c.how ≡ telling.AllExplained → c.json ≡ false
 
--- the script, the files, and the files to be written that `clap` reads after `sim`; no journal
--- is JSON where there is none
+-- the script, the files, the files to be written, and whether refused lines count, that `clap`
+-- reads after `sim`; no journal is JSON where there is none
 pub record IsSimJob (rows : List Row) (s : SimJob) : Type 0 where
   pub has_script : first_of (codes "script") rows ≡ Some (string_bytes s.script)
   pub texts : List Text
@@ -368,6 +371,7 @@ pub record IsSimJob (rows : List Row) (s : SimJob) : Type 0 where
   pub pcap : option_map string_bytes s.pcap ≡ first_of (codes "pcap") rows
   pub log : option_map string_bytes s.log ≡ first_of (codes "log") rows
   pub json : IsFlag (one_of (codes "json") rows) s.json
+  pub strict : IsFlag (one_of (codes "strict") rows) s.strict
   pub apart : s.log ≡ None → s.json ≡ false
 
 -- the address that a text spells, if there is one

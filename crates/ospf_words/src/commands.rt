@@ -292,8 +292,20 @@ fn with_sim<'a>(program: Command<'a>, alloc: Global) -> Result<Command<'a>, Allo
         .arg(dot_arg(alloc))?
         .arg(pcap_arg(alloc))?
         .arg(log_arg(alloc))?
-        .arg(json_arg(alloc))?;
+        .arg(json_arg(alloc))?
+        .arg(strict_script_arg(alloc))?;
     program.subcommand(sim)
+}
+
+// Whether a line that is refused counts as an expectation that is not met.
+fn strict_script_arg<'a>(alloc: Global) -> Arg<'a>
+    ensures rule { rule_of result ≡ flag_rule (codes "strict") }
+    ensures local { result.global ≡ false }
+{
+    Arg::new(alloc, "strict")
+        .long("strict")
+        .action(ArgAction::SetTrue)
+        .help("Ends with status 1 also where a line of the script is refused")
 }
 
 // The file of a script.

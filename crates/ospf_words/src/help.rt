@@ -3,8 +3,8 @@
 // What `--help` says below the commands.
 pub(crate) const HELP: &str = "Exit status:
   0  done
-  1  `failures --strict` found a failure that cuts off a prefix, or an `expect` of a
-     script was not met
+  1  `failures --strict` found a failure that cuts off a prefix, an `expect` of a
+     script was not met, or `sim --strict` refused a line
   2  usage error
   3  the input was refused
   4  memory ran out
@@ -193,7 +193,8 @@ and a line that is not a command is skipped.
 
 Exit status:
   0  the script has run; lines that were refused are on standard error
-  1  the script has run, and an `expect` was not met
+  1  the script has run, and an `expect` was not met or, with --strict, a line was
+     refused
   2  usage error, or a file would be overwritten
   3  a configuration was refused, two have the same Router ID, or a line of a script
      file is not a command

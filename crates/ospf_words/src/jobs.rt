@@ -59,6 +59,8 @@ pub struct SimJob {
     pub log: Option<String>,
     /// Whether the journal's lines are JSON.
     pub json: bool,
+    /// Whether a line that is refused counts as an expectation that is not met.
+    pub strict: bool,
 }
 
 /// Routers that are to run.

@@ -459,6 +459,7 @@ fn sim_job(alloc: Global, values: &ArgMatches<'_>) -> Result<Option<Job>, AllocE
         pcap,
         log,
         json,
+        strict: values.get_flag("strict"),
     })))
 }
 

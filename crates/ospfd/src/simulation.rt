@@ -44,8 +44,8 @@ pub(crate) fn run_sim<
         pcap,
         log,
         json,
+        strict,
     } = job;
-    let strict = false;
     let written = [dot.as_deref(), pcap.as_deref(), log.as_deref()];
     if tell_overwritten(file_of(script.as_str()), &files, &written, err) {
         return Ok(ExitCode::from(Status::Words));

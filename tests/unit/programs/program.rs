@@ -423,7 +423,7 @@ fn status_of<R: AllocGlobal + Threads + Wait + Sync, O: Write, E: Write>(
         Ok(Job::Sim(sim)) => {
             let script = unread_file(sim.script);
             let files = unread(alloc, sim.files)?;
-            sim_text(alloc, &script, &files, false, out, err, &mut Nobody).status
+            sim_text(alloc, &script, &files, sim.strict, out, err, &mut Nobody).status
         }
         Ok(Job::Run(_)) => Status::Words,
         Err(fault) => fault.tell(out, err),

@@ -8,7 +8,7 @@ use std::alloc::Global;
 use std::test::Fail;
 
 // Words by name, the exit status, and how standard output and standard error begin.
-static WORDS: [(&str, &str, u8, &str, &str); 51] = [
+static WORDS: [(&str, &str, u8, &str, &str); 52] = [
     ("help", "--help", 0, "OSPF version 2 for one area\n", ""),
     ("help word", "help", 0, "OSPF version 2 for one area\n", ""),
     ("help of table", "table --help", 0, "Computes a routing", ""),
@@ -73,6 +73,7 @@ static WORDS: [(&str, &str, u8, &str, &str); 51] = [
     ("all faults as JSON", "check --all --json a.toml", 2, "", "error: --json cannot be combined with --all\n"),
     ("JSON of no log in sim", "sim --json a b.toml", 2, "", "error: --json needs --log\n"),
     ("JSON of a log in sim", "sim --json --log a.log a b.toml", 5, "", "a: not read\n"),
+    ("an unread script of a strict simulation", "sim --strict a b.toml", 5, "", "a: not read\n"),
     ("JSON of no log in a run", "run --json 60 a.toml", 2, "", "error: --json needs --log\n"),
     ("JSON of no log in a run without end", "run --json forever a.toml", 2, "", "error: --json needs --log\n"),
     ("a run without end of no file", "run forever", 2, "", "error: the following required arguments were not provided"),
@@ -221,6 +222,22 @@ fn names_files(rt: HostRuntime) -> Result<(), Fail> {
         return Err(Fail::from("words"));
     };
     assert_eq!(rt; both.how, Telling::AllExplained);
+    Ok(())
+}
+
+#[test]
+fn a_simulation_is_strict_where_it_is_asked_for(rt: HostRuntime) -> Result<(), Fail> {
+    for (words, strict) in [
+        (["sim", "a", "b.toml", "c.toml"], false),
+        (["sim", "--strict", "a", "b.toml"], true),
+        (["sim", "a", "b.toml", "--strict"], true),
+    ] {
+        let Ok(Job::Sim(sim)) = job(rt.alloc(), &words) else {
+            return Err(Fail::from("words"));
+        };
+        assert_eq!(rt; sim.strict, strict);
+        assert_eq!(rt; sim.script.as_str(), "a");
+    }
     Ok(())
 }
 

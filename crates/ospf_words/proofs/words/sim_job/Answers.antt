@@ -48,6 +48,11 @@ returns c =
           set = λ e. c.get_flag-json.ensures.value (one_text-rows found (codes "json") ∙ e);
           unset = λ e. c.get_flag-json.ensures.other (one_text-rows found (codes "json") ∙ e);
         };
+        strict = record {
+          none = λ e. c.get_flag.ensures.none (one_text-rows found (codes "strict") ∙ e);
+          set = λ e. c.get_flag.ensures.value (one_text-rows found (codes "strict") ∙ e);
+          unset = λ e. c.get_flag.ensures.other (one_text-rows found (codes "strict") ∙ e);
+        };
         apart = journal_apart c.in_ok-log.log c.get_flag-json.result apart;
       },
     )
