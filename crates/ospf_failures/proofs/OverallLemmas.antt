@@ -19,7 +19,7 @@ use Rattle.ospf_whatif.specs.Failure.{without}
 use Rattle.ospf_whatif.specs.Single.{AreFailures, IsFailure, IsFailureBefore}
 use Rattle.ospf_whatif.specs.declared.effect.RouteChange.{RouteChange}
 use Rattle.ospf_whatif.specs.declared.failure.AreaFailure.{AreaFailure}
-use Rattle.ospf_whatif.specs.declared.failure.AreaFailure.TheVariants.{Attachment, Link, Links, Network, Router}
+use Rattle.ospf_whatif.specs.declared.failure.AreaFailure.TheVariants.{Attachment, End, Link, Links, Network, Router}
 use Rattle.ospf_whatif.proofs.LessLemmas.{kept_of, of_kept}
 use Rattle.ospf_failures.proofs.ReportLemmas.{other_from, other_to}
 use Rattle.ospf_failures.specs.Overall.{AreOveralls, IsTableBefore, IsOverall, IsSight, IsSightFrom, IsSoFar, Sees, SeesMore, failing_router, lines_kept, overall_cmp, roots_in, sight_lines, sights_kept, sums_of}
@@ -40,6 +40,7 @@ is_before r s = r.0 < s.0
 root_to : (fs : List AreaFailure) (r : RouterId) → Contains (roots_in fs) r → Contains fs (Router r)
 root_to [] r c = absurd (let low = c.1 in omega arith)
 root_to (Link a b p ∷ fs) r c = member_later (Link a b p) fs (Router r) (root_to fs r c)
+root_to (End a b p ∷ fs) r c = member_later (End a b p) fs (Router r) (root_to fs r c)
 root_to (Links a b ∷ fs) r c = member_later (Links a b) fs (Router r) (root_to fs r c)
 root_to (Attachment a n ∷ fs) r c = member_later (Attachment a n) fs (Router r) (root_to fs r c)
 root_to (Network n ∷ fs) r c = member_later (Network n) fs (Router r) (root_to fs r c)
@@ -51,6 +52,7 @@ root_to (Router s ∷ fs) r c = elim (member_cases s (roots_in fs) r c) [
 root_from : (fs : List AreaFailure) (r : RouterId) → Contains fs (Router r) → Contains (roots_in fs) r
 root_from [] r c = absurd (let low = c.1 in omega arith)
 root_from (Link a b p ∷ fs) r c = elim (member_cases (Link a b p) fs (Router r) c) [ inl is ↦ absurd (cc is) | inr rest ↦ root_from fs r rest ]
+root_from (End a b p ∷ fs) r c = elim (member_cases (End a b p) fs (Router r) c) [ inl is ↦ absurd (cc is) | inr rest ↦ root_from fs r rest ]
 root_from (Links a b ∷ fs) r c = elim (member_cases (Links a b) fs (Router r) c) [ inl is ↦ absurd (cc is) | inr rest ↦ root_from fs r rest ]
 root_from (Attachment a n ∷ fs) r c = elim (member_cases (Attachment a n) fs (Router r) c) [ inl is ↦ absurd (cc is) | inr rest ↦ root_from fs r rest ]
 root_from (Network n ∷ fs) r c = elim (member_cases (Network n) fs (Router r) c) [ inl is ↦ absurd (cc is) | inr rest ↦ root_from fs r rest ]
@@ -67,6 +69,7 @@ first_of_all s fs order = λ k d lt.
 roots_rise : (fs : List AreaFailure) → AllPairs IsFailureBefore fs → AllPairs is_before (roots_in fs)
 roots_rise [] order = λ i j d lt le. absurd (omega arith)
 roots_rise (Link a b p ∷ fs) order = roots_rise fs (pairs_tail IsFailureBefore (Link a b p) fs order)
+roots_rise (End a b p ∷ fs) order = roots_rise fs (pairs_tail IsFailureBefore (End a b p) fs order)
 roots_rise (Links a b ∷ fs) order = roots_rise fs (pairs_tail IsFailureBefore (Links a b) fs order)
 roots_rise (Attachment a n ∷ fs) order = roots_rise fs (pairs_tail IsFailureBefore (Attachment a n) fs order)
 roots_rise (Network n ∷ fs) order = roots_rise fs (pairs_tail IsFailureBefore (Network n) fs order)

@@ -6,7 +6,7 @@ use Rattle.ospf_base.specs.declared.ids.RouterId.{RouterId}
 use Rattle.ospf_graph.specs.Advertisements.{Advertisement}
 use Rattle.ospf_whatif.specs.Single.{IsFailure, IsFailureBefore}
 use Rattle.ospf_whatif.specs.declared.failure.AreaFailure.{AreaFailure}
-use Rattle.ospf_whatif.specs.declared.failure.AreaFailure.TheVariants.{Attachment, Link, Links, Network, Router}
+use Rattle.ospf_whatif.specs.declared.failure.AreaFailure.TheVariants.{Attachment, End, Link, Links, Network, Router}
 use Rattle.ospf_whatif.proofs.LessLemmas.{kept_of, of_kept}
 use Rattle.ospf_failures.specs.Reports.{AreReports, IsOtherFailure, ReportValue, is_of}
 use Rattle.ospf_graph.specs.declared.route.Route.{Route}
@@ -26,6 +26,7 @@ other_to root f e is =
 
 pub other_from : (root : RouterId) (f : AreaFailure) → (f ≡ Router root → ⊥) → is_other root f ≡ true
 other_from root (Link a b subnet) differs = refl
+other_from root (End a b subnet) differs = refl
 other_from root (Links a b) differs = refl
 other_from root (Attachment router network) differs = refl
 other_from root (Network network) differs = refl

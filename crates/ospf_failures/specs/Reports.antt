@@ -13,7 +13,7 @@ use Rattle.ospf_graph.specs.declared.route.Route.{Route}
 use Rattle.ospf_whatif.specs.Effect.{IsEffect}
 use Rattle.ospf_whatif.specs.Single.{IsFailure, IsFailureBefore}
 use Rattle.ospf_whatif.specs.declared.failure.AreaFailure.{AreaFailure}
-use Rattle.ospf_whatif.specs.declared.failure.AreaFailure.TheVariants.{Attachment, Link, Links, Network, Router}
+use Rattle.ospf_whatif.specs.declared.failure.AreaFailure.TheVariants.{Attachment, End, Link, Links, Network, Router}
 use Rattle.ospf_whatif.specs.declared.effect.RouteChange.{RouteChange}
 use Rattle.ospf_table.specs.Changes.{failure_lines, totals_of}
 use Rattle.ospf_table.specs.declared.totals.Totals.{Totals}
@@ -32,6 +32,7 @@ SightValue = RouterId × List RouteChange
 abbrev pub is_of : RouterId → AreaFailure → Bool
 is_of router (Router gone) = gone.0 == router.0
 is_of router (Link a b subnet) = false
+is_of router (End a b subnet) = false
 is_of router (Links a b) = false
 is_of router (Attachment attached network) = false
 is_of router (Network network) = false
@@ -54,14 +55,16 @@ pub record AreReports (adverts : List Advertisement) (root : RouterId) (table : 
 abbrev pub counts_of : Totals → List ℕ
 counts_of t = t.cut ∷ t.gone ∷ t.cost ∷ t.hops ∷ []
 
--- links in subnets, other links, attachments, networks, routers; those of one kind by
+-- links in subnets, their ends, other links, attachments, networks, routers; those of one kind by
 -- Router IDs, and then by address
 abbrev pub failure_place : AreaFailure → List ℕ
 failure_place (Link a b subnet) = 0 ∷ a.0 ∷ b.0 ∷ subnet.address.0 ∷ subnet.length ∷ []
-failure_place (Links a b) = 1 ∷ a.0 ∷ b.0 ∷ 0 ∷ 0 ∷ []
-failure_place (Attachment router network) = 2 ∷ router.0 ∷ network ∷ 0 ∷ 0 ∷ []
-failure_place (Network network) = 3 ∷ network ∷ 0 ∷ 0 ∷ 0 ∷ []
-failure_place (Router router) = 4 ∷ router.0 ∷ 0 ∷ 0 ∷ 0 ∷ []
+failure_place (End router other subnet) =
+    1 ∷ router.0 ∷ other.0 ∷ subnet.address.0 ∷ subnet.length ∷ []
+failure_place (Links a b) = 2 ∷ a.0 ∷ b.0 ∷ 0 ∷ 0 ∷ []
+failure_place (Attachment router network) = 3 ∷ router.0 ∷ network ∷ 0 ∷ 0 ∷ []
+failure_place (Network network) = 4 ∷ network ∷ 0 ∷ 0 ∷ 0 ∷ []
+failure_place (Router router) = 5 ∷ router.0 ∷ 0 ∷ 0 ∷ 0 ∷ []
 
 -- first what cuts off most, then what takes most with it, then what makes most dearer, then what
 -- moves most; where all these are equal, by the failure's place

@@ -1,11 +1,11 @@
 //! What each failure of an area changes in the tables of all its routers.
 
-ghost use Rattle.std.specs.Prelude.{◌≡◌, ◌↔◌, ◌++◌, [], All, IfOk, IsPermutation, IsTrue, OnOk, codes, flat_map, map, string_bytes};
+ghost use Rattle.std.specs.Prelude.{◌≡◌, ◌↔◌, ◌++◌, ◌∷◌, [], All, IfOk, IsPermutation, IsTrue, OnOk, codes, flat_map, map, string_bytes};
 ghost use Rattle.std.specs.List.Sorted.{IsSorted};
 ghost use Rattle.ospf_base.specs.Text.{number_text};
 ghost use Rattle.ospf_edges.specs.Listed.{advertisements_of};
 ghost use Rattle.ospf_whatif.specs.Effect.{IsEffectIn};
-ghost use Rattle.ospf_whatif.specs.Failure.{without};
+ghost use Rattle.ospf_whatif.specs.Failure.{without, without_all};
 ghost use Rattle.ospf_whatif.specs.Outage.{IsAreaGraph, IsOutage};
 ghost use Rattle.ospf_table.specs.Changes.{change_line};
 ghost use Rattle.serde_json.specs.Data.{array, no_members};
@@ -185,6 +185,7 @@ fn add_before(
             Ok(())
         }
         AreaFailure::Link { .. } => Ok(()),
+        AreaFailure::End { .. } => Ok(()),
         AreaFailure::Links { .. } => Ok(()),
         AreaFailure::Attachment { .. } => Ok(()),
         AreaFailure::Network(_) => Ok(()),
@@ -279,7 +280,7 @@ fn overall_in(
 ) -> Result<Overall, AllocError>
     requires graph { IsAreaGraph (advertisements_of listing.now) area.now }
     requires outage { IsOutage (advertisements_of listing.now) outage.now }
-    requires failure { outage.now.failure ≡ failure }
+    requires failures { outage.now.failures.items ≡ failure ∷ [] }
     requires tables { All (IsTableBefore (advertisements_of listing.now)) befores.now }
     // What the failure does to each of these tables, added up.
     ensures failure { IfOk result (λ overall. overall.failure ≡ failure) }
@@ -305,7 +306,7 @@ fn effect_at(
     requires outage { IsOutage (advertisements_of listing.now) outage.now }
     requires before { IsTableBefore (advertisements_of listing.now) before.now }
     ensures { IfOk result (λ changes. IsEffectIn
-        (without outage.now.failure (advertisements_of listing.now)) before.now.root
+        (without_all outage.now.failures.items (advertisements_of listing.now)) before.now.root
         before.now.table changes.items) }
 {
     before
@@ -351,8 +352,9 @@ impl Overall {
         requires before { IsTableBefore (advertisements_of listing.now) before.now }
         requires room { HasSumRoom 1 self.old.sums }
         // One table more is seen, and added to those before.
-        ensures { OnOk result (Sees (without outage.now.failure (advertisements_of listing.now))
-            before.now detail self.old self.new) }
+        ensures { OnOk result (Sees
+            (without_all outage.now.failures.items (advertisements_of listing.now)) before.now
+            detail self.old self.new) }
     {
         if is_of(&self.failure, before.root) {
             return Ok(());

@@ -218,10 +218,21 @@ pub(crate) fn place_of(failure: AreaFailure) -> [u32; 5]
         AreaFailure::Link { a, b, subnet } => {
             [0, a.0, b.0, subnet.address.0, u32::from(subnet.length)]
         }
-        AreaFailure::Links { a, b } => [1, a.0, b.0, 0, 0],
-        AreaFailure::Attachment { router, network } => [2, router.0, network, 0, 0],
-        AreaFailure::Network(network) => [3, network, 0, 0, 0],
-        AreaFailure::Router(router) => [4, router.0, 0, 0, 0],
+        AreaFailure::End {
+            router,
+            other,
+            subnet,
+        } => [
+            1,
+            router.0,
+            other.0,
+            subnet.address.0,
+            u32::from(subnet.length),
+        ],
+        AreaFailure::Links { a, b } => [2, a.0, b.0, 0, 0],
+        AreaFailure::Attachment { router, network } => [3, router.0, network, 0, 0],
+        AreaFailure::Network(network) => [4, network, 0, 0, 0],
+        AreaFailure::Router(router) => [5, router.0, 0, 0, 0],
     }
 }
 
@@ -247,6 +258,7 @@ pub(crate) fn is_of(failure: &AreaFailure, router: RouterId) -> bool
     match *failure {
         AreaFailure::Router(gone) => gone.0 == router.0,
         AreaFailure::Link { .. } => false,
+        AreaFailure::End { .. } => false,
         AreaFailure::Links { .. } => false,
         AreaFailure::Attachment { .. } => false,
         AreaFailure::Network(_) => false,

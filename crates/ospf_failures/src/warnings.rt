@@ -92,6 +92,7 @@ fn is_cause(failure: &AreaFailure, hidden: &HiddenCost) -> bool
             router.0 == hidden.other.0 && network == hidden.network
         }
         AreaFailure::Link { .. } => false,
+        AreaFailure::End { .. } => false,
         AreaFailure::Links { .. } => false,
         AreaFailure::Network(_) => false,
     }

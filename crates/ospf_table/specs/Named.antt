@@ -9,6 +9,7 @@ use Rattle.ospf_whatif.specs.declared.failure.AreaFailure.TheVariants as fails
 -- a link in the subnet that a word is
 abbrev pub IsLinkInSubnet : List ℕ → failure.AreaFailure → Type 0
 IsLinkInSubnet word (fails.Link a b subnet) = prefix_text subnet ≡ word
+IsLinkInSubnet word (fails.End router other subnet) = ⊥
 IsLinkInSubnet word (Links a b) = ⊥
 IsLinkInSubnet word (Attachment router network) = ⊥
 IsLinkInSubnet word (Network network) = ⊥

@@ -11,7 +11,7 @@ use Rattle.ospf_graph.specs.declared.hop.NextHop.{NextHop}
 use Rattle.ospf_graph.specs.declared.route.Route.{Route}
 use Rattle.ospf_whatif.specs.Name.{area_failure_text}
 use Rattle.ospf_whatif.specs.declared.failure.AreaFailure.{AreaFailure}
-use Rattle.ospf_whatif.specs.declared.failure.AreaFailure.TheVariants.{Attachment, Link, Links, Network, Router}
+use Rattle.ospf_whatif.specs.declared.failure.AreaFailure.TheVariants.{Attachment, End, Link, Links, Network, Router}
 use Rattle.ospf_whatif.specs.declared.effect.Loss.{Loss}
 use Rattle.ospf_whatif.specs.declared.effect.Loss.TheVariants.{Gone, Cut, Dearer, Moved}
 use Rattle.ospf_whatif.specs.declared.effect.RouteChange.{RouteChange}
@@ -66,6 +66,7 @@ change_data router c = loss_data router c.before c.loss
 -- what a failure is of
 abbrev pub failure_kind : AreaFailure → List ℕ
 failure_kind (Link a b subnet) = codes "link"
+failure_kind (End router other subnet) = codes "end"
 failure_kind (Links a b) = codes "links"
 failure_kind (Attachment router network) = codes "attachment"
 failure_kind (Network network) = codes "network"

@@ -103,7 +103,8 @@ fn is_in(alloc: Global, failure: &AreaFailure, word: &str) -> Result<bool, Alloc
             let text = format!(in alloc; "{subnet}")?;
             Ok(text.as_str() == word)
         }
-        AreaFailure::Links { .. }
+        AreaFailure::End { .. }
+        | AreaFailure::Links { .. }
         | AreaFailure::Attachment { .. }
         | AreaFailure::Network(_)
         | AreaFailure::Router(_) => Ok(false),

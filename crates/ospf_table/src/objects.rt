@@ -58,6 +58,7 @@ fn kind_of(failure: &AreaFailure) -> &'static str
 {
     match failure {
         AreaFailure::Link { .. } => "link",
+        AreaFailure::End { .. } => "end",
         AreaFailure::Links { .. } => "links",
         AreaFailure::Attachment { .. } => "attachment",
         AreaFailure::Network(_) => "network",

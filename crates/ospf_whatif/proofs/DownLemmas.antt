@@ -14,11 +14,12 @@ use Rattle.ospf_neighbour.specs.Neighbour.{NeighbourValue}
 use Rattle.ospf_graph.proofs.ListLemmas.{bool_cases}
 use Rattle.ospf_wanted.proofs.Words.{links_of_kind}
 use Rattle.ospf_wanted.specs.Wanted.{is_full, is_transit, links_of_link, network_link, router_link, subnet_link}
-use Rattle.ospf_whatif.specs.Failure.{kept_links, takes}
+use Rattle.ospf_graph.specs.Advertisements.{Advertisement}
+use Rattle.ospf_whatif.specs.Failure.{inner_of, kept_after, kept_links, takes, without, without_all}
 use Rattle.ospf_whatif.specs.declared.failure.AreaFailure.{AreaFailure}
 use Rattle.ospf_whatif.specs.declared.failure.AreaFailure.TheVariants as fails
 use Rattle.ospf_whatif.proofs.WithoutLemmas.{kept_links-append}
-use Rattle.ospf_whatif.specs.Wanted.{AreSpared, IsInNone, IsLeft, IsNetworkFailure, IsWireUp, wanted_links}
+use Rattle.ospf_whatif.specs.Wanted.{AreSpared, AreSparedBy, FailuresComeTogether, IsInNone, IsLeft, IsNetworkFailure, IsWireUp, wanted_links}
 use Rattle.ospf_wanted.proofs.SaidLemmas.{up_is}
 
 -- ---- links that are all kept, or all taken
@@ -101,6 +102,41 @@ links_go_down inner router other subnet stub_router front back before after w no
     left inner (fails.Link router other subnet) router stub_router front back before after spared_front spared_back
     (all_taken inner router other subnet stub_router before w none ∙ sym (down_is stub_router after down))
 
+-- ---- an end of it, behind a switch
+
+module _ (inner : List Link) (router other : RouterId) (subnet : Prefix) (stub_router : Bool) (l : LinkValue) (w : IsWireUp l other subnet) (none : IsInNone inner l) where
+  end_to_taken : (n : NeighbourValue) → n.router ≡ other → takes inner (fails.End router other subnet) router (router_link stub_router l n) ≡ true
+  end_to_taken n is =
+      let same : eqb n.router.0 other.0 ≡ true = eq-eqb _ _ (ap (λ (r : RouterId). r.0) is) in
+      rw (own inner router other subnet stub_router l w none, same, there inner router other subnet stub_router l w none, none) refl
+
+  end_subnet_taken : takes inner (fails.End router other subnet) router (subnet_link l) ≡ true
+  end_subnet_taken =
+      let mask : eqb l.iface.settings.mask (mask_of subnet.length) ≡ true = eq-eqb _ _ w.in_subnet.mask_is in
+      let twice : bit_and (bit_and l.iface.settings.address.0 l.iface.settings.mask) (mask_of subnet.length) ≡ subnet.address.0 =
+      ap (λ a. bit_and a (mask_of subnet.length)) (sym w.in_subnet.masked) ∙ subnet.masked in
+      let at : eqb (bit_and (bit_and l.iface.settings.address.0 l.iface.settings.mask) (mask_of subnet.length)) subnet.address.0 ≡ true = eq-eqb _ _ twice in
+      rw (own inner router other subnet stub_router l w none, mask, at) refl
+
+  end_neighbours_taken : (ns : List NeighbourValue) → AllByRecursion (λ n. n.router ≡ other) ns
+      → kept_links inner (fails.End router other subnet) router (map (router_link stub_router l) (filter is_full ns) ++ subnet_link l ∷ []) ≡ []
+  end_neighbours_taken [] all = rw end_subnet_taken refl
+  end_neighbours_taken (n ∷ ns) all =
+      elim (bool_cases (is_full n)) [
+        | inl full ↦ rw (full, end_to_taken n all.0) (end_neighbours_taken ns all.1)
+        | inr less ↦ rw less (end_neighbours_taken ns all.1)
+      ]
+
+  end_all_taken : kept_links inner (fails.End router other subnet) router (links_of_link stub_router l) ≡ []
+  end_all_taken = ap (λ ls. kept_links inner (fails.End router other subnet) router ls) (wire_is stub_router l w.up w.kind_is) ∙ end_neighbours_taken l.neighbours w.alone
+
+pub ends_go_down : (inner : List Link) (router other : RouterId) (subnet : Prefix) (stub_router : Bool) (front back : List LinkValue) (before after : LinkValue)
+    → IsWireUp before other subnet → IsInNone inner before → is_down after.iface.state ≡ true → AreSpared inner (fails.End router other subnet) router stub_router front
+    → AreSpared inner (fails.End router other subnet) router stub_router back → IsLeft inner (fails.End router other subnet) router stub_router front before after back
+ends_go_down inner router other subnet stub_router front back before after w none down spared_front spared_back =
+    left inner (fails.End router other subnet) router stub_router front back before after spared_front spared_back
+    (end_all_taken inner router other subnet stub_router before w none ∙ sym (down_is stub_router after down))
+
 -- ---- a transit network
 
 network_taken : (inner : List Link) (f : AreaFailure) (router : RouterId) (network : ℕ) (l : LinkValue) (stub_router : Bool) → IsNetworkFailure f router network → l.iface.dr.0 ≡ network
@@ -111,6 +147,7 @@ network_taken inner (fails.Attachment q n) router network l stub_router of is =
     rw (one, two) refl
 network_taken inner (fails.Network n) router network l stub_router of is = eq-eqb _ _ (is ∙ sym of)
 network_taken inner (fails.Link _ _ _) router network l stub_router of is = absurd of
+network_taken inner (fails.End _ _ _) router network l stub_router of is = absurd of
 network_taken inner (fails.Links _ _) router network l stub_router of is = absurd of
 network_taken inner (fails.Router _) router network l stub_router of is = absurd of
 
@@ -145,11 +182,10 @@ module _ (inner : List Link) (router gone : RouterId) (stub_router : Bool) (l : 
         | inr less ↦ rw less (only_subnet ns all.1)
       ]
 
-pub routers_stop : (inner : List Link) (router gone : RouterId) (subnet : Prefix) (stub_router : Bool) (front back : List LinkValue) (before after : LinkValue)
-    → router.0 ≢ gone.0 → IsWireUp before gone subnet → after.iface ≡ before.iface → after.settings ≡ before.settings → after.neighbours ≡ []
-    → AreSpared inner (fails.Router gone) router stub_router front → AreSpared inner (fails.Router gone) router stub_router back
-    → IsLeft inner (fails.Router gone) router stub_router front before after back
-routers_stop inner router gone subnet stub_router front back before after apart w iface settings none spared_front spared_back =
+-- what the interface makes where nobody is heard on it
+silent : (stub_router : Bool) (before after : LinkValue) (other : RouterId) (subnet : Prefix) → IsWireUp before other subnet → after.iface ≡ before.iface → after.settings ≡ before.settings
+    → after.neighbours ≡ [] → links_of_link stub_router after ≡ subnet_link before ∷ []
+silent stub_router before after other subnet w iface settings none =
     let up : is_down after.iface.state ≡ false = ap (λ x. is_down x.state) iface ∙ w.up in
     let is : after.iface.settings.kind ≡ kind.PointToPoint = ap (λ x. x.settings.kind) iface ∙ w.kind_is in
     let same : subnet_link after ≡ subnet_link before =
@@ -159,7 +195,69 @@ routers_stop inner router gone subnet stub_router front back before after apart 
       kind = (subnet_link before).kind;
       metric = (settings i).cost;
     } in
-    let later : links_of_link stub_router after ≡ subnet_link before ∷ [] =
-    wire_is stub_router after up is ∙ ap (λ ns. map (router_link stub_router after) (filter is_full ns) ++ subnet_link after ∷ []) none ∙ ap (λ l. l ∷ []) same in
+    wire_is stub_router after up is ∙ ap (λ ns. map (router_link stub_router after) (filter is_full ns) ++ subnet_link after ∷ []) none ∙ ap (λ l. l ∷ []) same
+
+pub routers_stop : (inner : List Link) (router gone : RouterId) (subnet : Prefix) (stub_router : Bool) (front back : List LinkValue) (before after : LinkValue)
+    → router.0 ≢ gone.0 → IsWireUp before gone subnet → after.iface ≡ before.iface → after.settings ≡ before.settings → after.neighbours ≡ []
+    → AreSpared inner (fails.Router gone) router stub_router front → AreSpared inner (fails.Router gone) router stub_router back
+    → IsLeft inner (fails.Router gone) router stub_router front before after back
+routers_stop inner router gone subnet stub_router front back before after apart w iface settings none spared_front spared_back =
     left inner (fails.Router gone) router stub_router front back before after spared_front spared_back
-    (ap (λ ls. kept_links inner (fails.Router gone) router ls) (wire_is stub_router before w.up w.kind_is) ∙ only_subnet inner router gone stub_router before apart before.neighbours w.alone ∙ sym later)
+    (ap (λ ls. kept_links inner (fails.Router gone) router ls) (wire_is stub_router before w.up w.kind_is) ∙ only_subnet inner router gone stub_router before apart before.neighbours w.alone
+    ∙ sym (silent stub_router before after gone subnet w iface settings none))
+
+-- ---- behind a switch
+
+module _ (inner : List Link) (router gone : RouterId) (subnet : Prefix) (stub_router : Bool) (l : LinkValue) (apart : router.0 ≢ gone.0) (w : IsWireUp l gone subnet)
+    (none : IsInNone inner l) where
+  far_own : eqb router.0 router.0 ≡ true
+  far_own = eq-eqb _ _ refl
+
+  far_not : eqb router.0 gone.0 ≡ false
+  far_not = elim (eqb_tells router.0 gone.0) [ inl w ↦ absurd (apart w.1) | inr w ↦ w.0 ]
+
+  far_subnet_stays : takes inner (fails.End gone router subnet) router (subnet_link l) ≡ false
+  far_subnet_stays = rw (far_not, far_own) refl
+
+  far_link_goes : (n : NeighbourValue) → n.router ≡ gone → takes inner (fails.End gone router subnet) router (router_link stub_router l n) ≡ true
+  far_link_goes n is =
+      let same : eqb n.router.0 gone.0 ≡ true = eq-eqb _ _ (ap (λ (r : RouterId). r.0) is) in
+      rw (far_not, far_own, same, there inner router gone subnet stub_router l w none, none) refl
+
+  far_only_subnet : (ns : List NeighbourValue) → AllByRecursion (λ n. n.router ≡ gone) ns
+      → kept_links inner (fails.End gone router subnet) router (map (router_link stub_router l) (filter is_full ns) ++ subnet_link l ∷ []) ≡ subnet_link l ∷ []
+  far_only_subnet [] all = rw far_subnet_stays refl
+  far_only_subnet (n ∷ ns) all =
+      elim (bool_cases (is_full n)) [
+        | inl full ↦ rw (full, far_link_goes n all.0) (far_only_subnet ns all.1)
+        | inr less ↦ rw less (far_only_subnet ns all.1)
+      ]
+
+pub far_ends_stay_up : (inner : List Link) (router gone : RouterId) (subnet : Prefix) (stub_router : Bool) (front back : List LinkValue) (before after : LinkValue)
+    → router.0 ≢ gone.0 → IsWireUp before gone subnet → IsInNone inner before → after.iface ≡ before.iface → after.settings ≡ before.settings → after.neighbours ≡ []
+    → AreSpared inner (fails.End gone router subnet) router stub_router front → AreSpared inner (fails.End gone router subnet) router stub_router back
+    → IsLeft inner (fails.End gone router subnet) router stub_router front before after back
+far_ends_stay_up inner router gone subnet stub_router front back before after apart w none iface settings empty spared_front spared_back =
+    left inner (fails.End gone router subnet) router stub_router front back before after spared_front spared_back
+    (ap (λ ls. kept_links inner (fails.End gone router subnet) router ls) (wire_is stub_router before w.up w.kind_is)
+    ∙ far_only_subnet inner router gone subnet stub_router before apart w none before.neighbours w.alone
+    ∙ sym (silent stub_router before after gone subnet w iface settings empty))
+
+-- ---- failures that come together
+
+spared_stay : (A : List Advertisement) (fs : List AreaFailure) (router : RouterId) (links : List Link) → AreSparedBy A fs router links → kept_after A fs router links ≡ links
+spared_stay A [] router links all = refl
+spared_stay A (f ∷ fs) router links all =
+    ap (λ ls. kept_after (without f A) fs router ls) (kept_all (inner_of f A) f router links all.0) ∙ spared_stay (without f A) fs router links all.1
+
+come_together : (A : List Advertisement) (earlier later : List AreaFailure) (f : AreaFailure) (router : RouterId) (before after : List Link) → AreSparedBy A earlier router before
+    → kept_links (inner_of f (without_all earlier A)) f router before ≡ after → AreSparedBy (without f (without_all earlier A)) later router after
+    → kept_after A (earlier ++ f ∷ later) router before ≡ after
+come_together A [] later f router before after first one rest = ap (λ ls. kept_after (without f A) later router ls) one ∙ spared_stay (without f A) later router after rest
+come_together A (e ∷ earlier) later f router before after first one rest =
+    ap (λ ls. kept_after (without e A) (earlier ++ f ∷ later) router ls) (kept_all (inner_of e A) e router before first.0)
+    ∙ come_together (without e A) earlier later f router before after first.1 one rest
+
+pub failures_come_together : FailuresComeTogether
+failures_come_together A earlier later f router stub_router front back before after first one rest =
+    come_together A earlier later f router (wanted_links stub_router (front ++ before ∷ back)) (wanted_links stub_router (front ++ after ∷ back)) first one rest

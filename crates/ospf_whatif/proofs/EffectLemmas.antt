@@ -18,13 +18,13 @@ use Rattle.ospf_spf.specs.Changes.{Reaches}
 use Rattle.ospf_spf.proofs.PrefixOrder.{prefixes_told}
 use Rattle.ospf_spf.proofs.SameRoute.{route_same}
 use Rattle.ospf_whatif.specs.Effect.{IsEffectIn, IsLoss, IsRouteChangeBefore}
-use Rattle.ospf_whatif.specs.Failure.{without}
+use Rattle.ospf_whatif.specs.Failure.{without_all}
 use Rattle.ospf_whatif.specs.Outage.{AddsLoss, AreChangesTo, IsLostAs, IsLossBy, StaysOr}
 use Rattle.ospf_whatif.specs.declared.effect.Loss.{Loss}
 use Rattle.ospf_whatif.specs.declared.effect.Loss.TheVariants.{Cut, Dearer, Gone, Moved}
 use Rattle.ospf_whatif.specs.declared.effect.RouteChange.{RouteChange}
 use Rattle.ospf_whatif.specs.declared.failure.AreaFailure.{AreaFailure}
-use Rattle.ospf_whatif.proofs.LessLemmas.{failures_bring_nothing_nearer, failures_make_no_way}
+use Rattle.ospf_whatif.proofs.LessLemmas.{all_bring_nothing_nearer, all_make_no_way}
 
 -- ---- places
 
@@ -68,16 +68,16 @@ before_place ks i k order lt m =
 -- ---- one route
 
 -- a route that comes in the place of another one after a failure
-pub loss_here : (f : AreaFailure) (A : List Advertisement) (root : RouterId) (before after : Route) → IsRoute A root before → IsRoute (without f A) root after
-    → before.prefix ≡ after.prefix → (o : Option Loss) → IsLossBy before after o → StaysOr (without f A) root before o
-loss_here f A root before after was is same None by = subst (IsRoute (without f A) root) (sym by) is
-loss_here f A root before after was is same (Some loss) by = elim by.1 [
-  | inl dear ↦ subst (λ (l : Loss). IsLostAs (without f A) root before l) (sym dear.1) (is, sym same, dear.0)
+pub loss_here : (fs : List AreaFailure) (A : List Advertisement) (root : RouterId) (before after : Route) → IsRoute A root before → IsRoute (without_all fs A) root after
+    → before.prefix ≡ after.prefix → (o : Option Loss) → IsLossBy before after o → StaysOr (without_all fs A) root before o
+loss_here fs A root before after was is same None by = subst (IsRoute (without_all fs A) root) (sym by) is
+loss_here fs A root before after was is same (Some loss) by = elim by.1 [
+  | inl dear ↦ subst (λ (l : Loss). IsLostAs (without_all fs A) root before l) (sym dear.1) (is, sym same, dear.0)
   | inr moved ↦
-      let low = failures_bring_nothing_nearer f A root before after was is same in
+      let low = all_bring_nothing_nearer fs A root before after was is same in
       let high = moved.0 in
       let cost : before.cost ≡ after.cost = omega arith in
-      subst (λ (l : Loss). IsLostAs (without f A) root before l) (sym moved.1) (is, sym same, sym cost, (λ hops. by.0 (route_same before after same cost (sym hops))))
+      subst (λ (l : Loss). IsLostAs (without_all fs A) root before l) (sym moved.1) (is, sym same, sym cost, (λ hops. by.0 (route_same before after same cost (sym hops))))
 ]
 
 module _ (B : List Advertisement) (root : RouterId) where
@@ -242,11 +242,11 @@ changes_start B root routes = record {
 
 -- ---- all of them
 
-module _ (f : AreaFailure) (A : List Advertisement) (root : RouterId) (routes : List Route) (was : IsTable A root routes) (places : List ℕ) (changes : List RouteChange)
-    (are : AreChangesTo (without f A) root routes places (length routes) changes)
-    (rest : (k : ℕ) (r : Route) → k < length routes → r ≡ get_or routes k r → (Contains places k → ⊥) → IsRoute A root r → IsRoute (without f A) root r) where
+module _ (fs : List AreaFailure) (A : List Advertisement) (root : RouterId) (routes : List Route) (was : IsTable A root routes) (places : List ℕ) (changes : List RouteChange)
+    (are : AreChangesTo (without_all fs A) root routes places (length routes) changes)
+    (rest : (k : ℕ) (r : Route) → k < length routes → r ≡ get_or routes k r → (Contains places k → ⊥) → IsRoute A root r → IsRoute (without_all fs A) root r) where
   abbrev left : List Advertisement
-  left = without f A
+  left = without_all fs A
 
   -- each route stays or is among the changes
   each : (r : Route) → Contains routes r → IsRoute left root r ⊎ ((loss : Loss) × Contains changes (record { before = r; loss = loss }))
@@ -266,7 +266,7 @@ module _ (f : AreaFailure) (A : List Advertisement) (root : RouterId) (routes : 
 
   in_after : (x : Route) → IsRoute left root x → Contains after x
   in_after x is =
-      let had = was.complete x.prefix (failures_make_no_way f A root x.prefix is.way) in
+      let had = was.complete x.prefix (all_make_no_way fs A root x.prefix is.way) in
       let h = made.1.whole had.0 had.1 (subst (λ (p : Prefix). Way left root p) (sym had.2) is.way) in
       subst (λ (y : Route). Contains after y) (same_route left root h.0 x (made.1.sound h.0 h.1).0 is (h.2 ∙ had.2)) h.1
 
@@ -283,7 +283,7 @@ module _ (f : AreaFailure) (A : List Advertisement) (root : RouterId) (routes : 
   left_table = record {
     in_order = made.1.order;
     complete = λ p way.
-        let had = was.complete p (failures_make_no_way f A root p way) in
+        let had = was.complete p (all_make_no_way fs A root p way) in
         let h = made.1.whole had.0 had.1 (subst (λ (q : Prefix). Way left root q) (sym had.2) way) in
         (h.0, h.1, h.2 ∙ had.2);
     sound = λ k d lt. (made.1.sound (get_or after k d) (Contains-get_or after k d lt)).0;

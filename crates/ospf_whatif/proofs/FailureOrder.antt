@@ -12,7 +12,7 @@ use Rattle.ospf_base.specs.Prefixes.{IsPrefixBefore}
 use Rattle.ospf_spf.proofs.PrefixOrder.{prefix_cmp, prefixes_told}
 use Rattle.ospf_whatif.specs.Single.{IsFailureBefore}
 use Rattle.ospf_whatif.specs.declared.failure.AreaFailure.{AreaFailure}
-use Rattle.ospf_whatif.specs.declared.failure.AreaFailure.TheVariants.{Attachment, Link, Links, Network, Router}
+use Rattle.ospf_whatif.specs.declared.failure.AreaFailure.TheVariants.{Attachment, End, Link, Links, Network, Router}
 use Rattle.ospf_whatif.specs.contracts.failure.AreaFailureOrd.TheImpl.{ghosts}
 use Rattle.ospf_whatif.specs.contracts.failure.AreaFailureOrd.TheImpl.Laws.{matches_eq-law}
 use Rattle.ospf_whatif.specs.contracts.failure.AreaFailurePartialEq.TheImpl as failures
@@ -40,6 +40,16 @@ links_of a c b d p q Equal Greater z s t u = inr (sym s, inl t)
 links_of a c b d p q Equal Equal Less s t u = inr (s, inr (t, u))
 links_of a c b d p q Equal Equal Equal s t u = λ i. Link (router a c s i) (router b d t i) (u i)
 links_of a c b d p q Equal Equal Greater s t u = inr (sym s, inr (sym t, u))
+
+ends_of : (a c b d : RouterId) (p q : Prefix) (x y z : Ordering) → Tells a.0 c.0 x → Tells b.0 d.0 y → MatchOrdering z (IsPrefixBefore p q) (p ≡ q) (IsPrefixBefore q p)
+    → Ranks (End a b p) (End c d q) (ordering_then x (ordering_then y z))
+ends_of a c b d p q Less y z s t u = inl s
+ends_of a c b d p q Greater y z s t u = inl s
+ends_of a c b d p q Equal Less z s t u = inr (s, inl t)
+ends_of a c b d p q Equal Greater z s t u = inr (sym s, inl t)
+ends_of a c b d p q Equal Equal Less s t u = inr (s, inr (t, u))
+ends_of a c b d p q Equal Equal Equal s t u = λ i. End (router a c s i) (router b d t i) (u i)
+ends_of a c b d p q Equal Equal Greater s t u = inr (sym s, inr (sym t, u))
 
 all_links_of : (a c b d : RouterId) (x y : Ordering) → Tells a.0 c.0 x → Tells b.0 d.0 y → Ranks (Links a b) (Links c d) (ordering_then x y)
 all_links_of a c b d Less y s t = inl s
@@ -69,6 +79,8 @@ routers_of r s Greater t = t
 failures_rank : (f g : AreaFailure) → Ranks f g (ghosts.cmp f g)
 failures_rank (Link a b p) (Link c d q) =
     links_of a c b d p q (nat_cmp a.0 c.0) (nat_cmp b.0 d.0) (prefix_cmp p q) (tells a.0 c.0) (tells b.0 d.0) (prefixes_told.ranks p q)
+failures_rank (End a b p) (End c d q) =
+    ends_of a c b d p q (nat_cmp a.0 c.0) (nat_cmp b.0 d.0) (prefix_cmp p q) (tells a.0 c.0) (tells b.0 d.0) (prefixes_told.ranks p q)
 failures_rank (Links a b) (Links c d) = all_links_of a c b d (nat_cmp a.0 c.0) (nat_cmp b.0 d.0) (tells a.0 c.0) (tells b.0 d.0)
 failures_rank (Attachment r n) (Attachment s m) = attachments_of r s n m (nat_cmp r.0 s.0) (nat_cmp n m) (tells r.0 s.0) (tells n m)
 failures_rank (Network n) (Network m) = networks_of n m (nat_cmp n m) (tells n m)

@@ -21,7 +21,7 @@ use Rattle.ospf_graph.specs.declared.paths.Settled.{Settled}
 use Rattle.ospf_graph.specs.declared.paths.VertexStart.{VertexStart}
 use Rattle.ospf_graph.proofs.ListLemmas.{bool_cases, member_cases, member_head, member_later, member_of_map, member_to_map}
 use Rattle.ospf_graph.proofs.TreeLemmas.{IsPath-map, at_end}
-use Rattle.ospf_whatif.specs.Failure.{inner_of, left_of_lsa, kept_links, takes, without}
+use Rattle.ospf_whatif.specs.Failure.{inner_of, left_of_lsa, kept_links, takes, without, without_all}
 use Rattle.ospf_whatif.specs.Laws.{IsOffLeastPaths}
 use Rattle.ospf_whatif.specs.declared.failure.AreaFailure.{AreaFailure}
 use Rattle.ospf_whatif.specs.declared.failure.AreaFailure.TheVariants as fails
@@ -35,6 +35,7 @@ transit_taken inner f r n id link_data metric kind.PointToPoint is = absurd (cc)
 transit_taken inner f r n id link_data metric kind.Stub is = absurd (cc)
 transit_taken inner f r n id link_data metric kind.Virtual is = absurd (cc)
 transit_taken inner (fails.Link a b subnet) r n id link_data metric kind.Transit is = refl
+transit_taken inner (fails.End a b subnet) r n id link_data metric kind.Transit is = refl
 transit_taken inner (fails.Links a b) r n id link_data metric kind.Transit is = refl
 transit_taken inner (fails.Attachment q m) r n id link_data metric kind.Transit is = let same : id ≡ n = eqb-true id n is in rw same refl
 transit_taken inner (fails.Network m) r n id link_data metric kind.Transit is = let same : id ≡ n = eqb-true id n is in rw same refl
@@ -221,17 +222,48 @@ pub failures_make_no_edge : (f : AreaFailure) (A : List Advertisement) (e : Edge
 unfolding without
 failures_make_no_edge f A e is = edge_from (inner_of f A) f A e.from e.to e.cost e.link_data is
 
-pub failures_make_no_way : (f : AreaFailure) (A : List Advertisement) (root : RouterId) (prefix : Prefix) → Way (without f A) root prefix → Way A root prefix
+-- a way after a failure was one before it, as long
+failure_way : (f : AreaFailure) (A : List Advertisement) (root : RouterId) (prefix : Prefix) (w : Way (without f A) root prefix) → (v : Way A root prefix) × (way_cost v ≡ way_cost w)
 unfolding without
-failures_make_no_way f A root prefix w = (way_from (inner_of f A) f A root prefix w).0
+failure_way f A root prefix w = way_from (inner_of f A) f A root prefix w
 
--- no route costs less after a failure
-pub failures_bring_nothing_nearer : (f : AreaFailure) (A : List Advertisement) (root : RouterId) (old new : Route) → IsRoute A root old → IsRoute (without f A) root new
+-- ---- several failures
+
+pub all_leave_listed : (fs : List AreaFailure) (A : List Advertisement) (r : RouterId) → IsListed A r ↔ IsListed (without_all fs A) r
+all_leave_listed [] A r = ((λ h. h), (λ h. h))
+all_leave_listed (f ∷ fs) A r =
+    let one = failures_leave_listed f A r in
+    let more = all_leave_listed fs (without f A) r in
+    ((λ h. more.0 (one.0 h)), (λ h. one.1 (more.1 h)))
+
+pub all_make_no_end : (fs : List AreaFailure) (A : List Advertisement) (prefix : Prefix) (v : Vertex) (cost : ℕ) → IsEnd (without_all fs A) prefix v cost → IsEnd A prefix v cost
+all_make_no_end [] A prefix v cost is = is
+all_make_no_end (f ∷ fs) A prefix v cost is = failures_make_no_end f A prefix v cost (all_make_no_end fs (without f A) prefix v cost is)
+
+pub all_make_no_edge : (fs : List AreaFailure) (A : List Advertisement) (e : Edge) → IsEdge (without_all fs A) e → IsEdge A e
+all_make_no_edge [] A e is = is
+all_make_no_edge (f ∷ fs) A e is = failures_make_no_edge f A e (all_make_no_edge fs (without f A) e is)
+
+all_way : (fs : List AreaFailure) (A : List Advertisement) (root : RouterId) (prefix : Prefix) (w : Way (without_all fs A) root prefix)
+    → (v : Way A root prefix) × (way_cost v ≡ way_cost w)
+all_way [] A root prefix w = (w, refl)
+all_way (f ∷ fs) A root prefix w =
+    let more = all_way fs (without f A) root prefix w in
+    let one = failure_way f A root prefix more.0 in
+    (one.0, one.1 ∙ more.1)
+
+pub all_make_no_way : (fs : List AreaFailure) (A : List Advertisement) (root : RouterId) (prefix : Prefix) → Way (without_all fs A) root prefix → Way A root prefix
+all_make_no_way fs A root prefix w = (all_way fs A root prefix w).0
+
+under_same : (A : List Advertisement) (root : RouterId) (p q : Prefix) → p ≡ q → (w : Way A root q) → (v : Way A root p) × (way_cost v ≡ way_cost w)
+under_same A root p q same w = subst (λ x. (v : Way A root x) × (way_cost v ≡ way_cost w)) (sym same) (w, refl)
+
+-- no route costs less after failures
+pub all_bring_nothing_nearer : (fs : List AreaFailure) (A : List Advertisement) (root : RouterId) (old new : Route) → IsRoute A root old → IsRoute (without_all fs A) root new
     → old.prefix ≡ new.prefix → old.cost ≤ new.cost
-unfolding without
-failures_bring_nothing_nearer f A root old new was is same =
-    let w = way_from (inner_of f A) f A root new.prefix is.way in
-    let v = under (inner_of f A) f A root old.prefix new.prefix same w.0 in
+all_bring_nothing_nearer fs A root old new was is same =
+    let w = all_way fs A root new.prefix is.way in
+    let v = under_same A root old.prefix new.prefix same w.0 in
     let low = was.least v.0 in
     omega (arith, low, v.1, w.1, was.cost_is, is.cost_is)
 
@@ -269,3 +301,9 @@ pub trees_stay : (f : AreaFailure) (A : List Advertisement) (root : Vertex) (set
     → ((e : Edge) → IsEdge A e → IsEdge (without f A) e ⊎ IsOffLeastPaths (AtIn settled) e) → IsTree (IsEdge (without f A)) root (AtIn settled) (StartsIn starts)
 trees_stay f A root settled starts t each =
     tree_stays (IsEdge A) (IsEdge (without f A)) root (AtIn settled) (StartsIn starts) t (failures_make_no_edge f A) each
+
+pub all_trees_stay : (fs : List AreaFailure) (A : List Advertisement) (root : Vertex) (settled : List Settled) (starts : List VertexStart)
+    → IsTree (IsEdge A) root (AtIn settled) (StartsIn starts)
+    → ((e : Edge) → IsEdge A e → IsEdge (without_all fs A) e ⊎ IsOffLeastPaths (AtIn settled) e) → IsTree (IsEdge (without_all fs A)) root (AtIn settled) (StartsIn starts)
+all_trees_stay fs A root settled starts t each =
+    tree_stays (IsEdge A) (IsEdge (without_all fs A)) root (AtIn settled) (StartsIn starts) t (all_make_no_edge fs A) each

@@ -6,6 +6,7 @@ pub mod SingleLemmas
 pub mod HiddenLemmas
 pub mod LostLemmas
 pub mod OutageLemmas
+pub mod CarrierLemmas
 pub mod EffectLemmas
 pub mod FailureOrder
 pub mod SortedLemmas

@@ -27,7 +27,7 @@ use Rattle.ospf_graph.specs.declared.graph.Vertex.{Vertex}
 use Rattle.ospf_graph.specs.declared.graph.Vertex.TheVariants as vertex
 use Rattle.ospf_graph.proofs.ListLemmas.{bool_cases, member_to_map}
 use Rattle.ospf_whatif.specs.Failure.{inner_of, is_of_subnet, is_stub_of, is_wire_end, kept_links, left_of_lsa, takes, without}
-use Rattle.ospf_whatif.specs.Lost.{AreEdgesLost, AreEndsLost, AreStubsOf, IsTwoWay, Stays, centre_of}
+use Rattle.ospf_whatif.specs.Lost.{AreEdgesLost, AreEndsLost, AreStubsAt, AreStubsOf, IsTwoWay, Stays, centre_of}
 use Rattle.ospf_whatif.specs.Outage.{AreLost, StandsIn}
 use Rattle.ospf_whatif.specs.Subnets.{HaveSame}
 use Rattle.ospf_whatif.specs.declared.failure.AreaFailure.{AreaFailure}
@@ -68,6 +68,7 @@ Pair v w from to = ((from ≡ v) × (to ≡ w)) ⊎ ((from ≡ w) × (to ≡ v))
 -- the failure may take a link from one vertex to the other
 abbrev MayCut : AreaFailure → Vertex → Vertex → Type 0
 MayCut (fails.Link a b subnet) from to = Pair (vertex.Router a) (vertex.Router b) from to
+MayCut (fails.End a b subnet) from to = Pair (vertex.Router a) (vertex.Router b) from to
 MayCut (fails.Links a b) from to = Pair (vertex.Router a) (vertex.Router b) from to
 MayCut (fails.Attachment r n) from to = Pair (vertex.Router r) (vertex.Network n) from to
 MayCut (fails.Network n) from to = (from ≡ vertex.Network n) ⊎ (to ≡ vertex.Network n)
@@ -79,6 +80,7 @@ pair_back v w from to (inr p) = inl (p.1, p.0)
 
 cut_back : (f : AreaFailure) (from to : Vertex) → MayCut f to from → MayCut f from to
 cut_back (fails.Link a b subnet) from to p = pair_back (vertex.Router a) (vertex.Router b) from to p
+cut_back (fails.End a b subnet) from to p = pair_back (vertex.Router a) (vertex.Router b) from to p
 cut_back (fails.Links a b) from to p = pair_back (vertex.Router a) (vertex.Router b) from to p
 cut_back (fails.Attachment r n) from to p = pair_back (vertex.Router r) (vertex.Network n) from to p
 cut_back (fails.Network n) from to p = elim p [ inl t ↦ inr t | inr s ↦ inl s ]
@@ -87,6 +89,7 @@ cut_back (fails.Router r) from to p = elim p [ inl t ↦ inr t | inr s ↦ inl s
 -- it touches the centre
 cut_near : (f : AreaFailure) (e : Edge) → MayCut f e.from e.to → Touches (centre_of f) e
 cut_near (fails.Link a b subnet) e p = elim p [ inl w ↦ inl w.0 | inr w ↦ inr w.1 ]
+cut_near (fails.End a b subnet) e p = elim p [ inl w ↦ inl w.0 | inr w ↦ inr w.1 ]
 cut_near (fails.Links a b) e p = elim p [ inl w ↦ inl w.0 | inr w ↦ inr w.1 ]
 cut_near (fails.Attachment r n) e p = elim p [ inl w ↦ inl w.0 | inr w ↦ inr w.1 ]
 cut_near (fails.Network n) e p = p
@@ -122,10 +125,22 @@ module _ (inner : List Link) (a b : RouterId) (subnet : Prefix) (r x : RouterId)
       let l = to_router x link_data metric in
       or_right _ _ (and_from (eqb r.0 b.0) (is_wire_end inner l a subnet) (is_router r b p.0) (end_of_wire inner x a subnet link_data metric p.1 held))
 
+or_false : (b : Bool) → b || false ≡ b
+or_false true = refl
+or_false false = refl
+
+-- of the links between the two routers one end of a link takes what the link takes
+end_as_link : (inner : List Link) (a b : RouterId) (subnet : Prefix) (r x : RouterId) (link_data metric : ℕ)
+    → takes inner (fails.End a b subnet) r (to_router x link_data metric) ≡ takes inner (fails.Link a b subnet) r (to_router x link_data metric)
+end_as_link inner a b subnet r x link_data metric =
+    let l = to_router x link_data metric in
+    ap (λ (w : Bool). (eqb r.0 a.0 && is_wire_end inner l b subnet) || (eqb r.0 b.0 && w)) (sym (or_false (eqb x.0 a.0 && is_of_subnet inner subnet link_data)))
+
 -- a link to a router that a failure takes
 router_cut : (inner : List Link) (f : AreaFailure) (r x : RouterId) (link_data metric : ℕ) → takes inner f r (to_router x link_data metric) ≡ true
     → MayCut f (vertex.Router r) (vertex.Router x)
 router_cut inner (fails.Link a b subnet) r x link_data metric t = (wire_taken inner a b subnet r x link_data metric t).0
+router_cut inner (fails.End a b subnet) r x link_data metric t = (wire_taken inner a b subnet r x link_data metric (sym (end_as_link inner a b subnet r x link_data metric) ∙ t)).0
 router_cut inner (fails.Links a b) r x link_data metric t =
     elim (or_cases (eqb r.0 a.0 && eqb x.0 b.0) (eqb r.0 b.0 && eqb x.0 a.0) t) [
       | inl p ↦ (let w = and_parts (eqb r.0 a.0) (eqb x.0 b.0) p in inl (router_is r a w.0, router_is x b w.1))
@@ -144,6 +159,7 @@ neither a b r t =
 -- those of a router to a transit network
 network_cut : (inner : List Link) (f : AreaFailure) (r : RouterId) (n : ℕ) → On inner f r n ≡ true → MayCut f (vertex.Router r) (vertex.Network n)
 network_cut inner (fails.Link a b subnet) r n t = absurd (neither a b r t)
+network_cut inner (fails.End a b subnet) r n t = absurd (neither a b r t)
 network_cut inner (fails.Links a b) r n t = absurd (neither a b r t)
 network_cut inner (fails.Attachment q m) r n t = let w = and_parts (eqb r.0 q.0) (eqb n m) t in inl (router_is r q w.0, network_is n m w.1)
 network_cut inner (fails.Network m) r n t = inr (network_is n m t)
@@ -152,6 +168,7 @@ network_cut inner (fails.Router gone) r n t = elim (or_cases (eqb r.0 gone.0) fa
 -- a failure of no single link takes all that it may
 abbrev IsWhole : AreaFailure → Type 0
 IsWhole (fails.Link a b subnet) = ⊥
+IsWhole (fails.End a b subnet) = ⊥
 IsWhole (fails.Links a b) = Unit
 IsWhole (fails.Attachment r n) = Unit
 IsWhole (fails.Network n) = Unit
@@ -160,6 +177,7 @@ IsWhole (fails.Router r) = Unit
 cut_router : (inner : List Link) (f : AreaFailure) (r x : RouterId) (link_data metric : ℕ) → IsWhole f → MayCut f (vertex.Router r) (vertex.Router x)
     → takes inner f r (to_router x link_data metric) ≡ true
 cut_router inner (fails.Link a b subnet) r x link_data metric whole p = absurd whole
+cut_router inner (fails.End a b subnet) r x link_data metric whole p = absurd whole
 cut_router inner (fails.Links a b) r x link_data metric whole (inl p) = or_left _ _ (and_from (eqb r.0 a.0) (eqb x.0 b.0) (is_router r a p.0) (is_router x b p.1))
 cut_router inner (fails.Links a b) r x link_data metric whole (inr p) = or_right _ _ (and_from (eqb r.0 b.0) (eqb x.0 a.0) (is_router r b p.0) (is_router x a p.1))
 cut_router inner (fails.Attachment q n) r x link_data metric whole (inl p) = absurd (apart x n p.1)
@@ -172,6 +190,8 @@ cut_router inner (fails.Router gone) r x link_data metric whole (inr p) = or_rig
 cut_network : (inner : List Link) (f : AreaFailure) (r : RouterId) (n : ℕ) → MayCut f (vertex.Router r) (vertex.Network n) → On inner f r n ≡ true
 cut_network inner (fails.Link a b subnet) r n (inl p) = absurd (apart b n (sym p.1))
 cut_network inner (fails.Link a b subnet) r n (inr p) = absurd (apart a n (sym p.1))
+cut_network inner (fails.End a b subnet) r n (inl p) = absurd (apart b n (sym p.1))
+cut_network inner (fails.End a b subnet) r n (inr p) = absurd (apart a n (sym p.1))
 cut_network inner (fails.Links a b) r n (inl p) = absurd (apart b n (sym p.1))
 cut_network inner (fails.Links a b) r n (inr p) = absurd (apart a n (sym p.1))
 cut_network inner (fails.Attachment q m) r n (inl p) = and_from (eqb r.0 q.0) (eqb n m) (is_router r q p.0) (is_network n m p.1)
@@ -268,11 +288,28 @@ module _ (inner : List Link) (f : AreaFailure) (A : List Advertisement) where
       both_ways _ (address_free n b link_data e.1) (cut_network inner f b n (cut_back f (vertex.Router b) (vertex.Network n) cut))
   cut_goes whole (vertex.Network n) (vertex.Network m) cost link_data cut e = e
 
--- ---- a point-to-point link
+-- ---- a point-to-point link, or an end of it
 
-module _ (inner : List Link) (a b : RouterId) (subnet : Prefix) (A : List Advertisement) (near : List Edge) (at : AreEdgesAt A (vertex.Router a) near) where
-  abbrev F : AreaFailure
-  F = fails.Link a b subnet
+-- the failure takes the links between the two routers that their link in the subnet takes, and none to a network
+record IsOfWire (inner : List Link) (a b : RouterId) (subnet : Prefix) (F : AreaFailure) : Type 0 where
+  as_link : (r x : RouterId) (link_data metric : ℕ) → takes inner F r (to_router x link_data metric) ≡ takes inner (fails.Link a b subnet) r (to_router x link_data metric)
+  between : (from to : Vertex) → MayCut F from to → Pair (vertex.Router a) (vertex.Router b) from to
+
+link_of_wire : (inner : List Link) (a b : RouterId) (subnet : Prefix) → IsOfWire inner a b subnet (fails.Link a b subnet)
+link_of_wire inner a b subnet = record { as_link = λ r x link_data metric. refl; between = λ from to p. p }
+
+end_of_link : (inner : List Link) (a b : RouterId) (subnet : Prefix) → IsOfWire inner a b subnet (fails.End a b subnet)
+end_of_link inner a b subnet = record { as_link = end_as_link inner a b subnet; between = λ from to p. p }
+
+module _ (inner : List Link) (a b : RouterId) (subnet : Prefix) (F : AreaFailure) (of : IsOfWire inner a b subnet F) (A : List Advertisement) (near : List Edge)
+    (at : AreEdgesAt A (vertex.Router a) near) where
+  F_taken : (r x : RouterId) (link_data metric : ℕ) → takes inner F r (to_router x link_data metric) ≡ true
+      → Pair (vertex.Router a) (vertex.Router b) (vertex.Router r) (vertex.Router x) × (is_of_subnet inner subnet link_data ≡ true)
+  F_taken r x link_data metric t = wire_taken inner a b subnet r x link_data metric (sym (of.as_link r x link_data metric) ∙ t)
+
+  taken_F : (r x : RouterId) (link_data metric : ℕ) → Pair (vertex.Router a) (vertex.Router b) (vertex.Router r) (vertex.Router x) → is_of_subnet inner subnet link_data ≡ true
+      → takes inner F r (to_router x link_data metric) ≡ true
+  taken_F r x link_data metric p held = of.as_link r x link_data metric ∙ taken_wire inner a b subnet r x link_data metric p held
 
   abbrev edge : RouterId → RouterId → ℕ → ℕ → Edge
   edge x y cost link_data = record { from = vertex.Router x; to = vertex.Router y; cost = cost; link_data = link_data }
@@ -282,19 +319,19 @@ module _ (inner : List Link) (a b : RouterId) (subnet : Prefix) (A : List Advert
       → IsEdge (B inner F A) (edge x y cost link_data)
   wire_kept x y cost link_data e apart =
       let there : takes inner F x (to_router y link_data cost) ≡ false =
-      false_from_ne_true _ (λ t. let w = wire_taken inner a b subnet x y link_data cost t in both_ways _ (apart w.0).0 w.1) in
+      false_from_ne_true _ (λ t. let w = F_taken x y link_data cost t in both_ways _ (apart w.0).0 w.1) in
       let out = link_stays inner F A x kind.PointToPoint y.0 link_data cost e.0 there in
       elim (bool_cases (takes inner F y (to_router x e.1 e.2))) [
         | inr free ↦ (out, e.1, e.2, link_stays inner F A y kind.PointToPoint x.0 e.1 e.2 e.3 free)
         | inl t ↦
-            let w = wire_taken inner a b subnet y x e.1 e.2 t in
+            let w = F_taken y x e.1 e.2 t in
             let h = (apart (pair_back (vertex.Router a) (vertex.Router b) (vertex.Router x) (vertex.Router y) w.0)).1 in
             let back : Edge = h.1 in
             let is : IsEdge A back = ((at back).0 (h.0, h.2, h.3)).0 in
             let over : IsEdgeBetween A (vertex.Router y) (vertex.Router x) back.cost back.link_data =
             subst (λ v. IsEdgeBetween A (vertex.Router y) v back.cost back.link_data) h.4.1 (subst (λ v. IsEdgeBetween A v back.to back.cost back.link_data) h.4.0 is) in
             let free : takes inner F y (to_router x back.link_data back.cost) ≡ false =
-            false_from_ne_true _ (λ t. both_ways _ h.4.2 (wire_taken inner a b subnet y x back.link_data back.cost t).1) in
+            false_from_ne_true _ (λ t. both_ways _ h.4.2 (F_taken y x back.link_data back.cost t).1) in
             (out, back.link_data, back.cost, link_stays inner F A y kind.PointToPoint x.0 back.link_data back.cost over.0 free)
       ]
 
@@ -304,24 +341,28 @@ module _ (inner : List Link) (a b : RouterId) (subnet : Prefix) (A : List Advert
       let back : Edge = edge y x e.2 e.1 in
       let turned : Pair (vertex.Router a) (vertex.Router b) (vertex.Router y) (vertex.Router x) = pair_back (vertex.Router a) (vertex.Router b) (vertex.Router y) (vertex.Router x) pair in
       let is : IsEdge A back = edge_from inner F A (vertex.Router y) (vertex.Router x) e.2 e.1 (e.3, link_data, cost, e.0) in
-      let m : Contains near back = (at back).1 (is, cut_near F back turned) in (
-        false_from_ne_true _ (λ held. both_ways _ (link_free inner F A x kind.PointToPoint y.0 link_data cost e.0) (taken_wire inner a b subnet x y link_data cost pair held)),
+      let m : Contains near back = (at back).1 (is, elim turned [ inl w ↦ inl w.0 | inr w ↦ inr w.1 ]) in (
+        false_from_ne_true _ (λ held. both_ways _ (link_free inner F A x kind.PointToPoint y.0 link_data cost e.0) (taken_F x y link_data cost pair held)),
         (
           m.0,
           back,
           m.1,
           m.2,
-          (refl, refl, false_from_ne_true _ (λ held. both_ways _ (link_free inner F A y kind.PointToPoint x.0 e.1 e.2 e.3) (taken_wire inner a b subnet y x e.1 e.2 turned held))),
+          (refl, refl, false_from_ne_true _ (λ held. both_ways _ (link_free inner F A y kind.PointToPoint x.0 e.1 e.2 e.3) (taken_F y x e.1 e.2 turned held))),
         ),
       )
 
   -- other edges
+  no_pair : (r : RouterId) (n : ℕ) → Pair (vertex.Router a) (vertex.Router b) (vertex.Router r) (vertex.Network n) → ⊥
+  no_pair r n (inl p) = apart b n (sym p.1)
+  no_pair r n (inr p) = apart a n (sym p.1)
+
   no_wire : (r : RouterId) (n : ℕ) → MayCut F (vertex.Router r) (vertex.Network n) → ⊥
-  no_wire r n (inl p) = apart b n (sym p.1)
-  no_wire r n (inr p) = apart a n (sym p.1)
+  no_wire r n cut = no_pair r n (of.between (vertex.Router r) (vertex.Network n) cut)
 
   stays_at : (from to : Vertex) (cost link_data : ℕ) → IsEdgeBetween A from to cost link_data
-      → Stays F inner near (record { from = from; to = to; cost = cost; link_data = link_data }) → IsEdgeBetween (B inner F A) from to cost link_data
+      → (Pair (vertex.Router a) (vertex.Router b) from to → IsTwoWay inner near subnet (record { from = from; to = to; cost = cost; link_data = link_data }))
+      → IsEdgeBetween (B inner F A) from to cost link_data
   stays_at (vertex.Router x) (vertex.Router y) cost link_data e stays = wire_kept x y cost link_data e stays
   stays_at (vertex.Router x) (vertex.Network n) cost link_data e stays = elim (cut_or inner F A (vertex.Router x) (vertex.Network n) cost link_data e) [ inl cut ↦ absurd (no_wire x n cut) | inr left ↦ left ]
   stays_at (vertex.Network n) (vertex.Router y) cost link_data e stays =
@@ -329,24 +370,26 @@ module _ (inner : List Link) (a b : RouterId) (subnet : Prefix) (A : List Advert
   stays_at (vertex.Network n) (vertex.Network m) cost link_data e stays = absurd e
 
   at_stays : (from to : Vertex) (cost link_data : ℕ) → IsEdgeBetween (B inner F A) from to cost link_data
-      → Stays F inner near (record { from = from; to = to; cost = cost; link_data = link_data })
+      → Pair (vertex.Router a) (vertex.Router b) from to → IsTwoWay inner near subnet (record { from = from; to = to; cost = cost; link_data = link_data })
   at_stays (vertex.Router x) (vertex.Router y) cost link_data e pair = kept_wire x y cost link_data e pair
-  at_stays (vertex.Router x) (vertex.Network n) cost link_data e pair = absurd (no_wire x n pair)
-  at_stays (vertex.Network n) (vertex.Router y) cost link_data e pair = absurd (no_wire y n (cut_back F (vertex.Router y) (vertex.Network n) pair))
+  at_stays (vertex.Router x) (vertex.Network n) cost link_data e pair = absurd (no_pair x n pair)
+  at_stays (vertex.Network n) (vertex.Router y) cost link_data e pair = absurd (no_pair y n (pair_back (vertex.Router a) (vertex.Router b) (vertex.Router y) (vertex.Network n) pair))
   at_stays (vertex.Network n) (vertex.Network m) cost link_data e pair = absurd e
 
 -- ---- edges at the centre
 
 module _ (inner : List Link) (A : List Advertisement) (near : List Edge) (e : Edge) where
   stays_kept : (f : AreaFailure) → AreEdgesAt A (centre_of f) near → IsEdge A e → Stays f inner near e → IsEdge (B inner f A) e
-  stays_kept (fails.Link a b subnet) at there stays = stays_at inner a b subnet A near at e.from e.to e.cost e.link_data there stays
+  stays_kept (fails.Link a b subnet) at there stays = stays_at inner a b subnet (fails.Link a b subnet) (link_of_wire inner a b subnet) A near at e.from e.to e.cost e.link_data there stays
+  stays_kept (fails.End a b subnet) at there stays = stays_at inner a b subnet (fails.End a b subnet) (end_of_link inner a b subnet) A near at e.from e.to e.cost e.link_data there stays
   stays_kept (fails.Links a b) at there stays = elim (cut_or inner (fails.Links a b) A e.from e.to e.cost e.link_data there) [ inl cut ↦ absurd (stays cut) | inr left ↦ left ]
   stays_kept (fails.Attachment r n) at there stays = elim (cut_or inner (fails.Attachment r n) A e.from e.to e.cost e.link_data there) [ inl cut ↦ absurd (stays cut) | inr left ↦ left ]
   stays_kept (fails.Network n) at there stays = absurd stays
   stays_kept (fails.Router gone) at there stays = absurd stays
 
   kept_stays : (f : AreaFailure) → AreEdgesAt A (centre_of f) near → Touches (centre_of f) e → IsEdge (B inner f A) e → Stays f inner near e
-  kept_stays (fails.Link a b subnet) at touches left = at_stays inner a b subnet A near at e.from e.to e.cost e.link_data left
+  kept_stays (fails.Link a b subnet) at touches left = at_stays inner a b subnet (fails.Link a b subnet) (link_of_wire inner a b subnet) A near at e.from e.to e.cost e.link_data left
+  kept_stays (fails.End a b subnet) at touches left = at_stays inner a b subnet (fails.End a b subnet) (end_of_link inner a b subnet) A near at e.from e.to e.cost e.link_data left
   kept_stays (fails.Links a b) at touches left = λ cut. cut_goes inner (fails.Links a b) A tt e.from e.to e.cost e.link_data cut left
   kept_stays (fails.Attachment r n) at touches left = λ cut. cut_goes inner (fails.Attachment r n) A tt e.from e.to e.cost e.link_data cut left
   kept_stays (fails.Network n) at touches left = cut_goes inner (fails.Network n) A tt e.from e.to e.cost e.link_data touches left
@@ -397,6 +440,7 @@ module _ (p subnet : Prefix) (id mask metric : ℕ) (of : IsPrefixOf id mask p) 
 -- the failure takes the end of the prefix at the vertex
 abbrev LosesEnd : AreaFailure → Prefix → Vertex → Type 0
 LosesEnd (fails.Link a b subnet) p v = (p ≡ subnet) × ((v ≡ vertex.Router a) ⊎ (v ≡ vertex.Router b))
+LosesEnd (fails.End a b subnet) p v = (p ≡ subnet) × (v ≡ vertex.Router a)
 LosesEnd (fails.Links a b) p v = ⊥
 LosesEnd (fails.Attachment r n) p v = ⊥
 LosesEnd (fails.Network n) p v = ⊥
@@ -410,6 +454,12 @@ module _ (inner : List Link) (r : RouterId) (p : Prefix) (id mask metric : ℕ) 
         | inl u ↦ (let w = and_parts (eqb r.0 a.0) is u in (stub_is p subnet id mask metric of w.1, inl (router_is r a w.0)))
         | inr u ↦ (let w = and_parts (eqb r.0 b.0) is u in (stub_is p subnet id mask metric of w.1, inr (router_is r b w.0)))
       ]
+  stub_lost (fails.End a b subnet) t =
+      let is = is_stub_of (stub id mask metric) subnet in
+      elim (or_cases (eqb r.0 a.0 && is) (eqb r.0 b.0 && false) t) [
+        | inl u ↦ (let w = and_parts (eqb r.0 a.0) is u in (stub_is p subnet id mask metric of w.1, router_is r a w.0))
+        | inr u ↦ absurd (let w = and_parts (eqb r.0 b.0) false u in let no : false ≡ true = w.1 in cc)
+      ]
   stub_lost (fails.Links a b) t = neither a b r t
   stub_lost (fails.Attachment q n) t = let w = and_parts (eqb r.0 q.0) false t in let no : false ≡ true = w.1 in absurd (cc)
   stub_lost (fails.Network n) t = absurd (cc)
@@ -422,6 +472,7 @@ module _ (inner : List Link) (r : RouterId) (p : Prefix) (id mask metric : ℕ) 
         | inl same ↦ or_left _ _ (and_from _ _ (is_router r a same) is)
         | inr same ↦ or_right _ _ (and_from _ _ (is_router r b same) is)
       ]
+  lost_stub (fails.End a b subnet) lost = or_left _ _ (and_from _ _ (is_router r a lost.1) (is_stub p subnet id mask metric of lost.0))
   lost_stub (fails.Links a b) lost = absurd lost
   lost_stub (fails.Attachment q n) lost = absurd lost
   lost_stub (fails.Network n) lost = absurd lost
@@ -429,6 +480,7 @@ module _ (inner : List Link) (r : RouterId) (p : Prefix) (id mask metric : ℕ) 
 
 no_network_end : (f : AreaFailure) (p : Prefix) (n : ℕ) → LosesEnd f p (vertex.Network n) → ⊥
 no_network_end (fails.Link a b subnet) p n lost = elim lost.1 [ inl same ↦ apart a n (sym same) | inr same ↦ apart b n (sym same) ]
+no_network_end (fails.End a b subnet) p n lost = apart a n (sym lost.1)
 no_network_end (fails.Links a b) p n lost = lost
 no_network_end (fails.Attachment q m) p n lost = lost
 no_network_end (fails.Network m) p n lost = lost
@@ -464,6 +516,11 @@ pub wire_ends_lost : (f : AreaFailure) (A : List Advertisement) (a b : RouterId)
 wire_ends_lost f A a b subnet found is ends =
     IfOk-map found _ _ ends (λ v are. named_lost f (fails.Link a b subnet) A is v.items (ends_are_lost (fails.Link a b subnet) A v.items are))
 
+pub end_ends_lost : (f : AreaFailure) (A : List Advertisement) (a b : RouterId) (subnet : Prefix) (found : Result (Vec End Global) AllocError) → f ≡ fails.End a b subnet
+    → IfOk found (λ ends. AreStubsAt A a subnet ends.items) → IfOk found (λ ends. AreEndsLost A f ends.items)
+end_ends_lost f A a b subnet found is ends =
+    IfOk-map found _ _ ends (λ v are. named_lost f (fails.End a b subnet) A is v.items (ends_are_lost (fails.End a b subnet) A v.items are))
+
 pub router_ends_lost : (f : AreaFailure) (A : List Advertisement) (gone : RouterId) (found : Result (Vec End Global) AllocError) → f ≡ fails.Router gone
     → IfOk found (λ ends. AreEndsAt A (vertex.Router gone) ends.items) → IfOk found (λ ends. AreEndsLost A f ends.items)
 router_ends_lost f A gone found is ends =
@@ -494,20 +551,26 @@ to_test p e b both =
       | inr f ↦ f ∙ sym (false_from_ne_true (is_to p e) (λ t. both_ways b f (both.1 (to_prefix p e t))))
     ]
 
-pub are_stubs : (A : List Advertisement) (a b : RouterId) (p : Prefix) (first second both kept : List End) → AreEndsAt A (vertex.Router a) first → AreEndsAt A (vertex.Router b) second
-    → both ≡ first ++ second → kept ≡ filter (is_to p) both → AreStubsOf A a b p kept
-are_stubs A a b p first second both kept at_a at_b together those e = (
+pub are_stubs_at : (A : List Advertisement) (a : RouterId) (p : Prefix) (found kept : List End) → AreEndsAt A (vertex.Router a) found → kept ≡ filter (is_to p) found → AreStubsAt A a p kept
+are_stubs_at A a p found kept at those e = (
   λ m.
-      let k = kept_of (is_to p) both e (subst (λ (l : List End). Contains l e) those m) in
-      let same = to_prefix p e k.1 in
-      elim (Contains-append_cases first second e (subst (λ (l : List End). Contains l e) together k.0)) [
-        | inl here ↦ (let w = (at_a e).0 here in (w.0, (same, inl w.1)))
-        | inr here ↦ (let w = (at_b e).0 here in (w.0, (same, inr w.1)))
-      ],
+      let k = kept_of (is_to p) found e (subst (λ (l : List End). Contains l e) those m) in
+      let w = (at e).0 k.0 in
+      (w.0, (to_prefix p e k.1, w.1)),
+  λ w. subst (λ (l : List End). Contains l e) (sym those) (of_kept (is_to p) found e ((at e).1 (w.0, w.1.1)) (prefix_to p e w.1.0)),
+)
+
+pub are_stubs : (A : List Advertisement) (a b : RouterId) (p : Prefix) (first second both : List End) → AreStubsAt A a p first → AreStubsAt A b p second → both ≡ first ++ second
+    → AreStubsOf A a b p both
+are_stubs A a b p first second both at_a at_b together e = (
+  λ m. elim (Contains-append_cases first second e (subst (λ (l : List End). Contains l e) together m)) [
+    | inl here ↦ (let w = (at_a e).0 here in (w.0, (w.1.0, inl w.1.1)))
+    | inr here ↦ (let w = (at_b e).0 here in (w.0, (w.1.0, inr w.1.1)))
+  ],
   λ w.
       let there : Contains (first ++ second) e = elim w.1.1 [
-        | inl at ↦ Contains-append_left first second e ((at_a e).1 (w.0, at))
-        | inr at ↦ Contains-append_right first second e ((at_b e).1 (w.0, at))
+        | inl at ↦ Contains-append_left first second e ((at_a e).1 (w.0, (w.1.0, at)))
+        | inr at ↦ Contains-append_right first second e ((at_b e).1 (w.0, (w.1.0, at)))
       ] in
-      subst (λ (l : List End). Contains l e) (sym those) (of_kept (is_to p) both e (subst (λ (l : List End). Contains l e) (sym together) there) (prefix_to p e w.1.0)),
+      subst (λ (l : List End). Contains l e) (sym together) there,
 )

@@ -16,15 +16,19 @@ use Rattle.ospf_graph.specs.Graph.{IsEdgeBetween}
 use Rattle.ospf_graph.specs.declared.graph.Vertex.TheVariants as vertex
 use Rattle.ospf_edges.specs.Listed.{advertisements_of}
 use Rattle.ospf_edges.proofs.FitLemmas.{network_fits, router_fits}
-use Rattle.ospf_whatif.specs.Laws.{FailureNamesTellApart}
+use Rattle.ospf_whatif.specs.Carrier.{IsFailureBy}
+use Rattle.ospf_whatif.specs.Laws.{CarriedNamesTellApart, FailureNamesTellApart}
+use Rattle.ospf_whatif.specs.declared.carrier.Carrier.{Carrier}
+use Rattle.ospf_whatif.specs.declared.carrier.Carrier.TheVariants as carrier
 use Rattle.ospf_whatif.specs.Name.{area_failure_text}
 use Rattle.ospf_whatif.specs.Single.{IsFailure, IsOn}
 use Rattle.ospf_whatif.specs.declared.failure.AreaFailure.{AreaFailure}
-use Rattle.ospf_whatif.specs.declared.failure.AreaFailure.TheVariants.{Link, Links, Attachment, Network, Router}
+use Rattle.ospf_whatif.specs.declared.failure.AreaFailure.TheVariants.{Link, End, Links, Attachment, Network, Router}
 
 -- the numbers of a failure fit their fields
 abbrev FailureFits : AreaFailure → Type 0
 FailureFits (Link a b subnet) = (a.0 < 2 ^ 32) × (b.0 < 2 ^ 32)
+FailureFits (End a b subnet) = (a.0 < 2 ^ 32) × (b.0 < 2 ^ 32)
 FailureFits (Links a b) = (a.0 < 2 ^ 32) × (b.0 < 2 ^ 32)
 FailureFits (Attachment router network) = (router.0 < 2 ^ 32) × (network < 2 ^ 32)
 FailureFits (Network network) = network < 2 ^ 32
@@ -52,6 +56,14 @@ link_text a b p =
     ∙ append_assoc (number_text a.0 ++ 45 ∷ []) (number_text b.0) (64 ∷ whole)
     ∙ append_assoc (number_text a.0) (45 ∷ []) (number_text b.0 ++ 64 ∷ whole)
     ∙ ap (λ (x : List ℕ). number_text a.0 ++ 45 ∷ (number_text b.0 ++ 64 ∷ x)) (append_assoc (number_text p.address.0) (47 ∷ []) (decimal p.length))
+
+end_text : (a b : RouterId) (p : Prefix) → area_failure_text (End a b p) ≡ number_text a.0 ++ 58 ∷ (number_text b.0 ++ 64 ∷ prefix_spelled p)
+end_text a b p =
+    let whole = prefix_text p in
+    append_assoc (number_text a.0 ++ 58 ∷ [] ++ number_text b.0) (64 ∷ []) whole
+    ∙ append_assoc (number_text a.0 ++ 58 ∷ []) (number_text b.0) (64 ∷ whole)
+    ∙ append_assoc (number_text a.0) (58 ∷ []) (number_text b.0 ++ 64 ∷ whole)
+    ∙ ap (λ (x : List ℕ). number_text a.0 ++ 58 ∷ (number_text b.0 ++ 64 ∷ x)) (append_assoc (number_text p.address.0) (47 ∷ []) (decimal p.length))
 
 -- two numbers, with a byte between them
 two_text : (a b byte : ℕ) → number_text a ++ byte ∷ [] ++ number_text b ≡ number_text a ++ byte ∷ (number_text b ++ [])
@@ -104,6 +116,16 @@ link_link a b c d p q hf hg e =
     let third : p ≡ q = prefix_one p q (ap (drop 1) all.2) in
     λ i. Link (all.0 i) (all.1 i) (third i)
 
+end_end : (a b c d : RouterId) (p q : Prefix) → FailureFits (Links a b) → FailureFits (Links c d)
+    → area_failure_text (End a b p) ≡ area_failure_text (End c d q) → End a b p ≡ End c d q
+end_end a b c d p q hf hg e =
+    let one = same_number a.0 c.0 (58 ∷ (number_text b.0 ++ 64 ∷ prefix_spelled p)) (58 ∷ (number_text d.0 ++ 64 ∷ prefix_spelled q)) hf.0 hg.0 (omega arith) (omega arith) (sym (end_text a b p) ∙ e ∙ end_text c d q) in
+    let two = same_number b.0 d.0 (64 ∷ prefix_spelled p) (64 ∷ prefix_spelled q) hf.1 hg.1 (omega arith) (omega arith) (ap (drop 1) one.1) in
+    let first : a ≡ c = router_same a c one.0 in
+    let second : b ≡ d = router_same b d two.0 in
+    let third : p ≡ q = prefix_one p q (ap (drop 1) two.1) in
+    λ i. End (first i) (second i) (third i)
+
 links_links : (a b c d : RouterId) → FailureFits (Links a b) → FailureFits (Links c d)
     → area_failure_text (Links a b) ≡ area_failure_text (Links c d) → Links a b ≡ Links c d
 links_links a b c d hf hg e =
@@ -141,6 +163,26 @@ behind_apart : (m n : ℕ) (xs ys : List ℕ) → m < 2 ^ 32 → n < 2 ^ 32 → 
     → number_text m ++ xs ≡ number_text n ++ ys → ⊥
 behind_apart m n xs ys hm hn sx sy apart e = apart (ap (λ (l : List ℕ). get_or l 0 0) (same_number m n xs ys hm hn sx sy e).1)
 
+end_link : (a b c d : RouterId) (p q : Prefix) → a.0 < 2 ^ 32 → c.0 < 2 ^ 32 → area_failure_text (End a b p) ≡ area_failure_text (Link c d q) → ⊥
+end_link a b c d p q ha hc e =
+    behind_apart a.0 c.0 (58 ∷ (number_text b.0 ++ 64 ∷ prefix_spelled p)) (45 ∷ (number_text d.0 ++ 64 ∷ prefix_spelled q)) ha hc (omega arith) (omega arith) (λ h. omega (arith, h))
+    (sym (end_text a b p) ∙ e ∙ link_text c d q)
+
+end_links : (a b c d : RouterId) (p : Prefix) → a.0 < 2 ^ 32 → c.0 < 2 ^ 32 → area_failure_text (End a b p) ≡ area_failure_text (Links c d) → ⊥
+end_links a b c d p ha hc e =
+    behind_apart a.0 c.0 (58 ∷ (number_text b.0 ++ 64 ∷ prefix_spelled p)) (45 ∷ (number_text d.0 ++ [])) ha hc (omega arith) (omega arith) (λ h. omega (arith, h))
+    (sym (end_text a b p) ∙ e ∙ links_text c d)
+
+end_attachment : (a b r : RouterId) (p : Prefix) (n : ℕ) → a.0 < 2 ^ 32 → r.0 < 2 ^ 32 → area_failure_text (End a b p) ≡ area_failure_text (Attachment r n) → ⊥
+end_attachment a b r p n ha hr e =
+    behind_apart a.0 r.0 (58 ∷ (number_text b.0 ++ 64 ∷ prefix_spelled p)) (64 ∷ (number_text n ++ [])) ha hr (omega arith) (omega arith) (λ h. omega (arith, h))
+    (sym (end_text a b p) ∙ e ∙ attachment_text r n)
+
+end_router : (a b r : RouterId) (p : Prefix) → a.0 < 2 ^ 32 → r.0 < 2 ^ 32 → area_failure_text (End a b p) ≡ area_failure_text (Router r) → ⊥
+end_router a b r p ha hr e =
+    behind_apart a.0 r.0 (58 ∷ (number_text b.0 ++ 64 ∷ prefix_spelled p)) [] ha hr (omega arith) (omega arith) (λ h. omega (arith, h))
+    (sym (end_text a b p) ∙ e ∙ router_text r)
+
 link_attachment : (a b r : RouterId) (p : Prefix) (n : ℕ) → a.0 < 2 ^ 32 → r.0 < 2 ^ 32 → area_failure_text (Link a b p) ≡ area_failure_text (Attachment r n) → ⊥
 link_attachment a b r p n ha hr e =
     behind_apart a.0 r.0 (45 ∷ (number_text b.0 ++ 64 ∷ prefix_spelled p)) (64 ∷ (number_text n ++ [])) ha hr (omega arith) (omega arith) (λ h. omega (arith, h))
@@ -170,6 +212,9 @@ attachment_router r s n hr hs e =
 network_link : (a b : RouterId) (p : Prefix) (n : ℕ) → area_failure_text (Link a b p) ≡ area_failure_text (Network n) → ⊥
 network_link a b p n e = no_at a.0 (45 ∷ (number_text b.0 ++ 64 ∷ prefix_spelled p)) (number_text n ++ []) (omega arith) (sym (link_text a b p) ∙ e ∙ network_text n)
 
+network_end : (a b : RouterId) (p : Prefix) (n : ℕ) → area_failure_text (End a b p) ≡ area_failure_text (Network n) → ⊥
+network_end a b p n e = no_at a.0 (58 ∷ (number_text b.0 ++ 64 ∷ prefix_spelled p)) (number_text n ++ []) (omega arith) (sym (end_text a b p) ∙ e ∙ network_text n)
+
 network_links : (a b : RouterId) (n : ℕ) → area_failure_text (Links a b) ≡ area_failure_text (Network n) → ⊥
 network_links a b n e = no_at a.0 (45 ∷ (number_text b.0 ++ [])) (number_text n ++ []) (omega arith) (sym (links_text a b) ∙ e ∙ network_text n)
 
@@ -183,13 +228,23 @@ network_router r n e = no_at r.0 [] (number_text n ++ []) (omega arith) (sym (ro
 
 of_link : (a b : RouterId) (p : Prefix) (g : AreaFailure) → FailureFits (Links a b) → FailureFits g → area_failure_text (Link a b p) ≡ area_failure_text g → Link a b p ≡ g
 of_link a b p (Link c d q) hf hg e = link_link a b c d p q hf hg e
+of_link a b p (End c d q) hf hg e = absurd (end_link c d a b q p hg.0 hf.0 (sym e))
 of_link a b p (Links c d) hf hg e = absurd (link_links a b c d p hf hg e)
 of_link a b p (Attachment r n) hf hg e = absurd (link_attachment a b r p n hf.0 hg.0 e)
 of_link a b p (Network n) hf hg e = absurd (network_link a b p n e)
 of_link a b p (Router r) hf hg e = absurd (link_router a b r p hf.0 hg e)
 
+of_end : (a b : RouterId) (p : Prefix) (g : AreaFailure) → FailureFits (Links a b) → FailureFits g → area_failure_text (End a b p) ≡ area_failure_text g → End a b p ≡ g
+of_end a b p (Link c d q) hf hg e = absurd (end_link a b c d p q hf.0 hg.0 e)
+of_end a b p (End c d q) hf hg e = end_end a b c d p q hf hg e
+of_end a b p (Links c d) hf hg e = absurd (end_links a b c d p hf.0 hg.0 e)
+of_end a b p (Attachment r n) hf hg e = absurd (end_attachment a b r p n hf.0 hg.0 e)
+of_end a b p (Network n) hf hg e = absurd (network_end a b p n e)
+of_end a b p (Router r) hf hg e = absurd (end_router a b r p hf.0 hg e)
+
 of_links : (a b : RouterId) (g : AreaFailure) → FailureFits (Links a b) → FailureFits g → area_failure_text (Links a b) ≡ area_failure_text g → Links a b ≡ g
 of_links a b (Link c d q) hf hg e = absurd (link_links c d a b q hg hf (sym e))
+of_links a b (End c d q) hf hg e = absurd (end_links c d a b q hg.0 hf.0 (sym e))
 of_links a b (Links c d) hf hg e = links_links a b c d hf hg e
 of_links a b (Attachment r n) hf hg e = absurd (links_attachment a b r n hf.0 hg.0 e)
 of_links a b (Network n) hf hg e = absurd (network_links a b n e)
@@ -197,6 +252,7 @@ of_links a b (Router r) hf hg e = absurd (links_router a b r hf.0 hg e)
 
 of_attachment : (r : RouterId) (n : ℕ) (g : AreaFailure) → FailureFits (Attachment r n) → FailureFits g → area_failure_text (Attachment r n) ≡ area_failure_text g → Attachment r n ≡ g
 of_attachment r n (Link c d q) hf hg e = absurd (link_attachment c d r q n hg.0 hf.0 (sym e))
+of_attachment r n (End c d q) hf hg e = absurd (end_attachment c d r q n hg.0 hf.0 (sym e))
 of_attachment r n (Links c d) hf hg e = absurd (links_attachment c d r n hg.0 hf.0 (sym e))
 of_attachment r n (Attachment s m) hf hg e = attachment_attachment r s n m hf hg e
 of_attachment r n (Network m) hf hg e = absurd (network_attachment r n m e)
@@ -204,6 +260,7 @@ of_attachment r n (Router s) hf hg e = absurd (attachment_router r s n hf.0 hg e
 
 of_network : (n : ℕ) (g : AreaFailure) → n < 2 ^ 32 → FailureFits g → area_failure_text (Network n) ≡ area_failure_text g → Network n ≡ g
 of_network n (Link c d q) hf hg e = absurd (network_link c d q n (sym e))
+of_network n (End c d q) hf hg e = absurd (network_end c d q n (sym e))
 of_network n (Links c d) hf hg e = absurd (network_links c d n (sym e))
 of_network n (Attachment s m) hf hg e = absurd (network_attachment s m n (sym e))
 of_network n (Network m) hf hg e = network_network n m hf hg e
@@ -211,6 +268,7 @@ of_network n (Router s) hf hg e = absurd (network_router s n (sym e))
 
 of_router : (r : RouterId) (g : AreaFailure) → r.0 < 2 ^ 32 → FailureFits g → area_failure_text (Router r) ≡ area_failure_text g → Router r ≡ g
 of_router r (Link c d q) hf hg e = absurd (link_router c d r q hg.0 hf (sym e))
+of_router r (End c d q) hf hg e = absurd (end_router c d r q hg.0 hf (sym e))
 of_router r (Links c d) hf hg e = absurd (links_router c d r hg.0 hf (sym e))
 of_router r (Attachment s m) hf hg e = absurd (attachment_router s r m hg.0 hf (sym e))
 of_router r (Network n) hf hg e = absurd (network_router r n e)
@@ -218,6 +276,7 @@ of_router r (Router s) hf hg e = router_router r s hf hg e
 
 names_apart : (f g : AreaFailure) → FailureFits f → FailureFits g → area_failure_text f ≡ area_failure_text g → f ≡ g
 names_apart (Link a b p) g hf hg e = of_link a b p g hf hg e
+names_apart (End a b p) g hf hg e = of_end a b p g hf hg e
 names_apart (Links a b) g hf hg e = of_links a b g hf hg e
 names_apart (Attachment r n) g hf hg e = of_attachment r n g hf hg e
 names_apart (Network n) g hf hg e = of_network n g hf hg e
@@ -236,10 +295,25 @@ module _ (lsas : List (List ℕ)) (is : IsListing lsas) where
   failure_fits : (f : AreaFailure) → IsFailure (advertisements_of lsas) f → FailureFits f
   failure_fits (Link a b p) (inl wire) = ends_fit a b wire.cost wire.address wire.edge
   failure_fits (Link a b p) (inr links) = ends_fit a b links.cost links.address links.edge
+  failure_fits (End a b p) never = absurd never
   failure_fits (Links a b) (smaller, (cost, address, edge), none) = ends_fit a b cost address edge
   failure_fits (Attachment r n) on = attached_fit r n on
   failure_fits (Network n) (r, on) = (attached_fit r n on).1
   failure_fits (Router r) listed = router_fits lsas is r listed
 
+  carried_fits : (carrier : Carrier) (f : AreaFailure) → IsFailureBy carrier (advertisements_of lsas) f → FailureFits f
+  carried_fits carrier.Switch (Link a b p) never = absurd never
+  carried_fits carrier.Switch (End a b p) (inl is) = failure_fits (Link a b p) is
+  carried_fits carrier.Switch (End a b p) (inr is) = let fits = failure_fits (Link b a p) is in (fits.1, fits.0)
+  carried_fits carrier.Switch (Links a b) is = failure_fits (Links a b) is
+  carried_fits carrier.Switch (Attachment r n) is = failure_fits (Attachment r n) is
+  carried_fits carrier.Switch (Network n) is = failure_fits (Network n) is
+  carried_fits carrier.Switch (Router r) is = failure_fits (Router r) is
+  carried_fits carrier.Direct f is = failure_fits f is
+  carried_fits carrier.Process f is = failure_fits f is
+
 pub failure_names_tell_apart : FailureNamesTellApart
 failure_names_tell_apart lsas f g is fails fails' e = names_apart f g (failure_fits lsas is f fails) (failure_fits lsas is g fails') e
+
+pub carried_names_tell_apart : CarriedNamesTellApart
+carried_names_tell_apart by lsas f g is fails fails' e = names_apart f g (carried_fits lsas is by f fails) (carried_fits lsas is by g fails') e

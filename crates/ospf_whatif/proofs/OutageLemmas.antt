@@ -27,7 +27,7 @@ use Rattle.ospf_incremental.specs.Shrinking.{TakesEdges}
 use Rattle.ospf_edges.specs.Given.{IsEdgesOf}
 use Rattle.ospf_spf.proofs.RouteFrame.{IsKeptHere, kept_routes}
 use Rattle.ospf_spf.specs.Spared.{AreEndsInOrder}
-use Rattle.ospf_whatif.specs.Failure.{without}
+use Rattle.ospf_whatif.specs.Failure.{without, without_all}
 use Rattle.ospf_whatif.specs.Laws.{IsOffLeastPaths}
 use Rattle.ospf_whatif.specs.Lost.{AreEdgesLost, AreEndsLost}
 use Rattle.ospf_whatif.specs.Outage.{AreLost, AreMissing, HasOtherFrom, IsAreaGraph, IsLeftOver, IsOutage, IsToldBy, MayChange, StandsIn, left_of_area}
@@ -35,7 +35,7 @@ use Rattle.ospf_whatif.specs.Told.{IsAdvertised, IsLive}
 use Rattle.ospf_whatif.specs.declared.failure.AreaFailure.{AreaFailure}
 use Rattle.ospf_whatif.specs.declared.outage.AreaGraph.{AreaGraph}
 use Rattle.ospf_whatif.specs.declared.outage.Outage.{Outage}
-use Rattle.ospf_whatif.proofs.LessLemmas.{failures_leave_listed, failures_make_no_edge, failures_make_no_end, trees_stay}
+use Rattle.ospf_whatif.proofs.LessLemmas.{all_leave_listed, all_make_no_edge, all_make_no_end, all_trees_stay}
 
 -- ---- lists
 
@@ -97,13 +97,44 @@ lead_back A edges are e m =
 
 -- ---- what a failure takes
 
-pub outage_is : (f : AreaFailure) (A : List Advertisement) (o : Outage) → o.failure ≡ f → AreEdgesLost A f o.edges.items → AreEndsLost A f o.ends.items
+pub outage_is : (f : AreaFailure) (A : List Advertisement) (o : Outage) → o.failures.items ≡ f ∷ [] → AreEdgesLost A f o.edges.items → AreEndsLost A f o.ends.items
     → AreEndsInOrder o.ends.items → IsOutage A o
 outage_is f A o of edges ends in_order =
-    let same : without f A ≡ left_of_area A o = ap (λ (g : AreaFailure). without g A) (sym of) in
+    let same : without f A ≡ left_of_area A o = ap (λ (fs : List AreaFailure). without_all fs A) (sym of) in
     let edges : AreLost (IsEdge A) (IsEdge (left_of_area A o)) o.edges.items = subst (λ (l : List Advertisement). AreLost (IsEdge A) (IsEdge l) o.edges.items) same edges in
     let ends : AreLost (StandsIn A) (StandsIn (left_of_area A o)) o.ends.items = subst (λ (l : List Advertisement). AreLost (StandsIn A) (StandsIn l) o.ends.items) same ends in
     record { edges = edges; ends = ends; ends_in_order = in_order }
+
+-- by the graphs of before and after
+pub outage_between : (A : List Advertisement) (o : Outage) (before after : AreaGraph) → AreMissing before.edges.items after.edges.items o.edges.items
+    → AreMissing before.ends.items after.ends.items o.ends.items → AreEndsInOrder o.ends.items → IsAreaGraph A before → IsAreaGraph (left_of_area A o) after → IsOutage A o
+outage_between A o before after edges ends in_order was is = record {
+  edges = record {
+    within = λ e m. let w = edges.within e m in ((was.edges_are e).0 w.0, (λ left. w.1 ((is.edges_are e).1 left)));
+    all = λ e there. elim (edges.all e ((was.edges_are e).1 there)) [ inl gone ↦ inl gone | inr left ↦ inr ((is.edges_are e).0 left) ];
+  };
+  ends = record {
+    within = λ e m. let w = ends.within e m in ((was.ends_are e).0 w.0, (λ left. w.1 ((is.ends_are e).1 left)));
+    all = λ e there. elim (ends.all e ((was.ends_are e).1 there)) [ inl gone ↦ inl gone | inr left ↦ inr ((is.ends_are e).0 left) ];
+  };
+  ends_in_order = in_order;
+}
+
+-- of no failure
+pub outage_none : (A : List Advertisement) (o : Outage) → o.failures.items ≡ [] → o.edges.items ≡ [] → o.ends.items ≡ [] → IsOutage A o
+outage_none A o none edges ends =
+    let same : A ≡ left_of_area A o = ap (λ (fs : List AreaFailure). without_all fs A) (sym none) in
+    record {
+      edges = record {
+        within = λ e m. absurd (let low = (subst (λ (l : List Edge). Contains l e) edges m).1 in omega arith);
+        all = λ e there. inr (subst (λ (l : List Advertisement). IsEdge l e) same there);
+      };
+      ends = record {
+        within = λ e m. absurd (let low = (subst (λ (l : List End). Contains l e) ends m).1 in omega arith);
+        all = λ e there. inr (subst (λ (l : List Advertisement). StandsIn l e) same there);
+      };
+      ends_in_order = subst AreEndsInOrder (sym ends) (λ i j d less lt. absurd (omega arith));
+    }
 
 -- the tree over the edges of an area
 pub tree_over : (A : List Advertisement) (root : RouterId) (k : KeptTree) → k.root ≡ Router root → IsEdgesOf A k.edges → IsKeptTree k
@@ -117,10 +148,10 @@ module _ (A : List Advertisement) (o : Outage) (is : IsOutage A o) where
   B = left_of_area A o
 
   end_from : (p : Prefix) (v : Vertex) (k : ℕ) → IsEnd B p v k → IsEnd A p v k
-  end_from p v k e = failures_make_no_end o.failure A p v k e
+  end_from p v k e = all_make_no_end o.failures.items A p v k e
 
   edge_from : (e : Edge) → IsEdge B e → IsEdge A e
-  edge_from e there = failures_make_no_edge o.failure A e there
+  edge_from e there = all_make_no_edge o.failures.items A e there
 
   -- ---- ends of a prefix
 
@@ -160,7 +191,7 @@ module _ (A : List Advertisement) (o : Outage) (is : IsOutage A o) where
   pub tree_unused : (root : Vertex) (k : KeptTree) → IsTree (IsEdge A) root (AtIn k.settled) (StartsIn k.starts)
       → ((e : Edge) → Contains o.edges.items e → IsOffLeastPaths (AtIn k.settled) e) → IsTree (IsEdge B) root (AtIn k.settled) (StartsIn k.starts)
   tree_unused root k tree unused =
-      trees_stay o.failure A root k.settled k.starts tree (λ e there. elim (is.edges.all e there) [ inl gone ↦ inr (unused e gone) | inr left ↦ inl left ])
+      all_trees_stay o.failures.items A root k.settled k.starts tree (λ e there. elim (is.edges.all e there) [ inl gone ↦ inr (unused e gone) | inr left ↦ inl left ])
 
   -- of the paths that are left without the edges
   pub tree_left : (root : RouterId) (before after : KeptTree) → IsEdgesOf A before.edges → TakesEdges o.edges.items before.edges after.edges → after.root ≡ Router root → IsKeptTree after
@@ -191,7 +222,7 @@ module _ (A : List Advertisement) (o : Outage) (is : IsOutage A o) where
 
     pub stays_here : (r : Route) → r.prefix ≡ p → IsRoute A root r → IsRoute B root r
     stays_here r of route =
-        let both = failures_leave_listed o.failure A root in
+        let both = all_leave_listed o.failures.items A root in
         (kept_routes A B root before after over.was over.now both.0 both.1 p kept_here).routes r of route
 
 -- paths that stay

@@ -59,6 +59,9 @@ module _ (xs ys : List Link) where
   takes_same (fails.Link a b subnet) same r l =
       ap (λ (o : Bool). (eqb r.0 a.0 && ((is_link_to l b && o) || is_stub_of l subnet)) || (eqb r.0 b.0 && ((is_link_to l a && o) || is_stub_of l subnet)))
       (of_same xs ys same subnet l.link_data)
+  takes_same (fails.End a b subnet) same r l =
+      ap (λ (o : Bool). (eqb r.0 a.0 && ((is_link_to l b && o) || is_stub_of l subnet)) || (eqb r.0 b.0 && (is_link_to l a && o)))
+      (of_same xs ys same subnet l.link_data)
   takes_same (fails.Links a b) same r l = refl
   takes_same (fails.Attachment q n) same r l = refl
   takes_same (fails.Network n) same r l = refl
@@ -184,6 +187,11 @@ module _ (f : AreaFailure) (A : List Advertisement) where
   pub inner_of_link : (a b : RouterId) (subnet : Prefix) (found : Result (Vec Link Global) AllocError) → f ≡ fails.Link a b subnet
       → IfOk found (λ inner. HaveSame inner.items (inner_between subnet a b (links_by a A) (links_by b A))) → IfOk found (λ inner. HaveSame inner.items (inner_of f A))
   inner_of_link a b subnet found is are =
+      subst (λ (g : AreaFailure). IfOk found (λ (inner : Vec Link Global). HaveSame inner.items (inner_of g A))) (sym is) are
+
+  pub inner_of_end : (a b : RouterId) (subnet : Prefix) (found : Result (Vec Link Global) AllocError) → f ≡ fails.End a b subnet
+      → IfOk found (λ inner. HaveSame inner.items (inner_between subnet a b (links_by a A) (links_by b A))) → IfOk found (λ inner. HaveSame inner.items (inner_of f A))
+  inner_of_end a b subnet found is are =
       subst (λ (g : AreaFailure). IfOk found (λ (inner : Vec Link Global). HaveSame inner.items (inner_of g A))) (sym is) are
 
   pub inner_of_other : (g : AreaFailure) → f ≡ g → inner_of g A ≡ [] → (inner : List Link) → inner ≡ [] → HaveSame inner (inner_of f A)

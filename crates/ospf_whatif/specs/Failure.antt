@@ -43,11 +43,14 @@ is_of_subnet inner subnet link_data =
     (bit_and link_data (mask_of subnet.length) == subnet.address.0)
     && not (list_any (λ stub. is_held stub link_data) inner)
 
--- what an interface to a router in a subnet makes (section 12.4.1.1): a type 1 link from an address
--- there, which lies in no longer subnet, and the type 3 link to the subnet
+-- a type 1 link to the router from an address in the subnet, which lies in no longer one
+abbrev pub is_wire_link : List Link → Link → RouterId → Prefix → Bool
+is_wire_link inner l router subnet = is_link_to l router && is_of_subnet inner subnet l.link_data
+
+-- what an interface to a router in a subnet makes (section 12.4.1.1): that type 1 link, and the
+-- type 3 link to the subnet
 abbrev pub is_wire_end : List Link → Link → RouterId → Prefix → Bool
-is_wire_end inner l router subnet =
-    (is_link_to l router && is_of_subnet inner subnet l.link_data) || is_stub_of l subnet
+is_wire_end inner l router subnet = is_wire_link inner l router subnet || is_stub_of l subnet
 
 -- ---- failures
 
@@ -55,6 +58,8 @@ is_wire_end inner l router subnet =
 abbrev pub inner_of : failure.AreaFailure → List Advertisement → List Link
 inner_of (fails.Link a b subnet) adverts =
     inner_between subnet a b (links_by a adverts) (links_by b adverts)
+inner_of (fails.End router other subnet) adverts =
+    inner_between subnet router other (links_by router adverts) (links_by other adverts)
 inner_of _ adverts = []
 
 -- the links that the router-LSA of a router has lost once its routers have told of the failure:
@@ -64,6 +69,9 @@ abbrev pub takes : List Link → failure.AreaFailure → RouterId → Link → B
 takes inner (fails.Link a b subnet) router l =
     ((router.0 == a.0) && is_wire_end inner l b subnet)
     || ((router.0 == b.0) && is_wire_end inner l a subnet)
+takes inner (fails.End down other subnet) router l =
+    ((router.0 == down.0) && is_wire_end inner l other subnet)
+    || ((router.0 == other.0) && is_wire_link inner l down subnet)
 takes inner (Links a b) router l =
     ((router.0 == a.0) && is_link_to l b) || ((router.0 == b.0) && is_link_to l a)
 takes inner (Attachment attached network) router l =

@@ -15,9 +15,11 @@ use Rattle.ospf_graph.specs.declared.graph.Vertex.{Vertex}
 use Rattle.ospf_graph.specs.declared.route.Route.{Route}
 use Rattle.ospf_lsa.specs.Listing.{IsListing}
 use Rattle.ospf_lsa.specs.declared.link.Link.{Link as LsaLink}
+use Rattle.ospf_whatif.specs.Carrier.{IsFailureBy}
 use Rattle.ospf_whatif.specs.Failure.{takes_in, without}
 use Rattle.ospf_whatif.specs.Name.{area_failure_text}
 use Rattle.ospf_whatif.specs.Single.{IsFailure}
+use Rattle.ospf_whatif.specs.declared.carrier.Carrier.{Carrier}
 use Rattle.ospf_whatif.specs.declared.failure.AreaFailure.{AreaFailure}
 use Rattle.ospf_whatif.specs.declared.failure.AreaFailure.TheVariants.{Link}
 
@@ -57,6 +59,14 @@ FailureNamesTellApart =
     (lsas : List (List ℕ)) (f g : AreaFailure) → IsListing lsas
     → IsFailure (advertisements_of lsas) f → IsFailure (advertisements_of lsas) g
     → area_failure_text f ≡ area_failure_text g → f ≡ g
+
+-- nor have two of those that may fail where links are carried so
+abbrev pub CarriedNamesTellApart : Type 0
+CarriedNamesTellApart =
+    (carrier : Carrier) (lsas : List (List ℕ)) (f g : AreaFailure) → IsListing lsas
+    → IsFailureBy carrier (advertisements_of lsas) f
+    → IsFailureBy carrier (advertisements_of lsas) g → area_failure_text f ≡ area_failure_text g
+    → f ≡ g
 
 -- a link of a router fails with one subnet alone: no two failures of links between the same two
 -- routers take it, also where one subnet lies in the other

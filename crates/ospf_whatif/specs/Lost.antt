@@ -2,7 +2,7 @@
 use Rattle.std.specs.Prelude.{◌≡◌, ◌⊎◌, ◌↔◌, false, List, Any, Contains}
 use Rattle.ospf_base.specs.declared.ids.RouterId.{RouterId}
 use Rattle.ospf_base.specs.declared.prefix.Prefix.{Prefix}
-use Rattle.ospf_edges.specs.declared.end.End.{End}
+use Rattle.ospf_edges.specs.declared.end.End.{End as PrefixEnd}
 use Rattle.ospf_lsa.specs.declared.link.Link.{Link as LsaLink}
 use Rattle.ospf_graph.specs.Advertisements.{Advertisement}
 use Rattle.ospf_graph.specs.Graph.{IsEdge}
@@ -12,13 +12,14 @@ use Rattle.ospf_graph.specs.declared.graph.Vertex.TheVariants as vertex
 use Rattle.ospf_whatif.specs.Failure.{is_of_subnet, without}
 use Rattle.ospf_whatif.specs.Outage.{AreLost, StandsIn}
 use Rattle.ospf_whatif.specs.declared.failure.AreaFailure.{AreaFailure}
-use Rattle.ospf_whatif.specs.declared.failure.AreaFailure.TheVariants.{Attachment, Link, Links, Network, Router}
+use Rattle.ospf_whatif.specs.declared.failure.AreaFailure.TheVariants.{Attachment, End, Link, Links, Network, Router}
 
 -- ---- edges
 
 -- the vertex that each edge touches which the failure takes
 abbrev pub centre_of : AreaFailure → Vertex
 centre_of (Link a b subnet) = vertex.Router a
+centre_of (End router other subnet) = vertex.Router router
 centre_of (Links a b) = vertex.Router a
 centre_of (Attachment router network) = vertex.Router router
 centre_of (Network network) = vertex.Network network
@@ -46,6 +47,8 @@ IsTwoWay inner near subnet e =
 abbrev pub Stays : AreaFailure → List LsaLink → List Edge → Edge → Type 0
 Stays (Link a b subnet) inner near e =
     Connects e (vertex.Router a) (vertex.Router b) → IsTwoWay inner near subnet e
+Stays (End router other subnet) inner near e =
+    Connects e (vertex.Router router) (vertex.Router other) → IsTwoWay inner near subnet e
 Stays (Links a b) inner near e = Connects e (vertex.Router a) (vertex.Router b) → ⊥
 Stays (Attachment router network) inner near e =
     Connects e (vertex.Router router) (vertex.Network network) → ⊥
@@ -59,15 +62,24 @@ AreEdgesLost adverts f lost = AreLost (IsEdge adverts) (IsEdge (without f advert
 -- ---- ends
 
 -- the end is one of the prefix at one of the two routers
-abbrev pub IsStubOf : RouterId → RouterId → Prefix → End → Type 0
+abbrev pub IsStubOf : RouterId → RouterId → Prefix → PrefixEnd → Type 0
 IsStubOf a b prefix e =
     (e.prefix ≡ prefix) × ((e.vertex ≡ vertex.Router a) ⊎ (e.vertex ≡ vertex.Router b))
 
+-- the end is that of the prefix at the router
+abbrev pub IsStubAt : RouterId → Prefix → PrefixEnd → Type 0
+IsStubAt router prefix e = (e.prefix ≡ prefix) × (e.vertex ≡ vertex.Router router)
+
 -- exactly these
-abbrev pub AreStubsOf : List Advertisement → RouterId → RouterId → Prefix → List End → Type 0
+abbrev pub AreStubsAt : List Advertisement → RouterId → Prefix → List PrefixEnd → Type 0
+AreStubsAt adverts router prefix ends =
+    (e : PrefixEnd) → Contains ends e ↔ (StandsIn adverts e × IsStubAt router prefix e)
+
+-- exactly these
+abbrev pub AreStubsOf : List Advertisement → RouterId → RouterId → Prefix → List PrefixEnd → Type 0
 AreStubsOf adverts a b prefix ends =
-    (e : End) → Contains ends e ↔ (StandsIn adverts e × IsStubOf a b prefix e)
+    (e : PrefixEnd) → Contains ends e ↔ (StandsIn adverts e × IsStubOf a b prefix e)
 
 -- exactly the ends that the failure takes
-abbrev pub AreEndsLost : List Advertisement → AreaFailure → List End → Type 0
+abbrev pub AreEndsLost : List Advertisement → AreaFailure → List PrefixEnd → Type 0
 AreEndsLost adverts f lost = AreLost (StandsIn adverts) (StandsIn (without f adverts)) lost

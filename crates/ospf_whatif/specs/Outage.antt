@@ -17,7 +17,7 @@ use Rattle.ospf_edges.specs.declared.end.End.{End}
 use Rattle.ospf_incremental.specs.Kept.{IsKeptTree, IsSameBut, KeptTree}
 use Rattle.ospf_spf.specs.Spared.{AreEndsInOrder}
 use Rattle.ospf_whatif.specs.Effect.{IsRouteChangeBefore}
-use Rattle.ospf_whatif.specs.Failure.{without}
+use Rattle.ospf_whatif.specs.Failure.{without_all}
 use Rattle.ospf_whatif.specs.Told.{IsAdvertised, IsLive}
 use Rattle.ospf_whatif.specs.declared.effect.Loss.{Loss}
 use Rattle.ospf_whatif.specs.declared.effect.Loss.TheVariants.{Cut, Dearer, Gone, Moved}
@@ -36,7 +36,7 @@ pub record IsAreaGraph (adverts : List Advertisement) (area : AreaGraph) : Type 
   pub ends_are : IsEndsOf adverts area.ends.items
   pub ends_in_order : AreEndsInOrder area.ends.items
 
--- ---- a failure
+-- ---- failures
 
 -- of those before, exactly the ones that are not there after
 pub record AreLost {X : Type 0} (Before After : X → Type 0) (lost : List X) : Type 0 where
@@ -47,15 +47,15 @@ pub record AreLost {X : Type 0} (Before After : X → Type 0) (lost : List X) : 
 abbrev pub AreMissing : {X : Type 0} → List X → List X → List X → Type 0
 AreMissing before after missing = AreLost (Contains before) (Contains after) missing
 
--- what its failure leaves of the area
+-- what its failures leave of the area
 abbrev pub left_of_area : List Advertisement → Outage → List Advertisement
-left_of_area adverts outage = without outage.failure adverts
+left_of_area adverts outage = without_all outage.failures.items adverts
 
 -- the end stands in the area
 abbrev pub StandsIn : List Advertisement → End → Type 0
 StandsIn adverts e = IsEnd adverts e.prefix e.vertex e.cost
 
--- its edges and its ends are those of the area that its failure does not leave, the ends in order
+-- its edges and its ends are those of the area that its failures do not leave, the ends in order
 pub record IsOutage (adverts : List Advertisement) (outage : Outage) : Type 0 where
   pub edges : AreLost (IsEdge adverts) (IsEdge (left_of_area adverts outage)) outage.edges.items
   pub ends : AreLost (StandsIn adverts) (StandsIn (left_of_area adverts outage)) outage.ends.items

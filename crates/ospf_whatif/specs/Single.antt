@@ -76,10 +76,11 @@ IsOn adverts router n =
     (cost address : ℕ)
     × IsEdgeBetween adverts (vertex.Router router) (vertex.Network n) cost address
 
--- what may fail
+-- what may fail, of which no part fails alone but here, so no end of a link
 abbrev pub IsFailure : List Advertisement → failure.AreaFailure → Type 0
 IsFailure adverts (fails.Link a b subnet) =
     IsWire adverts a b subnet ⊎ IsUnnumbered adverts a b subnet
+IsFailure adverts (fails.End router other subnet) = ⊥
 IsFailure adverts (Links a b) =
     (a.0 < b.0)
     × ((cost address : ℕ) × IsEdgeBetween adverts (vertex.Router a) (vertex.Router b) cost address)
@@ -92,17 +93,21 @@ IsFailure adverts (Router router) = IsListed adverts router
 abbrev pub AreFailures : List Advertisement → List failure.AreaFailure → Type 0
 AreFailures adverts fs = (f : failure.AreaFailure) → Contains fs f ↔ IsFailure adverts f
 
--- the place of a failure's kind: links with a subnet, other links, attachments, networks, routers
+-- the place of a failure's kind: links with a subnet, their ends, other links, attachments,
+-- networks, routers
 abbrev pub kind_place : failure.AreaFailure → ℕ
 kind_place (fails.Link a b subnet) = 0
-kind_place (Links a b) = 1
-kind_place (Attachment router n) = 2
-kind_place (Network n) = 3
-kind_place (Router router) = 4
+kind_place (fails.End router other subnet) = 1
+kind_place (Links a b) = 2
+kind_place (Attachment router n) = 3
+kind_place (Network n) = 4
+kind_place (Router router) = 5
 
 -- the order of failures: by kind, then by routers, subnet or network
 abbrev pub IsFailureBefore : failure.AreaFailure → failure.AreaFailure → Type 0
 IsFailureBefore (fails.Link a b p) (fails.Link c d q) =
+    (a.0 < c.0) ⊎ ((a.0 ≡ c.0) × ((b.0 < d.0) ⊎ ((b.0 ≡ d.0) × IsPrefixBefore p q)))
+IsFailureBefore (fails.End a b p) (fails.End c d q) =
     (a.0 < c.0) ⊎ ((a.0 ≡ c.0) × ((b.0 < d.0) ⊎ ((b.0 ≡ d.0) × IsPrefixBefore p q)))
 IsFailureBefore (Links a b) (Links c d) = (a.0 < c.0) ⊎ ((a.0 ≡ c.0) × (b.0 < d.0))
 IsFailureBefore (Attachment r n) (Attachment s m) = (r.0 < s.0) ⊎ ((r.0 ≡ s.0) × (n < m))

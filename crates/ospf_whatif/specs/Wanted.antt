@@ -1,5 +1,5 @@
 -- What routers want after a failure (RFC 2328, section 12.4.1).
-use Rattle.std.specs.Prelude.{◌≡◌, ◌≢◌, ◌++◌, ◌∷◌, [], ℕ, Bool, true, false, List, map}
+use Rattle.std.specs.Prelude.{◌≡◌, ◌≢◌, ◌++◌, ◌∷◌, [], ⊤, ℕ, Bool, true, false, List, map}
 use Rattle.std.specs.List.{AllByRecursion, flat_map, list_any}
 use Rattle.ospf_base.specs.Prefixes.{IsPrefixOf}
 use Rattle.ospf_base.specs.declared.ids.RouterId.{RouterId}
@@ -7,9 +7,10 @@ use Rattle.ospf_base.specs.declared.interface.InterfaceKind.TheVariants as kind
 use Rattle.ospf_base.specs.declared.prefix.Prefix.{Prefix}
 use Rattle.ospf_lsa.specs.declared.link.Link.{Link}
 use Rattle.ospf_area.specs.State.{LinkValue}
+use Rattle.ospf_graph.specs.Advertisements.{Advertisement}
 use Rattle.ospf_iface.specs.Machine.{is_down}
 use Rattle.ospf_wanted.specs.Wanted.{is_transit, links_of_link}
-use Rattle.ospf_whatif.specs.Failure.{kept_links, takes}
+use Rattle.ospf_whatif.specs.Failure.{inner_of, kept_after, kept_links, takes, takes_in, without, without_all}
 use Rattle.ospf_whatif.specs.Renamed.{renamed_link}
 use Rattle.ospf_whatif.specs.Subnets.{is_held}
 use Rattle.ospf_whatif.specs.declared.failure.AreaFailure.{AreaFailure}
@@ -54,11 +55,22 @@ LinksGoDown =
     → AreSpared inner (fails.Link router other subnet) router stub_router back →
     IsLeft inner (fails.Link router other subnet) router stub_router front before after back
 
+-- behind a switch the interface goes down, and that at the other end stays up
+abbrev pub EndsGoDown : Type 0
+EndsGoDown =
+    (inner : List Link) (router other : RouterId) (subnet : Prefix) (stub_router : Bool)
+    (front back : List LinkValue) (before after : LinkValue) →
+    IsWireUp before other subnet → IsInNone inner before → is_down after.iface.state ≡ true →
+    AreSpared inner (fails.End router other subnet) router stub_router front
+    → AreSpared inner (fails.End router other subnet) router stub_router back →
+    IsLeft inner (fails.End router other subnet) router stub_router front before after back
+
 -- the failure of a router's attachment to a network, or of the network
 abbrev pub IsNetworkFailure : AreaFailure → RouterId → ℕ → Type 0
 IsNetworkFailure (fails.Attachment q n) router network = (q ≡ router) × (n ≡ network)
 IsNetworkFailure (fails.Network n) router network = n ≡ network
 IsNetworkFailure (fails.Link _ _ _) _ _ = ⊥
+IsNetworkFailure (fails.End _ _ _) _ _ = ⊥
 IsNetworkFailure (fails.Links _ _) _ _ = ⊥
 IsNetworkFailure (fails.Router _) _ _ = ⊥
 
@@ -83,6 +95,41 @@ RoutersStop =
     AreSpared inner (fails.Router gone) router stub_router front
     → AreSpared inner (fails.Router gone) router stub_router back →
     IsLeft inner (fails.Router gone) router stub_router front before after back
+
+-- behind a switch the interface stays up, and the router at the other end, whose interface went
+-- down, is heard no more
+abbrev pub FarEndsStayUp : Type 0
+FarEndsStayUp =
+    (inner : List Link) (router gone : RouterId) (subnet : Prefix) (stub_router : Bool)
+    (front back : List LinkValue) (before after : LinkValue) →
+    router.0 ≢ gone.0 → IsWireUp before gone subnet → IsInNone inner before
+    → after.iface ≡ before.iface → after.settings ≡ before.settings → after.neighbours ≡ [] →
+    AreSpared inner (fails.End gone router subnet) router stub_router front
+    → AreSpared inner (fails.End gone router subnet) router stub_router back →
+    IsLeft inner (fails.End gone router subnet) router stub_router front before after back
+
+-- failures, one after the other, take none of these links of the router
+abbrev pub AreSparedBy : List Advertisement → List AreaFailure → RouterId → List Link → Type 0
+AreSparedBy adverts [] router links = ⊤
+AreSparedBy adverts (f ∷ more) router links =
+    AllByRecursion (λ l. takes_in adverts f router l ≡ false) links
+    × AreSparedBy (without f adverts) more router links
+
+-- of failures that come together one changes an interface of the router, as the laws have it of
+-- that
+-- failure alone, and the others take none of its links: the router wants what all of them leave
+abbrev pub FailuresComeTogether : Type 0
+FailuresComeTogether =
+    (adverts : List Advertisement) (earlier later : List AreaFailure) (f : AreaFailure)
+    (router : RouterId) (stub_router : Bool) (front back : List LinkValue)
+    (before after : LinkValue) →
+    AreSparedBy adverts earlier router (wanted_links stub_router (front ++ before ∷ back)) →
+    IsLeft (inner_of f (without_all earlier adverts)) f router stub_router front before after back
+    → AreSparedBy (without f (without_all earlier adverts)) later router
+    (wanted_links stub_router (front ++ after ∷ back)) →
+    kept_after adverts (earlier ++ f ∷ later) router
+    (wanted_links stub_router (front ++ before ∷ back))
+    ≡ wanted_links stub_router (front ++ after ∷ back)
 
 -- an interface that is up, on a transit network
 pub record IsOnTransit (l : LinkValue) : Type 0 where

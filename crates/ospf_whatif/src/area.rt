@@ -120,6 +120,23 @@ pub fn without_all(
     Ok(left)
 }
 
+/// The LSAs of an area without large router-LSAs, after a failure and others that happen with it.
+///
+/// `AllocError` where memory runs out.
+pub(crate) fn without_more(
+    alloc: Global,
+    listing: &Listing,
+    first: &AreaFailure,
+    rest: &[AreaFailure],
+) -> Result<Listing, AllocError>
+    requires { HasLarge (advertisements_of listing.now) → ⊥ }
+    ensures { IfOk result (λ left. advertisements_of left
+        ≡ without_all (first.now ∷ rest.now) (advertisements_of listing.now)) }
+{
+    let left = without_small(alloc, listing, first)?;
+    without_all(alloc, left, rest)
+}
+
 // The LSAs of an area without large router-LSAs, after a failure.
 fn without_small(
     alloc: Global,

@@ -2,7 +2,7 @@
 
 ghost use Rattle.std.specs.Prelude.{◌≡◌};
 ghost use Rattle.std.specs.List.{list_any};
-ghost use Rattle.ospf_whatif.specs.Failure.{is_of_subnet, is_stub_of, is_transit_of, is_wire_end};
+ghost use Rattle.ospf_whatif.specs.Failure.{is_of_subnet, is_stub_of, is_transit_of, is_wire_end, is_wire_link};
 ghost use Rattle.ospf_whatif.specs.Subnets.{is_held};
 
 use crate::subnets::{is_held, is_link_to};
@@ -22,6 +22,13 @@ pub enum AreaFailure {
     Link {
         a: RouterId,
         b: RouterId,
+        subnet: Prefix,
+    },
+    /// One end of a point-to-point link, behind a switch: the interface of the first router goes
+    /// down, that of the other stays up, and their adjacency ends.
+    End {
+        router: RouterId,
+        other: RouterId,
         subnet: Prefix,
     },
     /// All point-to-point links between two routers, of which no subnet
@@ -55,6 +62,14 @@ impl AreaFailure {
                 (router.0 == a.0 && is_wire_end(inner, link, b, subnet))
                     || (router.0 == b.0 && is_wire_end(inner, link, a, subnet))
             }
+            AreaFailure::End {
+                router: down,
+                other,
+                subnet,
+            } => {
+                (router.0 == down.0 && is_wire_end(inner, link, other, subnet))
+                    || (router.0 == other.0 && is_wire_link(inner, link, down, subnet))
+            }
             AreaFailure::Links { a, b } => {
                 (router.0 == a.0 && is_link_to(link, b)) || (router.0 == b.0 && is_link_to(link, a))
             }
@@ -72,8 +87,14 @@ impl AreaFailure {
 fn is_wire_end(inner: &[Link], link: Link, router: RouterId, subnet: Prefix) -> bool
     ensures { result ≡ is_wire_end inner.now link router subnet }
 {
-    (is_link_to(link, router) && is_of_subnet(inner, subnet, link.link_data))
-        || is_stub_of(link, subnet)
+    is_wire_link(inner, link, router, subnet) || is_stub_of(link, subnet)
+}
+
+// Whether it is a type 1 link to a router from an address in a subnet.
+fn is_wire_link(inner: &[Link], link: Link, router: RouterId, subnet: Prefix) -> bool
+    ensures { result ≡ is_wire_link inner.now link router subnet }
+{
+    is_link_to(link, router) && is_of_subnet(inner, subnet, link.link_data)
 }
 
 /// Whether a link's Link Data lies in a subnet, and in none of these longer ones.

@@ -224,8 +224,11 @@ fn is_edge_in(edge: &Edge, from: RouterId, to: RouterId, subnet: Prefix) -> bool
         && is_address_in(subnet, edge.link_data)
 }
 
-// Adds a failure.
-fn add_failure(failures: &mut Vec<AreaFailure>, failure: AreaFailure) -> Result<(), AllocError>
+/// Adds a failure.
+pub(crate) fn add_failure(
+    failures: &mut Vec<AreaFailure>,
+    failure: AreaFailure,
+) -> Result<(), AllocError>
     ensures { OnOk result (Adds (λ f. f ≡ failure) failures.old.items failures.new.items) }
 {
     failures.push(failure)?;
@@ -252,6 +255,7 @@ fn push_pair(failure: &AreaFailure, pairs: &mut Vec<u64>) -> Result<(), AllocErr
             pairs.push(pair_order(a.0, b.0))?;
             Ok(())
         }
+        AreaFailure::End { .. } => Ok(()),
         AreaFailure::Links { .. } => Ok(()),
         AreaFailure::Attachment { .. } => Ok(()),
         AreaFailure::Network(_) => Ok(()),
@@ -410,8 +414,8 @@ fn add_router(lsa: &Lsa, failures: &mut Vec<AreaFailure>) -> Result<(), AllocErr
     }
 }
 
-// Puts failures in order, each once.
-fn put_in_order(failures: &mut Vec<AreaFailure>)
+/// Puts failures in order, each once.
+pub(crate) fn put_in_order(failures: &mut Vec<AreaFailure>)
     ensures same { (f : AreaFailure) → Contains failures.new.items f
         ↔ Contains failures.old.items f }
     ensures in_order { AllPairs IsFailureBefore failures.new.items }

@@ -1,6 +1,6 @@
 //! Laws: each holds of all areas and failures.
 
-ghost use Rattle.ospf_whatif.specs.Laws.{FailureNamesTellApart, FailuresMakeNoEdge, FailuresTakeAway, LinksFailApart, TreesStay};
+ghost use Rattle.ospf_whatif.specs.Laws.{CarriedNamesTellApart, FailureNamesTellApart, FailuresMakeNoEdge, FailuresTakeAway, LinksFailApart, TreesStay};
 ghost use Rattle.ospf_whatif.specs.LinksBack.{OnlyLinksBackCount};
 ghost use Rattle.ospf_whatif.specs.Renamed.{NetworksAreButNames};
 
@@ -35,6 +35,11 @@ pub fn only_links_back_count()
 /// Different failures of an area have different names.
 pub fn failure_names_tell_apart()
     ensures { FailureNamesTellApart }
+{}
+
+/// So have different failures of an area whose links are carried so or so.
+pub fn carried_names_tell_apart()
+    ensures { CarriedNamesTellApart }
 {}
 
 /// A link fails with one subnet alone, also where the subnets of two links between the same routers

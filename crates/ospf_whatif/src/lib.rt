@@ -2,13 +2,18 @@
 //! that its routers would have after the failure, and what changes in a routing table (RFC
 //! 2328, sections 12.4.1 and 16.1).
 //!
+//! What fails together depends on what carries the links (`Carrier`).
+//!
 //! That what routers then want to list is what is left here is a law (`links_go_down`,
-//! `interfaces_go_down`, `routers_stop`). Those on a network with another Designated Router list it
+//! `interfaces_go_down`, `routers_stop`; behind switches `ends_go_down`, `far_ends_stay_up`; of
+//! failures that come together `failures_come_together`). Those on a network with another
+//! Designated Router list it
 //! under another name (`designated_routers_change`), which changes no routing table
 //! (`networks_are_but_names`, `only_links_back_count`).
 #![tactic(auto)]
 
 mod area;
+mod carrier;
 mod effect;
 mod failure;
 mod failures;
@@ -21,16 +26,18 @@ mod router_laws;
 mod subnets;
 
 pub use crate::area::{WithoutFault, without, without_all};
+pub use crate::carrier::{Breakdown, Carrier, breakdowns, failures_by, hidden_costs_by};
 pub use crate::effect::{Loss, RouteChange};
 pub use crate::failure::AreaFailure;
 pub use crate::failures::single_failures;
 pub use crate::hidden::{HiddenCost, hidden_costs};
 pub use crate::laws::{
-    failure_names_tell_apart, failures_make_no_edge, failures_take_away, links_fail_apart,
-    networks_are_but_names, only_links_back_count, trees_stay,
+    carried_names_tell_apart, failure_names_tell_apart, failures_make_no_edge, failures_take_away,
+    links_fail_apart, networks_are_but_names, only_links_back_count, trees_stay,
 };
 pub use crate::outage::{AreaGraph, Outage};
 pub use crate::root::KeptRoot;
 pub use crate::router_laws::{
-    designated_routers_change, interfaces_go_down, links_go_down, routers_stop,
+    designated_routers_change, ends_go_down, failures_come_together, far_ends_stay_up,
+    interfaces_go_down, links_go_down, routers_stop,
 };

@@ -12,13 +12,13 @@ ghost use Rattle.ospf_graph.specs.declared.graph.Edge.{Edge};
 ghost use Rattle.ospf_graph.specs.declared.route.Route.{Route};
 ghost use Rattle.ospf_incremental.specs.Kept.{KeptTree};
 ghost use Rattle.ospf_spf.specs.Spared.{AreEndsInOrder};
-ghost use Rattle.ospf_whatif.specs.Effect.{IsEffect};
+ghost use Rattle.ospf_whatif.specs.Effect.{IsEffectIn};
 ghost use Rattle.ospf_whatif.specs.Laws.{IsOffLeastPaths};
 ghost use Rattle.ospf_whatif.specs.Outage.{AddsLoss, AreChangesTo, AreMissing, AreOverLeft, HasOtherFrom, IsAreaGraph, IsLeftOver, IsLossBy, IsOutage, IsToldBy, MayChange, StaysOr, left_of_area};
 ghost use Rattle.ospf_whatif.specs.Told.{IsLive};
 
 use crate::effect::{Loss, RouteChange, place_to};
-use crate::outage::{AreaGraph, Outage};
+use crate::outage::{AreaGraph, Outage, ends_left};
 use ospf_base::{Prefix, RouterId};
 use ospf_edges::{End, ends_at};
 use ospf_graph::{Edge, Route, Vertex, edges_from, is_same};
@@ -39,7 +39,8 @@ impl KeptRoot {
     ghost use Rattle.ospf_edges.specs.Listed.{advertisements_of};
     ghost use Rattle.ospf_graph.specs.Advertisements.{Advertisement};
     ghost use Rattle.ospf_graph.specs.Routes.{IsTable};
-    ghost use Rattle.ospf_whatif.specs.Effect.{IsEffect};
+    ghost use Rattle.ospf_whatif.specs.Effect.{IsEffectIn};
+    ghost use Rattle.ospf_whatif.specs.Failure.{without_all};
     ghost use Rattle.ospf_whatif.specs.Outage.{IsAreaGraph, IsKeptRoot, IsOutage};
 
     /// A router of the area of this graph.
@@ -55,10 +56,10 @@ impl KeptRoot {
         Ok(KeptRoot { root, paths })
     }
 
-    /// What becomes of the routes of the router's table where a failure takes this from the area of
+    /// What becomes of the routes of the router's table where failures take this from the area of
     /// a listing: each route that the table of the area after the failure does not have, once, in
     /// the order of prefixes. No other prefix is reached after a failure, and none at a lower cost
-    /// (`failures_take_away`). Where no least path goes over an edge that the failure takes there
+    /// (`failures_take_away`). Where no least path goes over an edge that they take there
     /// is no search, and only routes are looked at whose prefix loses an end. Else what one reached
     /// over it is found anew, beside copies of the root and of the vertices next to what goes; and
     /// all is searched anew where going on from these takes too long.
@@ -77,8 +78,9 @@ impl KeptRoot {
         requires outage { IsOutage (advertisements_of listing.now) outage.now }
         requires kept { IsKeptRoot (advertisements_of listing.now) self.now }
         requires table { IsTable (advertisements_of listing.now) self.now.root table.now }
-        ensures { IfOk result (λ changes. IsEffect (advertisements_of listing.now) self.now.root
-            outage.now.failure table.now changes.items) }
+        ensures { IfOk result (λ changes. IsEffectIn
+            (without_all outage.now.failures.items (advertisements_of listing.now)) self.now.root
+            table.now changes.items) }
     {
         if !is_used(&self.paths, &outage.edges) {
             return changes_over(alloc, listing, area, outage, &self.paths, &[], table);
@@ -132,7 +134,8 @@ fn changes_over<P: Paths>(
         IsLeftOver (advertisements_of listing.now) outage.now root changed.now before
         (P.kept paths.now) →
         IsTable (advertisements_of listing.now) root table.now →
-        IsEffect (advertisements_of listing.now) root outage.now.failure table.now changes.items) }
+        IsEffectIn (left_of_area (advertisements_of listing.now) outage.now) root table.now
+        changes.items) }
 {
     let routes = table.routes();
     let places = places_of(alloc, listing, &outage.ends, changed, routes)?;
@@ -291,28 +294,6 @@ fn loss_by(before: &Route, after: Route) -> Option<Loss>
     } else {
         Some(Loss::Moved(after))
     }
-}
-
-// The ends but those that go, which are in order.
-fn ends_left(alloc: Global, ends: &[End], less: &[End]) -> Result<Vec<End>, AllocError>
-    requires { AreEndsInOrder less.now }
-    ensures { IfOk result (λ left. AreMissing ends.now less.now left.items) }
-{
-    let mut left = Vec::new(alloc);
-    for end in ends {
-        if !has_end_in_order(less, *end) {
-            left.push(*end)?;
-        }
-    }
-    Ok(left)
-}
-
-// Whether an end is among these, which are in order.
-fn has_end_in_order(ends: &[End], end: End) -> bool
-    requires { AreEndsInOrder ends.now }
-    ensures { IsTrue result ↔ Contains ends.now end }
-{
-    ends_to(ends, end.prefix).contains(&end)
 }
 
 // Whether somebody tells a prefix, of whose ends these are left.

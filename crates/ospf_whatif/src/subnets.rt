@@ -29,6 +29,11 @@ pub(crate) fn inner_of(
 {
     match *failure {
         AreaFailure::Link { a, b, subnet } => inner_between(alloc, listing, subnet, a, b),
+        AreaFailure::End {
+            router,
+            other,
+            subnet,
+        } => inner_between(alloc, listing, subnet, router, other),
         AreaFailure::Links { .. } => Ok(Vec::new(alloc)),
         AreaFailure::Attachment { .. } => Ok(Vec::new(alloc)),
         AreaFailure::Network(_) => Ok(Vec::new(alloc)),

@@ -1,4 +1,4 @@
-use Rattle.std.proofs.Common.{◌↔◌, ◌∙◌, List, IsTrue, ap, subst, sym}
+use Rattle.std.proofs.Common.{◌↔◌, ◌∙◌, List, IsTrue, subst, sym}
 use Rattle.ospf_edges.specs.Listed.{advertisements_of}
 use Rattle.ospf_graph.specs.Advertisements.{IsListed}
 use Rattle.ospf_failures.specs.Answer.{IsEndBy, IsAllPrinted, IsUnmetAt, changes_text}

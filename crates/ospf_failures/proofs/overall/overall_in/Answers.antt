@@ -1,7 +1,7 @@
 use Rattle.std.proofs.Common.{◌∙◌, ◌≤◌, List, arith, length, subst, sym}
 use Rattle.std.proofs.lemmas.List.{take_all}
 use Rattle.ospf_edges.specs.Listed.{advertisements_of}
-use Rattle.ospf_whatif.specs.Failure.{without}
+use Rattle.ospf_whatif.specs.Failure.{without, without_all}
 use Rattle.ospf_whatif.specs.declared.failure.AreaFailure.{AreaFailure}
 use Rattle.ospf_failures.specs.Overall.{IsSoFar, IsTableBefore, Sees}
 use Rattle.ospf_failures.specs.declared.overall.Before.{Before}
@@ -27,7 +27,7 @@ pub loop-before-preserved : goal.loop-before-preserved
 loop-before-preserved c =
     let A = advertisements_of c.args.listing.now in
     let left = without c.args.failure A in
-    let sees = subst (λ (f : AreaFailure). Sees (without f A) c.before-item.result c.args.detail c.loop-before.overall c.see.new.self) c.requires.failure c.in_ok-see.ensures in
+    let sees = subst (λ (fs : List AreaFailure). Sees (without_all fs A) c.before-item.result c.args.detail c.loop-before.overall c.see.new.self) c.requires.failures c.in_ok-see.ensures in
     record {
       failure = still_it left c.args.befores.now c.args.detail c.loop-before.before-index c.before-item.result c.loop-before-test.true c.before-item.is c.loop-before.overall
           c.see.new.self c.loop-before.invariant.so_far sees ∙ c.loop-before.invariant.failure;

@@ -1,11 +1,15 @@
 use Rattle.ospf_edges.specs.Listed.{advertisements_of}
-use Rattle.ospf_whatif.proofs.LostLemmas.{no_ends_lost, router_ends_lost, wire_ends_lost}
+use Rattle.ospf_whatif.proofs.LostLemmas.{end_ends_lost, no_ends_lost, router_ends_lost, wire_ends_lost}
 use Rattle.ospf_whatif.specs.declared.failure.AreaFailure.TheVariants as fails
 use Rattle.ospf_whatif.proofs.outage.ends_lost.Goals as goal
 
 pub returns-in-Link : goal.returns-in-Link
 returns-in-Link c =
     wire_ends_lost c.args.failure.now (advertisements_of c.args.listing.now) c.in-Link.a c.in-Link.b c.in-Link.subnet c.stubs_of.result c.in-Link.is c.stubs_of.ensures
+
+pub returns-in-End : goal.returns-in-End
+returns-in-End c =
+    end_ends_lost c.args.failure.now (advertisements_of c.args.listing.now) c.in-End.router c.in-End.other c.in-End.subnet c.stubs_at.result c.in-End.is c.stubs_at.ensures
 
 pub returns-in-Links : goal.returns-in-Links
 returns-in-Links c =

@@ -1,11 +1,8 @@
-use Rattle.std.proofs.Common.{rules, ◌≡◌, ◌↔◌, IsTrue}
-use Rattle.std.proofs.lemmas.Fn.{filter_same}
 use Rattle.ospf_edges.specs.Listed.{advertisements_of}
-use Rattle.ospf_whatif.proofs.LostLemmas.{are_stubs, is_to, to_test}
+use Rattle.ospf_whatif.proofs.LostLemmas.{are_stubs}
 use Rattle.ospf_whatif.proofs.outage.stubs_of.Goals as goal
 
 pub returns : goal.returns
 returns c =
-    are_stubs (advertisements_of c.args.listing.now) c.args.a c.args.b c.args.prefix c.in_ok-ends.ends.items c.in_ok-others.others.items c.append.new.self.items c.retain.new.self.items
+    are_stubs (advertisements_of c.args.listing.now) c.args.a c.args.b c.args.prefix c.in_ok-ends.ends.items c.in_ok-others.others.items c.append.new.self.items
     c.in_ok-ends.ensures c.in_ok-others.ensures c.in_ok-append.ensures.items
-    (filter_same _ (is_to c.args.prefix) _ (λ x b f' k. let same : IsTrue b ↔ (x.prefix ≡ c.args.prefix) = search rules in (to_test c.args.prefix x b same, search rules)) _ _ c.retain.ensures.filtered)

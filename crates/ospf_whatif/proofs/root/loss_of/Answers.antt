@@ -12,7 +12,7 @@ use Rattle.ospf_spf.specs.Reach.{IsReachOf, IsRouteBy}
 use Rattle.ospf_spf.specs.declared.routes.Reach.{Reach}
 use Rattle.ospf_whatif.specs.Outage.{AreMissing, AreOverLeft, left_of_area}
 use Rattle.ospf_whatif.proofs.EffectLemmas.{loss_here}
-use Rattle.ospf_whatif.proofs.LessLemmas.{failures_leave_listed}
+use Rattle.ospf_whatif.proofs.LessLemmas.{all_leave_listed}
 use Rattle.ospf_whatif.proofs.OutageLemmas.{ends_here, false_true, told_here}
 use Rattle.ospf_whatif.proofs.root.loss_of.Given.{Over}
 use Rattle.ospf_whatif.proofs.root.loss_of.Goals as goal
@@ -39,7 +39,7 @@ module _ (g : Over) (c : In_ok-after g) (adverts : List Advertisement) (root : R
       (ends_here adverts c.args.outage.now over.outage_is c.args.area.now over.graph c.args.route.now.prefix c.ends_to.result.now c.in_ok-ends.ends.items part_in part_all missing v k)
 
   listed : IsListed left root
-  listed = (failures_leave_listed c.args.outage.now.failure adverts root).0 was.way.listed
+  listed = (all_leave_listed c.args.outage.now.failures.items adverts root).0 was.way.listed
 
   exact : (after : Route) → c.in_ok-after.after ≡ Some after → IsRoute left root after
   exact after is =
@@ -57,7 +57,7 @@ pub returns-in-Some : goal.returns-in-Some
 returns-in-Some g c = λ adverts root over was.
     let d = (goal.at.returns-in-Some g c).In_ok-after in
     let same = subst (λ (o : Option Route). IfSome o (λ r. r.prefix ≡ c.args.route.now.prefix)) c.in-Some.is c.in_ok-after.ensures.prefix in
-    loss_here c.args.outage.now.failure adverts root c.args.route.now c.in-Some.after was (exact g d adverts root over was c.in-Some.after c.in-Some.is) (sym same) c.loss_by.result c.loss_by.ensures
+    loss_here c.args.outage.now.failures.items adverts root c.args.route.now c.in-Some.after was (exact g d adverts root over was c.in-Some.after c.in-Some.is) (sym same) c.loss_by.result c.loss_by.ensures
 
 pub returns-then-is_told : goal.returns-then-is_told
 returns-then-is_told g c = λ adverts root over was.

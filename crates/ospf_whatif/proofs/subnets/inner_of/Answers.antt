@@ -1,12 +1,16 @@
 use Rattle.std.proofs.Common.{refl}
 use Rattle.ospf_edges.specs.Listed.{advertisements_of}
 use Rattle.ospf_whatif.specs.declared.failure.AreaFailure.TheVariants as fails
-use Rattle.ospf_whatif.proofs.SubnetLemmas.{inner_of_link, inner_of_other}
+use Rattle.ospf_whatif.proofs.SubnetLemmas.{inner_of_end, inner_of_link, inner_of_other}
 use Rattle.ospf_whatif.proofs.subnets.inner_of.Goals as goal
 
 pub returns-in-Link : goal.returns-in-Link
 returns-in-Link c =
     inner_of_link c.args.failure.now (advertisements_of c.args.listing.now) c.in-Link.a c.in-Link.b c.in-Link.subnet c.inner_between.result c.in-Link.is c.inner_between.ensures
+
+pub returns-in-End : goal.returns-in-End
+returns-in-End c =
+    inner_of_end c.args.failure.now (advertisements_of c.args.listing.now) c.in-End.router c.in-End.other c.in-End.subnet c.inner_between-in-End.result c.in-End.is c.inner_between-in-End.ensures
 
 pub returns-in-Links : goal.returns-in-Links
 returns-in-Links c =

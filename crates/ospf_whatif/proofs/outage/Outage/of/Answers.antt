@@ -1,4 +1,4 @@
-use Rattle.std.proofs.Common.{refl, rules, of_calls}
+use Rattle.std.proofs.Common.{rules, of_calls}
 use Rattle.std.proofs.lemmas.List.Sorted.{IsNonDecreasingBy-from_sort_by_key}
 use Rattle.ospf_edges.specs.Listed.{advertisements_of}
 use Rattle.ospf_edges.specs.declared.end.End.{End}
@@ -9,6 +9,6 @@ use Rattle.ospf_whatif.proofs.outage.Outage.of.Goals as goal
 pub returns-clause-outage : goal.returns-clause-outage
 returns-clause-outage c =
     outage_is c.args.failure.now (advertisements_of c.args.listing.now)
-    (record { failure = c.args.failure.now; edges = c.in_ok-edges.edges; ends = c.sort_unstable_by_key.new.self }) refl c.in_ok-edges.ensures
+    (record { failures = c.in_ok-failures.failures; edges = c.in_ok-edges.edges; ends = c.sort_unstable_by_key.new.self }) c.in_ok-failures.ensures c.in_ok-edges.ensures
     (lost_sorted _ _ _ _ c.sort_unstable_by_key.ensures.permutation c.in_ok-ends.ensures)
     (IsNonDecreasingBy-from_sort_by_key (λ (e : End). prefix_code e.prefix) _ c.sort_unstable_by_key.ensures.sorted (λ a r q k. search (rules, of_calls)))

@@ -1,6 +1,6 @@
 use Rattle.std.proofs.Common.{refl}
 use Rattle.ospf_whatif.proofs.SameEnds.{end_in}
-use Rattle.ospf_whatif.proofs.root.has_end_in_order.Goals as goal
+use Rattle.ospf_whatif.proofs.outage.has_end_in_order.Goals as goal
 
 pub returns : goal.returns
 returns c =

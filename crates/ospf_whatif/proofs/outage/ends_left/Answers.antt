@@ -3,8 +3,8 @@ use Rattle.std.specs.List.{Contains}
 use Rattle.std.proofs.lemmas.List.{take_all}
 use Rattle.ospf_whatif.specs.Outage.{AreMissing}
 use Rattle.ospf_whatif.proofs.OutageLemmas.{false_true, lost_more, lost_none}
-use Rattle.ospf_whatif.proofs.root.ends_left.Goals as goal
-use Rattle.ospf_whatif.proofs.root.ends_left.Goals.{then-not-has_end_in_order+in_ok-push, else-not-has_end_in_order}
+use Rattle.ospf_whatif.proofs.outage.ends_left.Goals as goal
+use Rattle.ospf_whatif.proofs.outage.ends_left.Goals.{then-not-has_end_in_order+in_ok-push, else-not-has_end_in_order}
 
 pub loop-end-preserved : goal.loop-end-preserved
 loop-end-preserved c =

@@ -1,0 +1,5 @@
+use Rattle.ospf_edges.specs.Listed.{advertisements_of}
+use Rattle.ospf_whatif.proofs.outage.Outage.of_all.Goals as goal
+
+pub returns-in-None-clause-outage : goal.returns-in-None-clause-outage
+returns-in-None-clause-outage c = c.none.ensures.outage (advertisements_of c.args.listing.now)
