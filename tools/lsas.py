@@ -1,4 +1,5 @@
-"""LSAs as bytes: what the tools share that write them for `ospfd table`, a line of hexadecimal digits each; and their streams."""
+"""LSAs as bytes: what the tools share that write them for `ospfd table`, one LSA per line in
+hexadecimal; and their streams."""
 import argparse
 import collections
 import errno
@@ -12,16 +13,21 @@ import sys
 HEADER = 20
 MAX_AGE = 3600
 MAX_AGE_DIFF = 900
-# The bit of LS age that keeps an LSA from ageing (RFC 1793, section 2.2): a demand circuit or flood reduction sets it.
+# The bit of LS age that keeps an LSA from ageing (RFC 1793, section 2.2): a demand circuit or
+# flood reduction sets it.
 DO_NOT_AGE = 0x8000
 MAX_NUMBER = 0x7FFFFFFF
 # Times are in nanoseconds, ages in seconds.
 SECOND = 10**9
 ROUTER, NETWORK = 1, 2
 KINDS = {ROUTER: "router", NETWORK: "network"}
+OTHERS = {3: "summary", 4: "ASBR-summary", 5: "AS-external"}
+AS_EXTERNAL = 5
+# Where AS-external-LSAs are: in no area.
+OUTSIDE = "AS"
 # As ospfd ends where its input is refused, and where a file or a stream failed.
 REFUSED, NOT_READ = 3, 5
-NONE_FOUND = "no LSA was found"
+NONE_FOUND = "no LSA found"
 
 
 def tell(line):
@@ -68,10 +74,17 @@ def read(name):
 def area_of(word):
     """An area as four numbers, of a word that has it so, or as a number."""
     try:
-        is_number = re.fullmatch("[0-9]{1,10}", word)
-        return socket.inet_ntoa(struct.pack(">I", int(word)) if is_number else socket.inet_pton(socket.AF_INET, word))
+        if re.fullmatch("[0-9]{1,10}", word):
+            return socket.inet_ntoa(struct.pack(">I", int(word)))
+        return socket.inet_ntoa(socket.inet_pton(socket.AF_INET, word))
     except (OSError, ValueError, struct.error):
-        raise argparse.ArgumentTypeError(f"{word}: no area, as 0.0.0.1 or 1") from None
+        raise argparse.ArgumentTypeError(f"{word}: not an area, such as 0.0.0.1 or 1") from None
+
+
+def name_of(lsa):
+    """What an LSA is called in messages."""
+    ends = " of ".join(socket.inet_ntoa(lsa[at:at + 4]) for at in (4, 8))
+    return f"{(KINDS.get(lsa[3]) or OTHERS[lsa[3]])}-LSA {ends}"
 
 
 def has_right_sum(lsa):
@@ -93,7 +106,8 @@ def age_of(lsa):
 
 
 def does_age(lsa):
-    """Whether an instance grows older in a database: not where it has the bit DoNotAge, unless it is flushed."""
+    """Whether an instance grows older in a database: not if it has the bit DoNotAge, unless it is
+    flushed."""
     return not struct.unpack_from(">H", lsa)[0] & DO_NOT_AGE or age_of(lsa) == MAX_AGE
 
 
@@ -109,91 +123,129 @@ def is_newer(a, b):
 
 
 def has_wrapped(known, lsa):
-    """Whether an instance stands behind the flushed one of the greatest number, where numbers begin again (RFC 2328, section 12.1.6)."""
+    """Whether an instance follows the flushed one of the greatest number, where numbers begin
+    again (RFC 2328, section 12.1.6)."""
     number = known[12:16]
-    return age_of(known) == MAX_AGE and number == struct.pack(">I", MAX_NUMBER) and lsa[12:16] != number
+    is_greatest = number == struct.pack(">I", MAX_NUMBER)
+    return age_of(known) == MAX_AGE and is_greatest and lsa[12:16] != number
 
 
 def end_of(lsa, time):
-    """When an instance leaves all databases, by the time of a copy: where that is at MaxAge, then (RFC 2328, section 14), else once it
-    reaches that age, and never where it does not age; None where the copy has no time."""
+    """When an instance leaves all databases, by the time of a copy: at once where that is at MaxAge
+    (RFC 2328, section 14), else when it reaches that age, and never where it does not age; None
+    where the copy has no time."""
     if time is None:
         return None
     return time + (MAX_AGE - age_of(lsa)) * SECOND if does_age(lsa) else math.inf
 
 
 def has_followed(known, end, lsa, time):
-    """Whether an instance came when the known one had left all databases. It is installed then, whatever its number (RFC 2328, section
-    13). Behind a flush it counts from when it was originated: ages rise at each hop, so a late copy of what was there before never seems
-    younger than it is."""
+    """Whether an instance came when the known one had left all databases. It is installed then,
+    whatever its number (RFC 2328, section 13). After a flush it counts from when it was originated:
+    ages rise at each hop, so a late copy of what was there before never seems younger than it is.
+    """
     if end is None or time is None:
         return False
     return time - age_of(lsa) * SECOND >= end or (age_of(known) < MAX_AGE and time > end)
 
 
 class Found:
-    """The newest instance of each LSA that was found, area for area, with its end, what was left out, counted by its reason, and the time
-    of the last packet, if one is known."""
+    """The newest instance of each LSA of some types that was found, area by area, with its end;
+    what was left out, counted by its reason; and the time of the last packet, if one is known.
+    LSAs of types 3 to 5 are in one of their own, if they are wanted."""
 
-    def __init__(self):
+    def __init__(self, with_others=False, kinds=None):
         self.areas, self.ends, self.left, self.last = {}, {}, collections.Counter(), None
+        self.kinds, self.others = kinds or KINDS, Found(kinds=OTHERS) if with_others else None
+        # How many LSAs have bytes that the checksum gave, by what they are.
+        self.solved = collections.Counter()
 
     def leave(self, reason):
+        """Counts an LSA or a packet that is left out."""
         self.left[reason] += 1
+        return False
+
+    def takes(self, kind):
+        """Whether LSAs of a type are taken."""
+        return kind in self.kinds or self.others is not None and kind in self.others.kinds
 
     def add(self, area, lsa, time=None):
-        """Takes an LSA of an area, and the time of its packet if it is known; one of another type or with a wrong checksum is left out."""
-        if lsa[3] not in KINDS:
+        """Takes an LSA of an area, and the time of its packet if it is known. Whether it is newer
+        than the known one; one of another type or with a wrong checksum is left out."""
+        if not self.takes(lsa[3]):
             return self.leave(f"LSAs of type {lsa[3]}")
         if not has_right_sum(lsa):
             return self.leave("LSAs with a wrong checksum")
-        newest, ends, key = self.areas.setdefault(area, {}), self.ends.setdefault(area, {}), key_of(lsa)
-        known, end = newest.get(key), end_of(lsa, time)
-        if known is not None:
+        if lsa[3] not in self.kinds:
+            place = OUTSIDE if lsa[3] == AS_EXTERNAL else area
+            is_new, known = self.others.install(place, lsa, time)
+        else:
+            is_new, known = self.install(area, lsa, time)
+        if known:
             self.leave("older or repeated instances")
-            if not is_newer(lsa, known) and not has_wrapped(known, lsa) and not has_followed(known, ends[key], lsa, time):
+        return is_new
+
+    def install(self, area, lsa, time):
+        """Keeps an LSA if it is newer than the known one. Whether it is; whether one was known."""
+        newest, ends = self.areas.setdefault(area, {}), self.ends.setdefault(area, {})
+        key, end_of_this = key_of(lsa), end_of(lsa, time)
+        known = newest.get(key)
+        if known is not None and not is_newer(lsa, known) and not has_wrapped(known, lsa):
+            if not has_followed(known, ends[key], lsa, time):
                 if not is_newer(known, lsa):
-                    ends[key] = None if None in (end, ends[key]) else max(end, ends[key])
-                return None
-        newest[key], ends[key] = lsa, end
-        return None
+                    both = (end_of_this, ends[key])
+                    ends[key] = None if None in both else max(both)
+                return False, True
+        newest[key], ends[key] = lsa, end_of_this
+        return True, known is not None
 
     def pass_time(self, time):
-        """Takes the time of a packet, if it is known. Packets of several captures may come out of order."""
+        """Takes the time of a packet, if it is known. With several captures times may go back."""
         if time is not None:
             self.last = time if self.last is None else max(time, self.last)
+        if self.others is not None:
+            self.others.pass_time(time)
 
-    def has_expired(self, lsa, end):
-        """Whether an instance reached MaxAge before the last packet, and was not flushed before (RFC 2328, section 14)."""
-        return None not in (end, self.last) and age_of(lsa) < MAX_AGE and end < self.last
+    def has_expired(self, lsa, end_of_this):
+        """Whether an instance reached MaxAge before the last packet, and was not flushed before
+        (RFC 2328, section 14)."""
+        is_known = None not in (end_of_this, self.last)
+        return is_known and age_of(lsa) < MAX_AGE and end_of_this < self.last
 
     def expire(self):
-        """Leaves out each LSA that has expired. The last copy of it has an age below MaxAge, so `table` would take it for a living one."""
+        """Takes out each LSA that has expired. The last copy of it has an age below MaxAge, so
+        `table` would take it for a living one."""
+        gone = [] if self.others is None else self.others.expire()
         for area, newest in self.areas.items():
             for key, lsa in list(newest.items()):
                 if self.has_expired(lsa, self.ends[area][key]):
-                    self.leave("LSAs that expired: they reached MaxAge before the last packet, and no younger copy came")
+                    gone.append(lsa)
                     del newest[key]
+        return gone
 
-    def area(self, wanted):
-        """The LSAs of the area that is wanted, or of the only one. Two areas have LSAs of one key, so they are never mixed."""
-        seen = ", ".join(sorted(self.areas))
-        if wanted is not None and self.areas and wanted not in self.areas:
-            end(REFUSED, f"no area {wanted}: there {'is' if len(self.areas) == 1 else 'are'} {seen}")
-        if wanted is not None:
-            return self.areas.get(wanted, {})
-        if len(self.areas) > 1:
-            end(REFUSED, f"several areas: {seen}: say which one with --area")
-        return next(iter(self.areas.values()), {})
+    def names(self):
+        """The areas that LSAs were found of."""
+        others = () if self.others is None else self.others.areas
+        return sorted({*self.areas, *others} - {OUTSIDE})
 
-    def write(self, wanted):
-        """Writes the LSAs in the order of their keys, and tells what there was."""
-        self.expire()
-        for reason, count in sorted(self.left.items()):
-            tell(f"left out: {count} {reason}")
-        newest = self.area(wanted)
-        counts = ", ".join(f"{sum(1 for key in newest if key[0] == kind)} {word}-LSAs" for kind, word in KINDS.items())
-        put("".join(f"{newest[key].hex()}\n" for key in sorted(newest)))
-        tell(f"written: {counts}")
-        if not newest:
-            end(REFUSED, NONE_FOUND)
+    def choose(self, wanted):
+        """The area that is wanted, or the only one. Two areas have LSAs of one key, so they are
+        never mixed. None where there is no area."""
+        names = self.names()
+        seen = ", ".join(names)
+        if wanted is not None and names and wanted not in names:
+            verb = "is" if len(names) == 1 else "are"
+            end(REFUSED, f"no area {wanted}: there {verb} {seen}")
+        if wanted is None and len(names) > 1:
+            end(REFUSED, f"several areas: {seen}: choose one with --area")
+        return wanted if wanted is not None or not names else names[0]
+
+    def of(self, area):
+        """The LSAs of an area, and those outside of all, in the order of their keys."""
+        found = {**self.areas.get(area, {}), **self.areas.get(OUTSIDE, {})}
+        return [found[key] for key in sorted(found)]
+
+    def counts(self, lsas_of_area):
+        """How many LSAs there are of each type, in words."""
+        kinds = collections.Counter(lsa[3] for lsa in lsas_of_area)
+        return ", ".join(f"{kinds[kind]} {word}-LSAs" for kind, word in self.kinds.items())
