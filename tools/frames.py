@@ -21,7 +21,7 @@ Ip = collections.namedtuple("Ip", "source destination identifier offset more bod
 
 
 class Dropped(Exception):
-    """What came is not handed on; the text is what the counters name, behind a number of packets."""
+    """What came is dropped; the text is the name of a counter, after a number."""
 
 
 def ones_sum(data):
@@ -35,19 +35,19 @@ def ones_sum(data):
 def read_ip(data):
     """The IP packet, or the fragment of one, at the front of what a device received; Ethernet may have filled it up behind."""
     if len(data) < IP_HEADER:
-        raise Dropped("shorter than an IP header")
+        raise Dropped("packets shorter than an IP header")
     if data[0] >> 4 != 4:
-        raise Dropped("of another IP version")
+        raise Dropped("packets of another IP version")
     size = (data[0] & 15) * 4
     total, identifier, place = struct.unpack_from(">HHH", data, 2)
     if size < IP_HEADER:
-        raise Dropped("with a header length below 20 bytes")
+        raise Dropped("packets with a header length below 20 bytes")
     if not size <= total <= len(data):
-        raise Dropped("with a total length that they do not have")
+        raise Dropped("packets with a wrong total length")
     if ones_sum(data[:size]) != 0xFFFF:
-        raise Dropped("with a wrong header sum")
+        raise Dropped("packets with a wrong header checksum")
     if data[9] != OSPF:
-        raise Dropped("of another protocol")
+        raise Dropped("packets of another protocol")
     return Ip(bytes(data[12:16]), bytes(data[16:20]), identifier, (place & OFFSET) * UNIT, bool(place & MORE), bytes(data[size:total]))
 
 
@@ -64,7 +64,7 @@ def fragments_of(ip, mtu):
         return [ip_packet(ip)]
     room = (mtu - IP_HEADER) // UNIT * UNIT
     if room <= 0:
-        raise Dropped("for a device whose MTU leaves no room")
+        raise Dropped("packets for a device with too small an MTU")
     cuts = range(0, len(ip.body), room)
     return [ip_packet(ip._replace(offset=at, more=at + room < len(ip.body), body=ip.body[at:at + room])) for at in cuts]
 
@@ -120,9 +120,9 @@ class Fragments:
     def add(self, ip, now):
         """The body of the packet that this fragment makes whole; None where some are missing yet."""
         if not ip.body or (ip.more and len(ip.body) % UNIT):
-            raise Dropped("that are fragments of a length that none has")
+            raise Dropped("fragments with an impossible length")
         if ip.offset + len(ip.body) > LONGEST:
-            raise Dropped("longer than a router sends")
+            raise Dropped("packets longer than a router sends")
         key = ip.source, ip.destination, ip.identifier
         self.forget(now, key, len(ip.body))
         part = self.parts.setdefault(key, Part(now))
@@ -130,7 +130,7 @@ class Fragments:
             return None
         if not part.fits(ip) or len(part.pieces) == self.PIECES:
             self.take_out(key)
-            raise Dropped("whose fragments do not fit together")
+            raise Dropped("packets whose fragments do not fit together")
         part.put(ip)
         self.bytes += len(ip.body)
         body = part.whole()
@@ -171,7 +171,7 @@ class Link:
         try:
             ip = read_ip(data)
             if ip.destination not in (*GROUPS, self.address):
-                raise Dropped("for other addresses")
+                raise Dropped("packets for other addresses")
             self.know(ip.source, mac)
             body = ip.body
             if ip.more or ip.offset:
@@ -180,7 +180,7 @@ class Link:
             if body is None:
                 return None
             if len(body) > LONGEST:
-                raise Dropped("longer than a router sends")
+                raise Dropped("packets longer than a router sends")
         except Dropped as why:
             self.leave(str(why))
             return None
@@ -191,7 +191,7 @@ class Link:
         """What the device is to send of a datagram of the router: each with the Ethernet address it is for and its kind."""
         try:
             if not ADDRESSES <= len(datagram) <= ADDRESSES + LONGEST:
-                raise Dropped("of the router that are none of its datagrams")
+                raise Dropped("datagrams of the router that are not OSPF packets")
             source, destination, body = datagram[:4], datagram[4:8], datagram[8:]
             self.address = source
             if body[1:2] == bytes([DESCRIPTION]) and len(body) >= MTU_AT + 2:
@@ -199,10 +199,10 @@ class Link:
             to = GROUPS.get(destination) or self.neighbours.get(destination)
             if to is None and destination[0] < 224:
                 self.asked.add(destination)
-                self.leave("of the router for a neighbour whose Ethernet address is asked for first")
+                self.leave("packets of the router for a neighbor with an unknown Ethernet address")
                 return [(BROADCAST, ARP, arp(QUESTION, mac, source, bytes(6), destination))]
             if to is None:
-                raise Dropped("of the router for no address that OSPF uses")
+                raise Dropped("packets of the router for an address that OSPF does not use")
             self.identifier = (self.identifier + 1) & 0xFFFF
             made = fragments_of(Ip(source, destination, self.identifier, 0, False, body), mtu)
         except Dropped as why:
@@ -233,6 +233,6 @@ class Link:
         ways = [f"{way} {done[f'packets {way}']} packets ({done[f'fragments {way}']} fragments)" for way in ("in", "out")]
         yield f"{name}: {', '.join(ways)}, {done['ARP answers']} ARP answers"
         if self.fragments.lost + len(self.fragments.parts):
-            yield f"  left out: {self.fragments.lost + len(self.fragments.parts)} whose fragments did not all come"
+            yield f"  left out: {self.fragments.lost + len(self.fragments.parts)} packets with missing fragments"
         for reason, count in sorted(self.left.items()):
             yield f"  left out: {count} {reason}"
