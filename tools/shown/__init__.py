@@ -7,6 +7,8 @@ from .parts import Unreadable
 # The first that knows a line reads from there on: what is more special comes first.
 FORMATS = (json_of_frr, frr, nxos, ios, eos, junos, bird)
 NAMES = ", ".join(it.NAME for it in (frr, json_of_frr, ios, nxos, eos, junos, bird))
+# Few lines are headings: one pattern for all finds these.
+HEADINGS = re.compile("|".join(f"(?:{it.HEADING.pattern})" for it in FORMATS))
 # The heading of a list of LSAs without their contents, as text and as JSON.
 LIST = re.compile(r"\s*Link ID +ADV Router +Age\b|.*\"lsId\":")
 # What a pager leaves in the text.
@@ -15,7 +17,9 @@ PAGER = re.compile(r"\s*-+ ?\(?[Mm]ore\b[^-\n]*-+[\b ]*\r?")
 
 def format_of(line):
     """The format that has such a line as a heading; None where no format has."""
-    return next((it for it in FORMATS if it.HEADING.match(line)), None)
+    if not HEADINGS.match(line):
+        return None
+    return next(it for it in FORMATS if it.HEADING.match(line))
 
 
 def bare_format_of(line):

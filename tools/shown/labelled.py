@@ -45,7 +45,10 @@ LABELS = {
     "tag": r"External Route Tag: ([0-9a-fA-Fx.]+)",
     "role": r"(A(?:S|rea) B(?:oundary|order) Router|Virtual Link Endpoint)(?! address|\))",
 }
-LABEL = re.compile("|".join(f"(?P<{name}>{pattern})" for name, pattern in LABELS.items()))
+# How a label begins; it spares a search for each of them at most places.
+FIRST = r"(?=[ACEFLMNOTV(])"
+ALL = "|".join(f"(?P<{name}>{pattern})" for name, pattern in LABELS.items())
+LABEL = re.compile(f"{FIRST}(?:{ALL})")
 SIMPLE = {"id": "Link State ID", "router": "Advertising Router", "length": "Length"}
 HEXADECIMAL = {"number": "LS Seq Number", "sum": "Checksum"}
 EXTERNAL_FIELDS = {"forward": "Forward Address", "tag": "External Route Tag"}
@@ -120,8 +123,8 @@ class Reader:
         one, flags = Shown(self.vrf, self.area), None
         try:
             for found in LABEL.finditer(text):
-                name = found.lastgroup
-                values = [it for it in found.groups()[found.lastindex:] if it]
+                name, at = found.lastgroup, found.lastindex
+                values = found.group(at + 1, at + 2) if name == "metric" else [found[at + 1]]
                 if name in ("flags", "role"):
                     flags = flags or Octet()
                     shown = int(values[0], 16) if name == "flags" else ROLES[values[0].split()[0]]
