@@ -1,0 +1,94 @@
+"""Routing tables by the definitions (ospf_graph.Routes.IsTable), printed as `ospfd table` prints them."""
+from functools import cmp_to_key
+
+from .claims import all_solutions, holds
+from .evaluate import RecordClaim
+from .functions import apply
+from .readings import forget
+from .values import Refused, Struct, Unknown, resolve
+
+ROUTES = "ospf_graph.Routes."
+
+
+def address(number):
+    """A number as an address is written."""
+    return ".".join(str(number >> shift & 255) for shift in (24, 16, 8, 0))
+
+
+def number(text):
+    """The number of an address."""
+    parts = [int(part) for part in text.split(".")]
+    if len(parts) != 4 or max(parts) > 255:
+        raise ValueError(f"{text} is no address")
+    return int.from_bytes(bytes(parts), "big")
+
+
+def in_order(library, name, items, key=lambda item: item):
+    """The items in the order of a definition."""
+    before = library.definition(name)
+    order = lambda a, b: -1 if holds(apply(before, [key(a), key(b)])) else 1
+    return tuple(sorted(items, key=cmp_to_key(order)))
+
+
+def advertisements(library, lsas):
+    """What the route calculation reads of the LSAs of an area that are below MaxAge."""
+    header, limit = library.definition("ospf_lsa.Header.header_of"), library.definition("ospf_base.Constants.max_age")
+    listed = tuple(lsa for lsa in lsas if apply(header, [lsa]).fields["age"] < limit)
+    return apply(library.definition("ospf_edges.Listed.advertisements_of"), [listed])
+
+
+def prefixes(library, adverts, root):
+    """The prefixes to which the router has a way."""
+    prefix = library.at_path(("Rattle", "ospf_base", "specs", "declared", "prefix", "Prefix", "Prefix"))[1].fresh()
+    way = apply(library.definition(ROUTES + "Way"), [adverts, root, prefix])
+    return [found[0] for found in all_solutions(way.parts()[1], [prefix])]
+
+
+def route(library, adverts, root, prefix):
+    """The route to a prefix: its hops by `IsHop`, its cost by `IsRoute`."""
+    hop, cost = Unknown(), Unknown()
+    goal = lambda: apply(library.definition(ROUTES + "IsHop"), [adverts, root, prefix, hop])
+    hops = [found[0] for found in all_solutions([goal], [hop])]
+    made = Struct({"prefix": prefix, "cost": cost, "hops": in_order(library, "ospf_graph.Hops.IsHopBefore", hops)})
+    costs = all_solutions([lambda: apply(library.definition(ROUTES + "IsRoute"), [adverts, root, made])], [cost])
+    if len(costs) != 1:
+        raise Refused(f"{len(costs)} costs of one route")
+    made.fields["cost"] = costs[0][0]
+    return made
+
+
+def table(library, adverts, root):
+    """The routes of a router, in their order."""
+    routes = [route(library, adverts, root, prefix) for prefix in prefixes(library, adverts, root)]
+    return in_order(library, ROUTES + "IsRouteBefore", routes)
+
+
+def is_table(library, adverts, root, routes):
+    """Whether `IsTable` holds of these routes."""
+    return holds(apply(library.definition(ROUTES + "IsTable"), [adverts, root, routes]))
+
+
+def hop_text(hop):
+    """A next hop as it is printed."""
+    parts = [address(part.fields["0"]) for part in hop.values]
+    return {"Attached": "attached", "PointToPoint": ">".join(parts[:2])}.get(hop.name, ">".join(parts[:2]) + "@" + "".join(parts[2:]))
+
+
+def line(made):
+    """A route as it is printed."""
+    prefix = made.fields["prefix"].fields
+    hops = ",".join(map(hop_text, made.fields["hops"]))
+    return f"{address(prefix['address'].fields['0'])}/{prefix['length']} {made.fields['cost']} {hops}"
+
+
+def table_of(library, lsas, root, whole=False):
+    """The table of a router over LSAs; `whole` asks `IsTable` of it too."""
+    forget()
+    adverts, root = advertisements(library, lsas), Struct({"0": number(root)})
+    routes = table(library, adverts, root)
+    if whole and not is_table(library, adverts, root, routes):
+        raise Refused("IsTable does not hold of the table")
+    return routes
+
+
+__all__ = ["RecordClaim", "resolve"]

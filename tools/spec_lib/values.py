@@ -1,0 +1,175 @@
+"""Values of definitions, with unknowns in them that a search fills in.
+
+A number (natural or whole) is an int, a truth value a bool, a list a tuple, a String a str.
+"""
+
+# How many values a machine's number has, by its name in Rust.
+SIZES = {"u8": 2**8, "u16": 2**16, "u32": 2**32, "u64": 2**64, "usize": 2**64}
+# An unknown of so few values is tried with each of them.
+FEW = 256
+
+
+class Unknown:
+    """A value that a search is to find. `serial` tells the older from the newer; `limit` is above all its values."""
+
+    __slots__ = ("value", "bound", "type", "serial", "limit")
+    count = 0
+
+    def __init__(self, kind=None, limit=None):
+        Unknown.count += 1
+        self.bound, self.value, self.type, self.serial, self.limit = False, None, kind, Unknown.count, limit
+
+    def __repr__(self):
+        return repr(self.value) if self.bound else f"?{self.serial}"
+
+
+class Struct:
+    """A record: its fields. `origin` is the record type and its parameters, where the value is evidence of one."""
+
+    __slots__ = ("fields", "origin")
+
+    def __init__(self, fields, origin=None):
+        self.fields, self.origin = fields, origin
+
+    def __eq__(self, other):
+        return type(other) is Struct and self.fields == other.fields
+
+    def __hash__(self):
+        return hash(tuple(sorted(self.fields.items(), key=lambda item: item[0])))
+
+    def __repr__(self):
+        return "{" + "; ".join(f"{label} = {value!r}" for label, value in self.fields.items()) + "}"
+
+
+class Made:
+    """A value made by a constructor of this name."""
+
+    __slots__ = ("name", "values")
+
+    def __init__(self, name, values=()):
+        self.name, self.values = name, tuple(values)
+
+    def __eq__(self, other):
+        return type(other) is Made and self.name == other.name and self.values == other.values
+
+    def __hash__(self):
+        return hash((self.name, self.values))
+
+    def __repr__(self):
+        return "(" + " ".join([self.name, *map(repr, self.values)]) + ")" if self.values else self.name
+
+
+class Stuck(Exception):
+    """What is asked depends on an unknown."""
+
+    def __init__(self, unknown):
+        super().__init__(f"depends on {unknown!r}")
+        self.unknown = unknown
+
+
+class Refused(Exception):
+    """A definition that cannot be evaluated, with the reason."""
+
+
+NONE = Made("None")
+UNIT = Struct({})
+TRAIL = []
+
+
+def some(value):
+    """Some value"""
+    return Made("Some", (value,))
+
+
+def pair(*values):
+    """A tuple of several values, as a record whose labels are numbers."""
+    return Struct({str(place): value for place, value in enumerate(values)})
+
+
+def known(value):
+    """The value behind unknowns that are found; an unknown where it is not found."""
+    while type(value) is Unknown and value.bound:
+        value = value.value
+    return value
+
+
+def need(value):
+    """The value, which has to be known so far as its outermost part."""
+    value = known(value)
+    if type(value) is Unknown:
+        raise Stuck(value)
+    return value
+
+
+def bind(unknown, value):
+    """Says what an unknown is, until it is taken back."""
+    unknown.bound, unknown.value = True, value
+    TRAIL.append(unknown)
+
+
+def undo(mark):
+    """Takes back what was found since this mark."""
+    while len(TRAIL) > mark:
+        unknown = TRAIL.pop()
+        unknown.bound, unknown.value = False, None
+
+
+def unify(a, b):
+    """Makes two values one, if they can be. What it has bound stays bound also where it fails."""
+    a, b = known(a), known(b)
+    if a is b:
+        return True
+    for one, other in ((a, b), (b, a)):
+        if type(one) is Unknown:
+            bind(one, other)
+            return True
+    if type(a) is not type(b):
+        return False
+    if type(a) is Struct:
+        return all(label in b.fields and unify(value, b.fields[label]) for label, value in a.fields.items())
+    if type(a) is Made:
+        return a.name == b.name and len(a.values) == len(b.values) and all(map(unify, a.values, b.values))
+    if type(a) is tuple:
+        return len(a) == len(b) and (a == b or all(map(unify, a, b)))
+    if callable(a):
+        raise Refused("two functions are compared")
+    return a == b
+
+
+def resolve(value):
+    """The value with all that is found put in."""
+    value = known(value)
+    if type(value) is Struct:
+        return Struct({label: resolve(part) for label, part in value.fields.items()}, value.origin)
+    if type(value) is Made and value.values:
+        return Made(value.name, map(resolve, value.values))
+    if type(value) is tuple and value and type(value[0]) is not int:
+        return tuple(map(resolve, value))
+    return value
+
+
+def first_unknown(value):
+    """An unknown in the value, if there is one."""
+    value = known(value)
+    if type(value) is Unknown:
+        return value
+    parts = ()
+    if type(value) is Struct:
+        parts = value.fields.values()
+    elif type(value) is Made:
+        parts = value.values
+    elif type(value) is tuple and value and type(value[0]) is not int:
+        parts = value
+    for part in parts:
+        found = first_unknown(part)
+        if found is not None:
+            return found
+    return None
+
+
+def ground(value):
+    """The value, in which nothing may be unknown."""
+    unknown = first_unknown(value)
+    if unknown is not None:
+        raise Stuck(unknown)
+    return resolve(value)
