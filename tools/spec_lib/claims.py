@@ -69,6 +69,10 @@ class Different(Claim):
             yield
 
 
+# Statements that are decided at once, or not yet.
+QUICK = {Equal, Different}
+
+
 class Less(Claim):
     """a < b, or a + 1 > b where `gap` is 0. An unknown natural number below a known one is tried with each."""
 
@@ -226,7 +230,7 @@ def solutions(goal):
     try:
         for _ in goal().run():
             found = [(u, resolve(u)) for u in TRAIL[mark:] if u.serial <= start]
-            key = tuple(sorted((u.serial, repr(value)) for u, value in found))
+            key = frozenset((u.serial, value) for u, value in found)
             if key not in seen:
                 seen.add(key)
                 out.append(found)
@@ -238,26 +242,34 @@ def solutions(goal):
 
 
 def solve(goals):
-    """Goes through the ways in which all goals hold, taking first those that can run."""
+    """Goes through the ways in which all goals hold, taking first those that can run, and equalities before others."""
     if not goals:
         yield
         return
     stuck = None
-    for place, goal in enumerate(goals):
-        try:
-            ways = solutions(goal)
-        except Stuck as reason:
-            if stuck is None or alternatives(known(stuck)) is None:
-                stuck = reason.unknown
-            continue
-        rest = goals[:place] + goals[place + 1:]
-        for found in ways:
-            mark = len(TRAIL)
-            if all(unify(unknown, value) for unknown, value in found):
-                yield from solve(rest)
-            undo(mark)
-        return
+    for quick in (True, False) if len(goals) > 1 else (False,):
+        for place, goal in enumerate(goals):
+            try:
+                claim = goal()
+                if quick and type(claim) not in QUICK:
+                    continue
+                ways = solutions(lambda: claim)
+            except Stuck as reason:
+                if stuck is None or alternatives(known(stuck)) is None:
+                    stuck = reason.unknown
+                continue
+            yield from _each_way(ways, goals[:place] + goals[place + 1:])
+            return
     yield from _split(known(stuck), goals)
+
+
+def _each_way(ways, rest):
+    """Goes on with the other goals in each way of one."""
+    for found in ways:
+        mark = len(TRAIL)
+        if all(unify(unknown, value) for unknown, value in found):
+            yield from solve(rest)
+        undo(mark)
 
 
 def _split(unknown, goals):
@@ -297,5 +309,5 @@ def all_solutions(goals, values):
         found = tuple(resolve(value) for value in values)
         if any(first_unknown(value) is not None for value in found):
             raise Refused("a value is not fixed by what is said of it")
-        out.setdefault(repr(found), found)
-    return list(out.values())
+        out.setdefault(found, found)
+    return list(out)

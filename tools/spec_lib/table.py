@@ -1,8 +1,7 @@
 """Routing tables by the definitions (ospf_graph.Routes.IsTable), printed as `ospfd table` prints them."""
 from functools import cmp_to_key
 
-from .claims import all_solutions, holds
-from .evaluate import RecordClaim
+from .claims import Equal, all_solutions, holds
 from .functions import apply
 from .readings import forget
 from .values import Refused, Struct, Unknown, resolve
@@ -34,7 +33,7 @@ def advertisements(library, lsas):
     """What the route calculation reads of the LSAs of an area that are below MaxAge."""
     header, limit = library.definition("ospf_lsa.Header.header_of"), library.definition("ospf_base.Constants.max_age")
     listed = tuple(lsa for lsa in lsas if apply(header, [lsa]).fields["age"] < limit)
-    return apply(library.definition("ospf_edges.Listed.advertisements_of"), [listed])
+    return resolve(apply(library.definition("ospf_edges.Listed.advertisements_of"), [listed]))
 
 
 def prefixes(library, adverts, root):
@@ -45,16 +44,18 @@ def prefixes(library, adverts, root):
 
 
 def route(library, adverts, root, prefix):
-    """The route to a prefix: its hops by `IsHop`, its cost by `IsRoute`."""
+    """The route to a prefix: its hops by `IsHop`, its cost that of a way for which `IsLeast` holds."""
     hop, cost = Unknown(), Unknown()
     goal = lambda: apply(library.definition(ROUTES + "IsHop"), [adverts, root, prefix, hop])
     hops = [found[0] for found in all_solutions([goal], [hop])]
-    made = Struct({"prefix": prefix, "cost": cost, "hops": in_order(library, "ospf_graph.Hops.IsHopBefore", hops)})
-    costs = all_solutions([lambda: apply(library.definition(ROUTES + "IsRoute"), [adverts, root, made])], [cost])
+    way, goals = apply(library.definition(ROUTES + "Way"), [adverts, root, prefix]).parts()
+    goals.append(lambda: apply(library.definition(ROUTES + "IsLeast"), [way]))
+    goals.append(lambda: Equal(lambda: cost, lambda: apply(library.definition(ROUTES + "way_cost"), [way])))
+    costs = all_solutions(goals, [cost])
     if len(costs) != 1:
         raise Refused(f"{len(costs)} costs of one route")
-    made.fields["cost"] = costs[0][0]
-    return made
+    hops = in_order(library, "ospf_graph.Hops.IsHopBefore", hops)
+    return Struct({"prefix": prefix, "cost": costs[0][0], "hops": hops})
 
 
 def table(library, adverts, root):
@@ -89,6 +90,3 @@ def table_of(library, lsas, root, whole=False):
     if whole and not is_table(library, adverts, root, routes):
         raise Refused("IsTable does not hold of the table")
     return routes
-
-
-__all__ = ["RecordClaim", "resolve"]

@@ -24,36 +24,54 @@ class Unknown:
 
 
 class Struct:
-    """A record: its fields. `origin` is the record type and its parameters, where the value is evidence of one."""
+    """A record: its fields. `origin` is the record type and its parameters, where the value is evidence of one.
 
-    __slots__ = ("fields", "origin")
+    `done` says that nothing in it is unknown.
+    """
+
+    __slots__ = ("fields", "origin", "done", "hashed")
 
     def __init__(self, fields, origin=None):
-        self.fields, self.origin = fields, origin
+        self.fields, self.origin, self.done, self.hashed = fields, origin, False, None
 
     def __eq__(self, other):
-        return type(other) is Struct and self.fields == other.fields
+        if self is other:
+            return True
+        if type(other) is not Struct or self.done and other.done and hash(self) != hash(other):
+            return False
+        return self.fields == other.fields
 
     def __hash__(self):
-        return hash(tuple(sorted(self.fields.items(), key=lambda item: item[0])))
+        if not self.done:
+            return hash(frozenset(self.fields.items()))
+        if self.hashed is None:
+            self.hashed = hash(frozenset(self.fields.items()))
+        return self.hashed
 
     def __repr__(self):
         return "{" + "; ".join(f"{label} = {value!r}" for label, value in self.fields.items()) + "}"
 
 
 class Made:
-    """A value made by a constructor of this name."""
+    """A value made by a constructor of this name. `done` says that nothing in it is unknown."""
 
-    __slots__ = ("name", "values")
+    __slots__ = ("name", "values", "done", "hashed")
 
     def __init__(self, name, values=()):
         self.name, self.values = name, tuple(values)
+        self.done, self.hashed = not self.values, None
 
     def __eq__(self, other):
+        if self is other:
+            return True
         return type(other) is Made and self.name == other.name and self.values == other.values
 
     def __hash__(self):
-        return hash((self.name, self.values))
+        if not self.done:
+            return hash((self.name, self.values))
+        if self.hashed is None:
+            self.hashed = hash((self.name, self.values))
+        return self.hashed
 
     def __repr__(self):
         return "(" + " ".join([self.name, *map(repr, self.values)]) + ")" if self.values else self.name
@@ -125,26 +143,50 @@ def unify(a, b):
             return True
     if type(a) is not type(b):
         return False
-    if type(a) is Struct:
-        return all(label in b.fields and unify(value, b.fields[label]) for label, value in a.fields.items())
-    if type(a) is Made:
-        return a.name == b.name and len(a.values) == len(b.values) and all(map(unify, a.values, b.values))
     if type(a) is tuple:
         return len(a) == len(b) and (a == b or all(map(unify, a, b)))
+    if type(a) is Struct or type(a) is Made:
+        return a == b if a.done and b.done else _unify_parts(a, b)
     if callable(a):
         raise Refused("two functions are compared")
     return a == b
 
 
+def _unify_parts(a, b):
+    """Makes the parts of two records, or of two values of constructors, one."""
+    if type(a) is Struct:
+        return all(label in b.fields and unify(value, b.fields[label]) for label, value in a.fields.items())
+    return a.name == b.name and len(a.values) == len(b.values) and all(map(unify, a.values, b.values))
+
+
+def is_done(value):
+    """Whether nothing in a value is unknown, so far as that is known at once."""
+    kind = type(value)
+    if kind is Struct or kind is Made:
+        return value.done
+    if kind is tuple:
+        return not value or type(value[0]) is int or all(map(is_done, value))
+    return kind is not Unknown
+
+
 def resolve(value):
-    """The value with all that is found put in."""
+    """The value with all that is found put in. A value without unknowns stays the same object."""
     value = known(value)
-    if type(value) is Struct:
-        return Struct({label: resolve(part) for label, part in value.fields.items()}, value.origin)
-    if type(value) is Made and value.values:
-        return Made(value.name, map(resolve, value.values))
-    if type(value) is tuple and value and type(value[0]) is not int:
-        return tuple(map(resolve, value))
+    kind = type(value)
+    if kind is Struct and not value.done:
+        parts = {label: resolve(part) for label, part in value.fields.items()}
+        same = all(part is value.fields[label] for label, part in parts.items())
+        out = value if same else Struct(parts, value.origin)
+        out.done = all(map(is_done, parts.values()))
+        return out
+    if kind is Made and not value.done:
+        parts = tuple(map(resolve, value.values))
+        out = value if all(a is b for a, b in zip(parts, value.values)) else Made(value.name, parts)
+        out.done = all(map(is_done, parts))
+        return out
+    if kind is tuple and not is_done(value):
+        parts = tuple(map(resolve, value))
+        return value if all(a is b for a, b in zip(parts, value)) else parts
     return value
 
 
@@ -154,7 +196,7 @@ def first_unknown(value):
     if type(value) is Unknown:
         return value
     parts = ()
-    if type(value) is Struct:
+    if type(value) is Struct and not value.done:
         parts = value.fields.values()
     elif type(value) is Made:
         parts = value.values
