@@ -1,10 +1,15 @@
 """The values of definitions: their terms become Python functions of the names bound around them."""
-from .claims import AllOf, Claim, Exists
+from .claims import AllOf, Claim, Equal, Exists
 from .declared import RustEnum, Type
 from .functions import Function
 from .kinds import Kind
+from .parser import Implicit
 from .terms import Scope, compile_term, fresh, match
 from .values import UNIT, Refused, Stuck, Struct, known
+
+# A type of which nothing is known.
+ANY = Kind(Type("?"))
+
 
 class Defined:
     """A function or a constant, by its clauses."""
@@ -57,7 +62,7 @@ def implicit_sources(declared):
     while kind[0] in ("pi", "arrow"):
         groups = kind[1] if kind[0] == "pi" else [([None], kind[1])]
         for bound, domain in groups:
-            for _ in bound:
+            for _ in bound if not isinstance(bound, Implicit) else ():
                 parts = domain[2] if domain[0] == "apply" else []
                 for at, part in enumerate(parts):
                     if part[0] == "name" and part[1][0] in names:
@@ -68,13 +73,11 @@ def implicit_sources(declared):
 
 
 def implicit_value(source, arguments):
-    """The value of an argument in braces, where it is known of an explicit one."""
-    if source is None:
-        return None
-    value = known(arguments[source[0]])
+    """The value of an argument in braces, where it is known of an explicit one; else it is some type."""
+    value = known(arguments[source[0]]) if source else None
     if type(value) is Struct and value.origin:
         return value.origin[1][source[1]]
-    return None
+    return ANY
 
 
 class RecordClaim(Claim):
@@ -85,7 +88,8 @@ class RecordClaim(Claim):
 
     def parts(self):
         """The record of new unknowns, and the goals that its fields are."""
-        env = dict(zip(self.record.parameters, self.arguments))
+        env = dict.fromkeys(self.record.declared.implicit, ANY)
+        env.update(zip(self.record.parameters, self.arguments))
         fields, goals = {}, []
         for name, kind in self.record.kinds():
             fields[name] = env[name] = UNIT
@@ -126,7 +130,7 @@ class RecordType:
     def kinds(self):
         """The types of the fields, as functions of the names before them."""
         if self.compiled is None:
-            scope = Scope(self.module, set(self.parameters))
+            scope = Scope(self.module, {*self.parameters, *self.declared.implicit})
             self.compiled = []
             for name, kind in self.declared.fields:
                 self.compiled.append((name, compile_term(kind, scope)))
@@ -141,38 +145,57 @@ class DataType:
         self.module, self.declared = module, declared
         self.whole = f"{module.name}.{declared.name}"
         self.parameters = [name for name, _ in declared.parameters]
+        self.scope = Scope(module, {*self.parameters, *declared.implicit})
+        self.arity = len(self.parameters) + module.arity(declared.indices)
 
     def value(self):
-        """The type, or the function from its parameters to it; with indices it is refused."""
-        if self.parameters:
-            return Function(len(self.parameters), self.claim, self.whole)
+        """The type, or the function from what it is given to it."""
+        if self.arity:
+            return Function(self.arity, self.claim, self.whole)
         return Kind(Type(self.declared.name), _Variants(self.declared, self.module), self.module.crate)
 
     def claim(self, arguments):
         """One of the constructors applies."""
         return _OneOf(self, arguments)
 
+    def prepare(self):
+        """Compiles what the constructors take."""
+        for _, kind in self.declared.constructors:
+            _compiled(kind, self.scope.inner(()))
+
     def ways(self, arguments):
         """Of each constructor a function that gives the goals of its arguments."""
-        env = dict(zip(self.parameters, arguments))
-        scope = Scope(self.module, set(self.parameters))
-        return [lambda kind=kind: _arguments(kind, scope, dict(env)) for _, kind in self.declared.constructors]
+        env = dict.fromkeys(self.declared.implicit, ANY)
+        env.update(zip(self.parameters, arguments))
+        given = arguments[len(self.parameters):]
+        return [lambda kind=kind: _arguments(kind, self.scope.inner(()), dict(env), given) for _, kind in self.declared.constructors]
 
 
-def _arguments(kind, scope, env):
-    """The goals that the arguments of a constructor are."""
-    goals, scope = [], Scope(scope.module, set(scope.names))
+def _compiled(kind, scope):
+    """The arguments of a constructor: names, and their type as a function of those before. And what is behind them."""
+    out = []
     while kind[0] in ("pi", "arrow"):
-        groups = kind[1] if kind[0] == "pi" else [([], kind[1])]
-        for names, domain in groups:
-            compiled = compile_term(domain, scope)
-            if not names:
-                goals.append(lambda compiled=compiled: compiled(env))
-            for name in names:
-                env[name], more = fresh(compiled(env))
-                goals.extend(more)
-                scope.names.add(name)
+        for names, domain in kind[1] if kind[0] == "pi" else [([], kind[1])]:
+            out.append((names, compile_term(domain, scope)))
+            scope.names.update(names)
         kind = kind[2]
+    return out, kind
+
+
+def _arguments(kind, scope, env, given):
+    """The goals that the arguments of a constructor are, and that what it makes is of these indices."""
+    goals = []
+    compiled, result = _compiled(kind, scope)
+    for names, domain in compiled:
+        if not names:
+            goals.append(lambda domain=domain: domain(env))
+        for name in names:
+            env[name], more = fresh(domain(env))
+            goals.extend(more)
+    made = result[2][-len(given):] if given else []
+    for term, value in zip(made, given):
+        term = compile_term(term, scope)
+        goals.append(lambda term=term, value=value: Equal(lambda: term(env), lambda: value))
     return goals
 
 

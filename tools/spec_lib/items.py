@@ -2,7 +2,7 @@
 from typing import NamedTuple, Optional
 
 from .lexer import Unreadable, split_by_column, words
-from .parser import Parser
+from .parser import Implicit, Parser
 
 
 class Clause(NamedTuple):
@@ -29,14 +29,17 @@ class Record(NamedTuple):
     name: str
     parameters: list
     fields: list
+    implicit: list
 
 
 class Data(NamedTuple):
-    """A data type: its parameters, and its constructors with their types."""
+    """A data type: its parameters, its constructors with their types, and the type of what else it is given."""
 
     name: str
     parameters: list
     constructors: list
+    implicit: list
+    indices: tuple
 
 
 class Use(NamedTuple):
@@ -97,8 +100,7 @@ def _signature(parser):
     """The type of a function, and the types of what it takes in braces."""
     implicit = []
     while parser.peek("{") and parser.is_binder():
-        _, names, kind = parser.binder()
-        implicit.append((names, kind))
+        implicit.append(parser.binder())
         if parser.peek("→"):
             parser.at += 1
     return parser.term(), implicit
@@ -159,13 +161,12 @@ def functions(parts):
 
 
 def _parameters(parser):
-    """The parameters of a record or data type that are given to it."""
-    out = []
+    """The parameters of a record or data type: those that are given to it, and those in braces."""
+    out, implicit = [], []
     while not parser.peek(":"):
-        group = parser.binder()
-        if len(group) == 2:
-            out.extend((name, group[1]) for name in group[0])
-    return out
+        names, kind = parser.binder()
+        (implicit if isinstance(names, Implicit) else out).extend((name, kind) for name in names)
+    return out, implicit
 
 
 def _fields(tokens):
@@ -190,10 +191,13 @@ def _declared(tokens, kind) -> Optional[tuple]:
     name = tokens[at + 1].text
     parser = Parser(tokens)
     parser.at = at + 2
-    parameters = _parameters(parser)
+    parameters, implicit = _parameters(parser)
+    parser.at += 1
+    indices = parser.term()
     body = next(i for i, t in enumerate(tokens) if t.text == "where" and t.kind == "mark")
     fields = _fields(tokens[body + 1:]) if body + 1 < len(tokens) else []
-    return Record(name, parameters, fields) if kind == "record" else Data(name, parameters, fields)
+    implicit = [name for name, _ in implicit]
+    return Record(name, parameters, fields, implicit) if kind == "record" else Data(name, parameters, fields, implicit, indices)
 
 
 def read(source):

@@ -6,7 +6,7 @@ from .declared import Crates, RustEnum, Type
 from .evaluate import DataType, Defined, RecordType
 from .kinds import Kind
 from .lexer import words
-from .parser import Parser
+from .parser import Implicit, Parser
 from .terms import compile_term
 from .values import Refused
 from .words import CONSTRUCTORS, WORDS
@@ -30,6 +30,7 @@ class Module:
 
     def value(self, name):
         """The value of a declaration."""
+        self.library.asked.add(f"{self.name}.{name}")
         if name not in self.values:
             declared = self.declared[name]
             kinds = {items.Function: Defined, items.Record: RecordType, items.Data: DataType}
@@ -46,7 +47,8 @@ class Module:
         """How many arguments a type takes."""
         count = 0
         while kind[0] in ("pi", "arrow"):
-            count += sum(len(names) for names, _ in kind[1]) if kind[0] == "pi" else 1
+            groups = kind[1] if kind[0] == "pi" else [([None], kind[1])]
+            count += sum(len(names) for names, _ in groups if not isinstance(names, Implicit))
             kind = kind[2]
         return count
 
@@ -63,16 +65,15 @@ class Module:
 
     def child(self, name, part):
         """What `name.part` means where `name` is a module, or a type with constructors."""
+        found = []
         for use in self.uses.get(name, []):
-            if use.module:
-                return self.library.at_path((*use.path, part))
-        if name in self.declared and isinstance(self.declared[name], items.Data):
-            return self.library.at_path(("Rattle", self.crate, "specs", *self.name.split(".")[1:], part))
-        for use in self.uses.get(name, []):
-            if "declared" in use.path:
-                return self.library.at_path((*use.path, "TheVariants", part))
-            return self.library.at_path((*use.path[:-1], part))
-        return None
+            if use.module or "declared" not in use.path:
+                found.append(self.library.at_path((*use.path, part)))
+            else:
+                found.append(self.library.at_path((*use.path, "TheVariants", part)))
+        if name in self.declared and isinstance(self.declared[name], items.Data) and part in self.constructors:
+            found.append(self.look_up(part))
+        return next((one for one in found if one and one[0] != "missing"), None)
 
     def passed_on(self, name):
         """What this module passes on by a `pub use` line."""
@@ -89,6 +90,8 @@ class Library:
         self.top = top
         self.crates = Crates(top)
         self.modules = {}
+        # What terms have asked for since this was emptied, and what of it is not known.
+        self.asked, self.lacking = set(), set()
         self.readings = finite.READINGS if finite else {}
         self.witnesses = finite.WITNESSES if finite else {}
         self.kept_names = finite.KEPT if finite else ()
@@ -142,11 +145,24 @@ class Library:
             return ("missing", ".".join(path))
         if rest[0] == "declared":
             return self.declared(crate, rest)
-        module = self.module(".".join((crate, *rest[:-1])))
+        module = self.found_module(crate, rest[:-1])
         name = rest[-1]
+        if module is None:
+            return ("missing", ".".join(path))
         if name in module.declared or name in module.constructors:
             return module.look_up(name)
         return module.passed_on(name) or ("missing", ".".join(path))
+
+    def found_module(self, crate, parts):
+        """The module at this path; one that the crate's root passes on; or the one that declares a type of this name."""
+        if os.path.exists(os.path.join(self.top, "crates", crate, "specs", *parts) + ".antt"):
+            return self.module(".".join((crate, *parts)))
+        if len(parts) > 1:
+            module = self.found_module(crate, parts[:-1])
+            return module if module and isinstance(module.declared.get(parts[-1]), items.Data) else None
+        for use in self.module(f"{crate}.Lib").uses.get(parts[0], []) if parts else ():
+            return self.found_module(use.path[1], use.path[3:])
+        return None
 
     def declared(self, crate, rest):
         """A type of Rust, or one of its variants."""

@@ -16,6 +16,10 @@ OPERATORS.update({"++": (65, 1), "∷": (67, 1), "*": (70, 0), "/": (70, 0), "%"
 OPERATORS.update({"^": (75, 1), "↔": (0, 0), "⊎": (1, 1), "×": (2, 1)})
 
 
+class Implicit(list):
+    """Names that are bound in braces: they stand for something, and are given no place among the arguments."""
+
+
 class Parser:
     """Reads terms from the words of one item."""
 
@@ -108,16 +112,14 @@ class Parser:
         self.at += 1
         kind = self.term()
         self.take(close)
-        return ([] if close == "}" else names, kind) if close == ")" else (None, names, kind)
+        return (names if close == ")" else Implicit(names), kind)
 
     def binders(self):
-        """All that stand here; those in braces bind nothing that is evaluated."""
+        """All that stand here, with what else reaches to the next arrow."""
         groups = []
         while self.is_binder():
-            group = self.binder()
-            if len(group) == 2:
-                groups.append(group)
-        return ("binders", groups) if groups else self.operand()
+            groups.append(self.binder())
+        return ("binders", groups)
 
     def operand(self):
         """An application, or what reaches as far right as it can."""
@@ -125,7 +127,7 @@ class Parser:
             return self.binders()
         if self.peek("{") and self.tokens[self.at + 1].kind == "name":
             self.fail("a term")
-        for word, reader in (("λ", self.function), ("let", self.let), ("if", self.conditional), ("→", self.bare_arrow)):
+        for word, reader in (("λ", self.function), ("let", self.let), ("if", self.conditional)):
             if self.peek(word):
                 return reader()
         head = self.atom()
@@ -136,11 +138,6 @@ class Parser:
             arguments.append(self.function())
         arguments = [a for a in arguments if a[0] != "implicit"]
         return ("apply", head, arguments) if arguments else head
-
-    def bare_arrow(self):
-        """Binders in braces alone stood before this arrow."""
-        self.at += 1
-        return self.term()
 
     def begins_atom(self):
         """Whether an atom begins here."""
@@ -159,7 +156,7 @@ class Parser:
         patterns = []
         while not self.peek("."):
             if self.is_binder():
-                patterns.extend(("name", [name]) for name in self.binder()[0] or [])
+                patterns.extend(("name", [name]) for name in self.binder()[0])
             else:
                 patterns.append(self.atom())
         self.take(".")

@@ -130,10 +130,12 @@ def _global(scope, parts):
     """The value of a name of the module, and the fields read of it."""
     try:
         found, rest = scope.meaning(parts)
-    except Refused as reason:
-        return None, str(reason), []
-    if found[0] == "missing":
-        return None, f"{found[1]} is not known here", []
+        reason = f"{found[1]} is not known here" if found[0] == "missing" else None
+    except Refused as refusal:
+        reason = str(refusal)
+    if reason:
+        scope.module.library.lacking.add(reason)
+        return None, reason, []
     return found[-1], None, rest
 
 
