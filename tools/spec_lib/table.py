@@ -4,22 +4,9 @@ from functools import cmp_to_key
 from .claims import Equal, all_solutions, holds
 from .functions import apply
 from .readings import forget
-from .values import Refused, Struct, Unknown, resolve
+from .values import Refused, Struct, Unknown, ground, resolve
 
 ROUTES = "ospf_graph.Routes."
-
-
-def address(number):
-    """A number as an address is written."""
-    return ".".join(str(number >> shift & 255) for shift in (24, 16, 8, 0))
-
-
-def number(text):
-    """The number of an address."""
-    parts = [int(part) for part in text.split(".")]
-    if len(parts) != 4 or max(parts) > 255:
-        raise ValueError(f"{text} is no address")
-    return int.from_bytes(bytes(parts), "big")
 
 
 def in_order(library, name, items, key=lambda item: item):
@@ -30,10 +17,8 @@ def in_order(library, name, items, key=lambda item: item):
 
 
 def advertisements(library, lsas):
-    """What the route calculation reads of the LSAs of an area that are below MaxAge."""
-    header, limit = library.definition("ospf_lsa.Header.header_of"), library.definition("ospf_base.Constants.max_age")
-    listed = tuple(lsa for lsa in lsas if apply(header, [lsa]).fields["age"] < limit)
-    return resolve(apply(library.definition("ospf_edges.Listed.advertisements_of"), [listed]))
+    """What the route calculation reads of a listing."""
+    return resolve(apply(library.definition("ospf_edges.Listed.advertisements_of"), [lsas]))
 
 
 def prefixes(library, adverts, root):
@@ -69,23 +54,29 @@ def is_table(library, adverts, root, routes):
     return holds(apply(library.definition(ROUTES + "IsTable"), [adverts, root, routes]))
 
 
-def hop_text(hop):
-    """A next hop as it is printed."""
-    parts = [address(part.fields["0"]) for part in hop.values]
-    return {"Attached": "attached", "PointToPoint": ">".join(parts[:2])}.get(hop.name, ">".join(parts[:2]) + "@" + "".join(parts[2:]))
+def printed(library, routes, addresses=()):
+    """The routes and the lookups of addresses as `ospfd table` prints them, by the definitions of its lines."""
+    text = apply(library.definition("ospf_files.Shown.routes_text"), [routes])
+    for asked in addresses:
+        line = Unknown()
+        goal = lambda asked=asked, line=line: apply(library.definition("ospf_table.Output.IsLookupLine"), [routes, asked, line])
+        text += all_solutions([goal], [line])[0][0]
+    return bytes(ground(text)).decode()
 
 
-def line(made):
-    """A route as it is printed."""
-    prefix = made.fields["prefix"].fields
-    hops = ",".join(map(hop_text, made.fields["hops"]))
-    return f"{address(prefix['address'].fields['0'])}/{prefix['length']} {made.fields['cost']} {hops}"
+def listed(library, lsas):
+    """The LSAs below MaxAge, at their plain age, in the order of their keys."""
+    plain, header = library.definition("ospf_table.Line.with_plain_age"), library.definition("ospf_lsa.Header.header_of")
+    limit = library.definition("ospf_base.Constants.max_age")
+    young = [lsa for lsa in (apply(plain, [lsa]) for lsa in lsas) if apply(header, [lsa]).fields["age"] < limit]
+    key = library.definition("ospf_lsa.Lsa.key_of")
+    return in_order(library, "ospf_base.Keys.Precedes", young, lambda lsa: apply(key, [lsa]))
 
 
 def table_of(library, lsas, root, whole=False):
     """The table of a router over LSAs; `whole` asks `IsTable` of it too."""
     forget()
-    adverts, root = advertisements(library, lsas), Struct({"0": number(root)})
+    adverts, root = advertisements(library, listed(library, lsas)), Struct({"0": root})
     routes = table(library, adverts, root)
     if whole and not is_table(library, adverts, root, routes):
         raise Refused("IsTable does not hold of the table")

@@ -141,6 +141,9 @@ def unify(a, b):
         if type(one) is Unknown:
             bind(one, other)
             return True
+    for one, other in ((a, b), (b, a)):
+        if type(one) is tuple and type(other) is Made and other.name == "◌∷◌":
+            return one != () and unify(one[0], other.values[0]) and unify(one[1:], other.values[1])
     if type(a) is not type(b):
         return False
     if type(a) is tuple:
@@ -181,6 +184,8 @@ def resolve(value):
         return out
     if kind is Made and not value.done:
         parts = tuple(map(resolve, value.values))
+        if value.name == "◌∷◌" and type(parts[1]) is tuple:
+            return (parts[0], *parts[1])
         out = value if all(a is b for a, b in zip(parts, value.values)) else Made(value.name, parts)
         out.done = all(map(is_done, parts))
         return out

@@ -3,7 +3,7 @@ from .claims import AllOf, AnyOf, Both, Different, Equal, Implies, Later, Less, 
 from .declared import Type
 from .functions import Function, apply, word
 from .kinds import Kind
-from .values import NONE, UNIT, Made, Refused, Struct, ground, need, pair, some
+from .values import NONE, UNIT, Made, Struct, ground, known, need, pair, some
 
 WORDS = {}
 # Words that get their arguments as functions, so that they look at those alone that they need.
@@ -251,8 +251,14 @@ raw("OnFalse", 2, lambda b, p: Later(lambda: Truth(True) if need(b) else p))
 for _name in ("ℕ", "ℤ", "Bool", "List", "Option", "Result", "Vec", "String", "Ordering", "Unit"):
     raw(_name, 0, Kind(Type(_name)))
 
+
+def _cons(first, rest):
+    """A list by its first member and the rest, which may be unknown."""
+    rest = known(rest)
+    return (first, *rest) if type(rest) is tuple else Made("◌∷◌", (first, rest))
+
+
 CONSTRUCTORS = {"tt": UNIT, "zero": 0, "true": True, "false": False, "[]": (), "None": NONE, "Less": LESS, "Equal": SAME, "Greater": GREATER}
 CONSTRUCTORS.update({"suc": word(1, lambda n: need(n) + 1, "suc"), "pos": word(1, lambda n: n, "pos")})
-CONSTRUCTORS.update({"negsuc": word(1, lambda n: -need(n) - 1, "negsuc"), "◌∷◌": word(2, lambda x, xs: (x, *need(xs)), "◌∷◌")})
+CONSTRUCTORS.update({"negsuc": word(1, lambda n: -need(n) - 1, "negsuc"), "◌∷◌": word(2, _cons, "◌∷◌")})
 CONSTRUCTORS.update({name: Kind.maker(name, 1) for name in ("Some", "Ok", "Err")})
-__all__ = ["WORDS", "LAZY", "CONSTRUCTORS", "Refused"]

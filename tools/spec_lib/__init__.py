@@ -1,0 +1,1 @@
+"""Reads the definitions of crates/*/specs, and evaluates them outside the prover."""
