@@ -2,10 +2,11 @@
 import sys
 
 from . import coverage
-from .claims import Claim, all_solutions, holds
+from .claims import Claim, Equal
 from .evaluate import RecordClaim
 from .functions import Function, apply
 from .kinds import Kind
+from .search import all_solutions, holds
 from .table import printed, table_of
 from .terms import Scope, compile_term, fresh
 from .text import number, read, show
@@ -211,15 +212,27 @@ def evaluate(library, name, *words):
     kinds += [("hole",)] * (len(words) - len(kinds))
     given = [argument(word, kind, scope) for word, kind in zip(words, kinds)]
     asked = [one for one in given if first_unknown(one) is not None]
-    value = need(apply(value, given))
-    if isinstance(value, Function):
-        raise Refused(f"{name} takes {value.arity} more")
-    if not isinstance(value, Claim):
-        return [show(value)]
     if not asked:
-        return [show(holds(value))]
-    found = all_solutions([lambda: value], asked)
+        value = need(apply(value, given))
+        if isinstance(value, Function):
+            raise Refused(f"{name} takes {value.arity} more")
+        return [show(holds(value)) if isinstance(value, Claim) else show(value)]
+    result = Unknown()
+
+    def goal():
+        found = need(apply(value, given))
+        return found if isinstance(found, Claim) else Equal(lambda: found, lambda: result)
+    found = all_solutions([goal], asked if _is_statement(library, name) else [*asked, result], False)
     return [" ".join(map(show, one)) for one in found] or ["none"]
+
+
+def _is_statement(library, name):
+    """Whether a definition is a statement, and no function to values."""
+    module, _, last = name.rpartition(".")
+    kind = getattr(library.module(module).declared[last], "type", ("type",))
+    while kind[0] in ("pi", "arrow"):
+        kind = kind[2]
+    return kind[0] == "type"
 
 
 def cover(library):

@@ -4,9 +4,10 @@ A witness says which value a field of a record can only have; the rest of the re
 the paths that pass no vertex twice, and `IsLeast` over the least cost of all ways: a way that passes a vertex twice is
 never least, since each turn through a router costs something.
 """
-from .claims import AllOf, Claim, Equal, Later, Truth, holds, solve
+from .claims import AllOf, Claim, Equal, Later, Truth
 from .evaluate import RecordClaim
 from .functions import Function, apply
+from .search import holds, solve
 from .values import TRAIL, Struct, Unknown, ground, is_done, known, resolve, undo, unify
 
 # Of these records, the field that is searched for, as a term of the record's module.

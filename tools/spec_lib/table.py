@@ -1,9 +1,10 @@
 """Routing tables by the definitions (ospf_graph.Routes.IsTable), printed as `ospfd table` prints them."""
 from functools import cmp_to_key
 
-from .claims import Equal, all_solutions, holds
+from .claims import Equal
 from .functions import apply
 from .readings import forget
+from .search import all_solutions, holds
 from .values import Refused, Struct, Unknown, ground, resolve
 
 ROUTES = "ospf_graph.Routes."
