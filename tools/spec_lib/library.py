@@ -38,6 +38,11 @@ class Module:
             self.values[name] = self.library.read_as(f"{self.name}.{name}", value)
         return self.values[name]
 
+    def value_type(self, name):
+        """The type of values that a constructor of this module makes, if it is one."""
+        value = self.value(self.constructors[name][0].name)
+        return value if isinstance(value, Kind) else None
+
     def constructor(self, name):
         """The function that a constructor of this module is."""
         return self.library.made(name, self.arity(self.constructors[name][1]))
@@ -53,11 +58,11 @@ class Module:
         return count
 
     def look_up(self, name):
-        """What a name of the text means: ("value", v), ("module", path) or ("constructor", name, arity)."""
+        """What a name of the text means: ("value", v), or ("constructor", name, its type, v)."""
         if name in self.declared:
             return ("value", self.value(name))
         if name in self.constructors:
-            return ("constructor", name, self.constructor(name))
+            return ("constructor", name, self.value_type(name), self.constructor(name))
         for use in self.uses.get(name, []):
             if not use.module:
                 return self.library.at_path(use.path)
@@ -130,7 +135,7 @@ class Library:
     def of_prelude(self, name):
         """What a name means that no line of the file brings in."""
         if name in CONSTRUCTORS:
-            return ("constructor", name, CONSTRUCTORS[name])
+            return ("constructor", name, WORDS["Bool"] if name in ("true", "false") else None, CONSTRUCTORS[name])
         return ("value", WORDS[name]) if name in WORDS else None
 
     def at_path(self, path):
@@ -173,7 +178,7 @@ class Library:
         if isinstance(kind, RustEnum):
             for name, parts in kind.variants:
                 if name == rest[-1]:
-                    return ("constructor", name, self.made(name, len(parts)))
+                    return ("constructor", name, Kind(Type(rest[place - 1]), self, crate), self.made(name, len(parts)))
         return ("missing", ".".join(rest))
 
     def read_as(self, whole, value):

@@ -3,7 +3,7 @@ from .claims import Claim, Exists, Implies
 from .declared import Type
 from .functions import Function, apply
 from .kinds import Kind
-from .values import UNIT, Made, Refused, Struct, need, pair
+from .values import UNIT, Made, Refused, Struct, Unknown, known, need, pair
 from .words import LAZY
 
 
@@ -31,13 +31,13 @@ class Scope:
         if term[0] == "number":
             return ("number", term[1])
         if term[0] == "tuple":
-            return ("made", "tuple", [self.pattern(part) for part in term[1]])
+            return ("made", "tuple", [self.pattern(part) for part in term[1]], None)
         head, parts = (term[1], term[2]) if term[0] == "apply" else (term, [])
         if head[0] != "name":
             raise Refused(f"a pattern {term!r}")
         found, rest = self.meaning(head[1])
         if found[0] == "constructor" and not rest:
-            return ("made", found[1], [self.pattern(part) for part in parts])
+            return ("made", found[1], [self.pattern(part) for part in parts], found[2])
         if len(head[1]) > 1 or parts:
             return ("missing", ".".join(head[1]))
         self.names.add(head[1][0])
@@ -70,11 +70,11 @@ def match(pattern, value, env):
     if kind == "bind":
         env[pattern[1]] = value
         return True
-    value = need(value)
-    if kind == "number":
-        return value == pattern[1]
     if kind == "missing":
         raise Refused(f"{pattern[1]} is not known here")
+    value = _typed(known(value), pattern)
+    if kind == "number":
+        return value == pattern[1]
     name, parts = pattern[1], pattern[2]
     if type(value) is Made:
         return value.name == name and all(match(p, v, env) for p, v in zip(parts, value.values))
@@ -89,6 +89,13 @@ def match(pattern, value, env):
     if name == "tuple" and type(value) is Struct:
         return all(match(p, value.fields[str(i)], env) for i, p in enumerate(parts))
     raise Refused(f"{value!r} is held against {name}")
+
+
+def _typed(value, pattern):
+    """The value; of an unknown of no known type the pattern says which one it is of."""
+    if type(value) is Unknown and pattern[-1] is not None and (value.type is None or value.type.kind.name == "?"):
+        value.type = pattern[-1] if pattern[0] == "made" else None
+    return need(value)
 
 
 def field_of(value, label):
