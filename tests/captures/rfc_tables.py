@@ -1,9 +1,13 @@
-"""Tables and procedures of RFC 2328, written by hand from its text: what tests/captures/compare-spec holds the definitions against."""
+"""Tables and procedures of RFC 2328, written by hand from its text: what
+tests/captures/compare-spec holds the definitions against."""
 
 NEIGHBOUR_STATES = ["Down", "Init", "TwoWay", "ExStart", "Exchange", "Loading", "Full"]
-NEIGHBOUR_EVENTS = ["HelloReceived", "TwoWayReceived", "AdjOk", "NegotiationDone", "ExchangeDone", "LoadingDone", "SeqNumberMismatch",
-                    "BadLsReq", "OneWayReceived", "KillNbr", "InactivityTimer"]
-# Section 10.3. `wanted` is an adjacency that should be formed, `empty` an empty request list. What is in no row changes nothing.
+NEIGHBOUR_EVENTS = [
+    "HelloReceived", "TwoWayReceived", "AdjOk", "NegotiationDone", "ExchangeDone", "LoadingDone",
+    "SeqNumberMismatch", "BadLsReq", "OneWayReceived", "KillNbr", "InactivityTimer"
+]
+# Section 10.3. `wanted` is an adjacency that should be formed, `empty` an empty request list. What
+# is in no row changes nothing.
 NEIGHBOUR = """
 Down            HelloReceived      -         Init      TimerRestarts
 Init..Full      HelloReceived      -         same      TimerRestarts
@@ -39,8 +43,9 @@ ACKNOWLEDGEMENTS = {
     "NotImplied": ({"Dr": "Direct", "Backup": "Direct", "Other": "Direct"}, "Direct"),
     "Expired": ({"Dr": "Direct", "Backup": "Direct", "Other": "Direct"}, "Direct"),
 }
-# Section 10.6: the state, what the packet and the neighbour have, and the rule. I is 4, M is 2 and MS is 1; the other router is
-# 2.2.2.2, and this one 1.1.1.1 unless said otherwise. `last` is the last packet taken: its flags, Options and number.
+# Section 10.6: the state, what the packet and the neighbour have, and the rule. I is 4, M is 2 and
+# MS is 1; the other router is 2.2.2.2, and this one 1.1.1.1 unless said otherwise. `last` is the
+# last packet taken: its flags, Options and number.
 DESCRIPTIONS = """
 Down      flags=7                                            NotTaken
 Init      flags=7                                            NotTaken
@@ -105,7 +110,8 @@ def interface(state, event):
 
 
 def newer(a, b):
-    """Which of two headers (number, checksum, age) is newer (13.1): 1 the first, -1 the second, 0 neither."""
+    """Which of two headers (number, checksum, age) is newer (13.1): 1 the first, -1 the second, 0
+    neither."""
     for x, y in ((a[0], b[0]), (a[1], b[1])):
         if x != y:
             return 1 if x > y else -1

@@ -1,7 +1,7 @@
 """Statements.
 
-A goal is a function without arguments that gives a statement. `run` of a statement goes through the ways in which it
-holds: at each, what it says of the unknowns is bound.
+A goal is a function without arguments that gives a statement. `run` of a statement goes through the
+ways in which it holds: at each, what it says of the unknowns is bound.
 """
 from .search import holds_for_all, solutions, solve
 from .values import TRAIL, Stuck, Unknown, bind, known, need, undo, unify
@@ -76,7 +76,8 @@ class Different(Claim):
 
 
 class Less(Claim):
-    """a < b, or a + 1 > b where `gap` is 0. An unknown natural number below a known one is tried with each."""
+    """a < b, or a + 1 > b where `gap` is 0. An unknown natural number below a known one is tried
+    with each."""
 
     def __init__(self, a, b, gap, natural=True):
         self.a, self.b, self.gap, self.natural = a, b, gap, natural
@@ -165,7 +166,8 @@ class Exists(Claim):
 
 
 class Implies(Claim):
-    """A → B, or (x : A) → B: `expand` gives the goals on the left, with new unknowns, and the goal on the right."""
+    """A → B, or (x : A) → B: `expand` gives the goals on the left, with new unknowns, and the goal
+    on the right."""
 
     def __init__(self, expand):
         self.expand = expand

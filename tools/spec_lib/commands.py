@@ -1,16 +1,14 @@
-"""What tools/spec is asked: each command takes the library and the words behind its name, and gives lines."""
+"""What tools/spec is asked: each command takes the library and the words behind its name, and gives
+lines."""
 import sys
 
 from . import coverage
-from .claims import Claim, Equal
-from .evaluate import RecordClaim
-from .functions import Function, apply
-from .kinds import Kind
+from .asking import evaluate
+from .functions import apply
 from .search import all_solutions, holds
 from .table import printed, table_of
-from .terms import Scope, compile_term, fresh
 from .text import number, read, show
-from .values import Made, Refused, Struct, Unknown, first_unknown, need
+from .values import Made, Refused, Struct
 
 SUMS, LSA, RECENCY = "ospf_base.Sums.", "ospf_lsa.Lsa.", "ospf_lsa.Recency."
 YES, NO = ("true", "yes"), ("false", "no")
@@ -53,7 +51,8 @@ def table(library, root, *addresses):
 
 
 def is_table(library, root):
-    """istable ROUTER < LSAS: the same table, of which the definition IsTable is then asked as a whole."""
+    """istable ROUTER < LSAS: the same table, of which the definition IsTable is then asked as a
+    whole."""
     routes = table_of(library, lsas_of(sys.stdin), number(root), True)
     return [*printed(library, routes).splitlines(), "IsTable holds"]
 
@@ -63,23 +62,35 @@ def newer(library, first, second):
     a, b = bytes_of(first), bytes_of(second)
     headers = [call(library, "ospf_lsa.Header.header_of", lsa) for lsa in (a, b)]
     found = call(library, RECENCY + "recency", *headers).name
-    newer_ones = [holds(call(library, RECENCY + "IsNewer", x, y)) for x, y in (headers, headers[::-1])]
+    newer_ones = [
+        holds(call(library, RECENCY + "IsNewer", x, y)) for x, y in (headers, headers[::-1])
+    ]
     if newer_ones != [found == "Newer", found == "Older"]:
         raise Refused(f"IsNewer says {newer_ones}, and recency {found}")
-    same = call(library, "ospf_base.Keys.same_key", call(library, LSA + "key_of", a), call(library, LSA + "key_of", b))
-    return [{"Newer": "the first is newer", "Older": "the second is newer", "Same": "neither is newer"}[found]] + (
-        [] if same else ["the keys differ: these are two LSAs"])
+    same = call(
+        library, "ospf_base.Keys.same_key", call(library, LSA + "key_of", a),
+        call(library, LSA + "key_of", b)
+    )
+    return [
+        {
+            "Newer": "the first is newer", "Older": "the second is newer",
+            "Same": "neither is newer"
+        }[found]
+    ] + ( [] if same else ["the keys differ: these are two LSAs"])
 
 
 def faults(library, lsa):
     """The first fault of bytes as an LSA, if they have one."""
-    fault = library.at_path(("Rattle", "ospf_lsa", "specs", "declared", "fault", "LsaFault", "LsaFault"))[1].fresh()
+    fault = library.at_path(
+        ("Rattle", "ospf_lsa", "specs", "declared", "fault", "LsaFault", "LsaFault")
+    )[1].fresh()
     found = all_solutions([lambda: call(library, LSA + "IsFirstFault", lsa, fault)], [fault])
     return [bytes(call(library, "ospf_lsa.Text.lsa_fault_text", one[0])).decode() for one in found]
 
 
 def checksum(library):
-    """checksum < LSAS: of each LSA its checksum field, whether it is right (12.1.7), and its first fault."""
+    """checksum < LSAS: of each LSA its checksum field, whether it is right (12.1.7), and its first
+    fault."""
     out = []
     for lsa in lsas_of(sys.stdin):
         if len(lsa) < 20:
@@ -93,9 +104,12 @@ def checksum(library):
 
 
 def neighbour(library, state, event, wanted="true", requested_all="true"):
-    """neighbour STATE EVENT [ADJACENCY-WANTED [REQUEST-LIST-EMPTY]]: the row of the machine (10.3)."""
+    """neighbour STATE EVENT [ADJACENCY-WANTED [REQUEST-LIST-EMPTY]]: the row of the machine
+    (10.3)."""
     event = Made(event, (truth(wanted),) if event in ("TwoWayReceived", "AdjOk") else ())
-    change = call(library, "ospf_neighbour.Machine.transition", Made(state), event, truth(requested_all))
+    change = call(
+        library, "ospf_neighbour.Machine.transition", Made(state), event, truth(requested_all)
+    )
     return [f"{change.fields['state'].name} {change.fields['effect'].name}"]
 
 
@@ -110,54 +124,82 @@ def candidate(text):
     parts = text.split(",")
     if len(parts) != 5:
         raise Refused(f"ROUTER,ADDRESS,PRIORITY,DR,BACKUP expected at {text}")
-    fields = {name: identity(parts[at]) for name, at in (("id", 0), ("address", 1), ("dr", 3), ("backup", 4))}
+    fields = {
+        name: identity(parts[at]) for name,
+        at in (("id", 0), ("address", 1), ("dr", 3), ("backup", 4))
+    }
     return Struct({**fields, "priority": int(parts[2])})
 
 
 def elect(library, me, *candidates):
-    """elect ROUTER CANDIDATE..: the DR and the Backup (9.4); a candidate is ROUTER,ADDRESS,PRIORITY,DR,BACKUP."""
-    kind = library.at_path(("Rattle", "ospf_iface", "specs", "declared", "candidate", "Elected", "Elected"))[1]
+    """elect ROUTER CANDIDATE..: the DR and the Backup (9.4); a candidate is
+    ROUTER,ADDRESS,PRIORITY,DR,BACKUP."""
+    kind = library.at_path(
+        ("Rattle", "ospf_iface", "specs", "declared", "candidate", "Elected", "Elected")
+    )[1]
     elected = kind.fresh()
     given = tuple(map(candidate, candidates))
-    found = all_solutions([lambda: call(library, "ospf_iface.Election.IsElected", given, identity(me), elected)], [elected])
-    return [" ".join(show(one[0].fields[name])[1:-1] for name in ("dr", "backup")) for one in found] or ["no election"]
+    found = all_solutions(
+        [lambda: call(library, "ospf_iface.Election.IsElected", given, identity(me), elected)],
+        [elected]
+    )
+    return [
+        " ".join(show(one[0].fields[name])[1:-1] for name in ("dr", "backup")) for one in found
+    ] or ["no election"]
 
 
 def acknowledge(library, case, state, sender):
     """acknowledge CASE STATE SENDER: how an LSA is acknowledged (13.5, table 19)."""
-    return [call(library, "ospf_flood.Acknowledgements.acknowledgement", Made(case), Made(state), Made(sender)).name]
+    return [
+        call(
+            library, "ospf_flood.Acknowledgements.acknowledgement", Made(case), Made(state),
+            Made(sender)
+        ).name
+    ]
 
 
 def flood(library, lsa, copy="-", *flags):
-    """flood LSA COPY|- [loading] [requested] [sent] [flooded]: the rule of section 13 that an LSA meets.
+    """flood LSA COPY|- [loading] [requested] [sent] [flooded]: the rule of section 13 that an LSA
+    meets.
 
-    loading: a neighbour is in Exchange or Loading; requested: the sender's request list has it; flooded: the copy came by
-    flooding in this very tick; sent: the copy was sent in this tick. Where the copy is newer, also whether it goes back.
+    loading: a neighbour is in Exchange or Loading; requested: the sender's request list has it;
+    flooded: the copy came by flooding in this very tick; sent: the copy was sent in this tick.
+    Where the copy is newer, also whether it goes back.
     """
     unknown = set(flags) - {"loading", "requested", "sent", "flooded"}
     if unknown:
         raise Refused(f"not known: {' '.join(unknown)}")
     entry = None
     if copy != "-":
-        entry = call(library, "ospf_lsdb.Database.entry_from", bytes_of(copy), 1, "flooded" in flags)
+        entry = call(
+            library, "ospf_lsdb.Database.entry_from", bytes_of(copy), 1, "flooded" in flags
+        )
     known = Made("Some", (entry,)) if entry else Made("None")
     header = call(library, "ospf_lsa.Header.header_of", bytes_of(lsa))
-    rule = call(library, "ospf_flood.Rules.lsa_rule", header, known, "loading" in flags, "requested" in flags, 1).name
+    rule = call(
+        library, "ospf_flood.Rules.lsa_rule", header, known, "loading" in flags,
+        "requested" in flags, 1
+    ).name
     if rule != "Stale":
         return [rule]
     back = call(library, "ospf_flood.Rules.is_sent_back", entry, "sent" in flags)
     return [rule + (": the copy goes back" if back else ": nothing goes back")]
 
 
-DESCRIPTION = {"router": "1.1.1.1", "sender": "2.2.2.2", "interface_mtu": "1500", "mtu": "1500", "flags": "7", "options": "2",
-               "number": "1", "sent": "1", "master": "false", "last": "-", "headers": "[]", "passes_over": "false"}
+DESCRIPTION = {
+    "router": "1.1.1.1", "sender": "2.2.2.2", "interface_mtu": "1500", "mtu": "1500", "flags": "7",
+    "options": "2", "number": "1", "sent": "1", "master": "false", "last": "-", "headers": "[]",
+    "passes_over": "false"
+}
 
 
 def description(library, state, *words):
-    """dd STATE [NAME=VALUE..]: the rule of 10.6 that a Database Description meets, and what is answered.
+    """dd STATE [NAME=VALUE..]: the rule of 10.6 that a Database Description meets, and what is
+    answered.
 
-    Of the packet: sender, mtu, flags (I 4, M 2, MS 1), options, number, and headers as a list of records. Of the router:
-    router, interface_mtu, passes_over, master, sent (its last number) and last (the last one taken: FLAGS,OPTIONS,NUMBER).
+    Of the packet: sender, mtu, flags (I 4, M 2, MS 1), options, number, and headers as a list of
+    records. Of the router: router, interface_mtu, passes_over, master, sent (its last number) and
+    last (the last one taken: FLAGS,OPTIONS,NUMBER).
     """
     given = dict(DESCRIPTION)
     for word in words:
@@ -165,74 +207,31 @@ def description(library, state, *words):
         if name not in given:
             raise Refused(f"one of {', '.join(given)} expected at {word}")
         given[name] = value
-    local = Struct({"router": identity(given["router"]), "mtu": int(given["interface_mtu"]), "tick": 0,
-                    "passes_over": truth(given["passes_over"])})
+    local = Struct(
+        {
+            "router": identity(given["router"]), "mtu": int(given["interface_mtu"]), "tick": 0,
+            "passes_over": truth(given["passes_over"])
+        }
+    )
     packet = Struct({name: int(given[name]) for name in ("mtu", "flags", "options", "number")})
     last = Made("None")
     if given["last"] != "-":
         parts = map(int, given["last"].split(","))
         last = Made("Some", (Struct(dict(zip(("flags", "options", "number"), parts))),))
-    exchanging = Struct({"is_master": truth(given["master"]), "number": int(given["sent"]), "flags": 0, "sent_at": 0, "accepted": last})
-    fresh_one = call(library, "ospf_neighbour.Neighbour.new_neighbour", identity(given["sender"]), identity(given["sender"]))
+    exchanging = Struct(
+        {
+            "is_master": truth(given["master"]), "number": int(given["sent"]), "flags": 0,
+            "sent_at": 0, "accepted": last
+        }
+    )
+    fresh_one = call(
+        library, "ospf_neighbour.Neighbour.new_neighbour", identity(given["sender"]),
+        identity(given["sender"])
+    )
     neighbour_now = Struct({**fresh_one.fields, "state": Made(state), "exchanging": exchanging})
     arguments = [local, identity(given["sender"]), packet, read(given["headers"]), neighbour_now]
     rule = call(library, "ospf_exchange.Rules.dd_rule", *arguments).name
     return [f"{rule}: {show(call(library, 'ospf_exchange.Exchange.dd_answer', *arguments))}"]
-
-
-def domains(library, name):
-    """The types of what a definition takes, as terms, and the scope in which they are read."""
-    module, _, last = name.rpartition(".")
-    module = library.module(module)
-    declared = module.declared[last]
-    kinds = [kind for _, kind in getattr(declared, "parameters", [])]
-    rest = declared.type if hasattr(declared, "type") else getattr(declared, "indices", ("type",))
-    while rest[0] in ("pi", "arrow"):
-        groups = rest[1] if rest[0] == "pi" else [([None], rest[1])]
-        kinds.extend(kind for names, kind in groups for _ in names)
-        rest = rest[2]
-    return kinds, Scope(module, set())
-
-
-def argument(word, kind, scope):
-    """A word's value; the unknown is one of the type that is asked for."""
-    if word != "_":
-        return read(word)
-    try:
-        value = compile_term(kind, scope)({})
-        return fresh(value)[0] if isinstance(value, (Kind, RecordClaim)) else Unknown()
-    except Refused:
-        return Unknown()
-
-
-def evaluate(library, name, *words):
-    """eval CRATE.Module.name [VALUE..]: the value of a definition, or whether the statement holds; _ is an unknown."""
-    value = library.definition(name)
-    kinds, scope = domains(library, name)
-    kinds += [("hole",)] * (len(words) - len(kinds))
-    given = [argument(word, kind, scope) for word, kind in zip(words, kinds)]
-    asked = [one for one in given if first_unknown(one) is not None]
-    if not asked:
-        value = need(apply(value, given))
-        if isinstance(value, Function):
-            raise Refused(f"{name} takes {value.arity} more")
-        return [show(holds(value)) if isinstance(value, Claim) else show(value)]
-    result = Unknown()
-
-    def goal():
-        found = need(apply(value, given))
-        return found if isinstance(found, Claim) else Equal(lambda: found, lambda: result)
-    found = all_solutions([goal], asked if _is_statement(library, name) else [*asked, result], False)
-    return [" ".join(map(show, one)) for one in found] or ["none"]
-
-
-def _is_statement(library, name):
-    """Whether a definition is a statement, and no function to values."""
-    module, _, last = name.rpartition(".")
-    kind = getattr(library.module(module).declared[last], "type", ("type",))
-    while kind[0] in ("pi", "arrow"):
-        kind = kind[2]
-    return kind[0] == "type"
 
 
 def cover(library):
@@ -240,5 +239,8 @@ def cover(library):
     return coverage.report(library)
 
 
-COMMANDS = {"table": table, "istable": is_table, "newer": newer, "checksum": checksum, "neighbour": neighbour, "interface": interface,
-            "elect": elect, "acknowledge": acknowledge, "flood": flood, "dd": description, "eval": evaluate, "cover": cover}
+COMMANDS = {
+    "table": table, "istable": is_table, "newer": newer, "checksum": checksum,
+    "neighbour": neighbour, "interface": interface, "elect": elect, "acknowledge": acknowledge,
+    "flood": flood, "dd": description, "eval": evaluate, "cover": cover
+}

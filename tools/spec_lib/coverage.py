@@ -1,4 +1,5 @@
-"""Which definitions can be evaluated: those of which each word, and each word below it, is known."""
+"""Which definitions can be evaluated: those of which each word, and each word below it, is
+known."""
 from collections import Counter
 
 from . import items
@@ -18,7 +19,8 @@ def _compile(module, declared):
 
 
 def survey(library):
-    """Of each definition the definitions that it asks for, and the reasons that it cannot be evaluated."""
+    """Of each definition the definitions that it asks for, and the reasons that it cannot be
+    evaluated."""
     below, reasons, unread = {}, {}, []
     for name in library.names():
         module = library.module(name)
@@ -50,7 +52,10 @@ def report(library):
     below, reasons, unread = survey(library)
     out = incomplete(below, reasons)
     lacking = Counter(reason for found in reasons.values() for reason in found)
-    lines = [f"{len(below) + len(unread)} definitions in {len(library.names())} files: {len(below)} are read"]
-    lines += [f"{len(below) - len(out)} can be evaluated: each word in them is known, and each below"]
+    count, files = len(below) + len(unread), len(library.names())
+    lines = [f"{count} definitions in {files} files: {len(below)} are read"]
+    lines += [
+        f"{len(below) - len(out)} can be evaluated: each word in them is known, and each below"
+    ]
     lines += [f"{count} lack: {reason}" for reason, count in lacking.most_common()]
     return lines + [f"unread: {fault}" for fault in unread]

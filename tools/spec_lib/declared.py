@@ -1,11 +1,14 @@
-"""The structs and enums of the crates, read from their .rt files: fields and variants, and what a ghost line limits."""
+"""The structs and enums of the crates, read from their .rt files: fields and variants, and what a
+ghost line limits."""
 import os
 import re
 from typing import NamedTuple
 
 from .values import SIZES
 
-_ITEM = re.compile(r"^(?:pub(?:\([a-z]+\))? )?(struct|enum) (\w+)(<[^>]*>)?\s*(?:where[^{;]*)?([({;])", re.M)
+_ITEM = re.compile(
+    r"^(?:pub(?:\([a-z]+\))? )?(struct|enum) (\w+)(<[^>]*>)?\s*(?:where[^{;]*)?([({;])", re.M
+)
 _LIMIT = re.compile(r"ghost \w+: \{ (\w+) ≤ (\w+) \}")
 
 
@@ -17,7 +20,8 @@ class Type(NamedTuple):
 
 
 class RustStruct(NamedTuple):
-    """The fields of a struct, each with its type, and the greatest value that a ghost line allows a field.
+    """The fields of a struct, each with its type, and the greatest value that a ghost line allows a
+    field.
 
     One that has a model is seen as a value of another type, so that its fields say nothing.
     """
@@ -111,7 +115,9 @@ def types_in(source):
             continue
         body = source[found.end():_closed(source, found.end() - 1) - 1]
         body = re.sub(r"#\[[^\]]*\]", "", body)
-        out[name] = _struct(body, bracket) if kind == "struct" else RustEnum([_variant(p) for p in _parts(body)])
+        out[name] = _struct(body, bracket) if kind == "struct" else RustEnum(
+            [_variant(p) for p in _parts(body)]
+        )
     for name in re.findall(r"^impl(?:<[^>]*>)? Model for (\w+)", source, re.M):
         out[name] = RustStruct([], {}, True)
     return out
@@ -136,7 +142,8 @@ class Crates:
         return self.read[crate]
 
     def find(self, name, crate=None):
-        """A type by its name: of this crate if it has one, else of the crates in the order of their names."""
+        """A type by its name: of this crate if it has one, else of the crates in the order of their
+        names."""
         if crate and name in self.of_crate(crate):
             return self.of_crate(crate)[name]
         for other in sorted(os.listdir(os.path.join(self.top, "crates"))):

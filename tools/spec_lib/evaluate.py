@@ -4,7 +4,8 @@ from .declared import RustEnum, Type
 from .functions import Function
 from .kinds import Kind
 from .parser import Implicit
-from .terms import Scope, compile_term, fresh, match
+from .patterns import Scope, match
+from .terms import compile_term, fresh
 from .values import UNIT, Refused, Stuck, Struct, known
 
 # A type of which nothing is known.
@@ -73,7 +74,8 @@ def implicit_sources(declared):
 
 
 def implicit_value(source, arguments):
-    """The value of an argument in braces, where it is known of an explicit one; else it is some type."""
+    """The value of an argument in braces, where it is known of an explicit one; else it is some
+    type."""
     value = known(arguments[source[0]]) if source else None
     if type(value) is Struct and value.origin:
         return value.origin[1][source[1]]
@@ -102,7 +104,9 @@ class RecordClaim(Claim):
             fields[name] = env[name] = value
             goals.extend(more)
         evidence = Struct(fields, (self.record, self.arguments))
-        return evidence, self.record.module.library.keeping(self.record.whole, [evidence, *self.arguments], goals)
+        return evidence, self.record.module.library.keeping(
+            self.record.whole, [evidence, *self.arguments], goals
+        )
 
     def run(self):
         yield from Exists(lambda: self.parts()[1]).run()
@@ -124,7 +128,9 @@ class RecordType:
     def value(self):
         """The record type, or the function from its parameters to it."""
         if self.parameters:
-            return Function(len(self.parameters), lambda given: RecordClaim(self, given), self.whole)
+            return Function(
+                len(self.parameters), lambda given: RecordClaim(self, given), self.whole
+            )
         return RecordClaim(self, [])
 
     def kinds(self):
@@ -152,7 +158,9 @@ class DataType:
         """The type, or the function from what it is given to it."""
         if self.arity:
             return Function(self.arity, self.claim, self.whole)
-        return Kind(Type(self.declared.name), _Variants(self.declared, self.module), self.module.crate)
+        return Kind(
+            Type(self.declared.name), _Variants(self.declared, self.module), self.module.crate
+        )
 
     def claim(self, arguments):
         """One of the constructors applies."""
@@ -168,11 +176,15 @@ class DataType:
         env = dict.fromkeys(self.declared.implicit, ANY)
         env.update(zip(self.parameters, arguments))
         given = arguments[len(self.parameters):]
-        return [lambda kind=kind: _arguments(kind, self.scope.inner(()), dict(env), given) for _, kind in self.declared.constructors]
+        return [
+            lambda kind=kind: _arguments(kind, self.scope.inner(()), dict(env), given) for _,
+            kind in self.declared.constructors
+        ]
 
 
 def _compiled(kind, scope):
-    """The arguments of a constructor: names, and their type as a function of those before. And what is behind them."""
+    """The arguments of a constructor: names, and their type as a function of those before. And what
+    is behind them."""
     out = []
     while kind[0] in ("pi", "arrow"):
         for names, domain in kind[1] if kind[0] == "pi" else [([], kind[1])]:
@@ -183,7 +195,8 @@ def _compiled(kind, scope):
 
 
 def _arguments(kind, scope, env, given):
-    """The goals that the arguments of a constructor are, and that what it makes is of these indices."""
+    """The goals that the arguments of a constructor are, and that what it makes is of these
+    indices."""
     goals = []
     compiled, result = _compiled(kind, scope)
     for names, domain in compiled:
@@ -211,11 +224,14 @@ class _OneOf(Claim):
 
 
 class _Variants:
-    """What `Kind` asks of a library, for a data type of definitions. What its constructors hold has no known type."""
+    """What `Kind` asks of a library, for a data type of definitions. What its constructors hold has
+    no known type."""
 
     def __init__(self, declared, module):
         self.crates, self.name = self, declared.name
-        variants = [(name, [Type("?")] * module.arity(kind)) for name, kind in declared.constructors]
+        variants = [
+            (name, [Type("?")] * module.arity(kind)) for name, kind in declared.constructors
+        ]
         self.found = RustEnum(variants)
 
     def find(self, name, _):

@@ -1,4 +1,5 @@
-"""Functions as values: how they are applied, also to fewer or more arguments than they take at once."""
+"""Functions as values: how they are applied, also to fewer or more arguments than they take at
+once."""
 from .values import Refused, Stuck, Unknown, known
 
 LIMIT = 200_000_000

@@ -1,4 +1,5 @@
-"""The declarations of a file of definitions: its header, its functions, its records and its data."""
+"""The declarations of a file of definitions: its header, its functions, its records and its
+data."""
 from typing import NamedTuple, Optional
 
 from .lexer import Unreadable, split_by_column, words
@@ -6,7 +7,8 @@ from .parser import Implicit, Parser
 
 
 class Clause(NamedTuple):
-    """One line of a function: patterns, what it gives, and the functions that stand behind its `where`."""
+    """One line of a function: patterns, what it gives, and the functions that stand behind its
+    `where`."""
 
     patterns: list
     implicits: list
@@ -24,7 +26,8 @@ class Function(NamedTuple):
 
 
 class Record(NamedTuple):
-    """A record: its parameters and its fields, each with its type. With parameters it is a statement or a family."""
+    """A record: its parameters and its fields, each with its type. With parameters it is a
+    statement or a family."""
 
     name: str
     parameters: list
@@ -33,7 +36,8 @@ class Record(NamedTuple):
 
 
 class Data(NamedTuple):
-    """A data type: its parameters, its constructors with their types, and the type of what else it is given."""
+    """A data type: its parameters, its constructors with their types, and the type of what else it
+    is given."""
 
     name: str
     parameters: list
@@ -43,7 +47,8 @@ class Data(NamedTuple):
 
 
 class Use(NamedTuple):
-    """A name that a header brings in: `path` is what it stands for; `module` says that it is a module's."""
+    """A name that a header brings in: `path` is what it stands for; `module` says that it is a
+    module's."""
 
     name: str
     path: tuple
@@ -143,7 +148,10 @@ def functions(parts):
     for part in parts:
         if any(t.text in ("unfolding", "infix", "infixl", "infixr") for t in part[:1]):
             continue
-        start = next(i for i, t in enumerate(part) if t.text not in ("unfoldable", "abbrev", "pub", "pattern"))
+        start = next(
+            i for i,
+            t in enumerate(part) if t.text not in ("unfoldable", "abbrev", "pub", "pattern")
+        )
         head = part[start:]
         if len(head) > 1 and head[1].text == ":" or start:
             parser = Parser(head)
@@ -156,7 +164,9 @@ def functions(parts):
         elif out and out[-1].name == head[0].text:
             out[-1].clauses.append(_clause(head))
         else:
-            raise Unreadable(f"line {head[0].line}: a clause of {head[0].text!r} without its signature")
+            raise Unreadable(
+                f"line {head[0].line}: a clause of {head[0].text!r} without its signature"
+            )
     return out
 
 
@@ -197,7 +207,9 @@ def _declared(tokens, kind) -> Optional[tuple]:
     body = next(i for i, t in enumerate(tokens) if t.text == "where" and t.kind == "mark")
     fields = _fields(tokens[body + 1:]) if body + 1 < len(tokens) else []
     implicit = [name for name, _ in implicit]
-    return Record(name, parameters, fields, implicit) if kind == "record" else Data(name, parameters, fields, implicit, indices)
+    return Record(name, parameters, fields, implicit) if kind == "record" else Data(
+        name, parameters, fields, implicit, indices
+    )
 
 
 def read(source):
@@ -228,7 +240,9 @@ def _grouped(parts):
     """Each signature with the clauses behind it."""
     groups = []
     for part in parts:
-        if part[0].text in ("abbrev", "unfoldable", "pub", "pattern") or len(part) > 1 and part[1].text == ":":
+        if part[0].text in (
+            "abbrev", "unfoldable", "pub", "pattern"
+        ) or len(part) > 1 and part[1].text == ":":
             groups.append([])
         if groups:
             groups[-1].append(part)

@@ -37,7 +37,9 @@ class Kind:
             return [False, True]
         declared = self.declared()
         if isinstance(declared, RustEnum):
-            return [Made(n, [self.part(k).fresh() for k in parts]) for n, parts in declared.variants]
+            return [
+                Made(n, [self.part(k).fresh() for k in parts]) for n, parts in declared.variants
+            ]
         return None
 
     @staticmethod

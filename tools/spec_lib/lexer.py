@@ -1,9 +1,13 @@
-"""The words of a file of definitions (antt): names, numbers, texts and marks, each with its line and column."""
+"""The words of a file of definitions (antt): names, numbers, texts and marks, each with its line
+and column."""
 import re
 from typing import NamedTuple
 
 # Words that are no names and end an application.
-RESERVED = {"→", "×", "⊎", "↔", "=", "|", ":", "↦", "λ", "let", "in", "elim", "record", "where", "then", "else"}
+RESERVED = {
+    "→", "×", "⊎", "↔", "=", "|", ":", "↦", "λ", "let", "in", "elim", "record", "where", "then",
+    "else"
+}
 _WORD = re.compile(r'[^\s(){}.;,@"«»]+')
 _NUMBER = re.compile(r"(0x[0-9a-fA-F_]+|0o[0-7_]+|0b[01_]+|[0-9][0-9_]*)$")
 _ESCAPES = {"n": "\n", "t": "\t", "r": "\r", "0": "\0", '"': '"', "\\": "\\"}
@@ -41,7 +45,9 @@ def _one(line, at, number):
     if mark == '"':
         text, end = _quoted(line, at)
         return Token("text", text, number, at), end
-    if mark == "." and at and line[at - 1] not in " (" and line[at + 1:at + 2].strip() not in ("", "."):
+    if mark == "." and at and line[at - 1] not in " (" and line[
+        at + 1:at + 2
+    ].strip() not in ("", "."):
         word = _WORD.match(line, at + 1)
         if word:
             return Token("field", word.group(), number, at), word.end()
@@ -51,13 +57,17 @@ def _one(line, at, number):
     text = word.group()
     if text.startswith("--"):
         return None, len(line)
-    kind = "number" if _NUMBER.match(text) else "mark" if text in RESERVED or text in ("[", "]") else "name"
+    kind = "number" if _NUMBER.match(text) else "mark" if text in RESERVED or text in (
+        "[", "]"
+    ) else "name"
     return Token(kind, text, number, at), word.end()
 
 
 def words(source):
     """All words of a file, comments left out."""
-    source = re.sub(r"\{-.*?-\}", lambda found: re.sub(r"[^\n]", " ", found.group()), source, flags=re.S)
+    source = re.sub(
+        r"\{-.*?-\}", lambda found: re.sub(r"[^\n]", " ", found.group()), source, flags=re.S
+    )
     out = []
     for number, line in enumerate(source.split("\n"), 1):
         at = 0
@@ -73,7 +83,9 @@ def words(source):
 
 def number_of(text):
     """The value of a numeral."""
-    return int(text.replace("_", ""), 0) if text[:2] in ("0x", "0o", "0b") else int(text.replace("_", ""))
+    return int(
+        text.replace("_", ""), 0
+    ) if text[:2] in ("0x", "0o", "0b") else int(text.replace("_", ""))
 
 
 def split_by_column(tokens, column):
@@ -85,6 +97,8 @@ def split_by_column(tokens, column):
             parts.append([])
         line = token.line
         if not parts:
-            raise Unreadable(f"line {token.line}: {token.text!r} stands before the column of its block")
+            raise Unreadable(
+                f"line {token.line}: {token.text!r} stands before the column of its block"
+            )
         parts[-1].append(token)
     return parts

@@ -1,4 +1,5 @@
-"""The definitions of all crates: what a name means in a module, and the value of each definition."""
+"""The definitions of all crates: what a name means in a module, and the value of each
+definition."""
 import os
 
 from . import items
@@ -7,9 +8,10 @@ from .evaluate import DataType, Defined, RecordType
 from .kinds import Kind
 from .lexer import words
 from .parser import Implicit, Parser
+from .statements import WORDS
 from .terms import compile_term
 from .values import Refused
-from .words import CONSTRUCTORS, WORDS
+from .words import CONSTRUCTORS
 
 
 class Module:
@@ -76,7 +78,9 @@ class Module:
                 found.append(self.library.at_path((*use.path, part)))
             else:
                 found.append(self.library.at_path((*use.path, "TheVariants", part)))
-        if name in self.declared and isinstance(self.declared[name], items.Data) and part in self.constructors:
+        if name in self.declared and isinstance(
+            self.declared[name], items.Data
+        ) and part in self.constructors:
             found.append(self.look_up(part))
         return next((one for one in found if one and one[0] != "missing"), None)
 
@@ -135,7 +139,10 @@ class Library:
     def of_prelude(self, name):
         """What a name means that no line of the file brings in."""
         if name in CONSTRUCTORS:
-            return ("constructor", name, WORDS["Bool"] if name in ("true", "false") else None, CONSTRUCTORS[name])
+            return (
+                "constructor", name, WORDS["Bool"] if name in ("true", "false") else None,
+                CONSTRUCTORS[name]
+            )
         return ("value", WORDS[name]) if name in WORDS else None
 
     def at_path(self, path):
@@ -159,12 +166,15 @@ class Library:
         return module.passed_on(name) or ("missing", ".".join(path))
 
     def found_module(self, crate, parts):
-        """The module at this path; one that the crate's root passes on; or the one that declares a type of this name."""
+        """The module at this path; one that the crate's root passes on; or the one that declares a
+        type of this name."""
         if os.path.exists(os.path.join(self.top, "crates", crate, "specs", *parts) + ".antt"):
             return self.module(".".join((crate, *parts)))
         if len(parts) > 1:
             module = self.found_module(crate, parts[:-1])
-            return module if module and isinstance(module.declared.get(parts[-1]), items.Data) else None
+            return module if module and isinstance(
+                module.declared.get(parts[-1]), items.Data
+            ) else None
         for use in self.module(f"{crate}.Lib").uses.get(parts[0], []) if parts else ():
             return self.found_module(use.path[1], use.path[3:])
         return None
@@ -178,7 +188,10 @@ class Library:
         if isinstance(kind, RustEnum):
             for name, parts in kind.variants:
                 if name == rest[-1]:
-                    return ("constructor", name, Kind(Type(rest[place - 1]), self, crate), self.made(name, len(parts)))
+                    return (
+                        "constructor", name, Kind(Type(rest[place - 1]), self, crate),
+                        self.made(name, len(parts))
+                    )
         return ("missing", ".".join(rest))
 
     def read_as(self, whole, value):
@@ -189,7 +202,9 @@ class Library:
     def witnesses_of(self, record, scope):
         """The values that fields of a record can only have, as functions of its parameters."""
         given = self.witnesses.get(record.whole, {})
-        return {field: compile_term(Parser(words(text)).term(), scope) for field, text in given.items()}
+        return {
+            field: compile_term(Parser(words(text)).term(), scope) for field, text in given.items()
+        }
 
     def keeping(self, whole, values, goals):
         """The goals of a record, as one whose ways are kept where they are to be."""

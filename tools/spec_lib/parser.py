@@ -9,15 +9,24 @@
 """
 from .lexer import RESERVED, Unreadable, number_of
 
-# How tightly an operator binds, and whether it leans right. The numbers are those of the libraries that declare them.
-OPERATORS = {"≡": (4, 0), "≢": (4, 0), "||": (30, 0), "&&": (35, 0), "==": (40, 0), "<": (50, 0), "≤": (50, 0)}
-OPERATORS.update({"<ℤ": (50, 0), "≤ℤ": (50, 0), "+": (65, 0), "-": (65, 0), "+ℤ": (65, 0), "-ℤ": (65, 0)})
-OPERATORS.update({"++": (65, 1), "∷": (67, 1), "*": (70, 0), "/": (70, 0), "%": (70, 0), "*ℤ": (70, 0)})
+# How tightly an operator binds, and whether it leans right. The numbers are those of the libraries
+# that declare them.
+OPERATORS = {
+    "≡": (4, 0), "≢": (4, 0), "||": (30, 0), "&&": (35, 0), "==": (40, 0), "<": (50, 0),
+    "≤": (50, 0)
+}
+OPERATORS.update(
+    {"<ℤ": (50, 0), "≤ℤ": (50, 0), "+": (65, 0), "-": (65, 0), "+ℤ": (65, 0), "-ℤ": (65, 0)}
+)
+OPERATORS.update(
+    {"++": (65, 1), "∷": (67, 1), "*": (70, 0), "/": (70, 0), "%": (70, 0), "*ℤ": (70, 0)}
+)
 OPERATORS.update({"^": (75, 1), "↔": (0, 0), "⊎": (1, 1), "×": (2, 1)})
 
 
 class Implicit(list):
-    """Names that are bound in braces: they stand for something, and are given no place among the arguments."""
+    """Names that are bound in braces: they stand for something, and are given no place among the
+    arguments."""
 
 
 class Parser:
@@ -30,12 +39,15 @@ class Parser:
     def fail(self, wanted):
         """Refuses what stands here."""
         token = self.tokens[min(self.at, len(self.tokens) - 1)] if self.tokens else None
-        raise Unreadable(f"line {token.line if token else '?'}: {wanted} expected at {token.text if token else ''!r}")
+        where = f"line {token.line}: {token.text!r}" if token else "the end"
+        raise Unreadable(f"{wanted} expected at {where}")
 
     def peek(self, text, ahead=0):
         """Whether this mark or name stands here."""
         place = self.at + ahead
-        return place < len(self.tokens) and self.tokens[place].text == text and self.tokens[place].kind != "text"
+        return place < len(
+            self.tokens
+        ) and self.tokens[place].text == text and self.tokens[place].kind != "text"
 
     def take(self, text):
         """Passes over this mark or name."""
@@ -188,7 +200,9 @@ class Parser:
         token = self.tokens[self.at] if not self.done() else self.fail("a term")
         if token.kind in ("number", "text"):
             self.at += 1
-            return ("number", number_of(token.text)) if token.kind == "number" else ("text", token.text)
+            return (
+                "number", number_of(token.text)
+            ) if token.kind == "number" else ("text", token.text)
         if token.text == "record":
             return self.record()
         if token.text == "elim":

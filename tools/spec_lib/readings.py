@@ -1,8 +1,9 @@
 """How definitions are read that search without end, and what is kept of searches.
 
-A witness says which value a field of a record can only have; the rest of the record then decides. `IsPath` is read over
-the paths that pass no vertex twice, and `IsLeast` over the least cost of all ways: a way that passes a vertex twice is
-never least, since each turn through a router costs something.
+A witness says which value a field of a record can only have; the rest of the record then decides.
+`IsPath` is read over the paths that pass no vertex twice, and `IsLeast` over the least cost of all
+ways: a way that passes a vertex twice is never least, since each turn through a router costs
+something.
 """
 from .claims import AllOf, Claim, Equal, Later, Truth
 from .evaluate import RecordClaim
@@ -25,9 +26,11 @@ EDGE = ("from", "to", "cost", "link_data")
 
 
 class Kept(Claim):
-    """A statement whose ways are searched once for the same values. Lists count as the same if they are one object.
+    """A statement whose ways are searched once for the same values. Lists count as the same if they
+    are one object.
 
-    Where the last value was unknown in an earlier search, the ways for a known one are those of that search.
+    Where the last value was unknown in an earlier search, the ways for a known one are those of
+    that search.
     """
 
     store = {}
@@ -90,7 +93,9 @@ class SimplePaths(Claim):
 
     def edges_from(self, vertex):
         """The edges that begin at a vertex."""
-        edge = Struct({label: vertex if label == "from" else Unknown(self.kind(label)) for label in EDGE})
+        edge = Struct(
+            {label: vertex if label == "from" else Unknown(self.kind(label)) for label in EDGE}
+        )
         goal = lambda: apply(self.edge, [edge])
         name, given = self.edge.given
         return edge, (Kept(name, [edge, *given], [goal]) if name else AllOf([goal]))
@@ -125,7 +130,9 @@ class SimplePaths(Claim):
 
 def is_path(library, original):
     """`IsPath`, where the path is unknown, over simple paths."""
-    vertex = library.at_path(("Rattle", "ospf_graph", "specs", "declared", "graph", "Vertex", "Vertex"))[1]
+    vertex = library.at_path(
+        ("Rattle", "ospf_graph", "specs", "declared", "graph", "Vertex", "Vertex")
+    )[1]
 
     def code(given):
         if type(known(given[2])) is not Unknown:
@@ -169,13 +176,19 @@ def decided(library, original):
 
 def are_bytes(library, original):
     """`AreBytes`: past the end of a list stands 0."""
-    return Function(original.arity, lambda given: Later(lambda: Truth(all(b < 256 for b in known(given[0])))), original.name)
+    return Function(
+        original.arity, lambda given: Later(lambda: Truth(all(b < 256 for b in known(given[0])))),
+        original.name
+    )
 
 
 def kept(name):
     """A function whose searches are kept."""
     def reading(library, original):
-        return Function(original.arity, lambda given: Kept(name, given, [lambda: original.code(given)]), original.name)
+        return Function(
+            original.arity, lambda given: Kept(name, given, [lambda: original.code(given)]),
+            original.name
+        )
     return reading
 
 

@@ -1,13 +1,15 @@
 """The search that decides statements.
 
-A statement that depends on an unknown raises `Stuck`; the search then takes another goal first, and tries the few values
-of the unknown where no goal is left that can run.
+A statement that depends on an unknown raises `Stuck`; the search then takes another goal first, and
+tries the few values of the unknown where no goal is left that can run.
 """
-from .values import FEW, TRAIL, Refused, Stuck, Unknown, bind, first_unknown, known, resolve, undo, unify
+from .values import FEW, TRAIL, Refused, Stuck, Unknown
+from .values import bind, first_unknown, known, resolve, undo, unify
 
 
 def holds_for_all(goal, floor):
-    """Whether a goal holds whatever the unknowns newer than `floor` are. Those of few values are tried with each."""
+    """Whether a goal holds whatever the unknowns newer than `floor` are. Those of few values are
+    tried with each."""
     try:
         return goal().holds_for_all(floor)
     except Stuck as stuck:
@@ -28,7 +30,8 @@ def holds_for_all(goal, floor):
 
 
 def solutions(goal):
-    """The ways in which a goal holds: of each, what it says of the unknowns that were there before."""
+    """The ways in which a goal holds: of each, what it says of the unknowns that were there
+    before."""
     start, mark = Unknown.count, len(TRAIL)
     out, seen = [], set()
     try:
@@ -46,7 +49,8 @@ def solutions(goal):
 
 
 def solve(goals):
-    """Goes through the ways in which all goals hold, taking first those that can run, and equalities before others."""
+    """Goes through the ways in which all goals hold, taking first those that can run, and
+    equalities before others."""
     if not goals:
         yield
         return
@@ -89,7 +93,8 @@ def _split(unknown, goals):
 
 
 def alternatives(unknown):
-    """The values that an unknown may have, or None where there is no end of them. Constructors hold new unknowns."""
+    """The values that an unknown may have, or None where there is no end of them. Constructors hold
+    new unknowns."""
     if type(unknown) is not Unknown:
         return None
     if unknown.limit is not None:

@@ -1,4 +1,5 @@
-"""Routing tables by the definitions (ospf_graph.Routes.IsTable), printed as `ospfd table` prints them."""
+"""Routing tables by the definitions (ospf_graph.Routes.IsTable), printed as `ospfd table` prints
+them."""
 from functools import cmp_to_key
 
 from .claims import Equal
@@ -24,19 +25,24 @@ def advertisements(library, lsas):
 
 def prefixes(library, adverts, root):
     """The prefixes to which the router has a way."""
-    prefix = library.at_path(("Rattle", "ospf_base", "specs", "declared", "prefix", "Prefix", "Prefix"))[1].fresh()
+    prefix = library.at_path(
+        ("Rattle", "ospf_base", "specs", "declared", "prefix", "Prefix", "Prefix")
+    )[1].fresh()
     way = apply(library.definition(ROUTES + "Way"), [adverts, root, prefix])
     return [found[0] for found in all_solutions(way.parts()[1], [prefix])]
 
 
 def route(library, adverts, root, prefix):
-    """The route to a prefix: its hops by `IsHop`, its cost that of a way for which `IsLeast` holds."""
+    """The route to a prefix: its hops by `IsHop`, its cost that of a way for which `IsLeast`
+    holds."""
     hop, cost = Unknown(), Unknown()
     goal = lambda: apply(library.definition(ROUTES + "IsHop"), [adverts, root, prefix, hop])
     hops = [found[0] for found in all_solutions([goal], [hop])]
     way, goals = apply(library.definition(ROUTES + "Way"), [adverts, root, prefix]).parts()
     goals.append(lambda: apply(library.definition(ROUTES + "IsLeast"), [way]))
-    goals.append(lambda: Equal(lambda: cost, lambda: apply(library.definition(ROUTES + "way_cost"), [way])))
+    goals.append(
+        lambda: Equal(lambda: cost, lambda: apply(library.definition(ROUTES + "way_cost"), [way]))
+    )
     costs = all_solutions(goals, [cost])
     if len(costs) != 1:
         raise Refused(f"{len(costs)} costs of one route")
@@ -56,20 +62,30 @@ def is_table(library, adverts, root, routes):
 
 
 def printed(library, routes, addresses=()):
-    """The routes and the lookups of addresses as `ospfd table` prints them, by the definitions of its lines."""
+    """The routes and the lookups of addresses as `ospfd table` prints them, by the definitions of
+    its lines."""
     text = apply(library.definition("ospf_files.Shown.routes_text"), [routes])
     for asked in addresses:
         line = Unknown()
-        goal = lambda asked=asked, line=line: apply(library.definition("ospf_table.Output.IsLookupLine"), [routes, asked, line])
+        goal = lambda asked=asked, line=line: apply(
+            library.definition("ospf_table.Output.IsLookupLine"), [routes, asked, line]
+        )
         text += all_solutions([goal], [line])[0][0]
     return bytes(ground(text)).decode()
 
 
 def listed(library, lsas):
     """The LSAs below MaxAge, at their plain age, in the order of their keys."""
-    plain, header = library.definition("ospf_table.Line.with_plain_age"), library.definition("ospf_lsa.Header.header_of")
+    plain, header = library.definition(
+        "ospf_table.Line.with_plain_age"
+    ), library.definition("ospf_lsa.Header.header_of")
     limit = library.definition("ospf_base.Constants.max_age")
-    young = [lsa for lsa in (apply(plain, [lsa]) for lsa in lsas) if apply(header, [lsa]).fields["age"] < limit]
+    young = [
+        lsa
+        for lsa in (
+            apply(plain, [lsa]) for lsa in lsas
+        ) if apply(header, [lsa]).fields["age"] < limit
+    ]
     key = library.definition("ospf_lsa.Lsa.key_of")
     return in_order(library, "ospf_base.Keys.Precedes", young, lambda lsa: apply(key, [lsa]))
 

@@ -2,7 +2,7 @@
 
     5  0xff  -3  1.2.3.4          numbers; an address is one
     true  Full  (Router 1.1.1.1)  constructors, with what they hold
-    {id = 1.1.1.1; priority = 1}  a record; {1.1.1.1} is that of one field, 0, as an address or a Router ID
+    {id = 1.1.1.1; priority = 1}  a record; {1.1.1.1} is an address or a Router ID as a record
     [1, 2, 3]                     a list
     hex:000102                    a list of bytes
     "text"                        a text
@@ -15,7 +15,10 @@ from .functions import Function
 from .values import Made, Refused, Struct, Unknown, known
 from .words import CONSTRUCTORS
 
-_WORD = re.compile(r'\s*("[^"]*"|hex:[0-9a-fA-F]*|\d+\.\d+\.\d+\.\d+|-?0x[0-9a-fA-F]+|-?\d+|[^\W\d][\w\']*|_|[\[\](){};,=])')
+_WORD = re.compile(
+    r'\s*("[^"]*"|hex:[0-9a-fA-F]*|\d+\.\d+\.\d+\.\d+|-?0x[0-9a-fA-F]+|-?\d+'
+    r"|[^\W\d][\w']*|_|[\[\](){};,=])"
+)
 
 
 def address(number):
@@ -131,10 +134,16 @@ def show(value):
         return "[" + ", ".join(map(show, value)) + "]"
     if isinstance(value, Struct):
         if list(value.fields) == ["0"]:
-            return "{" + address(known(value.fields["0"])) + "}" if type(known(value.fields["0"])) is int else "{_}"
-        return "{" + "; ".join(f"{label} = {show(part)}" for label, part in value.fields.items()) + "}"
+            return "{" + address(
+                known(value.fields["0"])
+            ) + "}" if type(known(value.fields["0"])) is int else "{_}"
+        return "{" + "; ".join(
+            f"{label} = {show(part)}" for label, part in value.fields.items()
+        ) + "}"
     if isinstance(value, Made):
-        return "(" + " ".join([value.name, *map(show, value.values)]) + ")" if value.values else value.name
+        return "(" + " ".join(
+            [value.name, *map(show, value.values)]
+        ) + ")" if value.values else value.name
     if isinstance(value, Unknown):
         return "_"
     if isinstance(value, (Claim, Function)):

@@ -10,21 +10,24 @@ FEW = 256
 
 
 class Unknown:
-    """A value that a search is to find. `serial` tells the older from the newer; `limit` is above all its values."""
+    """A value that a search is to find. `serial` tells the older from the newer; `limit` is above
+    all its values."""
 
     __slots__ = ("value", "bound", "type", "serial", "limit")
     count = 0
 
     def __init__(self, kind=None, limit=None):
         Unknown.count += 1
-        self.bound, self.value, self.type, self.serial, self.limit = False, None, kind, Unknown.count, limit
+        self.bound, self.value = False, None
+        self.type, self.serial, self.limit = kind, Unknown.count, limit
 
     def __repr__(self):
         return repr(self.value) if self.bound else f"?{self.serial}"
 
 
 class Struct:
-    """A record: its fields. `origin` is the record type and its parameters, where the value is evidence of one.
+    """A record: its fields. `origin` is the record type and its parameters, where the value is
+    evidence of one.
 
     `done` says that nothing in it is unknown.
     """
@@ -74,7 +77,9 @@ class Made:
         return self.hashed
 
     def __repr__(self):
-        return "(" + " ".join([self.name, *map(repr, self.values)]) + ")" if self.values else self.name
+        return "(" + " ".join(
+            [self.name, *map(repr, self.values)]
+        ) + ")" if self.values else self.name
 
 
 class Stuck(Exception):
@@ -158,8 +163,12 @@ def unify(a, b):
 def _unify_parts(a, b):
     """Makes the parts of two records, or of two values of constructors, one."""
     if type(a) is Struct:
-        return all(label in b.fields and unify(value, b.fields[label]) for label, value in a.fields.items())
-    return a.name == b.name and len(a.values) == len(b.values) and all(map(unify, a.values, b.values))
+        return all(
+            label in b.fields and unify(value, b.fields[label]) for label, value in a.fields.items()
+        )
+    return a.name == b.name and len(a.values) == len(b.values) and all(
+        map(unify, a.values, b.values)
+    )
 
 
 def is_done(value):

@@ -1,5 +1,5 @@
-"""The words of the standard library that definitions use, as Python functions. Each follows its definition there."""
-from .claims import AllOf, AnyOf, Both, Different, Equal, Implies, Later, Less, Member, Truth
+"""The words of the standard library that definitions use, as Python functions. Each follows its
+definition there."""
 from .declared import Type
 from .functions import Function, apply, word
 from .kinds import Kind
@@ -37,19 +37,26 @@ def _rest(a, b):
     return a % b if b else a
 
 
-for _name, _code in {"+": lambda a, b: a + b, "-": lambda a, b: max(a - b, 0), "*": lambda a, b: a * b, "/": _divided, "%": _rest,
-                     "^": lambda a, b: a**b, "==": lambda a, b: a == b, "+ℤ": lambda a, b: a + b, "-ℤ": lambda a, b: a - b,
-                     "*ℤ": lambda a, b: a * b}.items():
+for _name, _code in {
+    "+": lambda a, b: a + b, "-": lambda a, b: max(a - b, 0), "*": lambda a, b: a * b,
+    "/": _divided, "%": _rest, "^": lambda a, b: a**b, "==": lambda a, b: a == b,
+    "+ℤ": lambda a, b: a + b, "-ℤ": lambda a, b: a - b, "*ℤ": lambda a, b: a * b
+}.items():
     strict(f"◌{_name}◌", 2, _code)
-for _name, _code in {"min": min, "max": max, "int_max": max, "int_min": min, "nat_lt": lambda a, b: a < b, "nat_le": lambda a, b: a <= b,
-                     "int_lt": lambda a, b: a < b, "int_le": lambda a, b: a <= b, "int_eq": lambda a, b: a == b,
-                     "nat_eq": lambda a, b: a == b, "beq": lambda a, b: a == b, "xor": lambda a, b: a != b,
-                     "bit_and": lambda a, b: a & b, "bit_or": lambda a, b: a | b, "bit_xor": lambda a, b: a ^ b,
-                     "abs_diff": lambda a, b: abs(a - b), "cast_signed": lambda w, n: n if n < 2**(w - 1) else n - 2**w,
-                     "cast_unsigned": lambda w, z: z if z >= 0 else 2**w + z}.items():
+for _name, _code in {
+    "min": min, "max": max, "int_max": max, "int_min": min, "nat_lt": lambda a, b: a < b,
+    "nat_le": lambda a, b: a <= b, "int_lt": lambda a, b: a < b, "int_le": lambda a, b: a <= b,
+    "int_eq": lambda a, b: a == b, "nat_eq": lambda a, b: a == b, "beq": lambda a, b: a == b,
+    "xor": lambda a, b: a != b, "bit_and": lambda a, b: a & b, "bit_or": lambda a, b: a | b,
+    "bit_xor": lambda a, b: a ^ b, "abs_diff": lambda a, b: abs(a - b),
+    "cast_signed": lambda w, n: n if n < 2**(w - 1) else n - 2**w,
+    "cast_unsigned": lambda w, z: z if z >= 0 else 2**w + z
+}.items():
     strict(_name, 2, _code)
-for _name, _code in {"pred": lambda n: max(n - 1, 0), "not": lambda b: not b, "neg_ℤ": lambda z: -z, "nat_abs": abs, "unsigned_abs": abs,
-                     "count_ones": lambda n: bin(n).count("1")}.items():
+for _name, _code in {
+    "pred": lambda n: max(n - 1, 0), "not": lambda b: not b, "neg_ℤ": lambda z: -z, "nat_abs": abs,
+    "unsigned_abs": abs, "count_ones": lambda n: bin(n).count("1")
+}.items():
     strict(_name, 1, _code)
 for _bits in (8, 16, 32, 64, 128):
     raw(f"w{_bits}", 0, _bits)
@@ -103,20 +110,44 @@ def _split(test, items):
 
 
 _LISTS = {
-    "length": (1, len), "◌++◌": (2, lambda a, b: a + b), "take": (2, lambda n, xs: xs[:n]), "drop": (2, lambda n, xs: xs[n:]),
-    "reverse": (1, lambda xs: xs[::-1]), "slice_range": (3, lambda xs, a, b: xs[a:max(a, b)]), "concat": (1, _joined),
-    "map": (2, lambda f, xs: tuple(apply(f, [x]) for x in xs)), "filter": (2, lambda f, xs: tuple(x for x in xs if _test(f, x))),
-    "find": (2, lambda f, xs: _found_in(f, xs)), "flat_map": (2, lambda f, xs: _joined(apply(f, [x]) for x in xs)),
-    "filter_map": (2, lambda f, xs: _given(apply(f, [x]) for x in xs)), "list_any": (2, lambda f, xs: any(_test(f, x) for x in xs)),
+    "length": (1, len), "◌++◌": (2, lambda a, b: a + b), "take": (
+        2, lambda n, xs: xs[:n]
+    ), "drop": (2, lambda n, xs: xs[n:]),
+    "reverse": (1, lambda xs: xs[::-1]), "slice_range": (
+        3, lambda xs, a, b: xs[a:max(a, b)]
+    ), "concat": (1, _joined),
+    "map": (2, lambda f, xs: tuple(apply(f, [x]) for x in xs)), "filter": (
+        2, lambda f, xs: tuple(x for x in xs if _test(f, x))
+    ),
+    "find": (2, lambda f, xs: _found_in(f, xs)), "flat_map": (
+        2, lambda f, xs: _joined(apply(f, [x]) for x in xs)
+    ),
+    "filter_map": (
+        2, lambda f, xs: _given(apply(f, [x]) for x in xs)
+    ), "list_any": (2, lambda f, xs: any(_test(f, x) for x in xs)),
     "list_all": (2, lambda f, xs: all(_test(f, x) for x in xs)), "position_or_len": (2, _found),
     "position": (2, lambda f, xs: some(_found(f, xs)) if _found(f, xs) < len(xs) else NONE),
-    "take_while": (2, lambda f, xs: xs[:next((i for i, x in enumerate(xs) if not _test(f, x)), len(xs))]),
-    "slice_index": (2, lambda xs, i: need(_at(xs, i, 0))), "slice_get": (2, lambda xs, i: some(xs[i]) if i < len(xs) else NONE),
-    "zip": (2, lambda xs, ys: tuple(pair(x, y) for x, y in zip(xs, ys))), "sum": (1, lambda xs: sum(map(need, xs))),
-    "sum_by": (2, lambda f, xs: sum(need(apply(f, [x])) for x in xs)), "count_by": (2, lambda f, xs: sum(1 for x in xs if _test(f, x))),
-    "enumerate_from": (2, lambda n, xs: tuple(pair(n + i, x) for i, x in enumerate(xs))), "slice_split": (2, _split),
-    "remove": (2, lambda xs, i: xs[:i] + xs[i + 1:]), "bytes_eq": (2, lambda a, b: ground(a) == ground(b)),
-    "vec_items": (1, lambda v: v.fields["items"] if type(v) is Struct else v), "vec_len": (1, lambda v: len(need(WORDS["vec_items"](v)))),
+    "take_while": (
+        2, lambda f, xs: xs[:next((i for i, x in enumerate(xs) if not _test(f, x)), len(xs))]
+    ),
+    "slice_index": (2, lambda xs, i: need(_at(xs, i, 0))), "slice_get": (
+        2, lambda xs, i: some(xs[i]) if i < len(xs) else NONE
+    ),
+    "zip": (
+        2, lambda xs, ys: tuple(pair(x, y) for x, y in zip(xs, ys))
+    ), "sum": (1, lambda xs: sum(map(need, xs))),
+    "sum_by": (
+        2, lambda f, xs: sum(need(apply(f, [x])) for x in xs)
+    ), "count_by": (2, lambda f, xs: sum(1 for x in xs if _test(f, x))),
+    "enumerate_from": (
+        2, lambda n, xs: tuple(pair(n + i, x) for i, x in enumerate(xs))
+    ), "slice_split": (2, _split),
+    "remove": (2, lambda xs, i: xs[:i] + xs[i + 1:]), "bytes_eq": (
+        2, lambda a, b: ground(a) == ground(b)
+    ),
+    "vec_items": (
+        1, lambda v: v.fields["items"] if type(v) is Struct else v
+    ), "vec_len": (1, lambda v: len(need(WORDS["vec_items"](v)))),
     "range_with_len": (2, lambda a, n: tuple(range(a, a + n))),
 }
 for _name, (_arity, _code) in _LISTS.items():
@@ -139,7 +170,10 @@ def _found_in(test, items):
 
 # ---- numbers as bytes, and texts
 
-strict("big_from", 3, lambda i, n, xs: sum(need(_at(xs, i + k, 0)) * 256**(n - 1 - k) for k in range(n)))
+strict(
+    "big_from", 3,
+    lambda i, n, xs: sum(need(_at(xs, i + k, 0)) * 256**(n - 1 - k) for k in range(n))
+)
 strict("big_bytes", 2, lambda n, x: tuple((x % 256**n).to_bytes(n, "big")))
 strict("to_be_bytes", 2, lambda w, x: tuple((x % 2**w).to_bytes(w // 8, "big")))
 strict("codes", 1, lambda text: tuple(text.encode()))
@@ -155,12 +189,21 @@ strict("is_none", 1, lambda o: o.name == "None")
 strict("is_ok", 1, lambda r: r.name == "Ok")
 strict("is_err", 1, lambda r: r.name == "Err")
 raw("unwrap_or", 2, lambda o, d: need(o).values[0] if need(o).name == "Some" else d)
-raw("option_map", 2, lambda f, o: some(apply(f, [need(o).values[0]])) if need(o).name == "Some" else NONE)
-raw("option_and_then", 2, lambda f, o: apply(f, [need(o).values[0]]) if need(o).name == "Some" else NONE)
+raw(
+    "option_map", 2,
+    lambda f, o: some(apply(f, [need(o).values[0]])) if need(o).name == "Some" else NONE
+)
+raw(
+    "option_and_then", 2,
+    lambda f, o: apply(f, [need(o).values[0]]) if need(o).name == "Some" else NONE
+)
 raw("option_or", 2, lambda o, p: o if need(o).name == "Some" else p)
 raw("option_to_list", 1, lambda o: need(o).values)
 raw("option_copied", 1, lambda o: o)
-raw("ok_or", 2, lambda o, e: Made("Ok", need(o).values) if need(o).name == "Some" else Made("Err", (e,)))
+raw(
+    "ok_or", 2,
+    lambda o, e: Made("Ok", need(o).values) if need(o).name == "Some" else Made("Err", (e,))
+)
 strict("nat_cmp", 2, lambda a, b: LESS if a < b else SAME if a == b else GREATER)
 strict("int_cmp", 2, lambda a, b: LESS if a < b else SAME if a == b else GREATER)
 raw("ordering_then", 2, lambda a, b: b if need(a).name == "Equal" else a)
@@ -168,85 +211,6 @@ lazy("if◌then◌else◌", 3, lambda c, a, b: a() if need(c()) else b())
 lazy("cond", 3, lambda c, a, b: a() if need(c()) else b())
 lazy("◌&&◌", 2, lambda a, b: need(b()) if need(a()) else False)
 lazy("◌||◌", 2, lambda a, b: True if need(a()) else need(b()))
-
-# ---- statements
-
-raw("⊤", 0, Truth(True))
-raw("⊥", 0, Truth(False))
-lazy("◌≡◌", 2, Equal)
-lazy("◌≢◌", 2, Different)
-lazy("◌<◌", 2, lambda a, b: Less(a, b, 1))
-lazy("◌≤◌", 2, lambda a, b: Less(a, b, 0))
-lazy("◌<ℤ◌", 2, lambda a, b: Less(a, b, 1, False))
-lazy("◌≤ℤ◌", 2, lambda a, b: Less(a, b, 0, False))
-lazy("◌⊎◌", 2, lambda a, b: AnyOf([a, b]))
-lazy("◌↔◌", 2, Both)
-lazy("¬◌", 1, lambda a: Implies(lambda: ([a], lambda: Truth(False))))
-for _name, _value in {"IsTrue": True, "T": True, "IsFalse": False}.items():
-    lazy(_name, 1, lambda a, value=_value: Equal(a, lambda: value))
-
-
-def _each(claim, items):
-    """A statement of each member."""
-    return AllOf([lambda x=x: apply(claim, [x]) for x in need(items)])
-
-
-def _pairs(claim, items):
-    """A statement of each member and each later one."""
-    items = need(items)
-    return AllOf([lambda x=x, y=y: apply(claim, [x, y]) for i, x in enumerate(items) for y in items[i + 1:]])
-
-
-def _zipped(claim, xs, ys):
-    """A statement of the members of two lists, place by place."""
-    xs, ys = need(xs), need(ys)
-    return AllOf([lambda x=x, y=y: apply(claim, [x, y]) for x, y in zip(xs, ys)]) if len(xs) == len(ys) else Truth(False)
-
-
-def _some_member(claim, items):
-    """A statement of some member."""
-    return AnyOf([lambda x=x: apply(claim, [x]) for x in need(items)])
-
-
-def _rising(key, items):
-    """Numbers of members that do not fall."""
-    keys = [need(apply(key, [x])) for x in need(items)]
-    return Truth(all(a <= b for a, b in zip(keys, keys[1:])))
-
-
-for _name, _code in {"All": _each, "AllByRecursion": _each, "Any": _some_member, "AllPairs": _pairs, "IsNonDecreasingBy": _rising}.items():
-    raw(_name, 2, lambda f, xs, code=_code: Later(lambda: code(f, xs)))
-raw("AllZip", 3, lambda f, xs, ys: Later(lambda: _zipped(f, xs, ys)))
-raw("Contains", 2, Member)
-raw("EachIndex", 2, lambda xs, f: Later(lambda: _each(f, tuple(range(len(need(xs)))))))
-raw("SomeIndex", 2, lambda xs, f: Later(lambda: _some_member(f, tuple(range(len(need(xs)))))))
-raw("FitsSigned", 2, lambda w, z: Later(lambda: Truth(-2**(need(w) - 1) <= need(z) < 2**(need(w) - 1))))
-
-
-def _by_name(name, then, otherwise):
-    """A statement of what a constructor of this name holds, or else another one."""
-    def claim(value):
-        made = need(value)
-        return then(made.values) if made.name == name else otherwise(made.values)
-    return lambda value: Later(lambda: claim(value))
-
-
-TRUE = lambda _: Truth(True)
-raw("MatchOption", 3, lambda o, p, q: _by_name("Some", lambda v: apply(q, list(v)), lambda _: p)(o))
-raw("MatchResult", 3, lambda r, p, q: _by_name("Ok", lambda v: apply(p, list(v)), lambda v: apply(q, list(v)))(r))
-raw("IfSome", 2, lambda o, p: _by_name("Some", lambda v: apply(p, list(v)), TRUE)(o))
-raw("IsSomeAnd", 2, lambda o, p: _by_name("Some", lambda v: apply(p, list(v)), lambda _: Truth(False))(o))
-raw("IfNone", 2, lambda o, p: _by_name("None", lambda _: p, TRUE)(o))
-raw("OnSome", 2, lambda o, p: _by_name("Some", lambda _: p, TRUE)(o))
-raw("IfOk", 2, lambda o, p: _by_name("Ok", lambda v: apply(p, list(v)), TRUE)(o))
-raw("IfErr", 2, lambda o, p: _by_name("Err", lambda v: apply(p, list(v)), TRUE)(o))
-raw("OnOk", 2, lambda o, p: _by_name("Ok", lambda _: p, TRUE)(o))
-raw("OnErr", 2, lambda o, p: _by_name("Err", lambda _: p, TRUE)(o))
-for _word, _made in {"IsSome": "Some", "IsNone": "None", "IsOk": "Ok", "IsErr": "Err"}.items():
-    raw(_word, 1, _by_name(_made, TRUE, lambda _: Truth(False)))
-raw("MatchBool", 3, lambda b, p, q: Later(lambda: p if need(b) else q))
-raw("OnTrue", 2, lambda b, p: Later(lambda: p if need(b) else Truth(True)))
-raw("OnFalse", 2, lambda b, p: Later(lambda: Truth(True) if need(b) else p))
 
 for _name in ("ℕ", "ℤ", "Bool", "List", "Option", "Result", "Vec", "String", "Ordering", "Unit"):
     raw(_name, 0, Kind(Type(_name)))
@@ -258,7 +222,14 @@ def _cons(first, rest):
     return (first, *rest) if type(rest) is tuple else Made("◌∷◌", (first, rest))
 
 
-CONSTRUCTORS = {"tt": UNIT, "zero": 0, "true": True, "false": False, "[]": (), "None": NONE, "Less": LESS, "Equal": SAME, "Greater": GREATER}
-CONSTRUCTORS.update({"suc": word(1, lambda n: need(n) + 1, "suc"), "pos": word(1, lambda n: n, "pos")})
-CONSTRUCTORS.update({"negsuc": word(1, lambda n: -need(n) - 1, "negsuc"), "◌∷◌": word(2, _cons, "◌∷◌")})
+CONSTRUCTORS = {
+    "tt": UNIT, "zero": 0, "true": True, "false": False, "[]": (), "None": NONE, "Less": LESS,
+    "Equal": SAME, "Greater": GREATER
+}
+CONSTRUCTORS.update(
+    {"suc": word(1, lambda n: need(n) + 1, "suc"), "pos": word(1, lambda n: n, "pos")}
+)
+CONSTRUCTORS.update(
+    {"negsuc": word(1, lambda n: -need(n) - 1, "negsuc"), "◌∷◌": word(2, _cons, "◌∷◌")}
+)
 CONSTRUCTORS.update({name: Kind.maker(name, 1) for name in ("Some", "Ok", "Err")})
