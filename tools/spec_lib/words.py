@@ -176,7 +176,7 @@ strict(
 )
 strict("big_bytes", 2, lambda n, x: tuple((x % 256**n).to_bytes(n, "big")))
 strict("to_be_bytes", 2, lambda w, x: tuple((x % 2**w).to_bytes(w // 8, "big")))
-strict("codes", 1, lambda text: tuple(text.encode()))
+strict("codes", 1, lambda text: tuple(map(ord, text)))
 strict("string_bytes", 1, lambda text: tuple(text.encode()) if type(text) is str else text)
 strict("decimal", 1, lambda n: tuple(str(n).encode()))
 strict("signed_decimal", 1, lambda n: tuple(str(n).encode()))
