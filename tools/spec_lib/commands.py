@@ -44,6 +44,14 @@ def call(library, name, *arguments):
     return apply(library.definition(name), list(arguments))
 
 
+def variant(library, crate, kind, name, values=()):
+    """A variant of an enum, by its name."""
+    names = [known for known, _ in library.crates.find(kind, crate).variants]
+    if name not in names:
+        raise Refused(f"one of {', '.join(names)} expected at {name}")
+    return Made(name, values)
+
+
 def table(library, root, *addresses):
     """table ROUTER [ADDRESS..] < LSAS: the routing table (16.1), as `ospfd table` prints it."""
     routes = table_of(library, lsas_of(sys.stdin), number(root))
@@ -106,17 +114,19 @@ def checksum(library):
 def neighbour(library, state, event, wanted="true", requested_all="true"):
     """neighbour STATE EVENT [ADJACENCY-WANTED [REQUEST-LIST-EMPTY]]: the row of the machine
     (10.3)."""
-    event = Made(event, (truth(wanted),) if event in ("TwoWayReceived", "AdjOk") else ())
-    change = call(
-        library, "ospf_neighbour.Machine.transition", Made(state), event, truth(requested_all)
-    )
+    values = (truth(wanted),) if event in ("TwoWayReceived", "AdjOk") else ()
+    event = variant(library, "ospf_neighbour", "NbrEvent", event, values)
+    state = variant(library, "ospf_neighbour", "NeighbourState", state)
+    change = call(library, "ospf_neighbour.Machine.transition", state, event, truth(requested_all))
     return [f"{change.fields['state'].name} {change.fields['effect'].name}"]
 
 
 def interface(library, state, event):
     """interface STATE EVENT: what the machine does (9.3): Start, Elect, Stop or Ignore."""
-    event = Made(event, ((),) if event in ("BackupSeen", "WaitTimer", "NeighborChange") else ())
-    return [call(library, "ospf_iface.Machine.action", Made(state), event).name]
+    values = ((),) if event in ("BackupSeen", "WaitTimer", "NeighborChange") else ()
+    event = variant(library, "ospf_iface", "IfaceEvent", event, values)
+    state = variant(library, "ospf_iface", "IfaceState", state)
+    return [call(library, "ospf_iface.Machine.action", state, event).name]
 
 
 def candidate(text):
@@ -150,12 +160,12 @@ def elect(library, me, *candidates):
 
 def acknowledge(library, case, state, sender):
     """acknowledge CASE STATE SENDER: how an LSA is acknowledged (13.5, table 19)."""
-    return [
-        call(
-            library, "ospf_flood.Acknowledgements.acknowledgement", Made(case), Made(state),
-            Made(sender)
-        ).name
+    given = [
+        variant(library, "ospf_flood", "AcknowledgementCase", case),
+        variant(library, "ospf_iface", "IfaceState", state),
+        variant(library, "ospf_flood", "Sender", sender)
     ]
+    return [call(library, "ospf_flood.Acknowledgements.acknowledgement", *given).name]
 
 
 def flood(library, lsa, copy="-", *flags):
@@ -228,7 +238,8 @@ def description(library, state, *words):
         library, "ospf_neighbour.Neighbour.new_neighbour", identity(given["sender"]),
         identity(given["sender"])
     )
-    neighbour_now = Struct({**fresh_one.fields, "state": Made(state), "exchanging": exchanging})
+    state = variant(library, "ospf_neighbour", "NeighbourState", state)
+    neighbour_now = Struct({**fresh_one.fields, "state": state, "exchanging": exchanging})
     arguments = [local, identity(given["sender"]), packet, read(given["headers"]), neighbour_now]
     rule = call(library, "ospf_exchange.Rules.dd_rule", *arguments).name
     return [f"{rule}: {show(call(library, 'ospf_exchange.Exchange.dd_answer', *arguments))}"]
