@@ -1,0 +1,1 @@
+"""What `page` and the ladder of `report` are made of."""
