@@ -1,21 +1,29 @@
 """What a page keeps of tables and failures: all of them, up to a limit."""
 import collections
+import sys
 
-from page_parts.program import LOSSES
-
-# One failure has at most this part of all routes of failures.
-PART = 10
+LOSSES = ("cut", "gone", "cost", "hops")
 # From what is worst for a router to what is no harm: its own prefixes go with what fails.
 RANKS = ("cut", "cost", "hops", "gone")
+# One failure has at most this part of all routes of failures.
+PART = 10
+# The program holds all routes that it prints. More than the limit are asked for router by router,
+# and more than these not at all.
+MOST = 10_000_000
+
+
+def count_of(failure):
+    """How many routes a failure changes."""
+    return sum(failure[loss] for loss in LOSSES)
 
 
 class Kept:
     """Tables and failures with each text once. A route is a list of numbers: `data` says which."""
 
     def __init__(self, limit):
-        self.limit, self.left, self.numbers = limit, limit, {}
-        self.tables, self.failures, self.routers, self.routes = {}, [], 0, 0
-        self.without_tables = False
+        self.limit, self.numbers, self.tables, self.failures = limit, {}, {}, []
+        self.routers, self.routes = [], 0
+        self.by_name, self.lost = {}, collections.defaultdict(collections.Counter)
 
     def number_of(self, text):
         """The number of a text."""
@@ -26,17 +34,54 @@ class Kept:
 
     def add_tables(self, tables):
         """Takes the tables of all routers, or, if they have too many routes, none."""
-        self.routers = len(tables)
+        self.routers = [table["root"] for table in tables]
         self.routes = sum(len(table["routes"]) for table in tables)
-        self.without_tables = self.routes > self.limit
-        for table in [] if self.without_tables else tables:
+        for table in tables if self.routes <= self.limit else []:
             self.tables[table["root"]] = [
                 it for route in table["routes"]
                 for it in (self.number_of(route["prefix"]), route["cost"], self.hops_of(route))]
 
-    def wants(self, count):
-        """Whether the routes of a failure that changes so many are kept."""
-        return count <= min(self.left, self.limit // PART)
+    def add_failures(self, failures):
+        """Takes failures, worst first, and chooses those whose routes are kept."""
+        left = self.limit
+        for failure in failures:
+            count = count_of(failure)
+            is_kept = count <= min(left, max(self.limit // PART, 1))
+            left -= count if is_kept else 0
+            failure.update(routes=[] if is_kept else None, worst=0, hit={})
+            self.failures.append(failure)
+            self.by_name[failure["failure"]] = failure
+
+    def ask(self, ospfd, root):
+        """Asks for the routes that failures change: at once, router by router, or not at all."""
+        count = sum(map(count_of, self.failures))
+        if count > MOST:
+            for failure in self.failures:
+                failure.update(routes=[] if count_of(failure) == 0 else None, worst=None)
+            return
+        roots = [root] if count <= self.limit else self.routers
+        for number, router in enumerate(roots):
+            if len(roots) > 1 and sys.stderr is not None and sys.stderr.isatty():
+                print(f"\r\x1b[K{number} of {len(roots)} routers", end="", file=sys.stderr)
+            for failure in ospfd.answer("failures", "--json", "--each", router):
+                self.add_routes(self.by_name[failure["failure"]], failure["routes"])
+        if len(roots) > 1 and sys.stderr is not None and sys.stderr.isatty():
+            print("\r\x1b[K", end="", file=sys.stderr)
+
+    def add_routes(self, failure, routes):
+        """Takes routes that a failure changes. Of those that are not kept the prefixes that are cut
+        off stay, each with the number of routers that lose it."""
+        for route in routes:
+            if route["loss"] == "cost":
+                more = route["after"]["cost"] - route["before"]["cost"]
+                failure["worst"] = max(failure["worst"], more)
+            if failure["routes"] is None:
+                if route["loss"] == "cut":
+                    self.lost[failure["failure"]][route["prefix"]] += 1
+                continue
+            failure["routes"] += self.route(route)
+            known = failure["hit"].get(route["router"], RANKS[-1])
+            failure["hit"][route["router"]] = min(known, route["loss"], key=RANKS.index)
 
     def route(self, route):
         """The numbers of a route that changes."""
@@ -46,35 +91,20 @@ class Kept:
             LOSSES.index(route["loss"]), before["cost"], self.hops_of(before),
             *([-1, -1] if after is None else [after["cost"], self.hops_of(after)])]
 
-    def add_failure(self, failure):
-        """Takes a failure. They come worst first."""
-        routes = failure.pop("routes")
-        if routes is None:
-            lost = failure.pop("lost").items()
-            most = sorted(lost, key=lambda it: (-it[1], it[0]))[:max(self.left, 0)]
-            self.left -= len(most)
-            failure["lost"] = [it for prefix, count in most
-                               for it in (self.number_of(prefix), count)]
-            failure["prefixes"] = len(lost)
-        else:
-            self.left -= len(routes)
-            failure["worst"] = max((it["after"]["cost"] - it["before"]["cost"]
-                                    for it in routes if it["loss"] == "cost"), default=0)
-            failure["hit"] = self.hit(routes)
-            failure["routes"] = [it for route in routes for it in self.route(route)]
-        self.failures.append(failure)
-
-    def hit(self, routes):
-        """The worst that happens to each router, by its name."""
-        worst = collections.defaultdict(lambda: len(RANKS))
-        for route in routes:
-            worst[route["router"]] = min(worst[route["router"]], RANKS.index(route["loss"]))
-        return {router: RANKS[rank] for router, rank in worst.items()}
+    def add_lost(self):
+        """Gives failures without routes the prefixes that most routers lose."""
+        for failure in self.failures:
+            if failure["routes"] is None:
+                lost = self.lost[failure["failure"]]
+                most = sorted(lost.items(), key=lambda it: (-it[1], it[0]))[:self.limit // 1000]
+                failure["prefixes"] = len(lost)
+                failure["lost"] = [it for prefix, count in most
+                                   for it in (self.number_of(prefix), count)]
 
     def data(self):
         """For the page. A route of a table is three numbers: prefix, cost and next hops; one of a
         failure seven: router, prefix, loss, and cost and next hops before and after, -1 for none.
         Texts are their places in `strings`, losses theirs in LOSSES."""
+        self.add_lost()
         return {"strings": list(self.numbers), "failures": self.failures, "limit": self.limit,
-                "tables": None if self.without_tables else self.tables,
-                "routers": self.routers, "tableRoutes": self.routes}
+                "tables": self.tables, "routers": len(self.routers), "tableRoutes": self.routes}

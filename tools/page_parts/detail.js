@@ -66,7 +66,8 @@ function changed(failure) {
   const one = ([prefix, count]) => make("tr", {}, cell(prefix), cell(number(count), true));
   const first = lost.length < failure.prefixes ? `, the first ${number(lost.length)}` : "";
   return [make("p", {class: "note"}, `Left out: the ${number(changes(failure))} routes of this ` +
-    "failure. They are too many for this page; the counts are complete."),
+    "failure. They are too many for this page; the counts are complete. The program prints them:"),
+  make("code", {class: "command"}, "ospfd failures --each ROUTER < area.hex"),
   ...(lost.length ? [make("h3", {class: "words-cut"},
     `Cut off: ${many(failure.prefixes, "prefix", "prefixes")}${first}`),
   rows([["Prefix"], ["Routers that lose it", true]], lost, one)] : [])];
@@ -112,6 +113,7 @@ function facing(thing) {
 /** The table of a router before and after a failure; without one, the table. */
 function tables(failure) {
   const routers = ROUTERS.filter(it => tableOf(it) !== null);
+  if (!routers.length && !D.routers) return [];
   if (!routers.length) {
     const count = `${number(D.tableRoutes)} routes of ${many(D.routers, "router")}`;
     return [make("p", {class: "note"}, `The page has no tables: they have ${count}. ` +
@@ -149,9 +151,9 @@ function both(failure, router) {
     return make("p", {class: "quiet"}, `The table of ${full(router)} does not change.`);
   const one = it => {
     const now = after.get(it.prefix) || {newCost: it.cost, newHops: it.hops};
-    const then = now.newCost === null ? [make("span", {class: "words-cut"},
-      now.loss === "cut" ? "cut off" : "gone")] : [make("span", {class: "hop"}, number(now.newCost)),
-      ...lines(now.newHops)];
+    const then = now.newCost === null
+      ? [make("span", {class: "words-cut"}, now.loss === "cut" ? "cut off" : "gone")]
+      : [make("span", {class: "hop"}, number(now.newCost)), ...lines(now.newHops)];
     return make("tr", {class: after.has(it.prefix) && !shownRouter.onlyChanged ? "changed" : null},
       cell(it.prefix), make("td", {}, make("span", {class: "hop"}, number(it.cost)),
         ...lines(it.hops)), make("td", {}, ...then));

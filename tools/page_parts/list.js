@@ -5,7 +5,7 @@ const COLUMNS = [
   {key: "cut", title: "Cut off", count: true, of: it => it.cut},
   {key: "gone", title: "Gone", count: true, of: it => it.gone},
   {key: "cost", title: "Longer", count: true, of: it => it.cost},
-  {key: "worst", title: "Worst", count: true, of: it => it.worst === undefined ? -1 : it.worst},
+  {key: "worst", title: "Worst", count: true, of: it => it.worst === null ? -1 : it.worst},
   {key: "hops", title: "Rerouted", count: true, of: it => it.hops},
   {key: "routers", title: "Routers", count: true, of: it => it.routers},
 ].filter(it => isAll || it.key !== "routers");

@@ -48,7 +48,8 @@ function setTheme(theme) {
 /** A line or a mark of the drawing, and what it means. */
 function legend() {
   const lines = [["cut", "cut", "cuts prefixes off (!)"],
-    ["cost-few", "cost", "longer paths, few to many"], ["hops-few", "hops", "rerouted, few to many"],
+    ["cost-few", "cost", "longer paths, few to many"],
+    ["hops-few", "hops", "rerouted, few to many"],
     ["none", "none", "no effect on others"]];
   const NS = "http://www.w3.org/2000/svg";
   const shape = (name, words, ...inner) => {
@@ -116,6 +117,14 @@ for (const kind of ["wheel", "pointermove"]) canvas.addEventListener(kind, event
 });
 new ResizeObserver(() => hasMovedView ? draw() : showAll()).observe(canvas);
 addEventListener("hashchange", recall);
+
+// For tests: where in the window a node, or the middle of what fails, is drawn.
+window.whereIs = name => {
+  const failure = D.failures[FAILURES.get(name)], node = D.nodes[NODES.get(name)];
+  const thing = node || failure.edge || failure.node, frame = canvas.getBoundingClientRect();
+  const [x, y] = "id" in thing ? onScreen(thing.at) : along(curve(thing), 0.5);
+  return [x + frame.left, y + frame.top];
+};
 
 setTheme("system");
 summary();
