@@ -46,7 +46,7 @@ class Lanes:
     def __init__(self, routers, named):
         self.named = named
         longest = max([len(named(it)) for it in routers] or [1])
-        self.wide = max(110 if len(routers) > 4 else 160, 8 * longest + 24)
+        self.wide = max(100 if len(routers) > 4 else 130, 8 * longest + 24)
         self.places = {it: self.wide // 2 + at * self.wide for at, it in enumerate(routers)}
         self.whole = self.wide * max(len(routers), 1)
 
