@@ -7,9 +7,10 @@ LOSSES = ("cut", "gone", "cost", "hops")
 RANKS = ("cut", "cost", "hops", "gone")
 # One failure has at most this part of all routes of failures.
 PART = 10
-# The program holds all routes that it prints. More than the limit are asked for router by router,
-# and more than these not at all.
-MOST = 10_000_000
+# The program holds all routes that it prints, each in some kilobytes. More than this are asked for
+# router by router, and more than the most not at all.
+AT_ONCE, MOST = 100_000, 10_000_000
+ALL = "all"
 
 
 def count_of(failure):
@@ -32,11 +33,19 @@ class Kept:
     def hops_of(self, route):
         return self.number_of(",".join(route["hops"]))
 
-    def add_tables(self, tables):
-        """Takes the tables of all routers, or, if they have too many routes, none."""
-        self.routers = [table["root"] for table in tables]
-        self.routes = sum(len(table["routes"]) for table in tables)
-        for table in tables if self.routes <= self.limit else []:
+    def add_tables(self, ospfd, root, listed):
+        """Takes the tables of all routers, or of a root. Those that may have too many routes, one of
+        each router to each prefix, are not asked for."""
+        routers = dict.fromkeys(it["router"] for it in listed if it["lsa"] == "router")
+        prefixes = {it["prefix"] for it in listed if it["lsa"] == "network"}
+        prefixes |= {link["prefix"] for it in listed for link in it.get("links", [])
+                     if link["link"] == "stub"}
+        self.routers = list(routers) if root == ALL else [root]
+        self.routes = len(self.routers) * len(prefixes)
+        if self.routes > self.limit:
+            return
+        tables = ospfd.answer("table", "--json", root)
+        for table in tables if root == ALL else [{"root": root, "routes": tables}]:
             self.tables[table["root"]] = [
                 it for route in table["routes"]
                 for it in (self.number_of(route["prefix"]), route["cost"], self.hops_of(route))]
@@ -59,7 +68,7 @@ class Kept:
             for failure in self.failures:
                 failure.update(routes=[] if count_of(failure) == 0 else None, worst=None)
             return
-        roots = [root] if count <= self.limit else self.routers
+        roots = [root] if count <= min(AT_ONCE, self.limit) else self.routers
         for number, router in enumerate(roots):
             if len(roots) > 1 and sys.stderr is not None and sys.stderr.isatty():
                 print(f"\r\x1b[K{number} of {len(roots)} routers", end="", file=sys.stderr)

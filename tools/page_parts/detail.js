@@ -116,8 +116,8 @@ function tables(failure) {
   if (!routers.length && !D.routers) return [];
   if (!routers.length) {
     const count = `${number(D.tableRoutes)} routes of ${many(D.routers, "router")}`;
-    return [make("p", {class: "note"}, `The page has no tables: they have ${count}. ` +
-      "Print one:"), make("code", {class: "command"}, command(failure, "ROUTER"))];
+    return [make("p", {class: "note"}, `Left out: the tables, with up to ${count}. ` +
+      "The program prints them:"), make("code", {class: "command"}, command(failure, "ROUTER"))];
   }
   if (!routers.includes(shownRouter.id)) shownRouter.id = routers[0];
   const select = make("select", {id: "router", onchange: event => {

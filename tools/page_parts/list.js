@@ -123,7 +123,7 @@ function showList() {
     $("failures").append(make("p", {class: "more"}, make("button", {type: "button", onclick},
       `Show all ${many(all.length, "failure")}`)));
   }
-  $("failures-title").textContent = column ? `Failures by ${column.title.toLowerCase()}`
+  $("failures-title").textContent = column ? `Failures, sorted by ${column.title}`
     : "Failures, worst first";
   if (column) $("failures-title").append(" ", make("button", {type: "button", onclick: () => {
     sorting.key = null;
