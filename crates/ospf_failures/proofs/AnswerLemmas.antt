@@ -21,7 +21,7 @@ use Rattle.std.specs.Prelude.{IfOk, String}
 use Rattle.std.specs.declared.alloc.AllocError.{AllocError}
 use Rattle.std.specs.declared.alloc.Global.{Global}
 use Rattle.std.specs.declared.result.Result.{Result}
-use Rattle.ospf_failures.specs.Answer.{FailuresEndsBy, IsFailuresAnswerBegun, IsFailuresAnswerOf, IsFailuresAnswered, IsFailuresCutShort, IsFailuresEnding, IsUnreported, IsFailuresRefusal, IsFailuresRefusalBegun, IsRefusalOf, IsFailuresRefusalTold, IsFailuresSaid, IsUnserved, IsFailuresWarningBegun, IsEndBy, IsAllPrinted, SaysOf, TellsHidden, WarnsOf, end_by, in_answer, in_refusal, in_warning, is_answered, is_refused, names_of, of_name}
+use Rattle.ospf_failures.specs.Answer.{FailuresEndsBy, IsFailuresAnswerBegun, IsFailuresAnswerOf, IsFailuresAnswered, IsFailuresCutShort, IsFailuresEnding, IsUnreported, IsFailuresRefusal, IsFailuresRefusalBegun, IsRefusalOf, IsFailuresRefusalTold, IsFailuresSaid, IsUnserved, IsFailuresWarningBegun, IsEndBy, IsAllPrinted, SaysOf, TellsHidden, WarnsOfAll, end_by, in_answer, in_refusal, in_warning, is_answered, is_refused, names_of, of_name}
 use Rattle.ospf_failures.specs.Without.{IsFaultOfNames, IsFirstUnnamed}
 use Rattle.ospf_failures.specs.declared.answer.FailuresAnswer.{FailuresAnswer}
 use Rattle.ospf_failures.specs.declared.answer.FailuresJob.{FailuresJob}
@@ -46,7 +46,7 @@ end_is P Q true false false cuts is = (refl, inr (λ q. let t : false ≡ true =
 end_is P Q false cut listed cuts is = (refl, λ e unmet. cc)
 
 pub answer_made : (input : Option (List ℕ)) (job : FailuresJob) (answer : FailuresAnswer) (listing : List (List ℕ)) → IfSome input (λ bytes. Reads bytes [] listing)
-    → (names_of job ≢ [] → HasLarge (advertisements_of listing) → ⊥) → WarnsOf job (advertisements_of listing) (string_bytes answer.warning)
+    → (names_of job ≢ [] → HasLarge (advertisements_of listing) → ⊥) → WarnsOfAll job listing (string_bytes answer.warning)
     → SaysOf job (advertisements_of listing) (string_bytes answer.said.text) answer.said.end → IfSome input (IsFailuresAnswerOf job answer)
 answer_made input job answer listing reads small warned says =
     map_some input (λ bytes. Reads bytes [] listing) (IsFailuresAnswerOf job answer)

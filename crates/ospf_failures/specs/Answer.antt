@@ -18,6 +18,7 @@ use Rattle.ospf_files.specs.declared.status.Status.TheVariants as status
 use Rattle.ospf_files.specs.declared.streams.FailedStreams.{FailedStreams}
 use Rattle.ospf_table.specs.Line.{Reads, Refuses}
 use Rattle.ospf_table.specs.Output.{unlisted_line}
+use Rattle.ospf_table.specs.Outside.{reasons_text}
 use Rattle.ospf_table.specs.Refusal.{refusal_line}
 use Rattle.ospf_table.specs.declared.table.EntryFault.{EntryFault}
 use Rattle.ospf_whatif.specs.Failure.{HasLarge, IsLarge}
@@ -189,6 +190,19 @@ WarnsOf (Root root each strict form) adverts text =
 WarnsOf (All each strict form) adverts text = TellsHidden adverts text
 WarnsOf (Without root names addresses) adverts text = TellsOfRoot adverts root text
 
+-- why routes may be missing, over failures: routes outside the area are not computed, or a part of
+-- the area is not reached, as far as the LSAs show
+abbrev pub reasons_of : FailuresJob → List (List ℕ) → List ℕ
+reasons_of (Root root each strict form) listing = reasons_text listing
+reasons_of (All each strict form) listing = reasons_text listing
+reasons_of (Without root names addresses) listing = []
+
+-- all that it warns of
+abbrev pub WarnsOfAll : FailuresJob → List (List ℕ) → List ℕ → Type 0
+WarnsOfAll job listing text =
+    (own : List ℕ) × WarnsOf job (advertisements_of listing) own
+    × (text ≡ own ++ reasons_of job listing)
+
 -- the answer of the area whose LSAs the lines of the input are, none of whose routers has too many
 -- links where parts are named; and what it warns of
 pub record IsFailuresAnswer (job : FailuresJob) (end : FailuresStatus) (input text warning : List ℕ)
@@ -196,7 +210,7 @@ pub record IsFailuresAnswer (job : FailuresJob) (end : FailuresStatus) (input te
   pub listing : List (List ℕ)
   pub reads : Reads input [] listing
   pub small : names_of job ≢ [] → HasLarge (advertisements_of listing) → ⊥
-  pub warned : WarnsOf job (advertisements_of listing) warning
+  pub warned : WarnsOfAll job listing warning
   pub says : SaysOf job (advertisements_of listing) text end
 
 -- the answer stands on standard output, its warning on standard error, and

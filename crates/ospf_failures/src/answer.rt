@@ -7,7 +7,7 @@ ghost use Rattle.ospf_files.specs.declared.status.Status.{Status};
 ghost use Rattle.ospf_files.specs.declared.streams.FailedStreams.{FailedStreams};
 ghost use Rattle.ospf_table.specs.Line.{Reads, Refuses};
 ghost use Rattle.ospf_whatif.specs.Failure.{HasLarge, IsLarge};
-ghost use Rattle.ospf_failures.specs.Answer.{FailuresEndsBy, IsFailuresAnswerOf, IsFailuresAnswered, IsFailuresCutShort, IsFailuresEnding, IsUnreported, HasRouter, IsFirstLarge, IsRefusalOf, IsFailuresRefusalTold, IsFailuresSaid, IsUnserved, IsAllPrinted, SaysChanges, SaysOf, SaysOverall, TellsHidden, TellsOfRoot, WarnsOf, added_text, changes_text, detail_of, end_by, names_of};
+ghost use Rattle.ospf_failures.specs.Answer.{FailuresEndsBy, IsFailuresAnswerOf, IsFailuresAnswered, IsFailuresCutShort, IsFailuresEnding, IsUnreported, HasRouter, IsFirstLarge, IsRefusalOf, IsFailuresRefusalTold, IsFailuresSaid, IsUnserved, IsAllPrinted, SaysChanges, SaysOf, SaysOverall, TellsHidden, TellsOfRoot, WarnsOf, WarnsOfAll, added_text, changes_text, detail_of, end_by, names_of, reasons_of};
 ghost use Rattle.ospf_failures.specs.declared.answer.FailuresJob.{FailuresJob};
 ghost use Rattle.ospf_graph.specs.Routes.{IsTable};
 ghost use Rattle.ospf_graph.specs.declared.route.Route.{Route};
@@ -26,7 +26,7 @@ use ospf_edges::is_listed;
 use ospf_files::{FailedStreams, Failure, Status};
 use ospf_lsa::{Links, Listing, LsaView};
 use ospf_spf::RouteTable;
-use ospf_table::{EntryFault, TableFault, read_listing};
+use ospf_table::{EntryFault, TableFault, read_listing, reasons_text};
 use ospf_whatif::{HiddenCost, hidden_costs};
 use std::alloc::{AllocError, Global};
 use std::io::{BufRead, Write};
@@ -158,7 +158,8 @@ impl From<FailuresStatus> for ExitCode {
 /// are named, with lookups, as `table_text` prints it.
 ///
 /// Where the root's router-LSA is not listed, `err` says so. Over failures it also names the stub
-/// routers that a failure leaves alone on a network, at a cost that no LSA contains.
+/// routers that a failure leaves alone on a network, at a cost that no LSA contains, and why routes
+/// may be missing (`ospf_table::reasons_text`).
 ///
 /// The status is `Ended(Done)`, or with `strict` `Unmet` where some failure cuts a prefix off, or
 /// the root's router-LSA is not listed, or over all routers none is. The first line that is refused
@@ -273,7 +274,7 @@ fn answer_of<R: BufRead + Drop, P: Progress>(
     ensures fault { IfErr result (IsUnreported (R.remaining input) job.now) }
 {
     let listing = listing_of(alloc, job, input)?;
-    let warning = warning_of(alloc, &listing, job)?;
+    let warning = warnings_of(alloc, &listing, job)?;
     match said_of(alloc, rt, job, listing, progress) {
         Ok(said) => Ok(FailuresAnswer { warning, said }),
         Err(fault) => Err(fault),
@@ -358,6 +359,27 @@ fn are_more(links: Links, most: usize) -> bool
         left -= 1;
     }
     false
+}
+
+// What is said beside the answer: of the root and of costs, and why routes may be missing.
+fn warnings_of(alloc: Global, listing: &Listing, job: &FailuresJob) -> Result<String, AllocError>
+    ensures { IfOk result (λ text. WarnsOfAll job.now listing.now (string_bytes text)) }
+{
+    let mut text = warning_of(alloc, listing, job)?;
+    let reasons = reasons_of(alloc, listing, job)?;
+    text.push_str(&reasons)?;
+    Ok(text)
+}
+
+// Why routes may be missing over failures, as far as the LSAs show.
+fn reasons_of(alloc: Global, listing: &Listing, job: &FailuresJob) -> Result<String, AllocError>
+    ensures { IfOk result (λ text. string_bytes text ≡ reasons_of job.now listing.now) }
+{
+    match job {
+        FailuresJob::Root { .. } => reasons_text(alloc, listing),
+        FailuresJob::All { .. } => reasons_text(alloc, listing),
+        FailuresJob::Without { .. } => Ok(String::new(alloc)),
+    }
 }
 
 // The refusal of a router of too many links.

@@ -94,7 +94,7 @@ fn named_one(
 fn unnamed(alloc: Global, name: &String) -> Unreported
     ensures { IsFaultOfNames (λ n. n ≡ name.now) result }
 {
-    match format!(in alloc; "{name}: no such element\n") {
+    match format!(in alloc; "{name}: not in this area\n") {
         Ok(text) => Unreported::Unnamed(text),
         Err(error) => Unreported::from(error),
     }
