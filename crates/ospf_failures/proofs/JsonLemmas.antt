@@ -38,12 +38,6 @@ pub put_names : (names : List Value) (before : Members) → (length names == 0) 
 put_names [] before some = cc
 put_names (name ∷ names) before some = refl
 
--- what is put behind the members of a report is the last of them
-pub report_with : (each : Bool) (root : RouterId) (r : ReportValue) (names : List Data) → with_hidden names (report_members each root r no_members) ≡ report_members each root r (hidden_member names)
-report_with each root r [] = refl
-report_with true root r (name ∷ names) = refl
-report_with false root r (name ∷ names) = refl
-
 report_none : (each : Bool) (root : RouterId) (hidden : List HiddenCost) (r : ReportValue) → has_float (report_data each root hidden r) ≡ false
 report_none each root hidden r =
     let t = totals_of r.1 in
@@ -66,11 +60,6 @@ both_none (d ∷ ds) es h k = go (has_float d) (items_have_float (items_of ds)) 
 sights_none : (sights : List SightValue) → items_have_float (items_of (flat_map sight_data sights)) ≡ false
 sights_none [] = refl
 sights_none (s ∷ sights) = both_none (sight_data s) (flat_map sight_data sights) (items_none (change_data s.0) (change_none s.0) s.1) (sights_none sights)
-
-pub overall_with : (each : Bool) (o : Overall) (names : List Data) → with_hidden names (overall_members each o no_members) ≡ overall_members each o (hidden_member names)
-overall_with each o [] = refl
-overall_with true o (name ∷ names) = refl
-overall_with false o (name ∷ names) = refl
 
 overall_none : (each : Bool) (hidden : List HiddenCost) (o : Overall) → has_float (overall_data each hidden o) ≡ false
 overall_none each hidden o =

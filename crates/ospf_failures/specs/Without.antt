@@ -52,7 +52,7 @@ pub record IsFirstUnnamed (adverts : List Advertisement) (names : List (String G
 
 -- what is said of it
 abbrev pub unnamed_line : String Global → List ℕ
-unnamed_line name = string_bytes name ++ codes ": no such element\n"
+unnamed_line name = string_bytes name ++ codes ": not in this area\n"
 
 -- why there is no table: memory ran out, or of the first name that names nothing this is to be said
 abbrev pub IsFaultOfNames : (String Global → Type 0) → Unreported → Type 0

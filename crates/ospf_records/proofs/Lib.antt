@@ -4,7 +4,6 @@ mod CountFacts
 mod CaptureFacts
 mod RecorderFacts
 mod WorldLogs
-mod DrawingFacts
 mod Drawn
 pub mod Ones
 pub mod Names

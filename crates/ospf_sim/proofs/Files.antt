@@ -52,13 +52,6 @@ not_memory (Err failure) ended = tt
 not_memory (Ok s) (inl done) = λ is. absurd (cc (done, is))
 not_memory (Ok s) (inr refused) = λ is. absurd (cc (refused, is))
 
-pub ended_well : (script : NamedFile) (files : List NamedFile) (result : Result Simulated Failure) (old new : Written)
-    → IfOk result (λ s. (s.status ≡ status.Done) ⊎ (s.status ≡ status.Refused))
-    → IfOk result (λ s. s.status ≡ status.Stream → IsScriptUnreadTold script files s.left old new)
-ended_well script files (Err failure) old new ended = tt
-ended_well script files (Ok s) old new (inl done) = λ is. absurd (cc (done, is))
-ended_well script files (Ok s) old new (inr refused) = λ is. absurd (cc (refused, is))
-
 -- a simulation that ends with status Stream, and that no failure ended, ended for a file
 pub stopped_unread : (script : NamedFile) (files : List NamedFile) (s : Simulated) (failed : FailedStreams) (old new : Written)
     → s.status ≢ status.Memory → (s.status ≡ status.Stream → IsScriptUnreadTold script files s.left old new)

@@ -98,11 +98,6 @@ not_memory text listing (Listing listing_fault.Twice) h m = m
 not_memory text listing (Listing listing_fault.MaxAge) h m = m
 not_memory text listing (Listing listing_fault.Memory) h m = let e : listing_fault.Memory ≡ listing_fault.Twice = h.1.0 in cc
 
--- a refusal is of a line, for a fault
-pub refusal_of : (fault : TableFault) → IsLineRefusal fault → (number : ℕ) × (entry : EntryFault) × (fault ≡ Entry number entry)
-refusal_of (Entry number entry) is = (number, entry, refl)
-refusal_of (Failure failure) is = absurd is
-
 -- ---- lines that are left out
 
 -- what is left of the input and the number so far lead to what the whole input leads to
@@ -110,14 +105,6 @@ pub record CountsTo (whole : List ℕ) (rest : Option (List ℕ)) (count : ℕ) 
   pub left : List ℕ
   pub rest_is : rest ≡ Some left
   pub counts : (n : ℕ) → LeavesOut left n → LeavesOut whole (count + n)
-
-pub counts_at_start : (start : Option (List ℕ)) → IfSome start (λ whole. CountsTo whole start 0)
-counts_at_start None = tt
-counts_at_start (Some whole) = record {
-  left = whole;
-  rest_is = refl;
-  counts = λ n h. let P : ℕ → Type 0 = λ k. LeavesOut whole k in subst P (omega arith) h;
-}
 
 -- a truth value as the number that is added
 pub counted_byte : (b : Bool) → (bool_byte b ≡ cond b 1 0) × (cond b 1 0 ≤ 1)

@@ -47,10 +47,6 @@ both_begin [] (y ∷ ys) p q = absurd (cc (q.1))
 both_begin (x ∷ xs) [] p q = absurd (cc (p.1))
 both_begin (x ∷ xs) (y ∷ ys) p q = let rest = both_begin xs ys (p.0, cc (p.1)) (q.0, cc (q.1)) in cc (p.1, rest)
 
--- a list of two tables begins no list of one
-pub no_opening : (table : Table) → IsPrefix (opening ++ table ∷ []) opening → ⊥
-no_opening table p = cc (p.1)
-
 -- ---- as text
 
 -- the line of one address more

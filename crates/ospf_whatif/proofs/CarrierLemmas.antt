@@ -58,9 +58,3 @@ module _ (A : List Advertisement) (single : List AreaFailure) (are : AreFailures
     λ m. elim ((adds f).0 m) [ inl none ↦ absurd (let low = none.1 in omega arith) | inr g ↦ end_sound g.0 ((are g.0).0 g.1) f g.2 ],
     λ is. (adds f).1 (inr (end_complete f is)),
   )
-
--- where only direct cables carry links, failures come together
-pub alone_else : (carrier : Carrier) (single : List AreaFailure) (f : AreaFailure) → carrier ≢ Direct → together carrier single f ≡ f ∷ []
-alone_else Direct single f not = absurd (not refl)
-alone_else Switch single f not = refl
-alone_else Process single f not = refl

@@ -232,14 +232,6 @@ changes_up B root routes places n m changes more are = record {
   seen = λ k r h here. let f = are.seen k r h here in ((let low = f.0 in omega (arith, low, more)), f.1);
 }
 
--- before the first place
-pub changes_start : (B : List Advertisement) (root : RouterId) (routes : List Route) → AreChangesTo B root routes [] 0 []
-changes_start B root routes = record {
-  in_order = λ i j d lt le. absurd (omega arith);
-  from = λ c m. absurd (let low = m.1 in omega arith);
-  seen = λ k r m. absurd (let low = m.1 in omega arith);
-}
-
 -- ---- all of them
 
 module _ (fs : List AreaFailure) (A : List Advertisement) (root : RouterId) (routes : List Route) (was : IsTable A root routes) (places : List ℕ) (changes : List RouteChange)

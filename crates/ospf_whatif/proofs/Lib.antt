@@ -11,7 +11,6 @@ pub mod EffectLemmas
 pub mod FailureOrder
 pub mod SortedLemmas
 pub mod DownLemmas
-pub mod SameStarts
 pub mod MatchingLemmas
 pub mod RenamedLemmas
 pub mod LinksBackLemmas

@@ -30,9 +30,6 @@ kept_links-append inner f r xs ys = filter-append (λ l. not (takes inner f r l)
 pub kept_one : (inner : List Link) (f : AreaFailure) (r : RouterId) (l : Link) → takes inner f r l ≡ false → kept_links inner f r (l ∷ []) ≡ l ∷ []
 kept_one inner f r l stays = rw stays refl
 
-pub taken_one : (inner : List Link) (f : AreaFailure) (r : RouterId) (l : Link) → takes inner f r l ≡ true → kept_links inner f r (l ∷ []) ≡ []
-taken_one inner f r l goes = rw goes refl
-
 -- ---- a router-LSA that is made
 
 plain_links : (links : List Link) → map (λ (e : LinkEntry). e.link) (map plain links) ≡ links
@@ -208,18 +205,6 @@ small_left inner f r number links lsa is same are needs large =
   where
     apart : 1361 < length links → 24 + 12 * length links ≤ 16356 → ⊥
     apart many short = omega (arith, many, short)
-
--- nor where all links are kept
-pub small_kept : (inner : List Link) (f : AreaFailure) (r : RouterId) (lsa : List ℕ) → IsRouterLsa lsa → r ≡ (key_of lsa).router → kept_links inner f r (links_of lsa) ≡ links_of lsa
-    → IsLeftLarge inner f (advertisement_of lsa) → ⊥
-small_kept inner f r lsa is same kept large =
-    let of : kept_links inner f r (links_of lsa) ≡ kept_links inner f (key_of lsa).router (links_of lsa) = ap (λ (q : RouterId). kept_links inner f q (links_of lsa)) same in
-    let here : IsLeftLarge inner f (router_lsa (key_of lsa).router (links_of lsa)) = subst (IsLeftLarge inner f) (router_of lsa is) large in
-    here.0 (sym of ∙ kept)
-
--- nor of a network-LSA
-pub small_network : (inner : List Link) (f : AreaFailure) (lsa : List ℕ) → IsNetworkLsa lsa → IsLeftLarge inner f (advertisement_of lsa) → ⊥
-small_network inner f lsa is large = subst (IsLeftLarge inner f) (network_of lsa is) large
 
 -- what follows from what a success says
 pub OnOk-map : {T E : Type 0} (r : Result T E) (P Q : Type 0) → OnOk r P → (P → Q) → OnOk r Q

@@ -28,22 +28,21 @@ IsFailureBy Process adverts f = IsFailure adverts f
 -- ---- what fails together
 
 -- the attachment of some router to the network
-abbrev pub is_attachment_to : ℕ → AreaFailure → Bool
-is_attachment_to n (fails.Attachment router m) = m == n
-is_attachment_to n _ = false
+abbrev pub is_attached_to : ℕ → AreaFailure → Bool
+is_attached_to n (fails.Attachment router m) = m == n
+is_attached_to n _ = false
 
 -- of all that may fail in the area, two attachments are to the network: it is a cable
 abbrev pub is_cable : List AreaFailure → ℕ → Bool
-is_cable single n = count_by (is_attachment_to n) single == 2
+is_cable single n = count_by (is_attached_to n) single == 2
 
 -- on direct cables a router that leaves a network of two takes the network with it
-abbrev pub left_network : List AreaFailure → RouterId → ℕ → AreaFailure
-left_network single router n =
+abbrev pub leaving_network : List AreaFailure → RouterId → ℕ → AreaFailure
+leaving_network single router n =
     if is_cable single n then fails.Network n else fails.Attachment router n
 
 -- what goes with the router's power, of something that may fail: the link that is one of its
--- cables,
--- the network that is one of them, and the router itself
+-- cables, the network that is one of them, and the router itself
 abbrev pub powered : List AreaFailure → RouterId → AreaFailure → List AreaFailure
 powered single gone (fails.Link a b subnet) =
     if (a.0 == gone.0) || (b.0 == gone.0) then fails.Link a b subnet ∷ [] else []
@@ -58,7 +57,7 @@ powered single gone (fails.Router router) =
 -- what fails together on direct cables, of all that may fail in the area
 abbrev pub together_direct : List AreaFailure → AreaFailure → List AreaFailure
 together_direct single (fails.Router gone) = flat_map (powered single gone) single
-together_direct single (fails.Attachment router n) = left_network single router n ∷ []
+together_direct single (fails.Attachment router n) = leaving_network single router n ∷ []
 together_direct single f = f ∷ []
 
 -- what fails together: behind switches, and where only the process of a router dies, each failure

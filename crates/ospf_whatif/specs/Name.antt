@@ -6,8 +6,7 @@ use Rattle.ospf_whatif.specs.declared.failure.AreaFailure.TheVariants.{Attachmen
 use Rattle.ospf_whatif.specs.declared.failure.AreaFailure.TheVariants as fails
 
 -- the routers and the subnet of a link, or of the end of it at the first router, the two routers,
--- the router and the network's Link State
--- ID, that ID alone, or the router
+-- the router and the network's Link State ID, that ID alone, or the router
 abbrev pub area_failure_text : failure.AreaFailure → List ℕ
 area_failure_text (fails.Link a b subnet) =
     number_text a.0 ++ codes "-" ++ number_text b.0 ++ codes "@" ++ prefix_text subnet

@@ -116,8 +116,7 @@ AreSparedBy adverts (f ∷ more) router links =
     × AreSparedBy (without f adverts) more router links
 
 -- of failures that come together one changes an interface of the router, as the laws have it of
--- that
--- failure alone, and the others take none of its links: the router wants what all of them leave
+-- that failure alone, and the others take none of its links: the router wants what all leave
 abbrev pub FailuresComeTogether : Type 0
 FailuresComeTogether =
     (adverts : List Advertisement) (earlier later : List AreaFailure) (f : AreaFailure)

@@ -4,7 +4,7 @@ ghost use Rattle.std.specs.Prelude.{◌≡◌, ◌↔◌, ◌++◌, ◌∷◌, [
 ghost use Rattle.ospf_edges.specs.Listed.{advertisements_of};
 ghost use Rattle.ospf_graph.specs.Adds.{Adds};
 ghost use Rattle.ospf_graph.specs.Advertisements.{Advertisement};
-ghost use Rattle.ospf_whatif.specs.Carrier.{AreHiddenBy, EndGiven, IsFailureBy, is_attachment_to, is_cable, left_network, powered, together, together_direct};
+ghost use Rattle.ospf_whatif.specs.Carrier.{AreHiddenBy, EndGiven, IsFailureBy, is_attached_to, is_cable, leaving_network, powered, together, together_direct};
 ghost use Rattle.ospf_whatif.specs.Single.{AreFailures, GivenBy, IsFailureBefore};
 ghost use Rattle.ospf_whatif.specs.declared.failure.AreaFailure.{AreaFailure};
 
@@ -170,7 +170,7 @@ fn together_direct(
     match failure {
         AreaFailure::Router(gone) => all_powered(alloc, single, gone),
         AreaFailure::Attachment { router, network } => {
-            alone(alloc, left_network(single, router, network))
+            alone(alloc, leaving_network(single, router, network))
         }
         AreaFailure::Link { .. } => alone(alloc, failure),
         AreaFailure::End { .. } => alone(alloc, failure),
@@ -230,8 +230,8 @@ fn push_if(is: bool, failure: AreaFailure, parts: &mut Vec<AreaFailure>) -> Resu
 }
 
 // What fails where a router leaves a network.
-fn left_network(single: &[AreaFailure], router: RouterId, network: u32) -> AreaFailure
-    ensures { result ≡ left_network single.now router network }
+fn leaving_network(single: &[AreaFailure], router: RouterId, network: u32) -> AreaFailure
+    ensures { result ≡ leaving_network single.now router network }
 {
     if is_cable(single, network) {
         AreaFailure::Network(network)
@@ -246,14 +246,14 @@ fn is_cable(single: &[AreaFailure], network: u32) -> bool
 {
     single
         .iter()
-        .filter(|failure| is_attachment_to(network, failure))
+        .filter(|failure| is_attached_to(network, failure))
         .count()
         == 2
 }
 
 // Whether it is the attachment of a router to a network.
-fn is_attachment_to(network: u32, failure: &AreaFailure) -> bool
-    ensures { result ≡ is_attachment_to network failure.now }
+fn is_attached_to(network: u32, failure: &AreaFailure) -> bool
+    ensures { result ≡ is_attached_to network failure.now }
 {
     match *failure {
         AreaFailure::Attachment { network: other, .. } => other == network,

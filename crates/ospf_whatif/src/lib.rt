@@ -6,9 +6,8 @@
 //!
 //! That what routers then want to list is what is left here is a law (`links_go_down`,
 //! `interfaces_go_down`, `routers_stop`; behind switches `ends_go_down`, `far_ends_stay_up`; of
-//! failures that come together `failures_come_together`). Those on a network with another
-//! Designated Router list it
-//! under another name (`designated_routers_change`), which changes no routing table
+//! failures that come together `failures_come_together`). Those on a network with another DR list
+//! it under another name (`designated_routers_change`), which changes no routing table
 //! (`networks_are_but_names`, `only_links_back_count`).
 #![tactic(auto)]
 
