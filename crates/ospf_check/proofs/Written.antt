@@ -110,18 +110,6 @@ pub error_ends : (how : Telling) (file : NamedFile) (before failed : FailedStrea
 error_ends how file before failed a x y f lines text told is why failed_is begun =
     no_error f lines why (ap (λ (s : FailedStreams). s.error) failed_is) (inl told) refl (subst (IsBegun x y) is begun)
 
--- the line of an accepted file is written
-pub accepted_written : (how : Telling) (file : NamedFile) (a b x : Option (List ℕ)) (line text : List ℕ) → IsFileTold how file true line [] → text ≡ line
-    → Appends a b text → IsWrittenOf how file true (written_on a x) (written_on b x)
-accepted_written how file a b x line text told is written =
-    record { out = line; err = []; told = told; out_written = subst (Appends a b) is written; err_written = nothing_written x }
-
--- the lines of a refused file are written
-pub refused_written : (how : Telling) (file : NamedFile) (a x y : Option (List ℕ)) (lines text : List ℕ) → IsFileTold how file false [] lines → text ≡ lines
-    → Appends x y text → IsWrittenOf how file false (written_on a x) (written_on a y)
-refused_written how file a x y lines text told is written =
-    record { out = []; err = lines; told = told; out_written = nothing_written a; err_written = subst (Appends x y) is written }
-
 -- standard error is as it was when the files were told
 pub told_then : (how : Telling) (files : List NamedFile) (old between : Written) (err : Option (List ℕ)) → IsWritten how files true old between → err ≡ between.err
     → IsWritten how files true old (record between { err = err })

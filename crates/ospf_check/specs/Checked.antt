@@ -45,7 +45,7 @@ indented_line text = codes "  " ++ (text ++ codes "\n")
 abbrev pub delay_meaning : List ℕ
 delay_meaning =
     codes
-    "over 900, the acknowledgement of an LSA that is sent may be taken for one of another instance, and the LSA is sent again and again; where both ends of a point-to-point link have that, or one interface of a broadcast network with others, they may never become Full (RFC 2328, sections 13.1 and 13.3)"
+    "above 900, the acknowledgment of an LSA may count for another instance, and the LSA is retransmitted without end; at both ends of a point-to-point link, or at one interface of a broadcast network with others, neighbors may never reach Full (RFC 2328, sections 13.1 and 13.3)"
 
 -- where an interface stands, and its InfTransDelay
 abbrev pub link_text : ℕ → List ℕ
@@ -71,7 +71,7 @@ delay_line i =
 abbrev pub leaf_meaning : List ℕ
 leaf_meaning =
     codes
-    "as Designated Router it would not flood the LSAs that it passes over (other_lsas), so the others of the network get them late or not at all; priority = 0 keeps it out of the election (RFC 2328, section 13.3)"
+    "as Designated Router it would not flood the LSAs that it passes over (other_lsas), so the other routers would get them late or not at all; set priority = 0 to keep it out of the election (RFC 2328, section 13.3)"
 
 -- what a warning of a `priority` begins with
 abbrev pub priority_text : ℕ → List ℕ

@@ -31,7 +31,7 @@ use Rattle.ospf_check.specs.Checked.{IsCheckCutShort, IsWritten}
 -- the key that a fault is about
 abbrev pub key_text : AreaFault → List ℕ
 key_text fault.SameRouter = codes "router_id"
-key_text fault.Apart = codes "router_id"
+key_text fault.Partitioned = codes "router_id"
 key_text fault.Area = codes "area"
 key_text fault.Kind = codes "kind"
 key_text fault.Hello = codes "hello"
@@ -43,9 +43,9 @@ key_text fault.OneSided = codes "port"
 key_text fault.Cost = codes "cost"
 key_text fault.Delay = codes "transmit_delay"
 key_text fault.SamePort = codes "port"
-key_text fault.Astray = codes "port"
+key_text fault.WrongSubnetPeer = codes "port"
 key_text fault.Unheard = codes "port"
-key_text (fault.Nowhere peer) = codes "peers"
+key_text (fault.UnknownPeer peer) = codes "peers"
 key_text _ = codes "address"
 
 -- the port of an interface, if it has one
@@ -60,7 +60,7 @@ prefix_data e = string (number_text e.address.address.0 ++ codes "/" ++ decimal 
 -- what an interface has at this key
 abbrev pub value_data : AreaFault → LinkEnd → Data
 value_data fault.SameRouter e = string (number_text e.router.0)
-value_data fault.Apart e = string (number_text e.router.0)
+value_data fault.Partitioned e = string (number_text e.router.0)
 value_data fault.Area e = string (number_text e.area.0)
 value_data fault.Kind e = string (kind_text e.kind)
 value_data fault.Hello e = number (unsigned e.hello)
@@ -72,15 +72,15 @@ value_data fault.OneSided e = port_data e.port
 value_data fault.Cost e = number (unsigned e.cost)
 value_data fault.Delay e = number (unsigned e.transmit_delay)
 value_data fault.SamePort e = port_data e.port
-value_data fault.Astray e = port_data e.port
+value_data fault.WrongSubnetPeer e = port_data e.port
 value_data fault.Unheard e = port_data e.port
-value_data (fault.Nowhere peer) e = number (unsigned peer)
+value_data (fault.UnknownPeer peer) e = number (unsigned peer)
 value_data _ e = prefix_data e
 
 -- the number of the interface, where the key is one of an interface
 abbrev pub place_data : AreaFault → LinkEnd → Data
 place_data fault.SameRouter e = null
-place_data fault.Apart e = null
+place_data fault.Partitioned e = null
 place_data _ e = number (unsigned e.link)
 
 -- what an interface has, and where, by the name of its file
@@ -94,8 +94,8 @@ side_data f e name =
 
 -- what the other interface has, where there is one
 abbrev pub other_data : AreaFault → LinkEnd → List ℕ → Data
-other_data fault.Alone e name = null
-other_data (fault.Nowhere peer) e name = null
+other_data fault.NoNeighbor e name = null
+other_data (fault.UnknownPeer peer) e name = null
 other_data fault.LoneDr e name = null
 other_data f e name = side_data f e name
 

@@ -258,7 +258,7 @@ fn other_value(
     ensures { IfOk result (λ value. view value ≡ other_data fault end.now name.now) }
 {
     match fault {
-        AreaFault::Alone | AreaFault::Nowhere(_) | AreaFault::LoneDr => Ok(Value::Null),
+        AreaFault::NoNeighbor | AreaFault::UnknownPeer(_) | AreaFault::LoneDr => Ok(Value::Null),
         fault => side_value(alloc, fault, end, name),
     }
 }
@@ -282,7 +282,7 @@ fn place_value(fault: AreaFault, end: &LinkEnd) -> Value
     ensures { view result ≡ place_data fault end.now }
 {
     match fault {
-        AreaFault::SameRouter | AreaFault::Apart => Value::Null,
+        AreaFault::SameRouter | AreaFault::Partitioned => Value::Null,
         _ => Value::from(end.link),
     }
 }
@@ -292,7 +292,7 @@ fn key_text(fault: AreaFault) -> &'static str
     ensures { result.now ≡ key_text fault }
 {
     match fault {
-        AreaFault::SameRouter | AreaFault::Apart => "router_id",
+        AreaFault::SameRouter | AreaFault::Partitioned => "router_id",
         AreaFault::Area => "area",
         AreaFault::Kind => "kind",
         AreaFault::Hello => "hello",
@@ -300,10 +300,10 @@ fn key_text(fault: AreaFault) -> &'static str
         AreaFault::Mtu => "mtu",
         AreaFault::NoDr | AreaFault::LoneDr => "priority",
         AreaFault::OneSided | AreaFault::SamePort => "port",
-        AreaFault::Astray | AreaFault::Unheard => "port",
+        AreaFault::WrongSubnetPeer | AreaFault::Unheard => "port",
         AreaFault::Cost => "cost",
         AreaFault::Delay => "transmit_delay",
-        AreaFault::Nowhere(_) => "peers",
+        AreaFault::UnknownPeer(_) => "peers",
         _ => "address",
     }
 }
@@ -313,7 +313,7 @@ fn value_at(alloc: Global, fault: AreaFault, end: &LinkEnd) -> Result<Value, All
     ensures { IfOk result (λ value. view value ≡ value_data fault end.now) }
 {
     match fault {
-        AreaFault::SameRouter | AreaFault::Apart => dotted_value(alloc, end.router.0),
+        AreaFault::SameRouter | AreaFault::Partitioned => dotted_value(alloc, end.router.0),
         AreaFault::Area => dotted_value(alloc, end.area.0),
         AreaFault::Kind => Value::try_from_str(alloc, kind_text(end.kind)),
         AreaFault::Hello => Ok(Value::from(end.hello)),
@@ -321,10 +321,10 @@ fn value_at(alloc: Global, fault: AreaFault, end: &LinkEnd) -> Result<Value, All
         AreaFault::Mtu => Ok(Value::from(end.mtu)),
         AreaFault::NoDr | AreaFault::LoneDr => Ok(Value::from(end.priority)),
         AreaFault::OneSided | AreaFault::SamePort => Ok(port_value(end.port)),
-        AreaFault::Astray | AreaFault::Unheard => Ok(port_value(end.port)),
+        AreaFault::WrongSubnetPeer | AreaFault::Unheard => Ok(port_value(end.port)),
         AreaFault::Cost => Ok(Value::from(end.cost)),
         AreaFault::Delay => Ok(Value::from(end.transmit_delay)),
-        AreaFault::Nowhere(peer) => Ok(Value::from(peer)),
+        AreaFault::UnknownPeer(peer) => Ok(Value::from(peer)),
         _ => prefix_value(alloc, end),
     }
 }

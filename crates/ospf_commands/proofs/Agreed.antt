@@ -1,4 +1,4 @@
--- Routers of which none is found to list otherwise.
+-- Routers of which none is found to have different LSDBs.
 use Rattle.std.proofs.Common.{Bool, ◌≡◌, ◌∙◌, ℕ, List, [], ◌∷◌, ◌++◌, Option, None, Some, ap, cond, false, find, is_some, map, option_and_then, refl, subst, sym, true, ◌==◌}
 use Rattle.std.proofs.lemmas.Option.{same_Some}
 use Rattle.ospf_base.specs.declared.ids.RouterId.{RouterId}
@@ -82,7 +82,7 @@ runs_lists lsas w r x all at = go (find (is_slot_of r.0) w.slots) refl (sym (rou
 
 -- ---- the laws
 
--- what is met: a router runs, and none is found to list otherwise
+-- what is met: a router runs, and none is found to have different LSDBs
 is_met : (w : WorldValue) (answer : Answer) (text : Text) → IsOfAll w answer text false → (some_run w.slots ≡ true) × AreFirstToDiffer w.slots None
 is_met w answer text (they_agree some agree done none met) = (some, agree)
 is_met w answer text (nobody_runs none done told unmet) = absurd (cc unmet)

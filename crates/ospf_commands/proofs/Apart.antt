@@ -1,4 +1,4 @@
--- Routers that are gone over to find two that list otherwise.
+-- Routers that are gone over to find two that have different LSDBs.
 use Rattle.std.proofs.Common.{◌≡◌, ◌∙◌, ap, arith, length, subst, sym, ℕ, List, [], ◌∷◌, Option, None, Some}
 use Rattle.ospf_base.specs.declared.ids.RouterId.{RouterId}
 use Rattle.ospf_headline.specs.World.{Running}

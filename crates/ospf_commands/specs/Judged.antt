@@ -110,7 +110,7 @@ some_run slots = list_any (λ (s : SlotValue). is_some s.running) slots
 
 -- that none does
 abbrev pub nobody_line : Text
-nobody_line = codes "no router runs\n"
+nobody_line = codes "no router is running\n"
 
 -- two routers
 abbrev pub two_text : RouterId × RouterId → Text
@@ -118,7 +118,7 @@ two_text two = number_text two.0.0 ++ codes " and " ++ number_text two.1.0
 
 -- and that they do
 abbrev pub apart_line : RouterId × RouterId → Text
-apart_line two = two_text two ++ codes " list otherwise\n"
+apart_line two = two_text two ++ codes " have different LSDBs\n"
 
 -- routers run, and all that do list the same; or none runs, and that is printed; or there is no
 -- room to know; or two do not list the same, and that is printed

@@ -81,13 +81,13 @@ NeverStillFor rounds (now ∷ passed) =
 abbrev pub settled_line : (rounds still : ℕ) → Text
 settled_line rounds still =
     codes "settled in round " ++ decimal rounds
-    ++ (codes "; " ++ decimal still ++ codes " more changed nothing\n")
+    ++ (codes ", unchanged for " ++ decimal still ++ codes " more\n")
 
 -- where that has not come: by which round, and how many in a row are to change nothing
 abbrev pub unsettled_line : (rounds still : ℕ) → Text
 unsettled_line rounds still =
     codes "not settled by round " ++ decimal rounds
-    ++ (codes ": " ++ decimal still ++ codes " in a row are to change nothing\n")
+    ++ (codes ": " ++ decimal still ++ codes " rounds in a row must change nothing\n")
 
 -- the network of an interface, where there is one
 abbrev pub network_text : Option InterfaceAddress → Text

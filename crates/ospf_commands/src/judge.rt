@@ -254,11 +254,11 @@ fn nobody_lines(alloc: Global) -> Result<String, AllocError>
         ≡ unmet_line expected.Agree ++ nobody_line) }
 {
     let mut lines = unmet_line(alloc, &Expected::Agree)?;
-    lines.push_str("no router runs\n")?;
+    lines.push_str("no router is running\n")?;
     Ok(lines)
 }
 
-// The lines of two routers that list otherwise.
+// The lines of two routers that have different LSDBs.
 fn apart_lines(alloc: Global, two: (RouterId, RouterId)) -> Result<String, AllocError>
     ensures { IfOk result (λ lines. string_bytes lines
         ≡ unmet_line expected.Agree ++ apart_line two) }
@@ -273,5 +273,5 @@ fn apart_line(alloc: Global, two: (RouterId, RouterId)) -> Result<String, AllocE
     ensures { IfOk result (λ line. string_bytes line ≡ apart_line two) }
 {
     let two = TwoShown(two);
-    format!(in alloc; "{two} list otherwise\n")
+    format!(in alloc; "{two} have different LSDBs\n")
 }

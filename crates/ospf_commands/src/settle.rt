@@ -160,7 +160,7 @@ fn settled_line(alloc: Global, rounds: u64, still: u64) -> Result<String, AllocE
     ensures { IfOk result (λ line. string_bytes line ≡ settled_line rounds still) }
 {
     let mut line = format!(in alloc; "settled in round {rounds}")?;
-    let rest = format!(in alloc; "; {still} more changed nothing\n")?;
+    let rest = format!(in alloc; ", unchanged for {still} more\n")?;
     line.push_str(&rest)?;
     Ok(line)
 }
@@ -170,7 +170,7 @@ fn unsettled_line(alloc: Global, rounds: u64, still: u64) -> Result<String, Allo
     ensures { IfOk result (λ line. string_bytes line ≡ unsettled_line rounds still) }
 {
     let mut line = format!(in alloc; "not settled by round {rounds}")?;
-    let rest = format!(in alloc; ": {still} in a row are to change nothing\n")?;
+    let rest = format!(in alloc; ": {still} rounds in a row must change nothing\n")?;
     line.push_str(&rest)?;
     Ok(line)
 }

@@ -184,16 +184,16 @@ unreached a false h = (same a 0 (and_cases (a == 0) true h).0, refl)
 
 -- what is found of an interface by whether it is apart
 record IsApartAt (reached : ℕ → Bool) (first : Option LinkEnd) (e : LinkEnd) (f : Finding) : Type 0 where
-  fault_is : f.fault ≡ fault.Apart
+  fault_is : f.fault ≡ fault.Partitioned
   here_is : e ≡ f.here
   other_is : first ≡ Some f.other
   wrong_is : is_apart reached e ≡ true
 
 apart_by : (reached : ℕ → Bool) (e d : LinkEnd) (f : Finding) (b : Bool) → is_apart reached e ≡ b
-    → (if b then Some (record { fault = fault.Apart; other = d; here = e }) else None) ≡ Some f → IsApartAt reached (Some d) e f
+    → (if b then Some (record { fault = fault.Partitioned; other = d; here = e }) else None) ≡ Some f → IsApartAt reached (Some d) e f
 apart_by reached e d f false wrong is = absurd (none_is_some f is)
 apart_by reached e d f true wrong is =
-    subst (IsApartAt reached (Some d) e) (same_Some (record { fault = fault.Apart; other = d; here = e }) f is) (record { fault_is = refl; here_is = refl; other_is = refl; wrong_is = wrong })
+    subst (IsApartAt reached (Some d) e) (same_Some (record { fault = fault.Partitioned; other = d; here = e }) f is) (record { fault_is = refl; here_is = refl; other_is = refl; wrong_is = wrong })
 
 apart_says : (reached : ℕ → Bool) (first : Option LinkEnd) (e : LinkEnd) (f : Finding) → apart reached first e ≡ Some f → IsApartAt reached first e f
 apart_says reached None e f is = absurd (none_is_some f is)
@@ -220,8 +220,8 @@ apart_told : (ends : List LinkEnd) (reached : ℕ → Bool) (f : Finding) → Ar
 apart_told ends reached f are h =
     let off : reached f.here.file ≡ false = off_by (reached f.here.file) (λ t. h.apart ((are f.here.file).0 t)) in
     let wrong : is_apart reached f.here ≡ true = ap (λ n. (n == 0) && not (reached f.here.file)) h.link ∙ ap (λ b. not b) off in
-    let made : apart reached (first_of_all ends) f.here ≡ Some (record { fault = fault.Apart; other = f.other; here = f.here }) =
-    ap (λ o. apart reached o f.here) h.other ∙ ap (λ b. if b then Some (record { fault = fault.Apart; other = f.other; here = f.here }) else None) wrong in
+    let made : apart reached (first_of_all ends) f.here ≡ Some (record { fault = fault.Partitioned; other = f.other; here = f.here }) =
+    ap (λ o. apart reached o f.here) h.other ∙ ap (λ b. if b then Some (record { fault = fault.Partitioned; other = f.other; here = f.here }) else None) wrong in
     some_to (apart reached (first_of_all ends)) ends f f.here h.here (made ∙ ap (λ x. Some (record { fault = x; other = f.other; here = f.here })) (sym h.fault))
 
 pub tells_exactly : (configs : List Config) (fs : List Finding) (f : Finding) → AreFindings configs fs

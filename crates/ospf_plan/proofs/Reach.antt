@@ -69,10 +69,6 @@ left_later : (b : Bool) (j i : Join) (js : List Join) → Contains js i → Cont
 left_later true j i js h = h
 left_later false j i js h = later_in j js i h
 
-left_here : (b : Bool) (j : Join) (js : List Join) → b ≡ false → Contains (if b then js else j ∷ js) j
-left_here true j js h = absurd (let no : true ≡ false = h in search rules)
-left_here false j js h = head_in j js
-
 here_done : (s : ℕ → Bool) (j : Join) (js : List Join) (b : Bool) → touches s j ≡ b → IsDone (reached_after (marked_by s j) js) j ⊎ Contains (if b then left (marked_by s j) js else j ∷ left (marked_by s j) js) j
 here_done s j js true t = inl (stays (marked_by s j) js j.one (one_marked s j t), stays (marked_by s j) js j.other (other_marked s j t))
 here_done s j js false t = inr (head_in j (left (marked_by s j) js))

@@ -18,10 +18,10 @@ made x d e = record { fault = x; other = d; here = e }
 
 -- what is wrong by whether the one is on the network, and sends back
 abbrev pub chosen : Bool → Bool → Option AreaFault
-chosen a b = if not a then Some fault.Astray else if not b then Some fault.OneSided else None
+chosen a b = if not a then Some fault.WrongSubnetPeer else if not b then Some fault.OneSided else None
 
-pub by_choice : (a b : Bool) (x : AreaFault) → chosen a b ≡ Some x → ((a ≡ false) × (fault.Astray ≡ x)) ⊎ ((a ≡ true) × (b ≡ false) × (fault.OneSided ≡ x))
-by_choice false b x is = inl (refl, same_Some fault.Astray x is)
+pub by_choice : (a b : Bool) (x : AreaFault) → chosen a b ≡ Some x → ((a ≡ false) × (fault.WrongSubnetPeer ≡ x)) ⊎ ((a ≡ true) × (b ≡ false) × (fault.OneSided ≡ x))
+by_choice false b x is = inl (refl, same_Some fault.WrongSubnetPeer x is)
 by_choice true false x is = inr (refl, refl, same_Some fault.OneSided x is)
 by_choice true true x is = absurd (none_is_some x is)
 
@@ -39,7 +39,7 @@ module _ (ends : List LinkEnd) (wires : List PeerWire) (w : PeerWire) (f : Findi
       subst (HoldsOfWire ends wires) (same_Some (made x d w.end) f is) (record { wire = w; among = among; here = refl; holds = says_so d x at between })
 
   by_port : (o : Option LinkEnd) → first_at_port ends w.peer ≡ o → fault_behind (is_wired wires) w o ≡ Some f → HoldsOfWire ends wires f
-  by_port None at is = subst (HoldsOfWire ends wires) (same_Some (made (fault.Nowhere w.peer) w.end w.end) f is) (record { wire = w; among = among; here = refl; holds = to_nobody at })
+  by_port None at is = subst (HoldsOfWire ends wires) (same_Some (made (fault.UnknownPeer w.peer) w.end w.end) f is) (record { wire = w; among = among; here = refl; holds = to_nobody at })
   by_port (Some d) at is = by_fault d (fault_between (is_wired wires) d w.end) at refl is
 
 pub wire_holds : (ends : List LinkEnd) (wires : List PeerWire) (f : Finding) → Contains (wire_faults_in ends wires) f → HoldsOfWire ends wires f

@@ -94,7 +94,7 @@ wires_rise configs = distinct_rises (flat_map wires_at (enumerate_from 0 configs
 
 -- the port that the wire of a finding leads to
 abbrev peer_of : Finding → ℕ
-peer_of f = elim f.fault [ fault.Nowhere peer ↦ peer | _ ↦ port_of f.other ]
+peer_of f = elim f.fault [ fault.UnknownPeer peer ↦ peer | _ ↦ port_of f.other ]
 
 abbrev made : AreaFault → LinkEnd → LinkEnd → Finding
 made x d e = record { fault = x; other = d; here = e }
@@ -119,7 +119,7 @@ of_some w f d a b (Some x) at is gives = subst (IsOf w) (same_Some (made x d w.e
 
 of_port : (ends : List LinkEnd) (wires : List PeerWire) (w : PeerWire) (f : Finding) (o : Option LinkEnd) → first_at_port ends w.peer ≡ o
     → fault_behind (is_wired wires) w o ≡ Some f → IsOf w f
-of_port ends wires w f None at is = subst (IsOf w) (same_Some (made (fault.Nowhere w.peer) w.end w.end) f is) (refl, refl)
+of_port ends wires w f None at is = subst (IsOf w) (same_Some (made (fault.UnknownPeer w.peer) w.end w.end) f is) (refl, refl)
 of_port ends wires w f (Some d) at is =
     let back = is_wired wires (wire_key d (port_of w.end)) in
     of_some w f d (is_beside d w.end) back (chosen (is_beside d w.end) back) (to_peer ends w.peer d at) refl is

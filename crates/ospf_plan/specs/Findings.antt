@@ -14,8 +14,8 @@ use Rattle.ospf_plan.specs.Ends.{can_be_elected, first_around, first_at, first_a
 abbrev pub every_fault : List AreaFault
 every_fault =
     fault.SameRouter ∷ fault.SameAddress ∷ fault.Area ∷ fault.Kind ∷ fault.Hello ∷ fault.Dead
-    ∷ fault.Mtu ∷ fault.Mask ∷ fault.Crowded
-    ∷ fault.NoDr ∷ fault.Cost ∷ fault.Alone ∷ fault.Delay ∷ fault.SamePort
+    ∷ fault.Mtu ∷ fault.Mask ∷ fault.TooManyRouters
+    ∷ fault.NoDr ∷ fault.Cost ∷ fault.NoNeighbor ∷ fault.Delay ∷ fault.SamePort
     ∷ fault.LoneDr ∷ []
 
 -- the two are one kind
@@ -64,7 +64,7 @@ abbrev pub other_of : AreaFault → Surroundings → Option LinkEnd
 other_of fault.SameRouter a = a.router
 other_of fault.SameAddress a = a.holder
 other_of fault.Mask a = a.wider
-other_of fault.Crowded a = a.third
+other_of fault.TooManyRouters a = a.third
 other_of fault.NoDr a = a.second
 other_of fault.LoneDr a = a.elector
 other_of fault.Delay a = a.delayed
@@ -87,17 +87,17 @@ is_wrong fault.Hello a d e = not (d.hello == e.hello)
 is_wrong fault.Dead a d e = not (d.dead == e.dead)
 is_wrong fault.Mtu a d e = not (d.mtu == e.mtu)
 is_wrong fault.Mask a d e = true
-is_wrong fault.Crowded a d e = is_found a.first e && same_kind e.kind PointToPoint
+is_wrong fault.TooManyRouters a d e = is_found a.first e && same_kind e.kind PointToPoint
 is_wrong fault.NoDr a d e =
     is_found a.first e && same_kind e.kind Broadcast && not (is_some a.elector)
 is_wrong fault.LoneDr a d e = is_lone_dr a e
 is_wrong fault.OneSided a d e = false
-is_wrong fault.Astray a d e = false
-is_wrong (fault.Nowhere peer) a d e = false
-is_wrong fault.Apart a d e = false
+is_wrong fault.WrongSubnetPeer a d e = false
+is_wrong (fault.UnknownPeer peer) a d e = false
+is_wrong fault.Partitioned a d e = false
 is_wrong fault.Unheard a d e = false
 is_wrong fault.Cost a d e = same_kind e.kind PointToPoint && not (d.cost == e.cost)
-is_wrong fault.Alone a d e = not (is_some a.second)
+is_wrong fault.NoNeighbor a d e = not (is_some a.second)
 is_wrong fault.Delay a d e = is_slow_end e && not (is_same d e)
 is_wrong fault.SamePort a d e = is_some e.port && not (is_same d e)
 

@@ -1,5 +1,5 @@
--- What follows of `A8 Mask`, `A9 Crowded`, `A10 NoDr` and `A14 Delay` (RFC 2328, sections 9.4,
--- 10.5, 13.1, 13.3 and 13.7).
+-- What follows of `A8 Mask`, `A9 TooManyRouters`, `A10 NoDr` and `A14 Delay` (RFC 2328, sections
+-- 9.4, 10.5, 13.1, 13.3 and 13.7).
 use Rattle.std.specs.Prelude.{◌≡◌, ◌+◌, ◌<◌, ℕ, true, List, Contains, None, Some}
 use Rattle.std.specs.List.{AllByRecursion}
 use Rattle.ospf_base.specs.Addresses.{nowhere}

@@ -28,9 +28,9 @@ pub record FindingHolds (ends : List LinkEnd) (f : Finding) : Type 0 where
 pub data IsFaultOfWire (ends : List LinkEnd) (wires : List PeerWire) (w : PeerWire)
     : AreaFault → LinkEnd → Type 0 where
   to_nobody : first_at_port ends w.peer ≡ None
-      → IsFaultOfWire ends wires w (fault.Nowhere w.peer) w.end
+      → IsFaultOfWire ends wires w (fault.UnknownPeer w.peer) w.end
   to_another_network : (d : LinkEnd) → first_at_port ends w.peer ≡ Some d
-      → is_beside d w.end ≡ false → IsFaultOfWire ends wires w fault.Astray d
+      → is_beside d w.end ≡ false → IsFaultOfWire ends wires w fault.WrongSubnetPeer d
   to_silence : (d : LinkEnd) → first_at_port ends w.peer ≡ Some d → is_beside d w.end ≡ true
       → is_wired wires (wire_key d (port_of w.end)) ≡ false
       → IsFaultOfWire ends wires w fault.OneSided d
@@ -68,7 +68,7 @@ pub record HoldsUnheard (ends : List LinkEnd) (wires : List PeerWire) (f : Findi
 -- the finding holds of a file: no way over interfaces that can become adjacent leads there from
 -- the first, and its interface is the first of it
 pub record HoldsApart (ends : List LinkEnd) (f : Finding) : Type 0 where
-  pub fault : f.fault ≡ fault.Apart
+  pub fault : f.fault ≡ fault.Partitioned
   pub here : Contains ends f.here
   pub link : f.here.link ≡ 0
   pub other : first_of_all ends ≡ Some f.other
@@ -102,16 +102,16 @@ area_fault_number fault.Hello = 5
 area_fault_number fault.Dead = 6
 area_fault_number fault.Mtu = 7
 area_fault_number fault.Mask = 8
-area_fault_number fault.Crowded = 9
+area_fault_number fault.TooManyRouters = 9
 area_fault_number fault.NoDr = 10
 area_fault_number fault.OneSided = 11
 area_fault_number fault.Cost = 12
-area_fault_number fault.Alone = 13
+area_fault_number fault.NoNeighbor = 13
 area_fault_number fault.Delay = 14
 area_fault_number fault.SamePort = 15
-area_fault_number fault.Astray = 16
-area_fault_number (fault.Nowhere peer) = 17
-area_fault_number fault.Apart = 18
+area_fault_number fault.WrongSubnetPeer = 16
+area_fault_number (fault.UnknownPeer peer) = 17
+area_fault_number fault.Partitioned = 18
 area_fault_number fault.Unheard = 19
 area_fault_number fault.LoneDr = 20
 

@@ -85,8 +85,8 @@ is_apart reached e = (e.link == 0) && not (reached e.file)
 abbrev pub apart : (ℕ → Bool) → Option LinkEnd → LinkEnd → Option Finding
 apart reached first e =
     option_and_then
-    (λ d. if is_apart reached e then Some (record { fault = fault.Apart; other = d; here = e })
-    else None) first
+    (λ d. if is_apart reached e
+    then Some (record { fault = fault.Partitioned; other = d; here = e }) else None) first
 
 -- the files that are not reached, in order
 abbrev pub apart_in : (ℕ → Bool) → List LinkEnd → List Finding

@@ -19,24 +19,24 @@ area_fault_text fault.Hello = codes "A5 Hello"
 area_fault_text fault.Dead = codes "A6 Dead"
 area_fault_text fault.Mtu = codes "A7 Mtu"
 area_fault_text fault.Mask = codes "A8 Mask"
-area_fault_text fault.Crowded = codes "A9 Crowded"
+area_fault_text fault.TooManyRouters = codes "A9 TooManyRouters"
 area_fault_text fault.NoDr = codes "A10 NoDr"
 area_fault_text fault.OneSided = codes "A11 OneSided"
 area_fault_text fault.Cost = codes "A12 Cost"
-area_fault_text fault.Alone = codes "A13 Alone"
+area_fault_text fault.NoNeighbor = codes "A13 NoNeighbor"
 area_fault_text fault.Delay = codes "A14 Delay"
 area_fault_text fault.SamePort = codes "A15 SamePort"
-area_fault_text fault.Astray = codes "A16 Astray"
-area_fault_text (fault.Nowhere peer) = codes "A17 Nowhere"
-area_fault_text fault.Apart = codes "A18 Apart"
+area_fault_text fault.WrongSubnetPeer = codes "A16 WrongSubnetPeer"
+area_fault_text (fault.UnknownPeer peer) = codes "A17 UnknownPeer"
+area_fault_text fault.Partitioned = codes "A18 Partitioned"
 area_fault_text fault.Unheard = codes "A19 Unheard"
 area_fault_text fault.LoneDr = codes "A20 LoneDr"
 
 -- what is a note, and no fault
 abbrev pub is_note : AreaFault → Bool
 is_note fault.Cost = true
-is_note fault.Alone = true
-is_note (fault.Nowhere peer) = true
+is_note fault.NoNeighbor = true
+is_note (fault.UnknownPeer peer) = true
 is_note fault.LoneDr = true
 is_note _ = false
 
@@ -47,40 +47,42 @@ meaning_text fault.SameRouter =
     "each drops the other's packets as its own, and each flushes the other's LSAs (RFC 2328, sections 8.2 and 13.4)"
 meaning_text fault.SameAddress =
     codes
-    "what is sent to the address may come to either; as neighbours each is the other's next hop at its own address (section 16.1.1)"
+    "a packet to this address may reach either router; as neighbors, each is the other's next hop at its own address (section 16.1.1)"
 meaning_text fault.Area = codes "each drops the other's packets (section 8.2)"
 meaning_text fault.Kind =
     codes
-    "one elects a Designated Router and the other does not: they may become Full, and no route leads over the network (sections 9.4 and 16.1)"
+    "one end elects a Designated Router and the other does not: they may reach Full, but no route uses the network (sections 9.4 and 16.1)"
 meaning_text fault.Hello =
-    codes "each drops the other's Hellos: they never become neighbours (section 10.5)"
+    codes "each drops the other's Hellos: they never become neighbors (section 10.5)"
 meaning_text fault.Dead =
-    codes "each drops the other's Hellos: they never become neighbours (section 10.5)"
+    codes "each drops the other's Hellos: they never become neighbors (section 10.5)"
 meaning_text fault.Mtu =
     codes
-    "the one of the smaller MTU drops the other's Database Descriptions: they never become Full (section 10.6)"
+    "the router with the smaller MTU drops the other's Database Descriptions: they never reach Full (section 10.6)"
 meaning_text fault.Mask =
     codes
-    "their networks overlap and are two: on a broadcast network neither hears the other; over a point-to-point link they may become Full, and each advertises its own (sections 8.2 and 10.5)"
-meaning_text fault.Crowded =
-    codes "each end takes the first router that it hears for its only neighbour (section 8.2)"
+    "the prefixes overlap, so these are two networks: on a broadcast network neither hears the other; over a point-to-point link they may reach Full, and each advertises its own (sections 8.2 and 10.5)"
+meaning_text fault.TooManyRouters =
+    codes "each end accepts the first router that it hears as its only neighbor (section 8.2)"
 meaning_text fault.NoDr =
-    codes "no Designated Router is elected: nobody becomes adjacent (sections 9.4 and 10.4)"
+    codes "no Designated Router is elected, so no adjacency forms (sections 9.4 and 10.4)"
 meaning_text fault.OneSided =
-    codes "in `run` one hears the other and is not heard: they never pass Init (section 10.5)"
-meaning_text fault.Cost = codes "the ways there and back may differ"
-meaning_text fault.Alone = codes "the network is a stub"
+    codes "in `run`, one hears the other but is not heard: they never get past Init (section 10.5)"
+meaning_text fault.Cost = codes "traffic may take different paths in the two directions"
+meaning_text fault.NoNeighbor = codes "no other interface is on this network: it is a stub"
 meaning_text fault.Delay =
     codes
-    "what one sends comes back older than it is known: they may never become Full, and send to each other without end (sections 13.1 and 13.3)"
-meaning_text fault.SamePort = codes "a port is opened once: `run` ends where it is opened again"
-meaning_text fault.Astray = codes "in `run` broadcast interfaces drop its packets (section 8.2)"
-meaning_text (fault.Nowhere peer) = codes "no router of these files hears what is sent there"
-meaning_text fault.Apart = codes "over these networks the area falls apart: no route leads there"
-meaning_text fault.Unheard = codes "in `run` they never become neighbours (section 10.5)"
+    "an LSA returns older than it is known: they may never reach Full, and send to each other without end (sections 13.1 and 13.3)"
+meaning_text fault.SamePort = codes "a port can be opened only once: `run` stops there"
+meaning_text fault.WrongSubnetPeer =
+    codes "in `run` broadcast interfaces drop its packets (section 8.2)"
+meaning_text (fault.UnknownPeer peer) = codes "no router of these files listens on this port"
+meaning_text fault.Partitioned =
+    codes "the area is partitioned: over these networks no route leads there"
+meaning_text fault.Unheard = codes "in `run`, they never become neighbors (section 10.5)"
 meaning_text fault.LoneDr =
     codes
-    "if this router fails, the others elect no Designated Router: they do not become adjacent, and no route leads over the network (sections 9.4 and 10.4)"
+    "if this router fails, the others elect no Designated Router: no adjacency forms, and no route uses the network (sections 9.4 and 10.4)"
 
 -- the port of an interface, if it has one
 abbrev pub port_text : Option Port → List ℕ
@@ -90,7 +92,7 @@ port_text (Some port) = codes "port " ++ decimal port.number
 -- a value of an interface that a fault is about, with the key that it stands at
 abbrev pub value_text : AreaFault → LinkEnd → List ℕ
 value_text fault.SameRouter e = codes "router_id " ++ number_text e.router.0
-value_text fault.Apart e = codes "router_id " ++ number_text e.router.0
+value_text fault.Partitioned e = codes "router_id " ++ number_text e.router.0
 value_text fault.Area e = codes "area " ++ number_text e.area.0
 value_text fault.Kind e = codes "kind " ++ kind_text e.kind
 value_text fault.Hello e = codes "hello " ++ decimal e.hello
@@ -102,16 +104,16 @@ value_text fault.OneSided e = port_text e.port
 value_text fault.Cost e = codes "cost " ++ decimal e.cost
 value_text fault.Delay e = codes "transmit_delay " ++ decimal e.transmit_delay
 value_text fault.SamePort e = port_text e.port
-value_text fault.Astray e = port_text e.port
+value_text fault.WrongSubnetPeer e = port_text e.port
 value_text fault.Unheard e = port_text e.port
-value_text (fault.Nowhere peer) e = codes "peers " ++ decimal peer
+value_text (fault.UnknownPeer peer) e = codes "peers " ++ decimal peer
 value_text _ e =
     codes "address " ++ number_text e.address.address.0 ++ codes "/" ++ decimal e.address.length
 
 -- where the value stands: at the top, or at an interface
 abbrev pub place_text : AreaFault → LinkEnd → List ℕ
 place_text fault.SameRouter e = []
-place_text fault.Apart e = []
+place_text fault.Partitioned e = []
 place_text _ e = codes "interface " ++ decimal e.link ++ codes ": "
 
 -- what an interface has, and where
@@ -120,8 +122,8 @@ side_text f e = place_text f e ++ value_text f e
 
 -- what the other interface has, and nothing where there is none
 abbrev pub other_text : AreaFault → LinkEnd → List ℕ → List ℕ
-other_text fault.Alone e name = []
-other_text (fault.Nowhere peer) e name = []
+other_text fault.NoNeighbor e name = []
+other_text (fault.UnknownPeer peer) e name = []
 other_text fault.LoneDr e name = []
 other_text f e name = codes ", " ++ name ++ codes ": " ++ side_text f e
 

@@ -53,14 +53,14 @@ is_beside d e = same_network (network_key d.address) (network_key e.address)
 -- network, or does not send to it
 abbrev pub fault_between : (ℕ × ℕ × ℕ → Bool) → LinkEnd → LinkEnd → Option AreaFault
 fault_between wired d e =
-    if not (is_beside d e) then Some fault.Astray
+    if not (is_beside d e) then Some fault.WrongSubnetPeer
     else if not (wired (wire_key d (port_of e))) then Some fault.OneSided
     else None
 
 -- what is wrong with a wire that leads to the interface, or to none
 abbrev pub fault_behind : (ℕ × ℕ × ℕ → Bool) → PeerWire → Option LinkEnd → Option Finding
 fault_behind wired w None =
-    Some (record { fault = fault.Nowhere w.peer; other = w.end; here = w.end })
+    Some (record { fault = fault.UnknownPeer w.peer; other = w.end; here = w.end })
 fault_behind wired w (Some d) =
     option_map (λ f. record { fault = f; other = d; here = w.end }) (fault_between wired d w.end)
 

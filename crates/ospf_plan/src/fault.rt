@@ -25,7 +25,7 @@ pub enum AreaFault {
     /// A network lies within another of fewer bits.
     Mask,
     /// A point-to-point network has a third end.
-    Crowded,
+    TooManyRouters,
     /// A broadcast network of two interfaces or more has nobody who can be Designated Router.
     NoDr,
     /// An interface sends to another, which does not send to it (`port` and `peers`).
@@ -33,18 +33,18 @@ pub enum AreaFault {
     /// The two ends of a point-to-point network have two costs. This is a note, and no fault.
     Cost,
     /// No other interface is on the network. This is a note, and no fault.
-    Alone,
+    NoNeighbor,
     /// An InfTransDelay is over MaxAgeDiff: of an interface of a broadcast network with others, or
     /// of two interfaces of a point-to-point network.
     Delay,
     /// Two interfaces have one UDP port (`port`).
     SamePort,
     /// An interface sends to a UDP port of an interface that is not on its network (`peers`).
-    Astray,
+    WrongSubnetPeer,
     /// An interface sends to this UDP port, which none has (`peers`): a note, and no fault.
-    Nowhere(u16),
+    UnknownPeer(u16),
     /// No way of links on which interfaces agree leads to the router from the first.
-    Apart,
+    Partitioned,
     /// Two interfaces of a network have UDP ports, and neither sends to the other's (`peers`).
     Unheard,
     /// Of three interfaces or more of a broadcast network one alone can be Designated Router. This
@@ -69,16 +69,16 @@ impl AreaFault {
             AreaFault::Dead => "A6 Dead",
             AreaFault::Mtu => "A7 Mtu",
             AreaFault::Mask => "A8 Mask",
-            AreaFault::Crowded => "A9 Crowded",
+            AreaFault::TooManyRouters => "A9 TooManyRouters",
             AreaFault::NoDr => "A10 NoDr",
             AreaFault::OneSided => "A11 OneSided",
             AreaFault::Cost => "A12 Cost",
-            AreaFault::Alone => "A13 Alone",
+            AreaFault::NoNeighbor => "A13 NoNeighbor",
             AreaFault::Delay => "A14 Delay",
             AreaFault::SamePort => "A15 SamePort",
-            AreaFault::Astray => "A16 Astray",
-            AreaFault::Nowhere(_) => "A17 Nowhere",
-            AreaFault::Apart => "A18 Apart",
+            AreaFault::WrongSubnetPeer => "A16 WrongSubnetPeer",
+            AreaFault::UnknownPeer(_) => "A17 UnknownPeer",
+            AreaFault::Partitioned => "A18 Partitioned",
             AreaFault::Unheard => "A19 Unheard",
             AreaFault::LoneDr => "A20 LoneDr",
         }
@@ -90,7 +90,7 @@ impl AreaFault {
     {
         matches!(
             self,
-            AreaFault::Cost | AreaFault::Alone | AreaFault::Nowhere(_) | AreaFault::LoneDr
+            AreaFault::Cost | AreaFault::NoNeighbor | AreaFault::UnknownPeer(_) | AreaFault::LoneDr
         )
     }
 
@@ -102,39 +102,41 @@ impl AreaFault {
             AreaFault::SameRouter =>
                 "each drops the other's packets as its own, and each flushes the other's LSAs (RFC 2328, sections 8.2 and 13.4)",
             AreaFault::SameAddress =>
-                "what is sent to the address may come to either; as neighbours each is the other's next hop at its own address (section 16.1.1)",
+                "a packet to this address may reach either router; as neighbors, each is the other's next hop at its own address (section 16.1.1)",
             AreaFault::Area => "each drops the other's packets (section 8.2)",
             AreaFault::Kind =>
-                "one elects a Designated Router and the other does not: they may become Full, and no route leads over the network (sections 9.4 and 16.1)",
+                "one end elects a Designated Router and the other does not: they may reach Full, but no route uses the network (sections 9.4 and 16.1)",
             AreaFault::Hello | AreaFault::Dead => {
-                "each drops the other's Hellos: they never become neighbours (section 10.5)"
+                "each drops the other's Hellos: they never become neighbors (section 10.5)"
             }
             AreaFault::Mtu => {
-                "the one of the smaller MTU drops the other's Database Descriptions: they never become Full (section 10.6)"
+                "the router with the smaller MTU drops the other's Database Descriptions: they never reach Full (section 10.6)"
             }
             AreaFault::Mask =>
-                "their networks overlap and are two: on a broadcast network neither hears the other; over a point-to-point link they may become Full, and each advertises its own (sections 8.2 and 10.5)",
-            AreaFault::Crowded => {
-                "each end takes the first router that it hears for its only neighbour (section 8.2)"
+                "the prefixes overlap, so these are two networks: on a broadcast network neither hears the other; over a point-to-point link they may reach Full, and each advertises its own (sections 8.2 and 10.5)",
+            AreaFault::TooManyRouters => {
+                "each end accepts the first router that it hears as its only neighbor (section 8.2)"
             }
             AreaFault::NoDr => {
-                "no Designated Router is elected: nobody becomes adjacent (sections 9.4 and 10.4)"
+                "no Designated Router is elected, so no adjacency forms (sections 9.4 and 10.4)"
             }
             AreaFault::OneSided => {
-                "in `run` one hears the other and is not heard: they never pass Init (section 10.5)"
+                "in `run`, one hears the other but is not heard: they never get past Init (section 10.5)"
             }
-            AreaFault::Cost => "the ways there and back may differ",
-            AreaFault::Alone => "the network is a stub",
+            AreaFault::Cost => "traffic may take different paths in the two directions",
+            AreaFault::NoNeighbor => "no other interface is on this network: it is a stub",
             AreaFault::Delay => {
-                "what one sends comes back older than it is known: they may never become Full, and send to each other without end (sections 13.1 and 13.3)"
+                "an LSA returns older than it is known: they may never reach Full, and send to each other without end (sections 13.1 and 13.3)"
             }
-            AreaFault::SamePort => "a port is opened once: `run` ends where it is opened again",
-            AreaFault::Astray => "in `run` broadcast interfaces drop its packets (section 8.2)",
-            AreaFault::Nowhere(_) => "no router of these files hears what is sent there",
-            AreaFault::Apart => "over these networks the area falls apart: no route leads there",
-            AreaFault::Unheard => "in `run` they never become neighbours (section 10.5)",
+            AreaFault::SamePort => "a port can be opened only once: `run` stops there",
+            AreaFault::WrongSubnetPeer =>
+                "in `run` broadcast interfaces drop its packets (section 8.2)",
+            AreaFault::UnknownPeer(_) => "no router of these files listens on this port",
+            AreaFault::Partitioned =>
+                "the area is partitioned: over these networks no route leads there",
+            AreaFault::Unheard => "in `run`, they never become neighbors (section 10.5)",
             AreaFault::LoneDr =>
-                "if this router fails, the others elect no Designated Router: they do not become adjacent, and no route leads over the network (sections 9.4 and 10.4)",
+                "if this router fails, the others elect no Designated Router: no adjacency forms, and no route uses the network (sections 9.4 and 10.4)",
         }
     }
 }
@@ -164,10 +166,10 @@ pub(crate) fn every_fault() -> [AreaFault; 15]
         AreaFault::Dead,
         AreaFault::Mtu,
         AreaFault::Mask,
-        AreaFault::Crowded,
+        AreaFault::TooManyRouters,
         AreaFault::NoDr,
         AreaFault::Cost,
-        AreaFault::Alone,
+        AreaFault::NoNeighbor,
         AreaFault::Delay,
         AreaFault::SamePort,
         AreaFault::LoneDr,

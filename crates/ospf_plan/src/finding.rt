@@ -146,7 +146,7 @@ fn other_of(fault: AreaFault, around: &Surroundings) -> Option<LinkEnd>
         AreaFault::SameRouter => around.router,
         AreaFault::SameAddress => around.holder,
         AreaFault::Mask => around.wider,
-        AreaFault::Crowded => around.third,
+        AreaFault::TooManyRouters => around.third,
         AreaFault::NoDr => around.second,
         AreaFault::LoneDr => around.elector,
         AreaFault::Delay => around.delayed,
@@ -168,7 +168,7 @@ fn is_wrong(fault: AreaFault, around: &Surroundings, other: &LinkEnd, here: &Lin
         AreaFault::Dead => other.dead != here.dead,
         AreaFault::Mtu => other.mtu != here.mtu,
         AreaFault::Mask => true,
-        AreaFault::Crowded => {
+        AreaFault::TooManyRouters => {
             is_found(around.first, here) && same_kind(here.kind, InterfaceKind::PointToPoint)
         }
         AreaFault::NoDr => {
@@ -177,12 +177,12 @@ fn is_wrong(fault: AreaFault, around: &Surroundings, other: &LinkEnd, here: &Lin
                 && around.elector.is_none()
         }
         AreaFault::LoneDr => is_lone_dr(around, here),
-        AreaFault::OneSided | AreaFault::Astray | AreaFault::Nowhere(_) => false,
-        AreaFault::Apart | AreaFault::Unheard => false,
+        AreaFault::OneSided | AreaFault::WrongSubnetPeer | AreaFault::UnknownPeer(_) => false,
+        AreaFault::Partitioned | AreaFault::Unheard => false,
         AreaFault::Cost => {
             same_kind(here.kind, InterfaceKind::PointToPoint) && other.cost != here.cost
         }
-        AreaFault::Alone => around.second.is_none(),
+        AreaFault::NoNeighbor => around.second.is_none(),
         AreaFault::Delay => is_slow(here.transmit_delay) && !is_same(other, here),
         AreaFault::SamePort => here.port.is_some() && !is_same(other, here),
     }

@@ -90,10 +90,10 @@ pub fn steps_take_others()
     ensures mtu { OtherStepsShareMtu }
 {}
 
-/// What follows of `A8 Mask`, `A9 Crowded` and `A10 NoDr`: a broadcast interface drops each Hello
-/// of one whose mask is another; a router with a neighbour on a point-to-point link drops each
-/// Hello of another router; and where no interface of a network can be elected, no election among
-/// these elects anybody.
+/// What follows of `A8 Mask`, `A9 TooManyRouters` and `A10 NoDr`: a broadcast interface drops each
+/// Hello of one whose mask is another; a router with a neighbour on a point-to-point link drops
+/// each Hello of another router; and where no interface of a network can be elected, no election
+/// among these elects anybody.
 pub fn further_faults_keep_apart()
     ensures mask { FoundMaskDrops }
     ensures mask_steps { FoundMaskSteps }

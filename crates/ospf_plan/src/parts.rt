@@ -205,7 +205,7 @@ fn apart(reached: &BTreeSet<usize>, first: Option<LinkEnd>, here: &LinkEnd) -> O
         return None;
     }
     let here = *here;
-    let fault = AreaFault::Apart;
+    let fault = AreaFault::Partitioned;
     Some(Finding { fault, other, here })
 }
 

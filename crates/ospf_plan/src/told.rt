@@ -48,7 +48,7 @@ fn write_place<W: Write>(f: &mut Formatter<W>, fault: AreaFault, end: &LinkEnd) 
     ensures { WritesOnOk W.Write.write_str_gives f.old result (place_text fault end.now) f.new }
 {
     match fault {
-        AreaFault::SameRouter | AreaFault::Apart => Ok(()),
+        AreaFault::SameRouter | AreaFault::Partitioned => Ok(()),
         _ => write!(f, "interface {}: ", end.link),
     }
 }
@@ -58,7 +58,7 @@ fn write_value<W: Write>(f: &mut Formatter<W>, fault: AreaFault, end: &LinkEnd) 
     ensures { WritesOnOk W.Write.write_str_gives f.old result (value_text fault end.now) f.new }
 {
     match fault {
-        AreaFault::SameRouter | AreaFault::Apart => write!(f, "router_id {}", end.router),
+        AreaFault::SameRouter | AreaFault::Partitioned => write!(f, "router_id {}", end.router),
         AreaFault::Area => write!(f, "area {}", end.area),
         AreaFault::Kind => write!(f, "kind {}", kind_of(end.kind)),
         AreaFault::Hello => write!(f, "hello {}", end.hello),
@@ -66,10 +66,10 @@ fn write_value<W: Write>(f: &mut Formatter<W>, fault: AreaFault, end: &LinkEnd) 
         AreaFault::Mtu => write!(f, "mtu {}", end.mtu),
         AreaFault::NoDr | AreaFault::LoneDr => write!(f, "priority {}", end.priority),
         AreaFault::OneSided | AreaFault::SamePort => write_port(f, end.port),
-        AreaFault::Astray | AreaFault::Unheard => write_port(f, end.port),
+        AreaFault::WrongSubnetPeer | AreaFault::Unheard => write_port(f, end.port),
         AreaFault::Cost => write!(f, "cost {}", end.cost),
         AreaFault::Delay => write!(f, "transmit_delay {}", end.transmit_delay),
-        AreaFault::Nowhere(peer) => write!(f, "peers {peer}"),
+        AreaFault::UnknownPeer(peer) => write!(f, "peers {peer}"),
         _ => write!(f, "address {}/{}", end.address.address, end.address.length),
     }
 }
@@ -105,7 +105,7 @@ fn write_other<W: Write>(
         f.new }
 {
     match fault {
-        AreaFault::Alone | AreaFault::Nowhere(_) | AreaFault::LoneDr => Ok(()),
+        AreaFault::NoNeighbor | AreaFault::UnknownPeer(_) | AreaFault::LoneDr => Ok(()),
         fault => {
             write!(f, ", {name}: ")?;
             write_side(f, fault, end)

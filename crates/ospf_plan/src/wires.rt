@@ -143,7 +143,7 @@ fn wire_fault(
     let here = wire.end;
     let Some(other) = holder_in(ports, u32::from(wire.peer)) else {
         return Some(Finding {
-            fault: AreaFault::Nowhere(wire.peer),
+            fault: AreaFault::UnknownPeer(wire.peer),
             other: here,
             here,
         });
@@ -157,7 +157,7 @@ fn fault_between(heard: &BTreeSet<WireKey>, other: &LinkEnd, here: &LinkEnd) -> 
     ensures { result ≡ fault_between (has_wire heard.now) other.now here.now }
 {
     if !is_beside(other, here) {
-        Some(AreaFault::Astray)
+        Some(AreaFault::WrongSubnetPeer)
     } else if !heard.contains(&key_of(other, port_of(here))) {
         Some(AreaFault::OneSided)
     } else {

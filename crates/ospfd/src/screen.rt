@@ -73,7 +73,7 @@ impl<R: Runtime + Clock + Drop, T: Write + Drop, F: Write + Drop> Watch for Scre
 
     fn draws_events(&mut self, done: u64, count: u64) {
         if let Some(terminal) = self.line.begin(&self.rt) {
-            let _ = write!(terminal, "\r\x1b[K{done} of {count} events by chance");
+            let _ = write!(terminal, "\r\x1b[K{done} of {count} random events");
         }
     }
 

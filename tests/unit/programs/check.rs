@@ -355,10 +355,10 @@ fn prints_what_is_wrong_in_an_area_as_json(rt: HostRuntime) -> Result<(), Fail> 
     assert_eq!(rt;
         str::from_utf8(&outcome.out)?,
         "[{\"code\":\"A5 Hello\",\"here\":{\"file\":\"b.toml\",\"interface\":0,\"key\":\"hello\",\"value\":5},\
-        \"meaning\":\"each drops the other's Hellos: they never become neighbours (section 10.5)\",\"note\":false,\
+        \"meaning\":\"each drops the other's Hellos: they never become neighbors (section 10.5)\",\"note\":false,\
         \"other\":{\"file\":\"a.toml\",\"interface\":0,\"key\":\"hello\",\"value\":10}},\
-        {\"code\":\"A18 Apart\",\"here\":{\"file\":\"b.toml\",\"interface\":null,\"key\":\"router_id\",\"value\":\"2.2.2.2\"},\
-        \"meaning\":\"over these networks the area falls apart: no route leads there\",\"note\":false,\
+        {\"code\":\"A18 Partitioned\",\"here\":{\"file\":\"b.toml\",\"interface\":null,\"key\":\"router_id\",\"value\":\"2.2.2.2\"},\
+        \"meaning\":\"the area is partitioned: over these networks no route leads there\",\"note\":false,\
         \"other\":{\"file\":\"a.toml\",\"interface\":null,\"key\":\"router_id\",\"value\":\"1.1.1.1\"}}]\n"
     );
     assert!(rt; outcome.err.is_empty());
@@ -366,8 +366,8 @@ fn prints_what_is_wrong_in_an_area_as_json(rt: HostRuntime) -> Result<(), Fail> 
     assert_eq!(rt; alone.status, Status::Done);
     assert_eq!(rt;
         str::from_utf8(&alone.out)?,
-        "[{\"code\":\"A13 Alone\",\"here\":{\"file\":\"a \\\"b\\\".toml\",\"interface\":0,\"key\":\"address\",\"value\":\"10.0.0.1/30\"},\
-        \"meaning\":\"the network is a stub\",\"note\":true,\"other\":null}]\n"
+        "[{\"code\":\"A13 NoNeighbor\",\"here\":{\"file\":\"a \\\"b\\\".toml\",\"interface\":0,\"key\":\"address\",\"value\":\"10.0.0.1/30\"},\
+        \"meaning\":\"no other interface is on this network: it is a stub\",\"note\":true,\"other\":null}]\n"
     );
     Ok(())
 }
@@ -386,7 +386,7 @@ fn prints_ports_as_json(rt: HostRuntime) -> Result<(), Fail> {
     assert_eq!(rt;
         str::from_utf8(&outcome.out)?,
         "[{\"code\":\"A19 Unheard\",\"here\":{\"file\":\"b.toml\",\"interface\":0,\"key\":\"port\",\"value\":5002},\
-        \"meaning\":\"in `run` they never become neighbours (section 10.5)\",\"note\":false,\
+        \"meaning\":\"in `run`, they never become neighbors (section 10.5)\",\"note\":false,\
         \"other\":{\"file\":\"a.toml\",\"interface\":0,\"key\":\"port\",\"value\":5001}}]\n"
     );
     Ok(())
@@ -411,7 +411,7 @@ fn prints_a_lone_designated_router_as_json(rt: HostRuntime) -> Result<(), Fail> 
     assert_eq!(rt;
         str::from_utf8(&outcome.out)?,
         "[{\"code\":\"A20 LoneDr\",\"here\":{\"file\":\"a.toml\",\"interface\":0,\"key\":\"priority\",\"value\":9},\
-        \"meaning\":\"if this router fails, the others elect no Designated Router: they do not become adjacent, and no route leads over the network (sections 9.4 and 10.4)\",\"note\":true,\"other\":null}]\n"
+        \"meaning\":\"if this router fails, the others elect no Designated Router: no adjacency forms, and no route uses the network (sections 9.4 and 10.4)\",\"note\":true,\"other\":null}]\n"
     );
     assert!(rt; outcome.err.is_empty());
     Ok(())

@@ -766,8 +766,8 @@ fn names_of_nothing_are_refused(rt: HostRuntime) -> Result<(), Fail> {
     let alloc = rt.alloc();
     let words = FailuresStatus::Ended(Status::Words);
     let names = ["3.3.3.3", "10.0.0.8/29", "9.9.9.9"];
-    expect_without(&rt, alloc, &names, words, "", "10.0.0.8/29: no such element\n")?;
-    expect_without(&rt, alloc, &["@10.0.0.0"], words, "", "@10.0.0.0: no such element\n")
+    expect_without(&rt, alloc, &names, words, "", "10.0.0.8/29: not in this area\n")?;
+    expect_without(&rt, alloc, &["@10.0.0.0"], words, "", "@10.0.0.0: not in this area\n")
 }
 
 #[test]

@@ -69,7 +69,7 @@ static CASES: [Case; 49] = [
         name: "A1 is told once of a router of two interfaces",
         routers: &[FIRST, Router { id: "1.1.1.1", area: BACKBONE, interfaces: &[(TWO, ""), (STUB, "")] }],
         faults: "b.toml: A1 SameRouter: router_id 1.1.1.1, a.toml: router_id 1.1.1.1\n",
-        notes: "b.toml: A13 Alone: interface 1: address 192.168.3.1/24\n  the network is a stub\n",
+        notes: "b.toml: A13 NoNeighbor: interface 1: address 192.168.3.1/24\n  no other interface is on this network: it is a stub\n",
     },
     Case {
         name: "A2",
@@ -87,7 +87,7 @@ static CASES: [Case; 49] = [
                 interfaces: &[(TWO, "")],
             },
         ],
-        faults: "b.toml: A3 Area: interface 0: area 0.0.0.1, a.toml: interface 0: area 0.0.0.0\nb.toml: A18 Apart: router_id 2.2.2.2, a.toml: router_id 1.1.1.1\n",
+        faults: "b.toml: A3 Area: interface 0: area 0.0.0.1, a.toml: interface 0: area 0.0.0.0\nb.toml: A18 Partitioned: router_id 2.2.2.2, a.toml: router_id 1.1.1.1\n",
         notes: "",
     },
     Case {
@@ -96,32 +96,32 @@ static CASES: [Case; 49] = [
             FIRST,
             Router { id: "2.2.2.2", area: BACKBONE, interfaces: &[("kind = \"broadcast\"\naddress = \"10.0.0.2/30\"\ncost = 10\n", "")] },
         ],
-        faults: "b.toml: A4 Kind: interface 0: kind broadcast, a.toml: interface 0: kind point-to-point\nb.toml: A18 Apart: router_id 2.2.2.2, a.toml: router_id 1.1.1.1\n",
+        faults: "b.toml: A4 Kind: interface 0: kind broadcast, a.toml: interface 0: kind point-to-point\nb.toml: A18 Partitioned: router_id 2.2.2.2, a.toml: router_id 1.1.1.1\n",
         notes: "",
     },
     Case {
         name: "A5",
         routers: &[FIRST, Router { id: "2.2.2.2", area: BACKBONE, interfaces: &[(TWO, "hello = 5\n")] }],
-        faults: "b.toml: A5 Hello: interface 0: hello 5, a.toml: interface 0: hello 10\nb.toml: A18 Apart: router_id 2.2.2.2, a.toml: router_id 1.1.1.1\n",
+        faults: "b.toml: A5 Hello: interface 0: hello 5, a.toml: interface 0: hello 10\nb.toml: A18 Partitioned: router_id 2.2.2.2, a.toml: router_id 1.1.1.1\n",
         notes: "",
     },
     Case {
         name: "A6",
         routers: &[FIRST, Router { id: "2.2.2.2", area: BACKBONE, interfaces: &[(TWO, "dead = 50\n")] }],
-        faults: "b.toml: A6 Dead: interface 0: dead 50, a.toml: interface 0: dead 40\nb.toml: A18 Apart: router_id 2.2.2.2, a.toml: router_id 1.1.1.1\n",
+        faults: "b.toml: A6 Dead: interface 0: dead 50, a.toml: interface 0: dead 40\nb.toml: A18 Partitioned: router_id 2.2.2.2, a.toml: router_id 1.1.1.1\n",
         notes: "",
     },
     Case {
         name: "A7",
         routers: &[FIRST, Router { id: "2.2.2.2", area: BACKBONE, interfaces: &[(TWO, "mtu = 1400\n")] }],
-        faults: "b.toml: A7 Mtu: interface 0: mtu 1400, a.toml: interface 0: mtu 1500\nb.toml: A18 Apart: router_id 2.2.2.2, a.toml: router_id 1.1.1.1\n",
+        faults: "b.toml: A7 Mtu: interface 0: mtu 1400, a.toml: interface 0: mtu 1500\nb.toml: A18 Partitioned: router_id 2.2.2.2, a.toml: router_id 1.1.1.1\n",
         notes: "",
     },
     Case {
         name: "A8",
         routers: &[FIRST, Router { id: "2.2.2.2", area: BACKBONE, interfaces: &[(WIDE_TWO, "")] }],
-        faults: "a.toml: A8 Mask: interface 0: address 10.0.0.1/30, b.toml: interface 0: address 10.0.0.2/29\nb.toml: A18 Apart: router_id 2.2.2.2, a.toml: router_id 1.1.1.1\n",
-        notes: "a.toml: A13 Alone: interface 0: address 10.0.0.1/30\n  the network is a stub\nb.toml: A13 Alone: interface 0: address 10.0.0.2/29\n  the network is a stub\n",
+        faults: "a.toml: A8 Mask: interface 0: address 10.0.0.1/30, b.toml: interface 0: address 10.0.0.2/29\nb.toml: A18 Partitioned: router_id 2.2.2.2, a.toml: router_id 1.1.1.1\n",
+        notes: "a.toml: A13 NoNeighbor: interface 0: address 10.0.0.1/30\n  no other interface is on this network: it is a stub\nb.toml: A13 NoNeighbor: interface 0: address 10.0.0.2/29\n  no other interface is on this network: it is a stub\n",
     },
     Case {
         name: "A9",
@@ -130,7 +130,7 @@ static CASES: [Case; 49] = [
             Router { id: "2.2.2.2", area: BACKBONE, interfaces: &[(WIDE_TWO, "")] },
             Router { id: "3.3.3.3", area: BACKBONE, interfaces: &[(WIDE_THREE, "")] },
         ],
-        faults: "a.toml: A9 Crowded: interface 0: address 10.0.0.1/29, c.toml: interface 0: address 10.0.0.3/29\nb.toml: A18 Apart: router_id 2.2.2.2, a.toml: router_id 1.1.1.1\nc.toml: A18 Apart: router_id 3.3.3.3, a.toml: router_id 1.1.1.1\n",
+        faults: "a.toml: A9 TooManyRouters: interface 0: address 10.0.0.1/29, c.toml: interface 0: address 10.0.0.3/29\nb.toml: A18 Partitioned: router_id 2.2.2.2, a.toml: router_id 1.1.1.1\nc.toml: A18 Partitioned: router_id 3.3.3.3, a.toml: router_id 1.1.1.1\n",
         notes: "",
     },
     Case {
@@ -139,7 +139,7 @@ static CASES: [Case; 49] = [
             Router { id: "1.1.1.1", area: BACKBONE, interfaces: &[(LAN_ONE, "priority = 0\n")] },
             Router { id: "2.2.2.2", area: BACKBONE, interfaces: &[(LAN_TWO, "priority = 0\n")] },
         ],
-        faults: "a.toml: A10 NoDr: interface 0: priority 0, b.toml: interface 0: priority 0\nb.toml: A18 Apart: router_id 2.2.2.2, a.toml: router_id 1.1.1.1\n",
+        faults: "a.toml: A10 NoDr: interface 0: priority 0, b.toml: interface 0: priority 0\nb.toml: A18 Partitioned: router_id 2.2.2.2, a.toml: router_id 1.1.1.1\n",
         notes: "",
     },
     Case {
@@ -185,13 +185,13 @@ static CASES: [Case; 49] = [
             Router { id: "2.2.2.2", area: BACKBONE, interfaces: &[("kind = \"point-to-point\"\naddress = \"10.0.0.2/30\"\ncost = 20\n", "")] },
         ],
         faults: "",
-        notes: "b.toml: A12 Cost: interface 0: cost 20, a.toml: interface 0: cost 10\n  the ways there and back may differ\n",
+        notes: "b.toml: A12 Cost: interface 0: cost 20, a.toml: interface 0: cost 10\n  traffic may take different paths in the two directions\n",
     },
     Case {
         name: "A13",
         routers: &[FIRST],
         faults: "",
-        notes: "a.toml: A13 Alone: interface 0: address 10.0.0.1/30\n  the network is a stub\n",
+        notes: "a.toml: A13 NoNeighbor: interface 0: address 10.0.0.1/30\n  no other interface is on this network: it is a stub\n",
     },
     Case {
         name: "A14",
@@ -218,7 +218,7 @@ static CASES: [Case; 49] = [
             Router { id: "2.2.2.2", area: BACKBONE, interfaces: &[(WIDE_TWO, "transmit_delay = 3600\n")] },
             Router { id: "3.3.3.3", area: BACKBONE, interfaces: &[(WIDE_THREE, "transmit_delay = 2000\n")] },
         ],
-        faults: "a.toml: A9 Crowded: interface 0: address 10.0.0.1/29, c.toml: interface 0: address 10.0.0.3/29\nc.toml: A14 Delay: interface 0: transmit_delay 2000, b.toml: interface 0: transmit_delay 3600\nb.toml: A18 Apart: router_id 2.2.2.2, a.toml: router_id 1.1.1.1\nc.toml: A18 Apart: router_id 3.3.3.3, a.toml: router_id 1.1.1.1\n",
+        faults: "a.toml: A9 TooManyRouters: interface 0: address 10.0.0.1/29, c.toml: interface 0: address 10.0.0.3/29\nc.toml: A14 Delay: interface 0: transmit_delay 2000, b.toml: interface 0: transmit_delay 3600\nb.toml: A18 Partitioned: router_id 2.2.2.2, a.toml: router_id 1.1.1.1\nc.toml: A18 Partitioned: router_id 3.3.3.3, a.toml: router_id 1.1.1.1\n",
         notes: "",
     },
     Case {
@@ -254,13 +254,13 @@ static CASES: [Case; 49] = [
         name: "no A14 of a slow end with nobody there",
         routers: &[Router { id: "1.1.1.1", area: BACKBONE, interfaces: &[(STUB, "transmit_delay = 3600\n")] }],
         faults: "",
-        notes: "a.toml: A13 Alone: interface 0: address 192.168.3.1/24\n  the network is a stub\n",
+        notes: "a.toml: A13 NoNeighbor: interface 0: address 192.168.3.1/24\n  no other interface is on this network: it is a stub\n",
     },
     Case {
         name: "A15 in one file",
         routers: &[Router { id: "1.1.1.1", area: BACKBONE, interfaces: &[(ONE, "port = 5001\n"), (STUB, "port = 5001\n")] }],
         faults: "a.toml: A15 SamePort: interface 1: port 5001, a.toml: interface 0: port 5001\n",
-        notes: "a.toml: A13 Alone: interface 0: address 10.0.0.1/30\n  the network is a stub\na.toml: A13 Alone: interface 1: address 192.168.3.1/24\n  the network is a stub\n",
+        notes: "a.toml: A13 NoNeighbor: interface 0: address 10.0.0.1/30\n  no other interface is on this network: it is a stub\na.toml: A13 NoNeighbor: interface 1: address 192.168.3.1/24\n  no other interface is on this network: it is a stub\n",
     },
     Case {
         name: "A15 in two files",
@@ -277,8 +277,8 @@ static CASES: [Case; 49] = [
             Router { id: "1.1.1.1", area: BACKBONE, interfaces: &[(ONE, "port = 5001\npeers = [5002]\n")] },
             Router { id: "2.2.2.2", area: BACKBONE, interfaces: &[(TWO, "port = 5003\npeers = [5001]\n"), (STUB, "port = 5002\n")] },
         ],
-        faults: "a.toml: A16 Astray: interface 0: port 5001, b.toml: interface 1: port 5002\nb.toml: A11 OneSided: interface 0: port 5003, a.toml: interface 0: port 5001\n",
-        notes: "b.toml: A13 Alone: interface 1: address 192.168.3.1/24\n  the network is a stub\n",
+        faults: "a.toml: A16 WrongSubnetPeer: interface 0: port 5001, b.toml: interface 1: port 5002\nb.toml: A11 OneSided: interface 0: port 5003, a.toml: interface 0: port 5001\n",
+        notes: "b.toml: A13 NoNeighbor: interface 1: address 192.168.3.1/24\n  no other interface is on this network: it is a stub\n",
     },
     Case {
         name: "A17",
@@ -287,7 +287,7 @@ static CASES: [Case; 49] = [
             Router { id: "2.2.2.2", area: BACKBONE, interfaces: &[(TWO, "port = 5002\npeers = [5001]\n")] },
         ],
         faults: "",
-        notes: "a.toml: A17 Nowhere: interface 0: peers 5009\n  no router of these files hears what is sent there\n",
+        notes: "a.toml: A17 UnknownPeer: interface 0: peers 5009\n  no router of these files listens on this port\n",
     },
     Case {
         name: "A16 and A17 once of a port that is twice in peers",
@@ -295,8 +295,8 @@ static CASES: [Case; 49] = [
             Router { id: "1.1.1.1", area: BACKBONE, interfaces: &[(ONE, "port = 5001\npeers = [5002, 5009, 5002, 5009, 5009]\n")] },
             Router { id: "2.2.2.2", area: BACKBONE, interfaces: &[(TWO, "port = 5003\npeers = [5001, 5001]\n"), (STUB, "port = 5002\n")] },
         ],
-        faults: "a.toml: A16 Astray: interface 0: port 5001, b.toml: interface 1: port 5002\nb.toml: A11 OneSided: interface 0: port 5003, a.toml: interface 0: port 5001\n",
-        notes: "b.toml: A13 Alone: interface 1: address 192.168.3.1/24\n  the network is a stub\na.toml: A17 Nowhere: interface 0: peers 5009\n  no router of these files hears what is sent there\n",
+        faults: "a.toml: A16 WrongSubnetPeer: interface 0: port 5001, b.toml: interface 1: port 5002\nb.toml: A11 OneSided: interface 0: port 5003, a.toml: interface 0: port 5001\n",
+        notes: "b.toml: A13 NoNeighbor: interface 1: address 192.168.3.1/24\n  no other interface is on this network: it is a stub\na.toml: A17 UnknownPeer: interface 0: peers 5009\n  no router of these files listens on this port\n",
     },
     Case {
         name: "A19 of a point-to-point network",
@@ -354,7 +354,7 @@ static CASES: [Case; 49] = [
             Router { id: "2.2.2.2", area: BACKBONE, interfaces: &[(TWO, "port = 5002\npeers = [5001]\n"), (STUB, "port = 5004\n")] },
         ],
         faults: "",
-        notes: "a.toml: A13 Alone: interface 1: address 10.1.0.1/24\n  the network is a stub\nb.toml: A13 Alone: interface 1: address 192.168.3.1/24\n  the network is a stub\n",
+        notes: "a.toml: A13 NoNeighbor: interface 1: address 10.1.0.1/24\n  no other interface is on this network: it is a stub\nb.toml: A13 NoNeighbor: interface 1: address 192.168.3.1/24\n  no other interface is on this network: it is a stub\n",
     },
     Case {
         name: "no A19 of two that may hear each other by bridges",
@@ -363,7 +363,7 @@ static CASES: [Case; 49] = [
             Router { id: "2.2.2.2", area: BACKBONE, interfaces: &[(TWO, "port = 5002\npeers = [6002]\n")] },
         ],
         faults: "",
-        notes: "a.toml: A17 Nowhere: interface 0: peers 6001\n  no router of these files hears what is sent there\nb.toml: A17 Nowhere: interface 0: peers 6002\n  no router of these files hears what is sent there\n",
+        notes: "a.toml: A17 UnknownPeer: interface 0: peers 6001\n  no router of these files listens on this port\nb.toml: A17 UnknownPeer: interface 0: peers 6002\n  no router of these files listens on this port\n",
     },
     Case {
         name: "A19 where one of two has no bridge",
@@ -373,7 +373,7 @@ static CASES: [Case; 49] = [
             Router { id: "3.3.3.3", area: BACKBONE, interfaces: &[(LAN_THREE, "port = 5003\n")] },
         ],
         faults: "c.toml: A19 Unheard: interface 0: port 5003, a.toml: interface 0: port 5001\n",
-        notes: "a.toml: A17 Nowhere: interface 0: peers 6001\n  no router of these files hears what is sent there\nb.toml: A17 Nowhere: interface 0: peers 6002\n  no router of these files hears what is sent there\n",
+        notes: "a.toml: A17 UnknownPeer: interface 0: peers 6001\n  no router of these files listens on this port\nb.toml: A17 UnknownPeer: interface 0: peers 6002\n  no router of these files listens on this port\n",
     },
     Case {
         name: "A19 of one with a bridge, with an earlier one that has none",
@@ -383,7 +383,7 @@ static CASES: [Case; 49] = [
             Router { id: "3.3.3.3", area: BACKBONE, interfaces: &[(LAN_THREE, "port = 5003\npeers = [6003]\n")] },
         ],
         faults: "b.toml: A11 OneSided: interface 0: port 5002, a.toml: interface 0: port 5001\nc.toml: A19 Unheard: interface 0: port 5003, b.toml: interface 0: port 5002\n",
-        notes: "a.toml: A17 Nowhere: interface 0: peers 6001\n  no router of these files hears what is sent there\nc.toml: A17 Nowhere: interface 0: peers 6003\n  no router of these files hears what is sent there\n",
+        notes: "a.toml: A17 UnknownPeer: interface 0: peers 6001\n  no router of these files listens on this port\nc.toml: A17 UnknownPeer: interface 0: peers 6003\n  no router of these files listens on this port\n",
     },
     Case {
         name: "no A19 of an interface with the port of an earlier one, and A18 last",
@@ -392,14 +392,14 @@ static CASES: [Case; 49] = [
             Router { id: "2.2.2.2", area: BACKBONE, interfaces: &[(LAN_TWO, "port = 5001\n")] },
             Router { id: "3.3.3.3", area: BACKBONE, interfaces: &[(LAN_THREE, "hello = 5\nport = 5003\n")] },
         ],
-        faults: "b.toml: A15 SamePort: interface 0: port 5001, a.toml: interface 0: port 5001\nc.toml: A5 Hello: interface 0: hello 5, a.toml: interface 0: hello 10\nc.toml: A19 Unheard: interface 0: port 5003, a.toml: interface 0: port 5001\nc.toml: A18 Apart: router_id 3.3.3.3, a.toml: router_id 1.1.1.1\n",
+        faults: "b.toml: A15 SamePort: interface 0: port 5001, a.toml: interface 0: port 5001\nc.toml: A5 Hello: interface 0: hello 5, a.toml: interface 0: hello 10\nc.toml: A19 Unheard: interface 0: port 5003, a.toml: interface 0: port 5001\nc.toml: A18 Partitioned: router_id 3.3.3.3, a.toml: router_id 1.1.1.1\n",
         notes: "",
     },
     Case {
         name: "A18",
         routers: &[FIRST, Router { id: "2.2.2.2", area: BACKBONE, interfaces: &[(LAN_ONE, "")] }, Router { id: "3.3.3.3", area: BACKBONE, interfaces: &[(LAN_TWO, "")] }],
-        faults: "b.toml: A18 Apart: router_id 2.2.2.2, a.toml: router_id 1.1.1.1\nc.toml: A18 Apart: router_id 3.3.3.3, a.toml: router_id 1.1.1.1\n",
-        notes: "a.toml: A13 Alone: interface 0: address 10.0.0.1/30\n  the network is a stub\n",
+        faults: "b.toml: A18 Partitioned: router_id 2.2.2.2, a.toml: router_id 1.1.1.1\nc.toml: A18 Partitioned: router_id 3.3.3.3, a.toml: router_id 1.1.1.1\n",
+        notes: "a.toml: A13 NoNeighbor: interface 0: address 10.0.0.1/30\n  no other interface is on this network: it is a stub\n",
     },
     Case {
         name: "no A18 where another way is left",
@@ -436,8 +436,8 @@ static CASES: [Case; 49] = [
             Router { id: "2.2.2.2", area: BACKBONE, interfaces: &[(LAN_TWO, "priority = 0\n")] },
             Router { id: "3.3.3.3", area: "0.0.0.1", interfaces: &[(LAN_THREE, "")] },
         ],
-        faults: "c.toml: A3 Area: interface 0: area 0.0.0.1, a.toml: interface 0: area 0.0.0.0\nb.toml: A18 Apart: router_id 2.2.2.2, a.toml: router_id 1.1.1.1\nc.toml: A18 Apart: router_id 3.3.3.3, a.toml: router_id 1.1.1.1\n",
-        notes: "c.toml: A20 LoneDr: interface 0: priority 1\n  if this router fails, the others elect no Designated Router: they do not become adjacent, and no route leads over the network (sections 9.4 and 10.4)\n",
+        faults: "c.toml: A3 Area: interface 0: area 0.0.0.1, a.toml: interface 0: area 0.0.0.0\nb.toml: A18 Partitioned: router_id 2.2.2.2, a.toml: router_id 1.1.1.1\nc.toml: A18 Partitioned: router_id 3.3.3.3, a.toml: router_id 1.1.1.1\n",
+        notes: "c.toml: A20 LoneDr: interface 0: priority 1\n  if this router fails, the others elect no Designated Router: no adjacency forms, and no route uses the network (sections 9.4 and 10.4)\n",
     },
     Case {
         name: "A20",
@@ -447,7 +447,7 @@ static CASES: [Case; 49] = [
             Router { id: "3.3.3.3", area: BACKBONE, interfaces: &[(LAN_THREE, "priority = 0\n")] },
         ],
         faults: "",
-        notes: "a.toml: A20 LoneDr: interface 0: priority 1\n  if this router fails, the others elect no Designated Router: they do not become adjacent, and no route leads over the network (sections 9.4 and 10.4)\n",
+        notes: "a.toml: A20 LoneDr: interface 0: priority 1\n  if this router fails, the others elect no Designated Router: no adjacency forms, and no route uses the network (sections 9.4 and 10.4)\n",
     },
     Case {
         name: "A20 of the third",
@@ -457,7 +457,7 @@ static CASES: [Case; 49] = [
             Router { id: "3.3.3.3", area: BACKBONE, interfaces: &[(LAN_THREE, "priority = 7\n")] },
         ],
         faults: "",
-        notes: "c.toml: A20 LoneDr: interface 0: priority 7\n  if this router fails, the others elect no Designated Router: they do not become adjacent, and no route leads over the network (sections 9.4 and 10.4)\n",
+        notes: "c.toml: A20 LoneDr: interface 0: priority 7\n  if this router fails, the others elect no Designated Router: no adjacency forms, and no route uses the network (sections 9.4 and 10.4)\n",
     },
     Case {
         name: "no A20 where two can be elected",
@@ -476,7 +476,7 @@ static CASES: [Case; 49] = [
             Router { id: "2.2.2.2", area: BACKBONE, interfaces: &[(WIDE_TWO, "priority = 0\n")] },
             Router { id: "3.3.3.3", area: BACKBONE, interfaces: &[(WIDE_THREE, "priority = 0\n")] },
         ],
-        faults: "a.toml: A9 Crowded: interface 0: address 10.0.0.1/29, c.toml: interface 0: address 10.0.0.3/29\nb.toml: A18 Apart: router_id 2.2.2.2, a.toml: router_id 1.1.1.1\nc.toml: A18 Apart: router_id 3.3.3.3, a.toml: router_id 1.1.1.1\n",
+        faults: "a.toml: A9 TooManyRouters: interface 0: address 10.0.0.1/29, c.toml: interface 0: address 10.0.0.3/29\nb.toml: A18 Partitioned: router_id 2.2.2.2, a.toml: router_id 1.1.1.1\nc.toml: A18 Partitioned: router_id 3.3.3.3, a.toml: router_id 1.1.1.1\n",
         notes: "",
     },
 ];
@@ -608,7 +608,7 @@ fn tells_in_order(rt: HostRuntime) -> Result<(), Fail> {
     let told = told_of(rt.alloc(), &files, Telling::Verdict);
     assert_eq!(rt;
         told.err.as_slice(),
-        b"a.toml: A10 NoDr: interface 1: priority 0, b.toml: interface 0: priority 0\nb.toml: A5 Hello: interface 1: hello 5, a.toml: interface 0: hello 10\nb.toml: A7 Mtu: interface 1: mtu 1400, a.toml: interface 0: mtu 1500\nc.toml: A1 SameRouter: router_id 1.1.1.1, a.toml: router_id 1.1.1.1\nc.toml: A2 SameAddress: interface 0: address 10.1.0.2/25, b.toml: interface 0: address 10.1.0.2/24\nc.toml: A8 Mask: interface 0: address 10.1.0.2/25, a.toml: interface 1: address 10.1.0.1/24\na.toml: A11 OneSided: interface 0: port 5001, b.toml: interface 1: port 5002\nb.toml: A18 Apart: router_id 2.2.2.2, a.toml: router_id 1.1.1.1\nc.toml: A18 Apart: router_id 1.1.1.1, a.toml: router_id 1.1.1.1\n".as_slice()
+        b"a.toml: A10 NoDr: interface 1: priority 0, b.toml: interface 0: priority 0\nb.toml: A5 Hello: interface 1: hello 5, a.toml: interface 0: hello 10\nb.toml: A7 Mtu: interface 1: mtu 1400, a.toml: interface 0: mtu 1500\nc.toml: A1 SameRouter: router_id 1.1.1.1, a.toml: router_id 1.1.1.1\nc.toml: A2 SameAddress: interface 0: address 10.1.0.2/25, b.toml: interface 0: address 10.1.0.2/24\nc.toml: A8 Mask: interface 0: address 10.1.0.2/25, a.toml: interface 1: address 10.1.0.1/24\na.toml: A11 OneSided: interface 0: port 5001, b.toml: interface 1: port 5002\nb.toml: A18 Partitioned: router_id 2.2.2.2, a.toml: router_id 1.1.1.1\nc.toml: A18 Partitioned: router_id 1.1.1.1, a.toml: router_id 1.1.1.1\n".as_slice()
     );
     assert_eq!(rt; told.out.as_slice(), b"a.toml: ok\nb.toml: ok\nc.toml: ok\n".as_slice());
     assert_eq!(rt; told.status, Status::Refused);
@@ -657,7 +657,7 @@ fn explains_a_fault(rt: HostRuntime) -> Result<(), Fail> {
     let told = told_of(rt.alloc(), &files, Telling::Explained);
     assert_eq!(rt;
         told.err.as_slice(),
-        b"b.toml: A5 Hello: interface 0: hello 5, a.toml: interface 0: hello 10\n  each drops the other's Hellos: they never become neighbours (section 10.5)\nb.toml: A18 Apart: router_id 2.2.2.2, a.toml: router_id 1.1.1.1\n  over these networks the area falls apart: no route leads there\n".as_slice()
+        b"b.toml: A5 Hello: interface 0: hello 5, a.toml: interface 0: hello 10\n  each drops the other's Hellos: they never become neighbors (section 10.5)\nb.toml: A18 Partitioned: router_id 2.2.2.2, a.toml: router_id 1.1.1.1\n  the area is partitioned: over these networks no route leads there\n".as_slice()
     );
     assert_eq!(rt; told.status, Status::Refused);
     Ok(())
@@ -691,7 +691,7 @@ fn warns_of_a_delay_over_900(rt: HostRuntime) -> Result<(), Fail> {
 #[test]
 fn warns_of_leaves_that_can_lead(rt: HostRuntime) -> Result<(), Fail> {
     let alloc = rt.alloc();
-    let line = "  interface 0: priority 7: as Designated Router it would not flood the LSAs that it passes over (other_lsas), so the others of the network get them late or not at all; priority = 0 keeps it out of the election (RFC 2328, section 13.3)\n";
+    let line = "  interface 0: priority 7: as Designated Router it would not flood the LSAs that it passes over (other_lsas), so the other routers would get them late or not at all; set priority = 0 to keep it out of the election (RFC 2328, section 13.3)\n";
     for (others, interface, priority, is_warned) in [
         ("pass over", LAN_ONE, 7, true),
         ("pass over", LAN_ONE, 0, false),
@@ -769,7 +769,7 @@ fn finds_and_shows(rt: HostRuntime) -> Result<(), Fail> {
     }
     let found = findings(alloc, &configs)?;
     assert_eq!(rt; found.len(), 2);
-    assert_eq!(rt; found[1].fault, AreaFault::Apart);
+    assert_eq!(rt; found[1].fault, AreaFault::Partitioned);
     let finding = found[0];
     assert_eq!(rt; finding.fault, AreaFault::Dead);
     assert_eq!(rt; (finding.here.file, finding.here.link), (1, 0));
@@ -784,10 +784,10 @@ fn finds_and_shows(rt: HostRuntime) -> Result<(), Fail> {
         shown.as_str(),
         "here: A6 Dead: interface 0: dead 50, there: interface 0: dead 40"
     );
-    assert_eq!(rt; AreaFault::Nowhere(5009).text(), "A17 Nowhere");
+    assert_eq!(rt; AreaFault::UnknownPeer(5009).text(), "A17 UnknownPeer");
     assert!(rt; AreaFault::Cost.is_note());
     assert!(rt; !AreaFault::Area.is_note());
-    assert_eq!(rt; AreaFault::Alone.meaning(), "the network is a stub");
+    assert_eq!(rt; AreaFault::NoNeighbor.meaning(), "no other interface is on this network: it is a stub");
     assert!(rt; is_slow(901) && !is_slow(900));
     Ok(())
 }
