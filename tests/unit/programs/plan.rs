@@ -676,7 +676,7 @@ fn warns_of_a_delay_over_900(rt: HostRuntime) -> Result<(), Fail> {
             let status = check_text(alloc, &files, how, &mut out, &mut err);
             let ends = out.iter().filter(|byte| **byte == b'\n').count();
             let warning =
-                format!(in alloc; "a.toml: ok\n  interface 0: transmit_delay {delay}: over 900")?;
+                format!(in alloc; "a.toml: ok\n  interface 0: transmit_delay {delay}: above 900")?;
             let is_warned = out.starts_with(warning.as_bytes());
             assert_eq!(rt; ends, if explain { lines } else { 1 }, "{delay}");
             assert_eq!(rt; is_warned, explain && lines == 2, "{delay}");
