@@ -5,7 +5,8 @@ import re
 import lsas
 
 from .labelled import DEFAULT_VRF, area_of
-from .parts import (ASBR_SUMMARY, EXTERNAL, SUMMARY, Link, Octet, Shown, address, mask_of)
+from .parts import (ASBR_SUMMARY, EXTERNAL, SUMMARY, Gathered, Link, Octet, Shown, address,
+                    mask_of)
 
 NAME = "Junos"
 AREA = re.compile(r"\s*OSPF (?:link state )?database, [Aa]rea ([0-9.]+)")
@@ -39,11 +40,11 @@ LABEL = re.compile("|".join(f"(?P<{name}>{pattern})" for name, pattern in LABELS
 GRAPH = re.compile(r"\bTopology default \(ID 0\) Type: \w+, Node ID.*")
 
 
-class Reader:
+class Reader(Gathered):
     """Reads the layout: a row for each LSA, and then its contents."""
 
     def __init__(self):
-        self.vrf, self.area, self.lines = DEFAULT_VRF, "unknown", None
+        self.vrf, self.area = DEFAULT_VRF, "unknown"
 
     def is_between(self):
         return True
@@ -56,15 +57,7 @@ class Reader:
             self.area = area_of(area[1])
         elif instance:
             self.vrf = instance[1]
-        elif BEGIN.match(line):
-            self.lines = []
-        if self.lines is not None:
-            self.lines.append(line)
-
-    def end(self):
-        if self.lines is not None:
-            yield self.lsa_of(" ".join(" ".join(self.lines).split()))
-        self.lines = None
+        self.gather(line, BEGIN.match(line))
 
     def lsa_of(self, text):
         """The LSA that a text shows: its row, which may be wrapped, and its contents."""

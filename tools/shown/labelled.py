@@ -6,7 +6,7 @@ import re
 import lsas
 
 from .parts import (ASBR_SUMMARY, B, E, EXTERNAL, POINT_TO_POINT, STUB, SUMMARY, TRANSIT, V,
-                    VIRTUAL, Link, Octet, Shown, address, mask_of)
+                    VIRTUAL, Gathered, Link, Octet, Shown, address, mask_of)
 
 DO_NOT_AGE = 0x8000
 # What is shown without the name of a VRF is of this one.
@@ -78,14 +78,14 @@ def first_of(table, text):
     return next((it for it, pattern in table if re.fullmatch(pattern, text)), None)
 
 
-class Reader:
+class Reader(Gathered):
     """Reads the layout. A format says how its Options are shown, and which flags are open."""
 
     # Flags of a router-LSA that the format may not show.
     OPEN_FLAGS = 0
 
     def __init__(self):
-        self.vrf, self.area, self.lines = DEFAULT_VRF, "unknown", None
+        self.vrf, self.area = DEFAULT_VRF, "unknown"
 
     def is_between(self):
         """Whether a heading may come now, of this format or of another."""
@@ -108,15 +108,7 @@ class Reader:
             self.vrf = vrf
         if heading:
             self.area = area_of(heading[1])
-        elif AGE.match(line.lstrip()):
-            self.lines = []
-        if self.lines is not None:
-            self.lines.append(line)
-
-    def end(self):
-        if self.lines is not None:
-            yield self.lsa_of(" ".join(" ".join(self.lines).split()))
-        self.lines = None
+        self.gather(line, AGE.match(line.lstrip()))
 
     def lsa_of(self, text):
         """The LSA that a text shows, from its age to its last line."""

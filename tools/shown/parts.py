@@ -35,6 +35,29 @@ class Unreadable(Exception):
     """The text is of no known format, or damaged."""
 
 
+class Gathered:
+    """Gathers the lines of one LSA after the other. A reader of a format says what an LSA is."""
+
+    lines = None
+
+    def gather(self, line, begins):
+        """Takes a line: the first of an LSA, or one more of the LSA that is being read."""
+        if begins:
+            self.lines = []
+        if self.lines is not None:
+            self.lines.append(line)
+
+    def end(self):
+        """The LSA that was being read, if there is one: it is whole now."""
+        if self.lines is not None:
+            yield self.lsa_of(" ".join(" ".join(self.lines).split()))
+        self.lines = None
+
+    def lsa_of(self, text):
+        """The LSA that a text shows."""
+        raise NotImplementedError
+
+
 class Octet:
     """A byte of which some bits are shown, and others are open."""
 

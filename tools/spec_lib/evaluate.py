@@ -5,7 +5,7 @@ from .functions import Function
 from .kinds import Kind
 from .parser import Implicit
 from .patterns import Scope, match
-from .terms import compile_term, fresh
+from .terms import compile_term, entered, fresh
 from .values import UNIT, Refused, Stuck, Struct, known
 
 # A type of which nothing is known.
@@ -197,14 +197,8 @@ def _compiled(kind, scope):
 def _arguments(kind, scope, env, given):
     """The goals that the arguments of a constructor are, and that what it makes is of these
     indices."""
-    goals = []
     compiled, result = _compiled(kind, scope)
-    for names, domain in compiled:
-        if not names:
-            goals.append(lambda domain=domain: domain(env))
-        for name in names:
-            env[name], more = fresh(domain(env))
-            goals.extend(more)
+    goals = [goal for names, domain in compiled for goal in entered(names, domain, env)]
     made = result[2][-len(given):] if given else []
     for term, value in zip(made, given):
         term = compile_term(term, scope)

@@ -135,6 +135,18 @@ def _record(term, scope):
     return code
 
 
+def entered(names, kind, env):
+    """The goals of names of a kind, which are put into an environment as unknowns; those of the
+    kind itself where it has no name."""
+    if not names:
+        return [lambda: kind(env)]
+    goals = []
+    for name in names:
+        env[name], more = fresh(kind(env))
+        goals.extend(more)
+    return goals
+
+
 def _bound(groups, scope):
     """Binders: a function that adds the names to an environment and gives the goals."""
     scope, steps = scope.inner(()), []
@@ -143,14 +155,7 @@ def _bound(groups, scope):
         scope.names.update(names)
 
     def expand(env):
-        goals = []
-        for names, kind in steps:
-            if not names:
-                goals.append(lambda kind=kind: kind(env))
-            for name in names:
-                env[name], more = fresh(kind(env))
-                goals.extend(more)
-        return goals
+        return [goal for names, kind in steps for goal in entered(names, kind, env)]
     return scope, expand
 
 
