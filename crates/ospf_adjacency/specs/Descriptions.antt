@@ -22,7 +22,7 @@ use Rattle.ospf_adjacency.specs.Adjacency.{wants_adjacency, begins_by, event_tak
 use Rattle.ospf_area.specs.Packets.{packet_if, dd_packet}
 use Rattle.ospf_area.specs.Turns.{Turn, request_turn}
 
--- an event, and the first DD packet where an adjacency begins by it (10.3, 10.8)
+-- an event, and the first DD packet where it begins an adjacency (10.3, 10.8)
 abbrev pub event_turn : Iface → Local → NbrEvent → Turn → Turn
 event_turn i local e t = record {
   neighbour = event_taken e i.settings.dead t.next local.tick t.neighbour;
@@ -48,7 +48,7 @@ dd_repeated i local t =
     record t { neighbour = m; sent = t.sent ++ dd_packet i local.mtu m ∷ [] }
 
 -- what follows an answer (10.6, 10.8): the slave's last packet goes out again; or the next packet
--- does, before a Request; or SeqNumberMismatch begins the adjacency anew
+-- does, before a Request; or SeqNumberMismatch restarts the adjacency
 abbrev pub answered_turn : Result DdAnswer ExchangeFault → Iface → Local → Turn → Turn
 answered_turn (Ok answer.NotTaken) i local t = t
 answered_turn (Ok answer.PassedOver) i local t = t

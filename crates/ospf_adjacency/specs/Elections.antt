@@ -55,7 +55,7 @@ first_dds i mtu tick next (n ∷ ns) =
 
 -- ---- the election
 
--- the states in which an election comes about (9.3)
+-- the states in which an election takes place (9.3)
 abbrev pub elects_in : IfaceState → Bool
 elects_in iface.Waiting = true
 elects_in iface.DrOther = true
@@ -68,8 +68,8 @@ pub record AreOfLink (i : Iface) (ns : List NeighbourValue) : Type 0 where
   pub rising : AreNeighboursRising ns
   pub others : AllByRecursion (λ n. n.router.0 ≢ i.settings.router.0) ns
 
--- the interface has the result of the election, and AdjOK? comes to its neighbours where the DR
--- or the Backup is another (9.4)
+-- the interface has the result of the election, and its neighbours get AdjOK? where the DR
+-- or the Backup changed (9.4)
 pub record ElectsOn (mtu tick : ℕ) (i : Iface) (ns : List NeighbourValue) (next : ℕ)
     (sent : List PendingPacket) (i' : Iface) (ns' : List NeighbourValue) (next' : ℕ) : Type 0 where
   pub result : Elected

@@ -100,7 +100,7 @@ put n (m ∷ ms) =
     else if m.router.0 == n.router.0 then n ∷ ms
     else n ∷ m ∷ ms
 
--- the neighbours of a link in a part of a step, whether an election is due by it, the router's
+-- the neighbours of a link in a part of a step, whether it makes an election due, the router's
 -- next DD number, and what goes out
 pub record Neighbourhood : Type 0 where
   pub neighbours : List NeighbourValue
@@ -108,7 +108,7 @@ pub record Neighbourhood : Type 0 where
   pub next : ℕ
   pub sent : List PendingPacket
 
--- neighbours, and what a part leaves beside them
+-- neighbours, with what a part of a step leaves besides them
 abbrev pub neighbourhood : List NeighbourValue → Bool → OutboxValue → Neighbourhood
 neighbourhood ns elects p =
     record { neighbours = ns; elects = elects; next = p.next; sent = p.sent }
@@ -117,7 +117,7 @@ neighbourhood ns elects p =
 abbrev pub turn_of : NeighbourValue → Neighbourhood → Turn
 turn_of n x = record { neighbour = n; next = x.next; sent = x.sent }
 
--- after its turn it is put back, and an election is due by it or not
+-- after its turn it is put back, and may make an election due
 abbrev pub put_back : Bool → Turn → Neighbourhood → Neighbourhood
 put_back elects t x =
     record {

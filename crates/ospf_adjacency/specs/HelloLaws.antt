@@ -60,7 +60,7 @@ pub record StayOfLink (i : Iface) (ns : List NeighbourValue) : Type 0 where
 abbrev pub NeighboursStayOfLink : Type 0
 NeighboursStayOfLink = (i : Iface) (ns : List NeighbourValue) → AreOfLink i ns → StayOfLink i ns
 
--- where an election becomes due, one comes about (9.3)
+-- where an election becomes due, one takes place (9.3)
 pub record ElectsWhereItCan (i : Iface) (n m : NeighbourValue) (ns : List NeighbourValue)
     : Type 0 where
   pub hello : elects_by_hello i.state n m ≡ true → elects_in i.state ≡ true

@@ -1,6 +1,6 @@
--- What every part of a step keeps of a neighbour: it may only fall below Exchange, but for a
--- Database Description, and what is new on its lists are copies of the database and, on the request
--- list, what it told (RFC 2328, sections 10.3 and 10.6 to 10.9).
+-- What every part of a step keeps of a neighbour: it may only fall below Exchange, except for a
+-- Database Description, and new entries on its lists are copies of the database and, on the request
+-- list, headers that it listed (RFC 2328, sections 10.3 and 10.6 to 10.9).
 use Rattle.std.specs.Prelude.{⊤, ◌≡◌, ◌⊎◌, ◌+◌, ◌≤◌, ℕ, List, [], true, false, Contains, length}
 use Rattle.ospf_base.specs.Constants.{ip_header, packet_header}
 use Rattle.ospf_base.specs.declared.ids.Instance.{Instance}
@@ -28,9 +28,9 @@ use Rattle.ospf_area.specs.Sending.{packet_from}
 use Rattle.ospf_area.specs.declared.sending.RouterContext.{RouterContext}
 use Rattle.ospf_area.specs.Packets.{PendingPacket, dd_packet}
 
--- a neighbour goes on: new on its lists are copies of the database, on the request list what it
--- told, and in the last Database Description also what the summary list had; what waits for its
--- acknowledgement stops waiting only below Exchange
+-- a neighbour goes on: new on its lists are copies of the database, on the request list headers
+-- that it listed, and in the last Database Description also what was on the summary list; what
+-- waits for its acknowledgement stops waiting only below Exchange
 pub record GoesOn (db : List Held) (told : List LsaHeader) (n m : NeighbourValue) : Type 0 where
   pub requests : (h : LsaHeader) → Contains m.requests h → Contains n.requests h ⊎ Contains told h
   pub retransmission : (i : Instance) → Waits m i → Waits n i ⊎ HasInstance db i
@@ -75,13 +75,13 @@ OnlyNegotiationEnters = (e : NbrEvent) (dead next tick : ℕ) (n : NeighbourValu
     → is_exchanging (event_taken e dead next tick n).state ≡ true
     → (is_exchanging n.state ≡ true) ⊎ (e ≡ NegotiationDone)
 
--- an event makes no other neighbour of it
+-- an event does not turn it into another neighbour
 abbrev pub EventsKeepRouters : Type 0
 EventsKeepRouters =
     (e : NbrEvent) (dead next tick : ℕ) (n : NeighbourValue)
     → KeepsRouter n (event_taken e dead next tick n)
 
--- what keeps its lists goes on
+-- a neighbour that keeps its lists goes on
 abbrev pub KeptGoesOn : Type 0
 KeptGoesOn =
     (db : List Held) (told : List LsaHeader) (n m : NeighbourValue) → KeepsLists n m
@@ -93,7 +93,7 @@ RequestsKeepLists =
     (i : Iface) (local : Local) (t : Turn)
     → SameLists t.neighbour (request_turn i local t).neighbour
 
--- by a Request that is due no neighbour enters Exchange (10.9)
+-- a Request that is due brings no neighbour into Exchange (10.9)
 abbrev pub RequestsNeverEnter : Type 0
 RequestsNeverEnter =
     (i : Iface) (local : Local) (t : Turn)
@@ -103,7 +103,7 @@ RequestsNeverEnter =
 abbrev pub HasNoneBelow : NeighbourValue → Type 0
 HasNoneBelow n = is_exchanging n.state ≡ false → length n.retransmission ≡ 0
 
--- a Database Description: what the neighbour told comes on its request list
+-- a Database Description: the headers that the neighbour listed go on its request list
 abbrev pub DescriptionGoesOn : Type 0
 DescriptionGoesOn =
     (i : Iface) (local : Local) (sender : RouterId) (d : Description) (headers : List LsaHeader)
@@ -122,7 +122,7 @@ DroppedIsUnchanged =
 -- ---- what goes out
 
 -- a packet to the neighbour is no Update and no Acknowledgment, and a Database Description names
--- only what stood on its lists, or a copy of the database (10.8)
+-- only what was on its lists, or a copy of the database (10.8)
 abbrev pub SaysOnly : List Held → NeighbourValue → BodyMeaning → Type 0
 SaysOnly db n (hello fields heard) = ⊤
 SaysOnly db n (description fields headers) =

@@ -22,8 +22,8 @@ hello_packet i ns =
       body = hello (own_hello i) (map (λ n. n.router) ns);
     }
 
--- the Hello timer, a tick later: it starts again, or runs on, or stands
--- still where the link is down (9.5)
+-- the Hello timer, a tick later: it starts again, or runs on, or stays
+-- unchanged where the link is down (9.5)
 abbrev pub hello_ticked : Iface → Iface
 hello_ticked i =
     if is_down i.state then i

@@ -31,11 +31,11 @@ abbrev pub bytes_in : List (List ℕ) → ℕ
 bytes_in [] = 0
 bytes_in (lsa ∷ lsas) = length lsa + bytes_in lsas
 
--- an LSA goes into an Update behind these: a first one always does
+-- an LSA fits in an Update after these: a first one always does
 abbrev pub goes_in : ℕ → List (List ℕ) → List ℕ → Bool
 goes_in room batch lsa = is_empty batch || nat_le (length lsa) (room - bytes_in batch)
 
--- LSAs in their order, as many in an Update as fit, behind those that are in the first one already
+-- LSAs in their order, as many in an Update as fit, after those that are in the first one already
 abbrev pub packed : ℕ → List (List ℕ) → List (List ℕ) → List (List (List ℕ))
 packed room batch [] = elim batch [ [] ↦ [] | lsa ∷ lsas ↦ (lsa ∷ lsas) ∷ [] ]
 packed room batch (lsa ∷ lsas) =

@@ -29,7 +29,7 @@ IsCopy db delay lsa =
     (key : LsaKey) × (e : Entry) × (entry_of db key ≡ Some e) × (lsa ≡ sent_lsa delay (lsa_of e))
 
 -- a packet to the neighbour is no Acknowledgment, an Update has only copies of the database, and a
--- Database Description names only what stood on its lists, or copies
+-- Database Description names only what was on its lists, or copies
 abbrev pub HasCopiesOnly : List Held → ℕ → NeighbourValue → BodyMeaning → Type 0
 HasCopiesOnly db delay n (hello fields heard) = Unit {0}
 HasCopiesOnly db delay n (description fields headers) = SaysOnly db n (description fields headers)

@@ -28,11 +28,11 @@ pub fn wants_adjacency(iface: &Iface, address: Addr) -> bool
     !is_broadcast(iface) || is_chosen(iface, iface.settings.address) || is_chosen(iface, address)
 }
 
-/// Takes an event of the neighbour machine (RFC 2328, section 10.3). Where an adjacency begins
-/// by it, the neighbour takes the router's next Database Description number, which counts up,
-/// and a first packet goes out to it.
+/// Processes an event of the neighbour machine (RFC 2328, section 10.3). Where it begins an
+/// adjacency, the neighbour takes the router's next Database Description number, which counts
+/// up, and a first packet is sent to it.
 ///
-/// `AllocError` where memory runs out; then the router is to be stopped.
+/// `AllocError` when memory runs out; then the router must be stopped.
 pub fn take_event(
     neighbour: &mut Neighbour,
     event: NbrEvent,
@@ -60,7 +60,7 @@ fn is_chosen(iface: &Iface, address: Addr) -> bool
     address.0 == iface.dr.0 || address.0 == iface.backup.0
 }
 
-// Takes an event; whether an adjacency begins by it. The neighbour then has the router's next
+// Processes an event; whether it begins an adjacency. The neighbour then has the router's next
 // Database Description number, which counts up.
 fn count_event(
     neighbour: &mut Neighbour,

@@ -19,11 +19,11 @@ use ospf_packet::Requests;
 use std::alloc::AllocError;
 use std::collections::BTreeSet;
 
-/// Takes a Link State Request of a neighbour in Exchange or above (RFC 2328, section 10.7): the
-/// copies that it asks for go out, in the order of their keys, or BadLSReq begins the adjacency
-/// anew. `delay` is InfTransDelay, in ticks. Answers the keys whose copies went out.
+/// Processes a Link State Request of a neighbour in Exchange or above (RFC 2328, section 10.7): the
+/// copies that it asks for are sent, in the order of their keys, or BadLSReq restarts the
+/// adjacency. `delay` is InfTransDelay, in ticks. Returns the keys whose copies were sent.
 ///
-/// `AllocError` where memory runs out; then the router is to be stopped.
+/// `AllocError` when memory runs out; then the router must be stopped.
 pub fn take_request(
     neighbour: &mut Neighbour,
     requests: Requests<'_>,

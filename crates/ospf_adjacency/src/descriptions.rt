@@ -34,10 +34,10 @@ pub fn is_dropped(
             && is_not_taken(neighbour, sender, description, headers, local))
 }
 
-/// Takes a Database Description (RFC 2328, section 10.6) of the neighbour's router, `sender`.
-/// Answers whether it was taken: where not, it is dropped, and nothing changes.
+/// Processes a Database Description (RFC 2328, section 10.6) of the neighbour's router, `sender`.
+/// Returns whether it was accepted: if not, it is dropped, and nothing changes.
 ///
-/// `AllocError` where memory runs out; then the router is to be stopped.
+/// `AllocError` when memory runs out; then the router must be stopped.
 pub fn take_description(
     neighbour: &mut Neighbour,
     sender: RouterId,

@@ -16,9 +16,9 @@ use ospf_neighbour::{NbrEvent, Neighbour};
 use std::alloc::{AllocError, Global};
 
 /// The election of a link on which one is due (RFC 2328, section 9.4), and AdjOK? where the
-/// Designated Router or the Backup is another.
+/// Designated Router or the Backup changed.
 ///
-/// `AllocError` where memory runs out; then the router is to be stopped.
+/// `AllocError` when memory runs out; then the router must be stopped.
 pub fn elect_on(
     iface: &mut Iface,
     neighbours: &mut [Neighbour],
@@ -98,7 +98,7 @@ fn elect(iface: &mut Iface, candidates: &[Candidate]) -> bool
     change.adj_ok
 }
 
-// AdjOK? comes to the neighbours of a link.
+// The neighbours of a link get AdjOK?.
 fn adjust(
     neighbours: &mut [Neighbour],
     at: &LinkContext,

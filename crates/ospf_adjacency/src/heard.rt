@@ -35,7 +35,7 @@ pub fn is_named(mut neighbours: Neighbours<'_>, router: RouterId) -> bool
     neighbours.any(|named| named.0 == router.0)
 }
 
-/// Whether an election comes about by NeighborChange: in DR Other, Backup
+/// Whether NeighborChange causes an election: in DR Other, Backup
 /// and DR (RFC 2328, section 9.3).
 pub fn is_settled(state: IfaceState) -> bool
     ensures { result ≡ is_settled state }
@@ -60,11 +60,11 @@ pub fn is_at(all: &[Neighbour], at: usize, router: RouterId) -> bool
     }
 }
 
-/// Takes a Hello that comes on a link (RFC 2328, section 10.5), from the router `sender` at the
-/// address `source`; `named` tells whether it names the router itself. The sender is found among
-/// the link's neighbours, or is a new one. Answers whether an election of the link is due by it.
+/// Processes a Hello that arrives on a link (RFC 2328, section 10.5), from the router `sender` at
+/// the address `source`; `named` says whether it names the router itself. The sender is found among
+/// the link's neighbours, or is a new one. Returns whether it makes an election of the link due.
 ///
-/// `AllocError` where memory runs out; then the router is to be stopped.
+/// `AllocError` when memory runs out; then the router must be stopped.
 pub fn hello_on(
     neighbours: &mut Vec<Neighbour>,
     sender: RouterId,
@@ -93,14 +93,14 @@ pub fn hello_on(
     Ok(elects)
 }
 
-// Whether an election comes about by BackupSeen and WaitTimer.
+// Whether BackupSeen and WaitTimer cause an election.
 pub(crate) fn is_waiting(state: IfaceState) -> bool
     ensures { result ≡ is_waiting state }
 {
     matches!(state, IfaceState::Waiting)
 }
 
-// Takes a Hello of a neighbour; whether an election is due by it.
+// Processes a Hello of a neighbour; whether it makes an election due.
 fn hello_of(
     neighbour: &mut Neighbour,
     hello: &Hello,

@@ -28,7 +28,7 @@ pub fn neighbours_stay_of_link()
     ensures { NeighboursStayOfLink }
 {}
 
-/// An election becomes due only in a state in which one comes about.
+/// An election becomes due only in a state in which one takes place.
 pub fn elections_come_about()
     ensures { ElectionsComeAbout }
 {}

@@ -10,8 +10,8 @@ use crate::heard::{is_settled, is_waiting};
 use ospf_iface::{Iface, IfaceEvent};
 use ospf_neighbour::Neighbour;
 
-/// A link goes up (RFC 2328, section 9.3). Answers whether it was down: then a
-/// Hello goes out. No memory is taken.
+/// A link goes up (RFC 2328, section 9.3). Returns whether it was down: then a
+/// Hello is sent. No memory is taken.
 pub fn go_up(iface: &mut Iface) -> bool
     ensures was_down { result ≡ is_down iface.old.state }
     ensures up { iface.new ≡ (if is_down iface.old.state then started iface.old else iface.old) }
@@ -23,7 +23,7 @@ pub fn go_up(iface: &mut Iface) -> bool
     true
 }
 
-/// A link goes down: its neighbours get KillNbr (RFC 2328, section 9.3). Answers whether
+/// A link goes down: its neighbours get KillNbr (RFC 2328, section 9.3). Returns whether
 /// it was up. No memory is taken.
 pub fn go_down(iface: &mut Iface, neighbours: &mut Vec<Neighbour>) -> bool
     ensures was_up { result ≡ not (is_down iface.old.state) }
@@ -47,8 +47,8 @@ pub fn tick_neighbours(neighbours: &mut Vec<Neighbour>)
     neighbours.retain_mut(lasts);
 }
 
-/// A tick of a link's timers (RFC 2328, sections 9.3 and 10.3). Answers whether an election is
-/// due by it. No memory is taken.
+/// A tick of a link's timers (RFC 2328, sections 9.3 and 10.3). Returns whether it makes an
+/// election due. No memory is taken.
 pub fn tick_timers(iface: &mut Iface, neighbours: &mut Vec<Neighbour>) -> bool
     ensures elects { result ≡ elects_by_timers iface.old neighbours.old.items }
     ensures iface { iface.new ≡ record iface.old { wait = iface.old.wait - 1 } }

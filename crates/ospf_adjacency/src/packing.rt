@@ -21,11 +21,11 @@ use std::mem;
 /// The bytes in front of the LSAs of an Update.
 const HEAD: usize = IP_HEADER + PACKET_HEADER + COUNT_SIZE;
 
-/// The copies of these keys go out in Updates, as many in one as fit, in the order of the keys; a
+/// Sends the copies of these keys in Updates, as many in one as fit, in the order of the keys; a
 /// key without a copy is left out, and an LSA that does not fit has an Update of its own. `delay`
 /// is InfTransDelay, in ticks, `mtu` the interface's, in bytes.
 ///
-/// `AllocError` where memory runs out; then the router is to be stopped.
+/// `AllocError` when memory runs out; then the router must be stopped.
 pub fn send_copies(
     keys: &BTreeSet<LsaKey>,
     database: &Lsdb,
@@ -104,14 +104,14 @@ fn add(
     Ok(())
 }
 
-// Whether an LSA of so many bytes goes into an Update behind these.
+// Whether an LSA of this many bytes fits in an Update after these.
 fn goes_in(batch: &[Lsa], length: usize, left: usize) -> bool
     ensures { result ≡ is_empty batch.now || nat_le length left }
 {
     batch.is_empty() || length <= left
 }
 
-// An Update with these LSAs goes out.
+// Sends an Update with these LSAs.
 fn send(lsas: Vec<Lsa>, destination: Addr, outbox: &mut Outbox) -> Result<(), AllocError>
     ensures { OnOk result (outbox.new ≡ and_packets outbox.old
         (record { destination = destination; body = update lsas.items } ∷ [])) }

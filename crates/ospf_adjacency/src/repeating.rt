@@ -20,12 +20,12 @@ use ospf_neighbour::{Listed, Neighbour};
 use std::alloc::{AllocError, Global};
 use std::collections::BTreeSet;
 
-/// The repeats of a tick to one neighbour (RFC 2328, sections 10.8, 10.9 and 13.6): its Database
-/// Description, its Request, and the copies of what is due on its retransmission list, in the
-/// order of their keys. `retransmit` is RxmtInterval, `delay` InfTransDelay, both in ticks.
-/// Answers the keys whose copies went out.
+/// The retransmissions of a tick to one neighbour (RFC 2328, sections 10.8, 10.9 and 13.6): its
+/// Database Description, its Request, and the copies of what is due on its retransmission list, in
+/// the order of their keys. `retransmit` is RxmtInterval, `delay` InfTransDelay, both in ticks.
+/// Returns the keys whose copies were sent.
 ///
-/// `AllocError` where memory runs out; then the router is to be stopped.
+/// `AllocError` when memory runs out; then the router must be stopped.
 pub fn repeat(
     neighbour: &mut Neighbour,
     database: &Lsdb,

@@ -12,9 +12,9 @@ use ospf_iface::Iface;
 use ospf_neighbour::Neighbour;
 use std::alloc::{AllocError, Global};
 
-/// The Hello of a link goes out (RFC 2328, section 9.5).
+/// Sends the Hello of a link (RFC 2328, section 9.5).
 ///
-/// `AllocError` where memory runs out; then the router is to be stopped.
+/// `AllocError` when memory runs out; then the router must be stopped.
 pub fn send_hello(
     iface: &Iface,
     neighbours: &[Neighbour],
@@ -29,9 +29,9 @@ pub fn send_hello(
     outbox.put(ALL_SPF_ROUTERS, body)
 }
 
-/// A tick of a link's Hello timer: the Hello goes out where it is due (RFC 2328, section 9.5).
+/// A tick of a link's Hello timer: the Hello is sent where it is due (RFC 2328, section 9.5).
 ///
-/// `AllocError` where memory runs out; then the router is to be stopped.
+/// `AllocError` when memory runs out; then the router must be stopped.
 pub fn send_due_hello(
     iface: &mut Iface,
     neighbours: &[Neighbour],

@@ -1,11 +1,11 @@
--- What a part of a step makes of a router's area, and what it puts out behind the outputs so far.
+-- What a part of a step makes of a router's area, and what it adds to the outputs so far.
 use Rattle.std.specs.Prelude.{◌≡◌, ℕ, List, [], ◌∷◌, map}
 use Rattle.ospf_area.specs.Outputs.{OutputsValue, SentValue}
 use Rattle.ospf_area.specs.Places.{flat_from}
 use Rattle.ospf_area.specs.Sending.{and_sends}
 use Rattle.ospf_area.specs.State.{AreaValue, LinkValue}
 
--- the router becomes this, and all that it has put out becomes that
+-- the router becomes this, and all its outputs become that
 pub record Becomes (made : AreaValue) (puts out' : OutputsValue) (after : AreaValue) : Type 0 where
   pub state : after ≡ made
   pub outputs : out' ≡ puts

@@ -48,14 +48,14 @@ FloodedNeighbours =
     → neighbour_at (flooded_links key h from tick links) l q
     ≡ option_map (λ n. flooded key h (came_from (on_link from l) n) tick n) (neighbour_at links l q)
 
--- a change is one of the origin's neighbour alone
+-- a change affects only the origin's neighbour
 abbrev pub changed_there : PacketSource → AdjacencyChange → ℕ → ℕ → NeighbourValue → NeighbourValue
 changed_there f change tick l n =
     if l == f.link
     then (if n.router.0 == f.router.0 then neighbour_changed change tick n else n)
     else n
 
--- the law: of all neighbours, that one alone is changed
+-- the law: of all neighbours, only that one changes
 abbrev pub ChangesOne : Type 0
 ChangesOne =
     (f : PacketSource) (change : AdjacencyChange) (tick : ℕ) (links : List LinkValue) (l : ℕ)
@@ -89,7 +89,7 @@ pub record ReleaseTakesItsKey : Type 0 where
   pub gone : (key : LsaKey) (links : List LinkValue) (l : ℕ) (q : RouterId) (n : NeighbourValue)
       → neighbour_at (released key links) l q ≡ Some n → is_key_listed key n.retransmission ≡ false
 
--- a flood takes off instances of its own key alone (13.3)
+-- a flood removes only instances of its own key (13.3)
 abbrev pub FloodsTakeTheirKey : Type 0
 FloodsTakeTheirKey =
     (key : LsaKey) (h : LsaHeader) (from : Option PacketSource) (tick : ℕ) (links : List LinkValue)
@@ -104,8 +104,8 @@ TurnsTakeNothing = (own : RouterContext) (links : List LinkValue) (l : ℕ) (q :
     → WaitsIn (neighbour_at (map (turned_link own) links) l q) j
     ↔ WaitsIn (neighbour_at links l q) j
 
--- why a neighbour in Exchange or above need not acknowledge an LSA (13.3, step 1): it came from
--- there, or it has described one that is not older
+-- why a neighbour in Exchange or above need not acknowledge an LSA (13.3, step 1): the neighbour
+-- sent it, or has described one that is not older
 pub data IsSpared (key : LsaKey) (h : LsaHeader) (here : Option PacketSource) (n : NeighbourValue)
     : Type 0 where
   Came : came_from here n ≡ true → IsSpared key h here n
@@ -185,7 +185,7 @@ IsShort h = 2 + length h.entry.contents ≤ largest_lsa
 abbrev pub AreShort : List Held → Type 0
 AreShort db = (key : LsaKey) (h : Held) → held_of db key ≡ Some h → IsShort h
 
--- whatever happens to a database, its LSAs stay short, if what is installed is short
+-- whatever happens to a database, its LSAs remain short, if what is installed is short
 pub record StayShort : Type 0 where
   pub installed : (e : Entry) (before after : List Held) → Installs e before after
       → 2 + length e.contents ≤ largest_lsa → AreShort before → AreShort after

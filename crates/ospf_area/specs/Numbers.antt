@@ -1,4 +1,4 @@
--- How far the numbers of the router's own keys have come (RFC 2328, section 12.1.6).
+-- How far the numbers of the router's own keys have advanced (RFC 2328, section 12.1.6).
 use Rattle.std.specs.Prelude.{◌==◌, ◌++◌, ◌||◌, ◌&&◌, ℤ, Bool, false, true, None, List, [], ◌∷◌, filter, map, not, if◌then◌else◌}
 use Rattle.std.specs.Int.{int_max}
 use Rattle.std.specs.BTreeSet.{insert_key}
@@ -27,7 +27,7 @@ counts key number s =
     else s.numbering ++ record { key = key; kept = int_max s.floor number; issued_at = None } ∷ []
     else s.numbering
 
--- ---- what the router answers itself
+-- ---- the LSAs to which the router itself responds
 
 -- the LSA is self-originated: its Advertising Router is this one, or it is of a network whose DR's
 -- address is one of the router's own (13.4)
@@ -39,8 +39,9 @@ is_self_originated router links key =
 
 -- ---- what went out in this tick
 
--- the keys whose copy went out in this tick: this key's has just been installed, and was sent in an
--- Update or was not (13, step 8): it stands at its place in the order of keys, or not
+-- the keys whose copy was sent in this tick, once the copy of this key is installed, and was sent
+-- in an Update or was not (13, step 8): the key is at its place in the order of keys, or is not
+-- listed
 abbrev pub marked : LsaKey → Bool → List LsaKey → List LsaKey
 marked key went sent =
     if went then insert_key key_cmp sent key else filter (λ k. not (same_key k key)) sent

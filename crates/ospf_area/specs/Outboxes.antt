@@ -1,5 +1,5 @@
--- What a part of a step at a link works with, what it leaves beside its neighbours, and how packets
--- go out (RFC 2328, section 8.1).
+-- What a part of a step at a link works with, what it leaves besides its neighbours, and how
+-- packets go out (RFC 2328, section 8.1).
 use Rattle.std.specs.Prelude.{◌++◌, ℕ, List}
 use Rattle.std.specs.List.{flat_map}
 use Rattle.ospf_iface.specs.declared.machine.Iface.{Iface}

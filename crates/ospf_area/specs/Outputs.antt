@@ -1,4 +1,4 @@
--- What a step of a router, or a part of one, puts out.
+-- The outputs of a step of a router, or of a part of one.
 use Rattle.std.specs.Prelude.{◌≡◌, ℕ, List, [], ◌++◌, Some}
 use Rattle.std.specs.List.{All}
 use Rattle.ospf_base.specs.declared.ids.Addr.{Addr}
@@ -28,7 +28,7 @@ pub record OutputsValue : Type 0 where
   pub issued : List (List ℕ)
   pub ended : List LsaKey
 
--- nothing is put out
+-- no output
 abbrev pub no_outputs : OutputsValue
 no_outputs = record { sent = []; taken = []; issued = []; ended = [] }
 

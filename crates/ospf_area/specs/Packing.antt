@@ -32,10 +32,10 @@ pub record ArePacked {X : Type 0} (packet_with : List X → Meaning) (mtu : ℕ)
   -- joined, the packets are all entries, in their order
   pub whole : flat_map (λ packed. packed) packets ≡ entries
   pub some : AllByRecursion (λ packed. packed ≢ []) packets
-  -- each fits, or is of one entry alone
+  -- each fits, or has only one entry
   pub fits :
       AllByRecursion (λ packed. IsWithin packet_with mtu packed ⊎ (length packed ≡ 1)) packets
-  -- behind none the next entry would have fitted too
+  -- in none of them would the next entry have fitted too
   pub full : (k : ℕ) (packed : List X) (next : X) (later : List X)
       → slice_get packets k ≡ Some packed → slice_get packets (k + 1) ≡ Some (next ∷ later)
       → IsFull packet_with mtu packed next

@@ -24,7 +24,7 @@ use Rattle.ospf_area.specs.declared.state.Numbering.{Numbering}
 -- a link of a router (9)
 pub record LinkValue : Type 0 where
   pub iface : Iface
-  -- what never changes of it, beside the settings of its interface
+  -- what never changes of it, besides the settings of its interface
   pub settings : LinkSettings
   -- in rising Router ID
   pub neighbours : List NeighbourValue
@@ -33,21 +33,21 @@ pub record LinkValue : Type 0 where
   -- an election is due at the end of the step (9.4)
   pub elects : Bool
 
--- what a router keeps of its area, all but the routing table and what that is made from (5 and 6)
+-- what a router stores of its area, except the routing table and what that is made from (5 and 6)
 pub record AreaValue : Type 0 where
   pub router : RouterId
   pub area : AreaId
   -- it is a stub router (RFC 6987)
   pub stub_router : Bool
-  -- LSAs of LS types 3 to 5 are acknowledged and not kept; otherwise they are refused
+  -- LSAs of LS types 3 to 5 are acknowledged and not stored; otherwise they are refused
   pub passes_over : Bool
   -- in configuration order
   pub links : List LinkValue
   -- the entries, in order of key (12.2)
   pub database : List Held
-  -- the direct acknowledgements of the Update that is being taken (13.5)
+  -- the direct acknowledgements of the Update that is being processed (13.5)
   pub direct : List LsaHeader
-  -- how far the numbers of each key of its own have come, of those that it has numbered (12.1.6)
+  -- how far the numbers of each of its own keys that it has numbered have advanced (12.1.6)
   pub numbering : List Numbering
   -- what the numbers of its other keys begin above
   pub floor : ℤ
@@ -57,7 +57,7 @@ pub record AreaValue : Type 0 where
   pub next_dd : ℕ
   -- the keys whose copy went out in an Update in this tick (13, step 8)
   pub sent : List LsaKey
-  -- the keys of the self-originated LSAs that this step installed and has still to answer (13.4)
+  -- the keys of the self-originated LSAs that this step installed and must still respond to (13.4)
   pub heard : List LsaKey
   -- the greatest of the floor and of all numbers of keys of its own
   pub greatest : ℤ
@@ -102,7 +102,7 @@ some_link_loading links =
 
 -- ---- numbers
 
--- how far the numbers of a key have come, if it was numbered
+-- how far the numbers of a key have advanced, if it was numbered
 abbrev pub numbering_of : List Numbering → LsaKey → Option Numbering
 numbering_of numbering key = find (λ n. same_key n.key key) numbering
 

@@ -1,4 +1,4 @@
--- Where one neighbour stands in a part of a step, and what comes of its request list (RFC
+-- The state of one neighbour in a part of a step, and what follows from its request list (RFC
 -- 2328, sections 10.3 and 10.9).
 use Rattle.std.specs.Prelude.{◌++◌, ℕ, List, []}
 use Rattle.std.specs.List.{flat_map}
@@ -12,13 +12,13 @@ use Rattle.ospf_area.specs.Packets.{PendingPacket, packet_if, request_packet}
 use Rattle.ospf_area.specs.Outboxes.{OutboxValue}
 use Rattle.ospf_area.specs.Changes.{after_event}
 
--- where a neighbour stands in a part of a step: the router's next DD number, and what goes out
+-- a neighbour in a part of a step, with the router's next DD number, and what goes out
 pub record Turn : Type 0 where
   pub neighbour : NeighbourValue
   pub next : ℕ
   pub sent : List PendingPacket
 
--- a neighbour, and what a part leaves beside it
+-- a neighbour, and what a part leaves besides it
 abbrev pub turn : NeighbourValue → OutboxValue → Turn
 turn n p = record { neighbour = n; next = p.next; sent = p.sent }
 

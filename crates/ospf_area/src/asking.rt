@@ -1,4 +1,4 @@
-//! What comes of request lists that are shorter: LoadingDone, and the next Requests.
+//! What follows when request lists get shorter: LoadingDone, and the next Requests.
 
 ghost use Rattle.std.specs.Prelude.{◌≡◌, IfOk, OnOk, map};
 ghost use Rattle.ospf_area.specs.Places.{flat_from};
@@ -25,7 +25,7 @@ use std::alloc::{AllocError, Global};
 /// A neighbour's request list may have changed: LoadingDone where it is empty, and the next Request
 /// goes out where one is due (RFC 2328, sections 10.3 and 10.9).
 ///
-/// `AllocError` where memory runs out; then the router is to be stopped.
+/// `AllocError` where memory runs out; then the router must be stopped.
 pub fn request_turn(
     neighbour: &mut Neighbour,
     at: &LinkContext,
@@ -46,7 +46,7 @@ pub fn request_turn(
 /// LoadingDone and the next Requests of all neighbours, where they are due (sections 10.3 and
 /// 10.9).
 ///
-/// `AllocError` where memory runs out; then the router is to be stopped.
+/// `AllocError` where memory runs out; then the router must be stopped.
 pub fn turn_requests(
     links: &mut [AreaLink],
     own: RouterContext,
@@ -77,7 +77,7 @@ pub(crate) fn request_body(neighbour: &Neighbour, alloc: Global) -> Result<BodyV
 }
 
 // LoadingDone and the next Request of one neighbour, where they are due (RFC 2328, sections 10.3
-// and 10.9). Answers whether that Request is to be sent. No memory is taken.
+// and 10.9). Returns whether that Request must be sent. No memory is allocated.
 fn turn_one(neighbour: &mut Neighbour, mtu: u16, tick: u64) -> bool
     ensures after { neighbour.new ≡ turned_to_next mtu tick neighbour.old }
     ensures due { result

@@ -32,7 +32,7 @@ pub fn release_takes_its_key()
     ensures { ReleaseTakesItsKey }
 {}
 
-/// A flood takes no instance of another key off a list.
+/// A flood removes no instance of another key from a list.
 pub fn flood_takes_its_key()
     ensures { FloodsTakeTheirKey }
 {}

@@ -1,6 +1,6 @@
 //! A router's part of an area (RFC 2328, sections 8, 12 and 13): its links and their
 //! neighbours, its database, and what goes out: flooding over all links, acknowledgements that
-//! wait, and the Requests that come of it.
+//! wait, and the Requests that follow.
 #![tactic(auto)]
 
 mod asking;

@@ -8,7 +8,7 @@ use crate::state::AreaLink;
 use ospf_base::LsaKey;
 
 /// Takes all instances of a key off the retransmission lists of all neighbours (RFC 2328, section
-/// 13, step 5c). No memory is taken.
+/// 13, step 5c). No memory is allocated.
 pub fn release(links: &mut [AreaLink], key: &LsaKey)
     ensures { links.new ≡ released key.now links.old }
 {

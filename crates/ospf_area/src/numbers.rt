@@ -1,4 +1,4 @@
-//! How far the numbers of the router's own keys have come.
+//! How far the numbers of the router's own keys have advanced.
 
 ghost use Rattle.std.specs.Prelude.{◌≡◌, ◌==◌, ◌++◌, ◌∷◌, [], None, OnOk, filter, if◌then◌else◌, map, not};
 ghost use Rattle.std.specs.Int.{int_max};
@@ -31,7 +31,7 @@ pub fn is_own(router: RouterId, key: &LsaKey) -> bool
 
 /// An LSA of a key was installed with this header's number.
 ///
-/// `AllocError` where memory runs out; then the router is to be stopped.
+/// `AllocError` where memory runs out; then the router must be stopped.
 pub fn count_number(area: &mut Area, key: LsaKey, header: &LsaHeader) -> Result<(), AllocError>
     ensures { OnOk result (area.new ≡ record area.old {
       numbering = counts key header.now.number area.old;
@@ -66,10 +66,10 @@ pub fn was_sent(sent: &BTreeSet<LsaKey>, key: &LsaKey) -> bool
     sent.contains(key)
 }
 
-/// The copy of a key has just been installed, and was sent in an Update or was not. Memory is taken
-/// for a key that was not marked.
+/// The copy of a key has just been installed, and was sent in an Update or was not. A key that was
+/// not marked needs memory.
 ///
-/// `AllocError` where memory runs out; then the router is to be stopped.
+/// `AllocError` where memory runs out; then the router must be stopped.
 pub fn mark(sent: &mut BTreeSet<LsaKey>, key: LsaKey, went: bool) -> Result<(), AllocError>
     ensures { OnOk result (sent.new.keys ≡ marked key went sent.old.keys) }
 {

@@ -1,4 +1,4 @@
-//! What a part of a step works on beside neighbours: its link, and what it leaves.
+//! What a part of a step works on besides neighbours: its link, and what it leaves.
 
 ghost use Rattle.std.specs.Prelude.{◌≡◌};
 ghost use Rattle.ospf_area.specs.Outboxes.{local_by};
@@ -39,7 +39,7 @@ impl LinkContext {
     }
 }
 
-/// What a part of a step at one link leaves beside its neighbours: the router's next Database
+/// What a part of a step at one link leaves besides its neighbours: the router's next Database
 /// Description number, and the packets that go out.
 #[derive(Drop)]
 pub struct Outbox {
@@ -86,9 +86,9 @@ impl Outbox {
         self.alloc
     }
 
-    /// A packet is to go out.
+    /// Adds a packet to be sent.
     ///
-    /// `AllocError` where memory runs out; then the router is to be stopped.
+    /// `AllocError` where memory runs out; then the router must be stopped.
     pub fn put(&mut self, destination: Addr, body: BodyValue) -> Result<(), AllocError>
         ensures next { self.new.next ≡ self.old.next }
         ensures sent { OnOk result
@@ -99,10 +99,10 @@ impl Outbox {
         Ok(())
     }
 
-    /// All goes out of the link of this number, whose interface this is, behind these outputs. A
+    /// Sends all packets out of the link of this number and interface, after these outputs. A
     /// packet that is longer than `ospf_packet::LARGEST_PACKET` is not sent.
     ///
-    /// `AllocError` where memory runs out; then the router is to be stopped.
+    /// `AllocError` where memory runs out; then the router must be stopped.
     pub fn send_all(
         self,
         out: &mut Outputs,

@@ -1,4 +1,4 @@
-//! What a step of a router puts out.
+//! The outputs of a step of a router.
 
 use ospf_base::{Addr, Instance, LsaKey};
 use ospf_lsa::Lsa;
@@ -35,7 +35,7 @@ impl Model for Sent {
     ghost invariant = { λ s. packet_of s.bytes.items ≡ Some (meaning_of s.bytes.items) };
 }
 
-/// What a step, or a part of one, puts out.
+/// The outputs of a step, or of a part of one.
 #[derive(Drop)]
 pub struct Outputs {
     /// The datagrams, in the order in which they go out.
@@ -68,7 +68,7 @@ impl Outputs {
     ghost use Rattle.std.specs.Prelude.{◌≡◌};
     ghost use Rattle.ospf_area.specs.Outputs.{AreReadAsSent, no_outputs};
 
-    /// Nothing is put out.
+    /// No output.
     pub fn new(alloc: Global) -> Outputs
         ensures { result ≡ no_outputs }
     {

@@ -16,8 +16,8 @@ use ospf_neighbour::{Exchanging, Neighbour};
 use ospf_packet::{BodyValue, Description};
 use std::alloc::AllocError;
 
-/// A Database Description with these headers, of an exchange that
-/// stands so (RFC 2328, section 10.8).
+/// A Database Description with these headers, of an exchange in
+/// this state (RFC 2328, section 10.8).
 pub fn description_body(mtu: u16, exchanging: Exchanging, headers: Vec<LsaHeader>) -> BodyValue
     ensures { body_meant result ≡ meaning.description
         (record {
@@ -37,9 +37,9 @@ pub fn description_body(mtu: u16, exchanging: Exchanging, headers: Vec<LsaHeader
     BodyValue::Description(fields, headers)
 }
 
-/// The last Database Description of a neighbour goes out to it (RFC 2328, section 10.8).
+/// Sends a neighbour its last Database Description (RFC 2328, section 10.8).
 ///
-/// `AllocError` where memory runs out; then the router is to be stopped.
+/// `AllocError` where memory runs out; then the router must be stopped.
 pub fn send_dd(
     neighbour: &Neighbour,
     at: &LinkContext,
@@ -55,9 +55,9 @@ pub fn send_dd(
     outbox.put(to_address(&at.iface, neighbour.address()), body)
 }
 
-/// The last Request of a neighbour goes out to it (RFC 2328, section 10.9).
+/// Sends a neighbour its last Request (RFC 2328, section 10.9).
 ///
-/// `AllocError` where memory runs out; then the router is to be stopped.
+/// `AllocError` where memory runs out; then the router must be stopped.
 pub fn send_request(
     neighbour: &Neighbour,
     at: &LinkContext,
@@ -70,9 +70,9 @@ pub fn send_request(
     outbox.put(to_address(&at.iface, neighbour.address()), body)
 }
 
-/// An LSA goes out in an Update of its own.
+/// Sends an LSA in an Update of its own.
 ///
-/// `AllocError` where memory runs out; then the router is to be stopped.
+/// `AllocError` where memory runs out; then the router must be stopped.
 pub fn send_lsa(lsa: Lsa, destination: Addr, outbox: &mut Outbox) -> Result<(), AllocError>
     ensures { OnOk result (outbox.new ≡ and_packets outbox.old (lsa_packet destination lsa ∷ [])) }
 {

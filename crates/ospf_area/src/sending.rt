@@ -19,11 +19,11 @@ pub struct RouterContext {
     pub area: AreaId,
     /// The present tick.
     pub tick: u64,
-    /// Whether LSAs of LS types 3, 4 and 5 are passed over.
+    /// Whether LSAs of LS types 3, 4 and 5 are skipped.
     pub passes_over: bool,
 }
 
-/// The way of a datagram: out of which link, from which address and to which.
+/// The path of a datagram: out of which link, from which address and to which.
 #[derive(Clone, Copy, Debug, PartialEq, Eq)]
 pub struct Way {
     pub link: usize,
@@ -43,7 +43,7 @@ pub fn context_of(area: &Area) -> RouterContext
     }
 }
 
-/// Where packets to a neighbour go, but for flooded Updates and delayed
+/// Where packets to a neighbour go, except flooded Updates and delayed
 /// acknowledgements (RFC 2328, section 8.1).
 pub fn to_address(iface: &Iface, address: Addr) -> Addr
     ensures { result ≡ to_address iface.now address }

@@ -1,4 +1,4 @@
-//! How the neighbour stands that an Update or an Acknowledgment came from, and
+//! The state of the neighbour that an Update or an Acknowledgment came from, and
 //! how what it sent is acknowledged.
 
 ghost use Rattle.std.specs.Prelude.{◌≡◌, false, is_some, None, OnOk, Some};
@@ -72,7 +72,7 @@ pub fn some_link_loading(links: &[AreaLink]) -> bool
     links.iter().any(|link| link.neighbours.is_loading())
 }
 
-/// How an LSA that came from the origin is to be acknowledged (RFC 2328, section 13.5).
+/// How an LSA that came from the origin must be acknowledged (RFC 2328, section 13.5).
 pub fn answer_at(
     links: &[AreaLink],
     case: AcknowledgementCase,
@@ -86,9 +86,9 @@ pub fn answer_at(
     }
 }
 
-/// Acknowledges a header: directly, once the Update has been taken, or at the next tick, or not.
+/// Acknowledges a header: directly, once the Update is processed, or at the next tick, or not.
 ///
-/// `AllocError` where memory runs out; then the router is to be stopped.
+/// `AllocError` where memory runs out; then the router must be stopped.
 pub fn acknowledge_by(
     area: &mut Area,
     answer: Acknowledgement,

@@ -9,7 +9,7 @@ max_age = 3600
 abbrev pub max_age_diff : ℕ
 max_age_diff = 900
 
--- the Options that this router sends: ExternalRoutingCapability alone
+-- the Options that this router sends: only ExternalRoutingCapability
 abbrev pub router_options : ℕ
 router_options = 2
 
@@ -29,6 +29,6 @@ lsa_header = 20
 abbrev pub largest_packet : ℕ
 largest_packet = 16384
 
--- the longest LSA that is made: the Update that carries it alone is a longest packet
+-- the longest LSA that is made: an Update that carries only this LSA is a longest packet
 abbrev pub largest_lsa : ℕ
 largest_lsa = 16356

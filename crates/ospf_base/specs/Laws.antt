@@ -5,7 +5,7 @@ use Rattle.ospf_base.specs.Keys.{same_key}
 use Rattle.ospf_base.specs.declared.ids.Instance.{Instance}
 use Rattle.ospf_base.specs.declared.ids.LsaKey.{LsaKey}
 
--- keys that are told to be one are one
+-- two keys compare as the same exactly where they are equal
 abbrev pub SameKeysAreEqual : Type 0
 SameKeysAreEqual = (a b : LsaKey) → (same_key a b ≡ true) ↔ (a ≡ b)
 

@@ -30,6 +30,6 @@ number_text n = ipv4_text (to_be_bytes w32 n)
 abbrev pub prefix_text : Prefix → List ℕ
 prefix_text p = number_text p.address.0 ++ codes "/" ++ decimal p.length
 
--- spaces alone, or nothing
+-- only spaces, or nothing
 abbrev pub IsBlank : List ℕ → Type 0
 IsBlank = All (λ byte. byte ≡ 32)

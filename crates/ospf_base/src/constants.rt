@@ -8,7 +8,7 @@ pub const ALL_SPF_ROUTERS: Addr = Addr(0xe000_0005);
 /// AllDRouters, 224.0.0.6: the Designated Router and the Backup of a link.
 pub const ALL_D_ROUTERS: Addr = Addr(0xe000_0006);
 
-/// The Options that this router sends: the E-bit alone, for ExternalRoutingCapability (A.2).
+/// The Options that this router sends: only the E-bit, for ExternalRoutingCapability (A.2).
 pub const OPTIONS: u8 = 0x02;
 
 /// The LS type of a router-LSA (A.4.1).
@@ -53,5 +53,5 @@ pub const MOST_INTERFACES: usize = 32;
 /// The longest packet that is read or written.
 pub const LARGEST_PACKET: usize = 16384;
 
-/// The longest LSA that is made: the Update that carries it alone is a longest packet.
+/// The longest LSA that is made: an Update that carries only this LSA is a longest packet.
 pub const LARGEST_LSA: usize = 16356;

@@ -86,14 +86,14 @@ impl LsaKey {
         Some(LsaKey { kind, id, router })
     }
 
-    /// Whether this key stands before another in a listing.
+    /// Whether this key comes before another in a listing.
     pub fn precedes(&self, other: &LsaKey) -> bool
         ensures { IsTrue result ↔ Precedes self.now other.now }
     {
         self < other
     }
 
-    /// Whether two keys are one, which is to say equal (`same_keys_are_equal`).
+    /// Whether two keys are the same, which means equal (`same_keys_are_equal`).
     #[tactic(auto, unfolding(crate::specs::Keys::same_key))]
     pub fn is_same(&self, other: &LsaKey) -> bool
         ensures { result ≡ same_key self.now other.now }
@@ -104,7 +104,7 @@ impl LsaKey {
     }
 }
 
-/// What tells the instances of one LSA apart: sequence number and checksum beside
+/// What identifies one instance of an LSA: sequence number and checksum, besides
 /// the key (RFC 2328, section 12.1).
 #[derive(Clone, Copy, Debug, PartialEq, Eq, Hash)]
 pub struct Instance {
@@ -117,7 +117,7 @@ impl Instance {
     ghost use Rattle.std.specs.Prelude.{◌≡◌};
     ghost use Rattle.ospf_base.specs.Instances.{same_instance};
 
-    /// Whether two instances are one, which is to say equal (`same_instances_are_equal`).
+    /// Whether two instances are the same, which means equal (`same_instances_are_equal`).
     #[tactic(auto, unfolding(crate::specs::Instances::same_instance))]
     pub fn is_same(&self, other: &Instance) -> bool
         ensures { result ≡ same_instance self.now other.now }

@@ -6,7 +6,7 @@ ghost use Rattle.ospf_base.specs.Masks.{IsMask};
 
 use crate::ids::Addr;
 
-/// A destination: an address, and how many of its leading bits count. No bit behind these is set.
+/// A destination: an address, and how many of its leading bits count. All other bits are zero.
 #[derive(Clone, Copy, Debug, PartialEq, Eq, PartialOrd, Ord, Hash)]
 pub struct Prefix {
     pub address: Addr,
@@ -49,7 +49,7 @@ pub fn mask_of(length: u8) -> u32
     ((1u64 << 32) - (1u64 << (32 - length))) as u32
 }
 
-/// The length of the prefix that a mask stands for; `None` where the mask has a hole.
+/// The length of the prefix that a mask denotes; `None` where the mask has a hole.
 pub fn mask_length(mask: u32) -> Option<u8>
     ensures found { IfSome result (λ n. (n ≤ 32) × (mask ≡ spec.mask_of n)) }
     ensures hole { IfNone result (IsMask mask → ⊥) }

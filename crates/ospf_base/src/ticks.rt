@@ -10,7 +10,7 @@ pub fn ticks_since(then_tick: u64, tick: u64) -> u64
     tick.wrapping_sub(then_tick)
 }
 
-/// Whether so many ticks, or more, have passed since one.
+/// Whether this many ticks, or more, have passed since then.
 pub fn have_passed(ticks: u16, then_tick: u64, tick: u64) -> bool
     ensures { result ≡ spec.have_passed ticks then_tick tick }
 {

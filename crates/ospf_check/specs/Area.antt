@@ -18,7 +18,7 @@ use Rattle.ospf_files.specs.AllFaults.{explains}
 use Rattle.ospf_files.specs.declared.telling.Telling.{Telling}
 use Rattle.ospf_check.specs.Checked.{IsCheckCutShort, IsWritten, indented_line}
 
--- ---- what is told of a finding
+-- ---- what is printed for a finding
 
 -- the name of the file of a number
 abbrev pub name_at : List NamedFile → ℕ → List ℕ
@@ -34,12 +34,12 @@ finding_lines explain files f =
     (line_of files f ++ codes "\n")
     ++ (if explain then indented_line (meaning_text f.fault) else [])
 
--- what is told of a finding on standard output: of a note, where it is to be explained
+-- what is printed for a finding on standard output: for a note, if explanations are wanted
 abbrev pub note_lines : Bool → List NamedFile → Finding → List ℕ
 note_lines explain files f =
     if is_note f.fault then (if explain then finding_lines true files f else []) else []
 
--- what is told of it on standard error: of a fault
+-- what is printed for it on standard error: for a fault
 abbrev pub fault_lines : Bool → List NamedFile → Finding → List ℕ
 fault_lines explain files f = if is_note f.fault then [] else finding_lines explain files f
 
@@ -47,17 +47,17 @@ fault_lines explain files f = if is_note f.fault then [] else finding_lines expl
 abbrev pub is_fault : Finding → Bool
 is_fault f = not (is_note f.fault)
 
--- ---- what is told of all
+-- ---- what is printed for all
 
--- the findings are told in order, and whether all are notes
+-- the findings are printed in order, and `sound` says whether all are notes
 pub record IsFindingsWritten (explain : Bool) (files : List NamedFile) (findings : List Finding)
     (sound : Bool) (old new : Written) : Type 0 where
   pub sound_is : sound ≡ not (list_any is_fault findings)
   pub out_written : Appends old.out new.out (flat_map (note_lines explain files) findings)
   pub err_written : Appends old.err new.err (flat_map (fault_lines explain files) findings)
 
--- the files hold configurations, and what is wrong between these is told,
--- and whether nothing is but notes
+-- the files hold configurations, and what is wrong between these is printed; `sound` says whether
+-- there are only notes
 pub record IsAreaTold (explain : Bool) (files : List NamedFile) (sound : Bool) (old new : Written)
     : Type 0 where
   pub configs : List Config
@@ -66,7 +66,7 @@ pub record IsAreaTold (explain : Bool) (files : List NamedFile) (sound : Bool) (
   pub are_findings : AreFindings configs findings
   pub told : IsFindingsWritten explain files findings sound old new
 
--- the files are told of one by one, and where all are accepted what is wrong between them
+-- the files are reported one by one and, if all are accepted, what is wrong between them
 pub data IsChecked (how : Telling) (files : List NamedFile)
     : Bool → (old new : Written) → Type 0 where
   one_by_one : {old new : Written} → IsWritten how files false old new
@@ -88,7 +88,7 @@ pub data EndsAtFinding (explain : Bool) (files : List NamedFile) (failed : Faile
       → new.out ≡ old.out → IsBegun old.err new.err (fault_lines explain files f)
       → EndsAtFinding explain files failed f old new x
 
--- it ended at one of the findings; of those before it all was told
+-- it ended at one of the findings; all findings before it were printed
 pub record IsCutAtFinding (explain : Bool) (files : List NamedFile) (findings : List Finding)
     (failed : FailedStreams) (old new : Written) (x : Failure) : Type 0 where
   pub before : List Finding
@@ -100,7 +100,7 @@ pub record IsCutAtFinding (explain : Bool) (files : List NamedFile) (findings : 
   pub told : IsFindingsWritten explain files before sound old between
   pub ends : EndsAtFinding explain files failed finding between new x
 
--- memory ran out before anything was told of the configurations, or it ended at a finding
+-- memory ran out before anything was printed about the configurations, or it ended at a finding
 pub data IsAreaCut (explain : Bool) (files : List NamedFile) (configs : List Config)
     (failed : FailedStreams) (old new : Written) : Failure → Type 0 where
   at_none : new.out ≡ old.out → new.err ≡ old.err
@@ -109,8 +109,8 @@ pub data IsAreaCut (explain : Bool) (files : List NamedFile) (configs : List Con
       → IsCutAtFinding explain files findings failed old new x
       → IsAreaCut explain files configs failed old new x
 
--- all files were told of, and the telling of what is between them ended; and last what
--- failed, as far as that could be told
+-- all files were reported, and the report on what is between them was cut short; the cause comes
+-- last, as far as it could be written
 pub record IsAreaCutShort (explain : Bool) (files : List NamedFile) (configs : List Config)
     (failed : FailedStreams) (old new : Written) (status : Status) : Type 0 where
   pub cause : Failure
@@ -120,7 +120,7 @@ pub record IsAreaCutShort (explain : Bool) (files : List NamedFile) (configs : L
   pub last : IsFailureTold failed_then failed err_then new.err (failure_line cause)
   pub status_is : status ≡ failure_status cause
 
--- the check ended in one of the files, or behind them
+-- the check ended in one of the files, or after them
 pub data IsCheckCut (how : Telling) (files : List NamedFile) (failed : FailedStreams)
     : (old new : Written) → Status → Type 0 where
   in_a_file : {old new : Written} {status : Status}

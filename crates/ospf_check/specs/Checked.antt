@@ -102,7 +102,7 @@ leaf_line passes_over i =
 abbrev pub warning_line : Bool → ℕ × Interface → List ℕ
 warning_line passes_over i = delay_line i ++ leaf_line passes_over i
 
--- what is said behind the line of an accepted file: nothing, unless it is to be explained
+-- what is printed after the line of an accepted file: nothing, unless explanations are wanted
 abbrev pub warnings : Bool → Config → List ℕ
 warnings explain config =
     if explain
@@ -121,7 +121,7 @@ pub data IsFaultSaid (bytes : List ℕ) (fault : ConfigFault) (more : List ℕ) 
   its_places : (places : List Explained) → IsUtf8 bytes → IsExplained bytes fault places
       → more ≡ flat_map place_line places → IsFaultSaid bytes fault more
 
--- the line of a place, behind the fault that it has
+-- the line of a place: the fault that it has, and then the place
 abbrev pub faulty_place_line : ConfigFault → Explained → List ℕ
 faulty_place_line fault place =
     indented_line (config_fault_text fault ++ codes ": " ++ explained_text place)
@@ -130,8 +130,8 @@ faulty_place_line fault place =
 abbrev pub fault_told : FaultExplained → List ℕ
 fault_told told = flat_map (faulty_place_line told.fault) told.places.items
 
--- what is said of all faults of bytes that are refused: that they are not UTF-8, or for each fault
--- that holds a line for each of its places
+-- what is printed about all faults of bytes that are refused: that they are not UTF-8, or for each
+-- fault that holds a line for each of its places
 pub data AreFaultsSaid (bytes : List ℕ) (more : List ℕ) : Type 0 where
   no_text_at_all : (IsUtf8 bytes → ⊥)
       → more
@@ -140,14 +140,15 @@ pub data AreFaultsSaid (bytes : List ℕ) (more : List ℕ) : Type 0 where
   each_fault : (faults : List FaultExplained) → IsUtf8 bytes → AreAllExplained bytes faults
       → more ≡ flat_map fault_told faults → AreFaultsSaid bytes more
 
--- what is said behind the line of a refused file: nothing, or of its fault, or of all its faults
+-- what is printed after the line of a refused file: nothing, or about its fault, or about all its
+-- faults
 abbrev pub IsExplanation : Telling → List ℕ → ConfigFault → List ℕ → Type 0
 IsExplanation telling.Verdict bytes fault more = more ≡ []
 IsExplanation telling.Explained bytes fault more = IsFaultSaid bytes fault more
 IsExplanation telling.AllExplained bytes fault more = AreFaultsSaid bytes more
 
--- a file that was read, whether it is accepted, and what is told of it on
--- standard output and on standard error
+-- a file that was read, whether it is accepted, and what is printed about it on standard output and
+-- on standard error
 pub data IsFileTold (how : Telling) : NamedFile → Bool → List ℕ → List ℕ → Type 0 where
   accepted_told : {file : NamedFile} (bytes : List ℕ) (config : Config) → bytes_of file ≡ Some bytes
       → IsConfigIn bytes config
@@ -157,7 +158,7 @@ pub data IsFileTold (how : Telling) : NamedFile → Bool → List ℕ → List �
       → IsExplanation how bytes fault more
       → IsFileTold how file false [] (refused_line file fault ++ more)
 
--- what is told of a file is what was written
+-- what is printed about a file is what was written
 pub record IsWrittenOf (how : Telling) (file : NamedFile) (accepted : Bool) (old new : Written)
     : Type 0 where
   pub out : List ℕ
@@ -166,7 +167,7 @@ pub record IsWrittenOf (how : Telling) (file : NamedFile) (accepted : Bool) (old
   pub out_written : Appends old.out new.out out
   pub err_written : Appends old.err new.err err
 
--- the files in order, whether all are accepted, and what is told of them
+-- the files in order, whether all are accepted, and what is printed about them
 pub data AreTold (how : Telling) : List NamedFile → Bool → List ℕ → List ℕ → Type 0 where
   no_file : AreTold how [] true [] []
   one_file : {file : NamedFile} {files : List NamedFile} {accepted all : Bool}
@@ -174,7 +175,7 @@ pub data AreTold (how : Telling) : List NamedFile → Bool → List ℕ → List
       → AreTold how files all outs errs
       → AreTold how (file ∷ files) (accepted && all) (out ++ outs) (err ++ errs)
 
--- what is told of the files is what was written
+-- what is printed about the files is what was written
 pub record IsWritten (how : Telling) (files : List NamedFile) (all : Bool) (old new : Written)
     : Type 0 where
   pub out : List ℕ
@@ -183,12 +184,12 @@ pub record IsWritten (how : Telling) (files : List NamedFile) (all : Bool) (old 
   pub out_written : Appends old.out new.out out
   pub err_written : Appends old.err new.err err
 
--- the text that a verdict has is what is told of the file
+-- the text of a verdict is what is printed about the file
 abbrev pub IsVerdict : Telling → NamedFile → Verdict → Type 0
 IsVerdict how file (verdict.Accepted text) = IsFileTold how file true (string_bytes text) []
 IsVerdict how file (verdict.Refused text) = IsFileTold how file false [] (string_bytes text)
 
--- the configuration of a file is kept behind the others
+-- the configuration of a file is added after the others
 abbrev pub IsConfigKept : NamedFile → List Config → List Config → Type 0
 IsConfigKept file old new =
     (config : Config) × IsConfigIn (text_in file) config × (new ≡ old ++ config ∷ [])
@@ -203,12 +204,12 @@ abbrev pub KeepsIf : Bool → NamedFile → List Config → List Config → Type
 KeepsIf true file old new = IsConfigKept file old new
 KeepsIf false file old new = ⊤
 
--- the configurations that are handed on, where all files are accepted
+-- the configurations that are passed on, if all files are accepted
 abbrev pub HoldConfigs : List NamedFile → Option (List Config) → Type 0
 HoldConfigs files None = ⊤
 HoldConfigs files (Some configs) = AreConfigs files configs
 
--- what is told on standard error of a file that is not accepted
+-- what is printed on standard error about a file that is not accepted
 abbrev pub IsToldOnError : Telling → NamedFile → List ℕ → Type 0
 IsToldOnError how file text =
     IsFileTold how file false [] text ⊎ ((bytes_of file ≡ None) × (text ≡ unread_line file))
@@ -229,7 +230,7 @@ pub data EndsIn (how : Telling) (file : NamedFile) (failed : FailedStreams) (old
       → IsBegun old.err new.err text
       → EndsIn how file failed old new (fault.Failure f)
 
--- a check ended in one of the files, for this cause; of those before it all was told
+-- a check ended in one of the files, for this cause; all files before it were reported
 pub record IsCutIn (how : Telling) (files : List NamedFile) (failed : FailedStreams)
     (old new : Written) (cause : CheckFault) : Type 0 where
   pub before : List NamedFile
@@ -246,15 +247,15 @@ abbrev pub status_of : CheckFault → Status
 status_of fault.NotRead = status.Stream
 status_of (fault.Failure f) = failure_status f
 
--- what is told last: of a failure its line
+-- what is printed last: for a failure, its line
 abbrev pub IsLastTold : FailedStreams → FailedStreams → Option (List ℕ) → Option (List ℕ)
     → CheckFault → Type 0
 IsLastTold before after old new fault.NotRead = (after ≡ before) × (new ≡ old)
 IsLastTold before after old new (fault.Failure f) =
     IsFailureTold before after old new (failure_line f)
 
--- a check ended in one of the files: of those before it all was told, of that one a beginning, and
--- then what failed, as far as that could be told
+-- a check ended in one of the files: the files before it were reported in full, that one in part,
+-- and last comes what failed, as far as that could be written
 pub record IsCheckCutShort (how : Telling) (files : List NamedFile) (failed : FailedStreams)
     (old new : Written) (status : Status) : Type 0 where
   pub cause : CheckFault

@@ -137,8 +137,8 @@ pub record IsAreaPrinted (files : List NamedFile) (sound : Bool) (out_old out_ne
   pub sound_is : sound ≡ not (list_any is_fault findings)
   pub written : Appends out_old out_new (findings_line files findings)
 
--- files that are refused are told of on standard error; where all are accepted it is printed what
--- is wrong between them. What is said of those that are accepted goes to another stream
+-- files that are refused are reported on standard error; if all are accepted, what is wrong between
+-- them is printed. Reports on accepted files go to another stream
 pub data IsJson (files : List NamedFile) : Bool → (old new : Written) → Type 0 where
   one_by_one : {b c : Option (List ℕ)} {old new : Written}
       → IsWritten telling.Verdict files false (record old { out = b }) (record new { out = c })
@@ -158,7 +158,7 @@ pub data IsPrintCut (files : List NamedFile) (configs : List Config) (failed : F
       → IsBegun out_old out_new (findings_line files findings) → IsOutputCut failed x
       → IsPrintCut files configs failed out_old out_new x
 
--- and last what failed, as far as that could be told
+-- and last what failed, as far as that could be written
 pub record IsPrintCutShort (files : List NamedFile) (configs : List Config) (failed : FailedStreams)
     (old new : Written) (status : Status) : Type 0 where
   pub cause : Failure
@@ -167,7 +167,7 @@ pub record IsPrintCutShort (files : List NamedFile) (configs : List Config) (fai
   pub last : IsFailureTold failed_then failed old.err new.err (failure_line cause)
   pub status_is : status ≡ failure_status cause
 
--- it ended in one of the files, or behind them
+-- it ended in one of the files, or after them
 pub data IsJsonCut (files : List NamedFile) (failed : FailedStreams)
     : (old new : Written) → Status → Type 0 where
   in_a_file : {b c : Option (List ℕ)} {old new : Written} {status : Status}

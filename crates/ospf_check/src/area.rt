@@ -15,14 +15,14 @@ use ospf_plan::{Finding, NamedFinding, findings};
 use std::alloc::{AllocError, Global};
 use std::io::Write;
 
-/// Checks the configurations of one area: each as `check_text` does, and where all are accepted
-/// what is wrong between them. Faults go to `err`; where more than a verdict is asked for notes go
-/// to `out`, and behind each fault and note a line of what follows.
+/// Checks the configurations of one area: each as `check_text` does and, if all are accepted, what
+/// is wrong between them. Faults go to `err`. If more than a verdict is asked for, notes go to
+/// `out`, and each fault and note is followed by a line with its consequences.
 ///
-/// The status is `Refused` where a file was refused or a fault was told, and `Done` where there are
-/// none but notes. The check ends early as `check_text` does, with status `Stream` or `Memory`:
-/// then all is written of the files before, and where it ended behind the files, of the findings
-/// before; of the one where it ended no more than a beginning.
+/// The status is `Refused` if a file was refused or a fault was found, and `Done` if there are only
+/// notes or nothing. The check ends early as `check_text` does, with status `Stream` or `Memory`.
+/// Then the files before are reported in full; if it ended after the files, so are the findings
+/// before. Of the file or finding where it ended, no more than a beginning is written.
 pub fn check_area_text<O: Write, E: Write>(
     alloc: Global,
     files: &[NamedFile],
@@ -81,7 +81,7 @@ fn check_area_noted<O: Write, E: Write>(
     }
 }
 
-// Tells what is wrong between the configurations in files. The answer is the status to end with.
+// Reports what is wrong between the configurations in files. Returns the status to end with.
 fn check_together<O: Write, E: Write>(
     alloc: Global,
     files: &[NamedFile],
@@ -112,7 +112,7 @@ fn check_together<O: Write, E: Write>(
     }
 }
 
-// Tells what is wrong between configurations. The answer is whether nothing is but notes.
+// Reports what is wrong between configurations. Returns whether there are only notes.
 fn tell_area<O: Write, E: Write>(
     alloc: Global,
     files: &[NamedFile],
@@ -136,7 +136,7 @@ fn tell_area<O: Write, E: Write>(
     }
 }
 
-// Tells findings in order. The answer is whether all are notes.
+// Reports findings in order. Returns whether all are notes.
 fn tell_findings<O: Write, E: Write>(
     alloc: Global,
     files: &[NamedFile],
@@ -163,7 +163,7 @@ fn tell_findings<O: Write, E: Write>(
     Ok(sound)
 }
 
-// Tells a finding: a note on `out`, where it is to be explained, and a fault on `err`.
+// Reports a finding: a note on `out`, if explanations are wanted, and a fault on `err`.
 fn tell_finding<O: Write, E: Write>(
     alloc: Global,
     files: &[NamedFile],
@@ -220,12 +220,12 @@ fn finding_lines(
 fn line_of(alloc: Global, files: &[NamedFile], finding: &Finding) -> Result<String, AllocError>
     ensures { IfOk result (λ text. string_bytes text ≡ line_of files.now finding.now) }
 {
-    let told = NamedFinding {
+    let shown = NamedFinding {
         finding: *finding,
         here: name_at(files, finding.here.file),
         other: name_at(files, finding.other.file),
     };
-    format!(in alloc; "{told}")
+    format!(in alloc; "{shown}")
 }
 
 // The name of a file.

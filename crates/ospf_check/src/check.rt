@@ -26,16 +26,16 @@ pub(crate) enum CheckFault {
     Failure(Failure),
 }
 
-/// Checks configurations, and tells of each file in order: on `out` that it is accepted, or on
-/// `err` the fault of least number that it has; behind that, in lines behind two spaces, as `how`
-/// asks: nothing more, or what to do about that fault, or about each fault that it has, and at an
-/// accepted one of what it is warned.
+/// Checks configurations, and reports each file in order. On `out` it prints that the file is
+/// accepted, or on `err` its fault with the lowest number. After that, in lines indented by two
+/// spaces, comes what `how` asks for: nothing more, or what to do about that fault, or about each
+/// fault of the file; and for an accepted file its warnings.
 ///
-/// A file that is not UTF-8 is no TOML. The status is `Refused` where a file was refused. The
-/// check ends at a file that could not be read, which is told on `err`, and where a write
-/// fails, with status `Stream`; and with status `Memory` where memory ran out. What failed is
-/// told on `err`, as far as that can be written: then of the files before all is written, and
-/// of that one no more than a beginning.
+/// A file that is not UTF-8 is not TOML. The status is `Refused` if a file was refused. The check
+/// ends at a file that could not be read, which is reported on `err`, or when a write fails, with
+/// status `Stream`; and with status `Memory` when memory ran out. What failed is reported on `err`,
+/// as far as that can be written. Then the files before are reported in full, and of that one no
+/// more than a beginning is written.
 pub fn check_text<O: Write, E: Write>(
     alloc: Global,
     files: &[NamedFile],
@@ -58,7 +58,7 @@ pub fn check_text<O: Write, E: Write>(
     check_noted(alloc, files, how, out, err, &mut FailedStreams::none())
 }
 
-// Tells of files in order. The answer is the configurations in them, where all are accepted.
+// Reports files in order. Returns the configurations in them, if all are accepted.
 pub(crate) fn check_files<O: Write, E: Write>(
     alloc: Global,
     files: &[NamedFile],
@@ -87,7 +87,7 @@ pub(crate) fn check_files<O: Write, E: Write>(
     if all { Ok(Some(configs)) } else { Ok(None) }
 }
 
-// Tells why a check ended early, where that is not told yet. The answer is the status to end with.
+// Reports why a check ended early, if that is not reported yet. Returns the status to end with.
 pub(crate) fn tell_last<E: Write>(
     cause: CheckFault,
     err: &mut E,
@@ -103,7 +103,7 @@ pub(crate) fn tell_last<E: Write>(
     }
 }
 
-// Whether a file is accepted, and the lines that tell so.
+// Whether a file is accepted, and the lines that say so.
 #[derive(Drop)]
 enum Verdict {
     Accepted(String),
@@ -138,7 +138,7 @@ fn check_noted<O: Write, E: Write>(
     }
 }
 
-// Tells of one file, and keeps its configuration. The answer is whether it is accepted.
+// Reports one file, and stores its configuration. Returns whether it is accepted.
 fn check_file<O: Write, E: Write>(
     alloc: Global,
     file: &NamedFile,
@@ -174,7 +174,7 @@ fn check_file<O: Write, E: Write>(
     }
 }
 
-// Tells of a file that was not read. The answer is why the check ends.
+// Reports a file that was not read. Returns why the check ends.
 fn tell_unread<E: Write>(
     alloc: Global,
     file: &NamedFile,

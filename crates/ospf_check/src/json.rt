@@ -25,15 +25,14 @@ use serde_json::{Value, json};
 use std::alloc::{AllocError, Global};
 use std::io::{self, Write};
 
-/// Checks the configurations of one area as `check_area_text` does, and where all are
-/// accepted prints what is wrong between them, notes too, as one value of JSON on a line: an
-/// array of an object each, with the `code` of the fault, its `meaning`, whether it is a
-/// `note`, and the interfaces `here` and `other`, of which each has the name of its `file`,
-/// its number as `interface`, and the `value` at a `key`. Of files that are refused `err`
-/// tells, and nothing is printed.
+/// Checks the configurations of one area as `check_area_text` does, and if all are accepted prints
+/// what is wrong between them, notes too, as one JSON value on a line. It is an array with one
+/// object per finding: the `code` of the fault, its `meaning`, whether it is a `note`, and the
+/// interfaces `here` and `other`, each with the name of its `file`, its number as `interface`, and
+/// the `value` at a `key`. Files that are refused are reported on `err`, and nothing is printed.
 ///
-/// The statuses are those of `check_area_text`. Where it ends early no
-/// more than a beginning is printed.
+/// The statuses are those of `check_area_text`. If it ends early, no more than a beginning is
+/// printed.
 pub fn check_area_json<O: Write, E: Write>(
     alloc: Global,
     files: &[NamedFile],

@@ -1,11 +1,11 @@
-//! Configurations of routers that are checked (RFC 2328, appendix C): each alone,
-//! and those of one area together.
+//! Checks of router configurations (RFC 2328, appendix C): each by itself, and those of one area
+//! together.
 //!
-//! `check_text` tells of each file that it is accepted, or the fault of least number that it has,
-//! and as it is asked to what to do about that, or about all faults. `check_area_text` tells of
-//! each as `check_text` does, and then what is wrong between them; `check_area_json` prints that as
-//! JSON. What is told of a file stands in `specs/Checked`, and between files in `specs/Area` and
-//! `specs/Json`; where its faults are tells `ospf_files`.
+//! `check_text` reports for each file that it is accepted, or its fault with the lowest number, and
+//! on request what to do about that fault, or about all faults. `check_area_text` reports each file
+//! as `check_text` does, and then what is wrong between them; `check_area_json` prints that as
+//! JSON. The text about a file is defined in `specs/Checked`, and about what is between files in
+//! `specs/Area` and `specs/Json`; `ospf_files` says where the faults of a file are.
 #![tactic(auto)]
 
 mod area;

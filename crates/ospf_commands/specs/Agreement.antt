@@ -1,4 +1,4 @@
--- What follows where routers are expected to agree, and do.
+-- What follows if routers are expected to agree, and do.
 use Rattle.std.specs.Prelude.{◌≡◌, Some, false, is_some, map, true}
 use Rattle.ospf_base.specs.Sums.{contents}
 use Rattle.ospf_base.specs.declared.ids.RouterId.{RouterId}
@@ -17,17 +17,17 @@ use Rattle.ospf_commands.specs.Simulations.{Answer}
 abbrev pub IsAgreed : WorldValue → Type 0
 IsAgreed w = (answer : Answer) × (text : Text) × IsOfAll w answer text false
 
--- two routers list the same LSAs, each whole but for its age
+-- two routers have the same listing: each LSA is the same except for its age
 abbrev pub ListOneThing : Running → Running → Type 0
 ListOneThing x y = map contents (listing x) ≡ map contents (listing y)
 
--- any two routers that run do
+-- any two running routers do
 abbrev pub RunningListOneThing : World → Type 0
 RunningListOneThing w =
     (r q : RouterId) (x y : Running) → router_at w r ≡ Some x → router_at w q ≡ Some y
     → ListOneThing x y
 
--- any two routers that run list the same instances
+-- any two running routers list the same instances
 abbrev pub RunningListTheSame : World → Type 0
 RunningListTheSame w =
     (r q : RouterId) (x y : Running) → router_at w r ≡ Some x → router_at w q ≡ Some y
@@ -37,12 +37,12 @@ RunningListTheSame w =
 abbrev pub AllListedRun : World → Running → Type 0
 AllListedRun w x = (q : RouterId) → IsListed (adverts x) q → is_some (router_at w q) ≡ true
 
--- where it is met in a network that events led to, a router runs
+-- if `expect agree` is met in a network that events led to, a router runs
 abbrev pub AgreedRun : Type 0
 AgreedRun =
     (w : WorldValue) → IsReached is_dropped (world_of w) → IsAgreed w → some_run w.slots ≡ true
 
--- all that run list the same LSAs
+-- all running routers list the same LSAs
 abbrev pub AgreedListOneThing : Type 0
 AgreedListOneThing =
     (w : WorldValue) → IsReached is_dropped (world_of w) → IsAgreed w
@@ -54,7 +54,7 @@ AgreedListTheSame =
     (w : WorldValue) → IsReached is_dropped (world_of w) → IsAgreed w
     → RunningListTheSame (world_of w)
 
--- and where all that a router lists run, this is what the walks of the headline ask for
+-- and if all routers that a router lists run, this is the condition of the headline for walks
 abbrev pub AgreedWalksMayArrive : Type 0
 AgreedWalksMayArrive =
     (w : WorldValue) → IsReached is_dropped (world_of w) → IsAgreed w

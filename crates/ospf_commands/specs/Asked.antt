@@ -29,7 +29,8 @@ use Rattle.ospf_commands.specs.declared.simulation.Simulation.{Simulation}
 abbrev pub IsTextSaid : String Global → Answer → Text → Type 0
 IsTextSaid said answer text = (answer ≡ Ok tt) × (text ≡ said_line said)
 
--- what is printed of a router that runs; of another one nothing, and it is said why
+-- the view of a running router is printed; for any other nothing is printed, and the answer says
+-- why
 pub data IsViewShown (view : View) (r : RouterId) (s : Simulation) (answer : Answer) (text : Text)
     : Type 0 where
   is_shown : (x : RouterValue) → LendsRouter s.world r x → answer ≡ Ok tt
@@ -37,8 +38,8 @@ pub data IsViewShown (view : View) (r : RouterId) (s : Simulation) (answer : Ans
   is_not_shown : (f : WorldFault) → IsNotLent s.world r f → answer ≡ Err f → text ≡ []
       → IsViewShown view r s answer text
 
--- the walk from a router towards an address by these choices is printed, and is known from then on;
--- or it is said why there is none
+-- the walk from a router to an address with these choices is printed and remembered; or the answer
+-- says why there is none
 pub data IsWalked (from : RouterId) (address : Addr) (choices : List ℕ) (s s' : Simulation)
     (answer : Answer) (text : Text) : Type 0 where
   is_walked : (walk : Walk) → IsWalkFrom s.world from address.0 choices (Ok walk) → answer ≡ Ok tt
@@ -48,9 +49,9 @@ pub data IsWalked (from : RouterId) (address : Addr) (choices : List ℕ) (s s' 
       → answer ≡ Err f → text ≡ [] → s' ≡ s
       → IsWalked from address choices s s' answer text
 
--- what a link of a router that runs waits for, or a Router ID on it, is printed, and why
--- it would drop what came last; or it is said why it cannot be asked: there is no such
--- link, or the router does not run
+-- what a link of a running router, or a Router ID on it, waits for is printed, and why it would
+-- drop the packet that arrived last; or the answer says why not: there is no such link, or the
+-- router does not run
 pub data IsWhyAnswered (r : RouterId) (link : ℕ) (neighbour : Option RouterId) (s : Simulation)
     (answer : Answer) (text : Text) : Type 0 where
   is_explained : (x : RouterValue) → LendsRouter s.world r x
@@ -62,12 +63,12 @@ pub data IsWhyAnswered (r : RouterId) (link : ℕ) (neighbour : Option RouterId)
   is_not_explained : (f : WorldFault) → IsNotLent s.world r f → answer ≡ Err f → text ≡ []
       → IsWhyAnswered r link neighbour s answer text
 
--- how many datagrams are shown: so many as are asked for, else 16
+-- how many datagrams are shown: as many as requested, else 16
 abbrev pub most_shown : Option ℕ → ℕ
 most_shown most = unwrap_or most 16
 
--- what a round offers to a router that runs is printed, the last so many datagrams of it; or it is
--- said why the router cannot be asked
+-- the datagrams that a round offers to a running router are printed, at most this many of the last
+-- ones; or the answer says why not
 pub data AreDatagramsShown (r : RouterId) (most : Option ℕ) (s : Simulation) (answer : Answer)
     (text : Text) : Type 0 where
   are_shown : (x : RouterValue) → LendsRouter s.world r x → answer ≡ Ok tt
@@ -76,22 +77,22 @@ pub data AreDatagramsShown (r : RouterId) (most : Option ℕ) (s : Simulation) (
   are_not_shown : (f : WorldFault) → IsNotLent s.world r f → answer ≡ Err f → text ≡ []
       → AreDatagramsShown r most s answer text
 
--- what the LSAs say that a router lists, which may have stopped: of each its lines, in order
+-- the contents of the LSAs that a router lists, which may have stopped: the lines of each LSA, in
+-- order
 abbrev pub AreLsasOf : Option AreaValue → Text → Type 0
 AreLsasOf area text =
     AreLines (SaysOfLsa (advertisements_of (listing_of area))) (listing_of area) text
 
--- the line above them: of which router they are
+-- the heading above them: the router whose LSAs they are
 abbrev pub lsas_heading : RouterId → Text
 lsas_heading r = codes "lsas of " ++ number_text r.0 ++ codes ": what each LSA says\n"
 
--- what they say, below that line where labels are asked for
+-- the contents, below that heading if labels are on
 abbrev pub AreLsasBelow : Bool → RouterId → Option AreaValue → Text → Type 0
 AreLsasBelow is_labelled r area text =
     (lines : Text) × AreLsasOf area lines × (text ≡ headed is_labelled (lsas_heading r) lines)
 
--- that of a router that runs is printed; or there is no room to know it; or it is said why the
--- router cannot be asked
+-- those of a running router are printed; or memory runs out; or the answer says why not
 pub data AreLsasShown (r : RouterId) (s : Simulation) (answer : Answer) (text : Text) : Type 0 where
   lsas_are_shown : (x : RouterValue) → LendsRouter s.world r x → answer ≡ Ok tt
       → AreLsasBelow s.is_labelled r x.area text → AreLsasShown r s answer text
@@ -103,7 +104,7 @@ pub data AreLsasShown (r : RouterId) (s : Simulation) (answer : Answer) (text : 
 abbrev pub slot_at : WorldValue → RouterId → Option SlotValue
 slot_at w r = find (is_slot_of r.0) w.slots
 
--- what a router that runs dropped since it started is printed; or it is said why it cannot be asked
+-- what a running router dropped since it started is printed; or the answer says why not
 pub data AreDropsShown (r : RouterId) (s : Simulation) (answer : Answer) (text : Text)
     : Type 0 where
   drops_are_shown : (x : SlotValue) → slot_at s.world r ≡ Some x → is_some x.running ≡ true

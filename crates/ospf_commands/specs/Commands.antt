@@ -18,7 +18,7 @@ use Rattle.ospf_commands.specs.Worlds.{EventDoes, IsRandomRun, WorldValue}
 use Rattle.ospf_rounds.specs.declared.losses.Losses.{Losses}
 use Rattle.ospf_commands.specs.declared.simulation.Simulation.{Simulation}
 
--- an event comes about
+-- an event happens
 abbrev pub EventComesAbout : WorldEvent → Simulation → Answer → Simulation → Type 0
 EventComesAbout e s answer s' = (w : WorldValue) × EventDoes e s.world answer w × (s' ≡ moved s w)
 
@@ -26,19 +26,19 @@ EventComesAbout e s answer s' = (w : WorldValue) × EventDoes e s.world answer w
 abbrev pub ManyHappen : Many → Simulation → Answer → Simulation → Type 0
 ManyHappen many s answer s' = (w : WorldValue) × ComesAbout many s.world answer w × (s' ≡ moved s w)
 
--- events by chance, drawn by this number
+-- random events, drawn with this number
 abbrev pub SomeHappen : (number count : ℕ) → Simulation → Answer → Simulation → Type 0
 SomeHappen number count s answer s' =
     (w : WorldValue) × IsRandomRun number count s.world answer w × (s' ≡ moved s w)
 
--- losses in the place of those before, where an interface is on their network
+-- these losses replace the earlier ones, if an interface is on their network
 pub data Loses (losses : Losses) (s : Simulation) (answer : Answer) (s' : Simulation) : Type 0 where
   are_lost : lose_somewhere losses.network s.world.slots ≡ true → answer ≡ Ok tt
       → s' ≡ record s { losses = Some losses } → Loses losses s answer s'
   lost_nowhere : lose_somewhere losses.network s.world.slots ≡ false → answer ≡ Err fault.NoLink
       → s' ≡ s → Loses losses s answer s'
 
--- what a command does to a simulation, what is answered, and what is printed
+-- what a command does to a simulation, its answer, and what it prints
 abbrev pub DoesCommand : Command → Simulation → Answer → Text → Simulation → Type 0
 DoesCommand (command.Event e) s answer text s' = EventComesAbout e s answer s' × (text ≡ [])
 DoesCommand (command.Many many) s answer text s' = ManyHappen many s answer s' × (text ≡ [])
@@ -66,7 +66,7 @@ DoesCommand (command.Expect e) s answer text s' = JudgedSo e s s' answer text
 DoesCommand (command.Label is_on) s answer text s' =
     (answer ≡ Ok tt) × (text ≡ []) × (s' ≡ record s { is_labelled = is_on })
 
--- what the command prints is what was written
+-- what the command prints was written
 abbrev pub IsDone : Command → Simulation → Answer → Simulation → (out_old out_new : Option (List ℕ))
     → Type 0
 IsDone c s answer s' out_old out_new =

@@ -1,4 +1,4 @@
--- Whether something is as it is expected to be, and what is printed where it is not.
+-- Whether expectations are met, and what is printed if not.
 use Rattle.std.specs.Prelude.{◌≡◌, ◌&&◌, ◌==◌, ℕ, Bool, true, false, not, List, [], ◌∷◌, ◌++◌, Ok, Err, Option, None, Some, codes, is_some}
 use Rattle.std.specs.List.{AllByRecursion, list_any}
 use Rattle.ospf_base.specs.Text.{number_text}
@@ -22,11 +22,11 @@ use Rattle.ospf_commands.specs.Simulations.{Answer}
 use Rattle.ospf_commands.specs.Worlds.{IsNotLent, IsWalkFrom, LendsRouter, SlotValue, WorldValue}
 use Rattle.ospf_commands.specs.declared.simulation.Simulation.{Simulation}
 
--- ---- of a router
+-- ---- a router
 
--- a router that runs has what is wanted of it, and nothing is printed; or it has not, and that is
--- printed with what stands there; or it cannot be asked, and it is said why. The last tells
--- whether it is not known to be so
+-- a running router has what is wanted, and nothing is printed; or it does not, and that is printed
+-- with what it has; or the router cannot be asked, and the answer says why. The last argument says
+-- whether the expectation is not known to be met
 pub data IsOfRouter (r : RouterId) (wanted : Wanted) (w : WorldValue) (answer : Answer)
     (text : Text) (unmet : Bool) : Type 0 where
   is_as_expected : (x : RouterValue) → LendsRouter w r x → IsMet wanted x → answer ≡ Ok tt
@@ -38,14 +38,14 @@ pub data IsOfRouter (r : RouterId) (wanted : Wanted) (w : WorldValue) (answer : 
   is_not_asked : (f : WorldFault) → IsNotLent w r f → answer ≡ Err f → text ≡ [] → unmet ≡ true
       → IsOfRouter r wanted w answer text unmet
 
--- ---- of a walk
+-- ---- a walk
 
 -- it ended where the address is attached
 abbrev pub is_arrived : WalkEnd → Bool
 is_arrived end.Arrived = true
 is_arrived _ = false
 
--- at this cost, where one is given
+-- at this cost, if one is given
 abbrev pub is_at_cost : Option ℕ → ℕ → Bool
 is_at_cost None cost = true
 is_at_cost (Some wanted) cost = cost == wanted
@@ -54,8 +54,8 @@ is_at_cost (Some wanted) cost = cost == wanted
 abbrev pub arrives : Option ℕ → Walk → Bool
 arrives cost walk = is_arrived walk.end && is_at_cost cost walk.cost
 
--- the walk by first hops arrives; or it does not so, and that is printed with the walk; or
--- there is none, and it is said why
+-- the walk by first hops arrives; or it does not arrive so, and that is printed with the walk; or
+-- there is none, and the answer says why
 pub data IsOfWalk (e : Expected) (from : RouterId) (address : Addr) (cost : Option ℕ)
     (w : WorldValue) (answer : Answer) (text : Text) (unmet : Bool) : Type 0 where
   has_arrived : (walk : Walk) → IsWalkFrom w from address.0 [] (Ok walk) → arrives cost walk ≡ true
@@ -69,7 +69,7 @@ pub data IsOfWalk (e : Expected) (from : RouterId) (address : Addr) (cost : Opti
       → text ≡ [] → unmet ≡ true
       → IsOfWalk e from address cost w answer text unmet
 
--- ---- of all routers
+-- ---- all routers
 
 -- a router lists these, if it runs
 abbrev pub ListsIfRuns : List ℕ → SlotValue → Type 0
@@ -83,7 +83,7 @@ AllList lsas slots = AllByRecursion (ListsIfRuns lsas) slots
 abbrev pub NoneRuns : List SlotValue → Type 0
 NoneRuns slots = AllByRecursion (λ (s : SlotValue). s.running ≡ None) slots
 
--- the first of these routers that runs and lists otherwise, if there is one
+-- the first of these routers that runs and has another listing, if there is one
 pub data IsFirstOther (lsas : List ℕ) (slots : List SlotValue) : Option RouterId → Type 0 where
   all_list : AllList lsas slots → IsFirstOther lsas slots None
   one_lists_otherwise : (before after : List SlotValue) (s : SlotValue) (x : Running)
@@ -96,7 +96,7 @@ abbrev pub both : RouterId → Option RouterId → Option (RouterId × RouterId)
 both r None = None
 both r (Some o) = Some (r, o)
 
--- the first router that runs, and the first behind it that lists otherwise, if there is one
+-- the first running router, and the first after it with another listing, if there is one
 pub data AreFirstToDiffer (slots : List SlotValue) : Option (RouterId × RouterId) → Type 0 where
   none_runs : NoneRuns slots → AreFirstToDiffer slots None
   one_runs : (before after : List SlotValue) (s : SlotValue) (x : Running) (other : Option RouterId)
@@ -108,20 +108,20 @@ pub data AreFirstToDiffer (slots : List SlotValue) : Option (RouterId × RouterI
 abbrev pub some_run : List SlotValue → Bool
 some_run slots = list_any (λ (s : SlotValue). is_some s.running) slots
 
--- that none does
+-- the report that no router runs
 abbrev pub nobody_line : Text
 nobody_line = codes "no router is running\n"
 
--- two routers
+-- two Router IDs
 abbrev pub two_text : RouterId × RouterId → Text
 two_text two = number_text two.0.0 ++ codes " and " ++ number_text two.1.0
 
--- and that they do
+-- the report that two routers have different LSDBs
 abbrev pub apart_line : RouterId × RouterId → Text
 apart_line two = two_text two ++ codes " have different LSDBs\n"
 
--- routers run, and all that do list the same; or none runs, and that is printed; or there is no
--- room to know; or two do not list the same, and that is printed
+-- routers run, and all have the same listing; or none runs, and that is printed; or memory runs
+-- out; or two have different listings, and that is printed
 pub data IsOfAll (w : WorldValue) (answer : Answer) (text : Text) (unmet : Bool) : Type 0 where
   they_agree : some_run w.slots ≡ true → AreFirstToDiffer w.slots None → answer ≡ Ok tt
       → text ≡ [] → unmet ≡ false → IsOfAll w answer text unmet
@@ -134,9 +134,9 @@ pub data IsOfAll (w : WorldValue) (answer : Answer) (text : Text) (unmet : Bool)
       → text ≡ unmet_line expected.Agree ++ apart_line two → unmet ≡ true
       → IsOfAll w answer text unmet
 
--- ---- whatever is expected
+-- ---- any expectation
 
--- by whether the last settling is known to hold
+-- what is printed, by whether the network is known to have settled last time
 abbrev pub settled_text : Bool → Text
 settled_text true = []
 settled_text false = unmet_line expected.Settled
@@ -146,7 +146,7 @@ abbrev pub IsOfSettling : Bool → Answer → Text → Bool → Type 0
 IsOfSettling is_settled answer text unmet =
     (answer ≡ Ok tt) × (text ≡ settled_text is_settled) × (unmet ≡ not is_settled)
 
--- what is expected is judged
+-- an expectation is judged
 abbrev pub IsJudged : Expected → Simulation → Answer → Text → Bool → Type 0
 IsJudged (expected.Router r wanted) s answer text unmet =
     IsOfRouter r wanted s.world answer text unmet
@@ -155,7 +155,7 @@ IsJudged (expected.Walk from address cost) s answer text unmet =
 IsJudged expected.Agree s answer text unmet = IsOfAll s.world answer text unmet
 IsJudged expected.Settled s answer text unmet = IsOfSettling s.is_settled answer text unmet
 
--- that something was not as it was expected is known from then on
+-- from then on it is known that an expectation was not met
 abbrev pub Judges : Bool → Simulation → Simulation → Type 0
 Judges true s s' = s' ≡ record s { is_unmet = true }
 Judges false s s' = s' ≡ s

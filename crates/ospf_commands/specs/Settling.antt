@@ -1,4 +1,4 @@
--- What is seen of a simulation, and rounds until it stays so.
+-- What is seen of a simulation, and rounds until it no longer changes.
 use Rattle.std.specs.Prelude.{◌≡◌, ◌<◌, ◌≤◌, ◌+◌, ◌-◌, ⊤, ℕ, zero, suc, List, [], ◌∷◌, ◌++◌, Result, Ok, Err, Option, None, Some, codes, decimal, flat_map, fold, length, max, option_map, slice_get, true, false}
 use Rattle.ospf_base.specs.Text.{number_text}
 use Rattle.ospf_config.specs.Conflicts.{network_part}
@@ -23,14 +23,14 @@ use Rattle.ospf_commands.specs.declared.simulation.Simulation.{Simulation}
 abbrev pub sight : Simulation → List ℕ
 sight s = flat_map slot_sight s.world.slots
 
--- ---- how long it is looked at
+-- ---- how long it is watched
 
--- the longest of some seconds and the RouterDeadInterval and the RxmtInterval of an interface
--- (section C.3)
+-- the maximum of some seconds and the RouterDeadInterval and RxmtInterval of an interface (section
+-- C.3)
 abbrev pub longer : ℕ → Interface → ℕ
 longer longest i = max (max longest i.dead) i.retransmit
 
--- or those of all interfaces of a router
+-- or of all interfaces of a router
 abbrev pub longer_in : ℕ → SlotValue → ℕ
 longer_in longest s = fold longer longest s.config.interfaces.items
 
@@ -38,14 +38,14 @@ longer_in longest s = fold longer longest s.config.interfaces.items
 abbrev pub longest_wait : Simulation → ℕ
 longest_wait s = fold longer_in min_ls_interval s.world.slots
 
--- how many rounds in a row are to change nothing: as many as a router waits at most, and one more,
--- since the first of them delivers what waited before it, and each wait may begin there
+-- how many rounds in a row must change nothing: as many as a router waits at most, and one more,
+-- because the first of them delivers what waited before it, and each wait may begin there
 abbrev pub rounds_to_stay : Simulation → ℕ
 rounds_to_stay s = longest_wait s + 1
 
 -- ---- until nothing changes
 
--- how many datagrams such a round offers at most, as `round` does of itself
+-- the most datagrams that such a round offers: the default of `round`
 abbrev pub settling_offers : ℕ
 settling_offers = 10000
 
@@ -55,7 +55,7 @@ abbrev pub left_over : WorldValue → Option (Option InterfaceAddress)
 left_over w =
     option_map (λ g. sending_address w.slots g) (slice_get w.logs.datagrams w.offered)
 
--- simulations, the latest first: the last is this one, and between each and the one before lies a
+-- simulations, the latest first: the last is this one, and each follows from the one before it by a
 -- round that leaves nothing over
 abbrev pub ArePassed : Simulation → List Simulation → Type 0
 ArePassed s [] = ⊥
@@ -64,45 +64,46 @@ ArePassed s (now ∷ before ∷ passed) =
     IsOneRound settling_offers before (Ok tt) now × (left_over now.world ≡ None)
     × ArePassed s (before ∷ passed)
 
--- of simulations, the latest first: in the last so many rounds nothing that is seen has changed
+-- simulations, the latest first: nothing that is seen has changed in the last `rounds` rounds
 abbrev pub IsStillFor : ℕ → List Simulation → Type 0
 IsStillFor zero passed = ⊤
 IsStillFor (suc rounds) (now ∷ before ∷ passed) =
     (sight now ≡ sight before) × IsStillFor rounds (before ∷ passed)
 IsStillFor (suc rounds) _ = ⊥
 
--- that was so behind none of them
+-- that was not so after any of them
 abbrev pub NeverStillFor : ℕ → List Simulation → Type 0
 NeverStillFor rounds [] = ⊤
 NeverStillFor rounds (now ∷ passed) =
     (IsStillFor rounds (now ∷ passed) → ⊥) × NeverStillFor rounds passed
 
--- what is printed of it: the round of the last change, and how many more changed nothing
+-- what is printed: the round of the last change, and how many more changed nothing
 abbrev pub settled_line : (rounds still : ℕ) → Text
 settled_line rounds still =
     codes "settled in round " ++ decimal rounds
     ++ (codes ", unchanged for " ++ decimal still ++ codes " more\n")
 
--- where that has not come: by which round, and how many in a row are to change nothing
+-- what is printed if it did not settle: up to which round, and how many in a row must change
+-- nothing
 abbrev pub unsettled_line : (rounds still : ℕ) → Text
 unsettled_line rounds still =
     codes "not settled by round " ++ decimal rounds
     ++ (codes ": " ++ decimal still ++ codes " rounds in a row must change nothing\n")
 
--- the network of an interface, where there is one
+-- the network of an interface, if it is known
 abbrev pub network_text : Option InterfaceAddress → Text
 network_text None = []
 network_text (Some from) =
     codes ", at " ++ number_text (network_part from) ++ codes "/" ++ decimal from.length
 
--- where a round has left datagrams over, the first of which this interface sent
+-- what is printed if a round left datagrams over, the first of which this interface sent
 abbrev pub storm_line : Option InterfaceAddress → Text
 storm_line from =
     codes "not settled: 10,000 datagrams in one round" ++ network_text from ++ codes "\n"
 
--- rounds, at most so many, up to the first behind which nothing has changed for so many; or there
--- is none such; or a round is refused, or leaves something over; or there is no room for what is
--- seen
+-- rounds, at most `most`, up to the first after which nothing has changed for `still` rounds; or
+-- there is no such round; or a round is refused, or leaves something over; or memory runs out for
+-- what is seen
 pub data Passes (most still : ℕ) (s : Simulation) (result : Result Outcome WorldFault)
     (s' : Simulation) : Type 0 where
   settles : (passed : List Simulation) → ArePassed s (s' ∷ passed) → IsStillFor still (s' ∷ passed)
@@ -125,8 +126,8 @@ pub data Passes (most still : ℕ) (s : Simulation) (result : Result Outcome Wor
       → NeverStillFor still passed → length passed ≤ most
       → result ≡ Err (fault.Memory false) → Passes most still s result s'
 
--- it is looked at for as many rounds as a router waits at most before it does what is due, and for
--- one more, and told what came of it
+-- the simulation is watched for as many rounds as a router waits at most before it does what is
+-- due, and for one more, and the outcome is printed
 pub data Settles (most : ℕ) (s : Simulation) (answer : Answer) (text : Text) (s' : Simulation)
     : Type 0 where
   has_settled : (rounds : ℕ) (now : Simulation)

@@ -4,12 +4,12 @@ use Rattle.ospf_event.specs.declared.event.WorldFault.{WorldFault}
 use Rattle.ospf_commands.specs.Worlds.{WorldValue}
 use Rattle.ospf_commands.specs.declared.simulation.Simulation.{Simulation}
 
--- what is answered to a line: that it is done, or why it is refused
+-- the answer to a line: it is done, or why it is refused
 abbrev pub Answer : Type 0
 Answer = Result (Unit {0}) WorldFault
 
--- a simulation in this world before its first line: nothing is lost, labelled or settled, no walk
--- was asked for, nothing was expected, and no line was refused
+-- a simulation in this world before its first line: no losses, labels or settling, no walk, no
+-- expectation, and no refused line
 abbrev pub begun_in : WorldValue → Simulation
 begun_in w =
     record {
@@ -22,10 +22,10 @@ begun_in w =
       is_refused = false;
     }
 
--- it is asked for that something comes about: it is not known to have settled
+-- an event is requested: the simulation is not known to have settled
 abbrev pub unsettled : Simulation → Simulation
 unsettled s = record s { is_settled = false }
 
--- something may have come about: the world is this one, and it is not known to have settled
+-- an event may have happened: this is the world, and it is not known to have settled
 abbrev pub moved : Simulation → WorldValue → Simulation
 moved s w = record s { world = w; is_settled = false }

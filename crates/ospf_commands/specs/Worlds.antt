@@ -1,4 +1,4 @@
--- Worlds, as a script speaks of them.
+-- Worlds, in the terms of a script.
 use Rattle.std.specs.Prelude.{◌≡◌, ℕ, List, Some, Result}
 use Rattle.ospf_base.specs.declared.ids.RouterId.{RouterId}
 use Rattle.ospf_headline.specs.World.{Member, member, of_member, unless_stopped}
@@ -16,23 +16,23 @@ pub use Rattle.ospf_rounds.specs.Batches.{IsBatch}
 pub use Rattle.ospf_world.specs.Rounds.{IsRoundOf, most_offers}
 pub use Rattle.ospf_world.specs.Worlds.{SlotValue, WorldValue}
 
--- what an event does: what it names happens to the router that it names, exactly
+-- what an event does: it happens to the router that it names, exactly
 abbrev pub EventDoes : WorldEvent → WorldValue → Result (Unit {0}) WorldFault → WorldValue → Type 0
 EventDoes = Does
 
--- so many events come by chance, drawn by the generator of this number
+-- this many random events happen, drawn with the generator of this number
 abbrev pub IsRandomRun : ℕ → ℕ → WorldValue → Result (Unit {0}) WorldFault → WorldValue → Type 0
 IsRandomRun number count w answer w' =
     random.IsRandom count (started 64 multiplier_64 number (increment_of 64 0)) w answer w'
 
--- the walk from a router towards an address by these choices, or why there is none
+-- the walk from a router to an address with these choices, or why there is none
 abbrev pub IsWalkFrom : WorldValue → RouterId → ℕ → List ℕ → Result Walk WorldFault → Type 0
 IsWalkFrom w from address choices result = Walks (world_of w) from address choices result
 
--- a router that runs, with its area and its table as the world has them
+-- a running router, with its area and its table as the world has them
 abbrev pub LendsRouter : WorldValue → RouterId → RouterValue → Type 0
 LendsRouter w r x = (m : Member) × (member (world_of w) r ≡ Some m) × IsLent m.running x
 
--- why no router of this Router ID can be asked: there is none, or it does not run
+-- why no router with this Router ID can be asked: there is none, or it does not run
 abbrev pub IsNotLent : WorldValue → RouterId → WorldFault → Type 0
 IsNotLent w r fault = of_member unless_stopped (member (world_of w) r) ≡ Some fault

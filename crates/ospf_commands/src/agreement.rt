@@ -1,4 +1,4 @@
-//! Whether all routers that run list the same.
+//! Whether all running routers have the same listing.
 
 ghost use Rattle.std.specs.Prelude.{◌≡◌, IfOk};
 ghost use Rattle.ospf_commands.specs.Judged.{AreFirstToDiffer, IsFirstOther, both, some_run};
@@ -8,7 +8,7 @@ use ospf_views::listed_by;
 use ospf_world::Slot;
 use std::alloc::{AllocError, Global};
 
-// The first router that runs, and the first behind it that lists otherwise, if there is one.
+// Finds the first running router, and the first after it with another listing, if there is one.
 pub(crate) fn apart(
     slots: &[Slot],
     alloc: Global,
@@ -34,7 +34,7 @@ pub(crate) fn some_run(slots: &[Slot]) -> bool
     slots.iter().any(|slot| slot.runs())
 }
 
-// The first of these routers that runs and lists otherwise.
+// Finds the first of these routers that runs and has another listing.
 fn first_other(lsas: &[u8], slots: &[Slot], alloc: Global) -> Result<Option<RouterId>, AllocError>
     ensures { IfOk result (IsFirstOther lsas.now slots.now) }
 {

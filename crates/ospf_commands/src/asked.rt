@@ -1,4 +1,4 @@
-//! What is asked of routers, and printed.
+//! What lines ask of routers, and what is printed.
 
 ghost use Rattle.std.specs.Prelude.{◌≡◌, IfErr, IfOk, OnErr, string_bytes};
 ghost use Rattle.ospf_files.specs.Streams.{IsOutputCut};
@@ -18,10 +18,10 @@ use ospf_world::WorldFault;
 use std::alloc::{AllocError, Global};
 use std::io::Write;
 
-// How many datagrams are shown where it is not said.
+// How many datagrams are shown if the line does not say.
 const MOST_DATAGRAMS: u64 = 16;
 
-// Prints a text. Where that fails, a beginning of it was written.
+// Prints a text. If that fails, a beginning of it was written.
 pub(crate) fn say<O: Write>(
     text: &String,
     out: &mut O,
@@ -39,7 +39,7 @@ pub(crate) fn say<O: Write>(
     Ok(Ok(()))
 }
 
-// Prints what a line asks of a router, if that runs; where that fails, a beginning of it.
+// Prints a view of a running router; if that fails, a beginning of it.
 pub(crate) fn show<O: Write>(
     simulation: &Simulation,
     view: View,
@@ -64,7 +64,7 @@ pub(crate) fn show<O: Write>(
     }
 }
 
-// Prints a walk, if there is one, and keeps whom it met; where that fails, a beginning of it.
+// Prints a walk, if there is one, and remembers it; if that fails, prints a beginning of it.
 pub(crate) fn show_walk<O: Write>(
     simulation: &mut Simulation,
     ends: (RouterId, Addr),
@@ -94,8 +94,8 @@ pub(crate) fn show_walk<O: Write>(
     }
 }
 
-// Prints what a link waits for, or a router on it, and why it would drop what came last, if there
-// is such a link. Where that fails, a beginning of it was written.
+// Prints what a link, or a router on it, waits for, and why it would drop the packet that arrived
+// last, if there is such a link. If that fails, a beginning of it was written.
 pub(crate) fn show_why<O: Write>(
     simulation: &Simulation,
     place: (RouterId, usize),
@@ -125,7 +125,8 @@ pub(crate) fn show_why<O: Write>(
     }
 }
 
-// Prints the last that a round offers to a router that runs; where that fails, a beginning of it.
+// Prints the last datagrams that a round offers to a running router; if that fails, a beginning of
+// it.
 pub(crate) fn show_datagrams<O: Write>(
     simulation: &Simulation,
     router: RouterId,
@@ -151,7 +152,7 @@ pub(crate) fn show_datagrams<O: Write>(
     Ok(Ok(()))
 }
 
-// Prints what a router that runs dropped since its start; where that fails, a beginning of it.
+// Prints what a running router dropped since its start; if that fails, a beginning of it.
 pub(crate) fn show_drops<O: Write>(
     simulation: &Simulation,
     router: RouterId,
@@ -177,7 +178,7 @@ pub(crate) fn show_drops<O: Write>(
     Ok(Ok(()))
 }
 
-// Prints what the LSAs say that a router that runs lists; where that fails, a beginning of it.
+// Prints the contents of the LSAs that a running router lists; if that fails, a beginning of it.
 pub(crate) fn show_lsas<O: Write>(
     simulation: &Simulation,
     router: RouterId,
@@ -202,7 +203,7 @@ pub(crate) fn show_lsas<O: Write>(
     Ok(Ok(()))
 }
 
-// What the LSAs say that a router lists, below a line that says so, if labels are asked for.
+// Formats the contents of the LSAs that a router lists, below a heading if labels are on.
 fn lsa_lines(
     alloc: Global,
     is_labelled: bool,
@@ -222,7 +223,7 @@ fn lsa_lines(
     Ok(labelled)
 }
 
-// The line above them.
+// Formats the heading.
 fn lsas_heading(alloc: Global, router: RouterId) -> Result<String, AllocError>
     ensures { IfOk result (λ line. string_bytes line ≡ lsas_heading router) }
 {

@@ -1,4 +1,4 @@
-//! Commands that are done.
+//! Running commands.
 
 ghost use Rattle.std.specs.Prelude.{◌≡◌, IfErr, IfOk, Ok, OnErr};
 ghost use Rattle.ospf_files.specs.Streams.{IsOutputCut};
@@ -18,10 +18,10 @@ use ospf_world::{WorldEvent, WorldFault};
 use std::alloc::Global;
 use std::io::Write;
 
-/// Does what a command asks for, and prints what it is to print. The answer is why it is refused,
-/// if it is. A watch is told of each event, and how far rounds have come.
+/// Runs a command and prints its output. The answer says why it is refused, if it is. Each event,
+/// and how far rounds have come, is reported to a watch.
 ///
-/// `Failure` where memory runs out or the stream fails: a beginning of what it prints was written.
+/// `Failure` if memory runs out or the stream fails: a beginning of the output was written.
 pub fn run_command<O: Write, V: Watch>(
     simulation: &mut Simulation,
     command: &Command,
@@ -80,7 +80,7 @@ pub fn run_command<O: Write, V: Watch>(
     }
 }
 
-// Has an event come about.
+// Makes an event happen.
 fn run_event<V: Watch>(
     simulation: &mut Simulation,
     event: WorldEvent,
@@ -95,7 +95,7 @@ fn run_event<V: Watch>(
     simulation.world.step_watched(event, watch, alloc)
 }
 
-// Has events come about at many routers.
+// Makes events happen at many routers.
 fn run_at_many<V: Watch>(
     simulation: &mut Simulation,
     many: Many,
@@ -110,7 +110,7 @@ fn run_at_many<V: Watch>(
     run_many(&mut simulation.world, many, watch, alloc)
 }
 
-// Has these losses from here on, if an interface is on their network.
+// Applies these losses from now on, if an interface is on their network.
 fn lose(simulation: &mut Simulation, losses: Losses) -> Result<(), WorldFault>
     ensures loses { Loses losses simulation.old result simulation.new }
     ensures world { simulation.new.world ≡ simulation.old.world }
@@ -122,7 +122,7 @@ fn lose(simulation: &mut Simulation, losses: Losses) -> Result<(), WorldFault>
     Ok(())
 }
 
-// Asks for labels, or for none.
+// Turns labels on or off.
 fn label(simulation: &mut Simulation, is_on: bool) -> Result<(), WorldFault>
     ensures answer { result ≡ Ok tt }
     ensures labelled { simulation.new ≡ record simulation.old { is_labelled = is_on } }

@@ -20,7 +20,7 @@ use ospf_views::{interface_line, write_view};
 use std::alloc::{AllocError, Global};
 use std::io::Write;
 
-/// Whether a router has what is wanted of it.
+/// Whether a router meets an expectation.
 pub fn is_met(wanted: &Wanted, router: &Router) -> bool
     ensures { IsTrue result ↔ IsMet wanted.now router.now }
 {
@@ -37,17 +37,17 @@ pub fn is_met(wanted: &Wanted, router: &Router) -> bool
 
 /// The line of an expectation that is not met.
 ///
-/// `AllocError` where memory runs out.
+/// `AllocError` if memory runs out.
 pub fn unmet_line(alloc: Global, expected: &Expected) -> Result<String, AllocError>
     ensures { IfOk result (λ line. string_bytes line ≡ unmet_line expected.now) }
 {
     format!(in alloc; "not met: {expected}\n")
 }
 
-/// Writes that what is wanted of a router is not met, and what stands there: its neighbours, its
-/// table, or the interface of the link, where that is there.
+/// Reports that an expectation is not met by a router, and what it has: its neighbours, its table,
+/// or the interface of the link, if there is one.
 ///
-/// `Failure` where memory runs out or the stream fails: then a beginning of it was written.
+/// `Failure` if memory runs out or the stream fails: then a beginning of it was printed.
 pub fn write_unmet<O: Write>(
     alloc: Global,
     id: RouterId,
@@ -66,7 +66,7 @@ pub fn write_unmet<O: Write>(
     write_standing(alloc, wanted, router, out, streams)
 }
 
-// Whether the other router is in this state, on whichever link: one that is Down is not kept.
+// Whether the other router is in this state, on any link: one that is Down is not stored.
 fn is_at_state(router: &Router, other: RouterId, state: NeighbourState) -> bool
     ensures { result ≡ is_at_state other state router.now.area }
 {
@@ -77,7 +77,7 @@ fn is_at_state(router: &Router, other: RouterId, state: NeighbourState) -> bool
     }
 }
 
-// Whether it is a neighbour, in whichever state.
+// Whether it is a neighbour, in any state.
 fn is_kept_by(router: &Router, other: RouterId) -> bool
     ensures { result ≡ is_kept_by other router.now.area }
 {
@@ -87,7 +87,7 @@ fn is_kept_by(router: &Router, other: RouterId) -> bool
     }
 }
 
-// Whether it is one on some of these links.
+// Whether it is a neighbour on one of these links.
 fn is_kept_on_some(links: &[AreaLink], other: RouterId) -> bool
     ensures { result ≡ list_any (keeps_router other) links.now }
 {
@@ -100,7 +100,7 @@ fn keeps_router(link: &AreaLink, other: RouterId) -> bool
     link.neighbours.all().iter().any(|n| is_with_id(n, other))
 }
 
-// Whether the other router is a neighbour in this state, on whichever link.
+// Whether the other router is a neighbour in this state, on any link.
 fn some_has_in_state(router: &Router, other: RouterId, state: NeighbourState) -> bool
     ensures { result ≡ some_has_in_state other state router.now.area }
 {
@@ -117,7 +117,7 @@ fn is_on_some(links: &[AreaLink], other: RouterId, state: NeighbourState) -> boo
     links.iter().any(|link| has_in_state(link, other, state))
 }
 
-// Whether it is among the neighbours of a link, in this state.
+// Whether a link has it as a neighbour in this state.
 fn has_in_state(link: &AreaLink, other: RouterId, state: NeighbourState) -> bool
     ensures { result ≡ has_in_state other state link.now }
 {
@@ -148,7 +148,7 @@ fn is_down(state: NeighbourState) -> bool
     }
 }
 
-// Whether a link is there, with no neighbour.
+// Whether there is a link with this number, and it has no neighbour.
 fn has_no_neighbour(router: &Router, link: usize) -> bool
     ensures { IsTrue result ↔ HasNoNeighbour link router.now.area }
 {
@@ -168,7 +168,7 @@ fn is_lonely(link: &AreaLink) -> bool
     link.neighbours.all().is_empty()
 }
 
-// Whether a link is there, with this Designated Router, and with this Backup, where one is given.
+// Whether a link has this Designated Router, and this Backup, if one is given.
 fn has_elected_at(router: &Router, link: usize, dr: Addr, backup: Option<Addr>) -> bool
     ensures { IsTrue result ↔ HasElectedAt link dr backup router.now.area }
 {
@@ -191,7 +191,7 @@ fn has_elected(iface: &Iface, dr: Addr, backup: Option<Addr>) -> bool
     }
 }
 
-// Whether there is a route of this cost to a prefix, by these hops.
+// Whether there is a route to a prefix with this cost and these hops.
 fn has_route(routes: &[Route], prefix: Prefix, cost: u64, hops: &[NextHop]) -> bool
     ensures { IsTrue result ↔ Any (IsRouteAt prefix cost hops.now) routes.now }
 {
@@ -205,7 +205,7 @@ fn has_route(routes: &[Route], prefix: Prefix, cost: u64, hops: &[NextHop]) -> b
     false
 }
 
-// Whether there is any to it.
+// Whether there is any route to it.
 fn has_prefix(routes: &[Route], prefix: Prefix) -> bool
     ensures { result ≡ list_any (is_route_to prefix) routes.now }
 {
@@ -219,7 +219,7 @@ fn is_route_at(route: &Route, prefix: Prefix, cost: u64, hops: &[NextHop]) -> bo
     is_route_to(route, prefix) && route.cost == cost && has_hops(route.hops.as_slice(), hops)
 }
 
-// Whether these are the hops that are wanted, where some are.
+// Whether the hops are exactly those that are wanted, if any are.
 #[tactic(auto, unfolding(crate::specs::Expectations::HasHops))]
 fn has_hops(hops: &[NextHop], wanted: &[NextHop]) -> bool
     ensures { IsTrue result ↔ HasHops wanted.now hops.now }
@@ -247,7 +247,7 @@ fn is_route_to(route: &Route, prefix: Prefix) -> bool
     route.prefix.address.0 == prefix.address.0 && route.prefix.length == prefix.length
 }
 
-// Writes what stands there where it has not. Where that fails, a beginning of it was written.
+// Writes what the router has instead. If that fails, a beginning of it was written.
 fn write_standing<O: Write>(
     alloc: Global,
     wanted: &Wanted,
@@ -272,7 +272,7 @@ fn write_standing<O: Write>(
     }
 }
 
-// Writes the interface of a link, where that is there.
+// Writes the interface of a link, if there is one.
 fn write_interface<O: Write>(
     alloc: Global,
     link: usize,
@@ -290,7 +290,7 @@ fn write_interface<O: Write>(
     streams.write(out, &line)
 }
 
-// Its line, or nothing.
+// Formats its line, or nothing.
 fn line_of_interface(alloc: Global, link: usize, router: &Router) -> Result<String, AllocError>
     ensures { IfOk result (λ line. string_bytes line
         ≡ unwrap_or (interface_of router.now.area link) []) }
@@ -301,7 +301,7 @@ fn line_of_interface(alloc: Global, link: usize, router: &Router) -> Result<Stri
     }
 }
 
-// Writes the line of it. Where that fails, a beginning of it was written.
+// Writes the line of an expectation. If that fails, a beginning of it was written.
 fn write_line<O: Write>(
     alloc: Global,
     router: RouterId,

@@ -1,4 +1,4 @@
-//! Whether something is as it is expected to be.
+//! Whether expectations are met.
 
 ghost use Rattle.std.specs.Prelude.{◌≡◌, ◌++◌, IfErr, IfOk, OnErr, Some, false, string_bytes};
 ghost use Rattle.ospf_commands.specs.Judged.{JudgedSo, apart_line, arrives, is_arrived, is_at_cost, nobody_line, some_run};
@@ -36,7 +36,7 @@ impl Display for TwoShown {
     }
 }
 
-// Whether something is as it is expected to be. If not, that is printed, or a beginning, and kept.
+// Judges an expectation. If it is not met, that is printed, or a beginning of it, and remembered.
 pub(crate) fn judge<O: Write>(
     simulation: &mut Simulation,
     expected: &Expected,
@@ -66,7 +66,7 @@ pub(crate) fn judge<O: Write>(
     }
 }
 
-// Of a router.
+// An expectation of a router.
 fn judge_router<O: Write>(
     simulation: &mut Simulation,
     router: RouterId,
@@ -97,7 +97,7 @@ fn judge_router<O: Write>(
     Ok(Ok(()))
 }
 
-// Of a walk.
+// An expectation of a walk.
 fn judge_walk<O: Write>(
     simulation: &mut Simulation,
     ends: (RouterId, Addr),
@@ -135,7 +135,7 @@ fn judge_walk<O: Write>(
     Ok(Ok(()))
 }
 
-// Of what all routers list.
+// An expectation that all routers agree.
 fn judge_agreement<O: Write>(
     simulation: &mut Simulation,
     out: &mut O,
@@ -189,7 +189,7 @@ fn tell_nobody<O: Write>(
     Ok(Ok(()))
 }
 
-// Of the last settling.
+// An expectation that the last settling holds.
 fn judge_settling<O: Write>(
     simulation: &mut Simulation,
     out: &mut O,
@@ -212,7 +212,7 @@ fn judge_settling<O: Write>(
     Ok(Ok(()))
 }
 
-// Whether a walk arrives, at this cost where one is given.
+// Whether a walk arrives, at this cost if one is given.
 fn arrives(cost: Option<u64>, walk: &Walk) -> bool
     ensures { result ≡ arrives cost walk.now }
 {
@@ -237,7 +237,7 @@ fn is_at(wanted: Option<u64>, cost: u128) -> bool
     }
 }
 
-// The lines of a walk that does not arrive so.
+// The lines of a walk that does not arrive as expected.
 fn unarrived_lines(alloc: Global, expected: &Expected, walk: &Walk) -> Result<String, AllocError>
     ensures { IfOk result (λ lines. string_bytes lines
         ≡ unmet_line expected.now ++ walk_line walk.now) }
@@ -248,7 +248,7 @@ fn unarrived_lines(alloc: Global, expected: &Expected, walk: &Walk) -> Result<St
     Ok(lines)
 }
 
-// The lines where no router runs.
+// The lines if no router runs.
 fn nobody_lines(alloc: Global) -> Result<String, AllocError>
     ensures { IfOk result (λ lines. string_bytes lines
         ≡ unmet_line expected.Agree ++ nobody_line) }
@@ -258,7 +258,7 @@ fn nobody_lines(alloc: Global) -> Result<String, AllocError>
     Ok(lines)
 }
 
-// The lines of two routers that have different LSDBs.
+// The lines of two routers with different LSDBs.
 fn apart_lines(alloc: Global, two: (RouterId, RouterId)) -> Result<String, AllocError>
     ensures { IfOk result (λ lines. string_bytes lines
         ≡ unmet_line expected.Agree ++ apart_line two) }

@@ -1,10 +1,10 @@
-//! A law: what follows where routers are expected to agree, and do.
+//! A law: what follows if routers are expected to agree, and do.
 
 ghost use Rattle.ospf_commands.specs.Agreement.{AgreedListOneThing, AgreedListTheSame, AgreedRun, AgreedWalksMayArrive};
 
-/// Where `expect agree` is met, some router runs, and any two that do list the same LSAs, each
-/// whole but for its age, and so the same instances; and where all routers that one of them lists
-/// run, that is what the headline asks of a network in which each walk arrives (`AllListedAgree`).
+/// If `expect agree` is met, some router runs, and any two running routers list the same LSAs
+/// except for their age, and so the same instances; if all routers that one of them lists run, that
+/// is what the headline asks of a network in which each walk arrives (`AllListedAgree`).
 pub fn agreement_law()
     ensures some_run { AgreedRun }
     ensures one_thing { AgreedListOneThing }

@@ -1,8 +1,8 @@
 //! What the commands of a script do in a network of routers, and what they print.
 //!
 //! `run_command` runs one on a `Simulation` (`specs/Commands`, `specs/Shown`, `specs/Judged`);
-//! `is_met` judges what a line expects of a router (`specs/Expectations`), and `agreement_law` is
-//! of `specs/Agreement`.
+//! `is_met` judges an expectation of a router (`specs/Expectations`), and `agreement_law` is the
+//! law of `specs/Agreement`.
 #![tactic(auto)]
 
 mod agreement;

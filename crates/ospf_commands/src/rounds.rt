@@ -1,4 +1,4 @@
-//! Rounds, and events by chance.
+//! Rounds, and random events.
 
 ghost use Rattle.std.specs.Prelude.{◌≡◌};
 ghost use Rattle.ospf_commands.specs.Commands.{SomeHappen};
@@ -14,10 +14,10 @@ use ospf_world::{MOST_OFFERS, World, WorldFault};
 use rand_pcg::Lcg64Xsh32;
 use std::alloc::Global;
 
-// How many events by chance come about between two words to the watch.
+// How many random events happen between two reports to the watch.
 const EVENTS_AT_ONCE: u64 = 10_000;
 
-// So many rounds, up to the first that is refused.
+// Runs this many rounds, up to the first that is refused.
 pub(crate) fn run_rounds<V: Watch>(
     simulation: &mut Simulation,
     count: u64,
@@ -42,7 +42,7 @@ pub(crate) fn run_rounds<V: Watch>(
     Ok(())
 }
 
-// A round, with losses where there are some.
+// Runs a round, with losses if there are any.
 pub(crate) fn run_round<V: Watch>(
     simulation: &mut Simulation,
     most: u64,
@@ -61,7 +61,7 @@ pub(crate) fn run_round<V: Watch>(
     }
 }
 
-// So many batches, up to the first that is refused. Nothing is lost in them.
+// Runs this many batches, up to the first that is refused. Nothing is lost in them.
 pub(crate) fn run_batches<V: Watch>(
     simulation: &mut Simulation,
     count: u64,
@@ -84,7 +84,7 @@ pub(crate) fn run_batches<V: Watch>(
     Ok(())
 }
 
-// So many events by chance, some at a time, up to want of memory.
+// Runs this many random events, some at a time, until memory runs out.
 pub(crate) fn run_events<V: Watch>(
     simulation: &mut Simulation,
     number: u64,
@@ -100,7 +100,7 @@ pub(crate) fn run_events<V: Watch>(
     draw(&mut simulation.world, number, count, alloc, watch)
 }
 
-// How many datagrams a round offers at most.
+// The most datagrams that a round offers.
 #[tactic(auto, unfolding(ospf_world::specs::Rounds::most_offers))]
 fn most_of(most: Option<u64>) -> u64
     ensures { result ≡ most_of most }
@@ -108,7 +108,7 @@ fn most_of(most: Option<u64>) -> u64
     most.unwrap_or(MOST_OFFERS)
 }
 
-// Draws so many events, and has them come about.
+// Draws this many events, and makes them happen.
 fn draw<V: Watch>(
     world: &mut World,
     number: u64,

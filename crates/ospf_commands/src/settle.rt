@@ -19,20 +19,21 @@ use ospf_world::{MOST_OFFERS, Slot, World, WorldFault, network_of};
 use std::alloc::{AllocError, Global};
 use std::io::Write;
 
-/// How the rounds of a line end that are to go on until nothing changes.
+/// How the rounds of a settling line end.
 #[derive(Clone, Copy)]
 pub enum Outcome {
-    /// So many have passed, and nothing has changed in the last of them.
+    /// After this many rounds nothing had changed in the last of them.
     Settled(u64),
-    /// All have passed.
+    /// All rounds have passed.
     Unsettled,
-    /// The last leaves datagrams over, the first of which an interface of this address sent.
+    /// The last round leaves datagrams over, and an interface with this address sent the first of
+    /// them.
     Storms(Option<InterfaceAddress>),
 }
 
-// Rounds, at most so many, until nothing that is seen has changed for as many as a router waits at
-// most before it does what is due, and for one more. How many it took is printed, or a beginning of
-// that.
+// Runs rounds, at most `most`, until nothing that is seen has changed for as many as a router waits
+// at most before it does what is due, and for one more. The number of rounds is printed, or a
+// beginning of it.
 pub(crate) fn settle<O: Write, V: Watch>(
     simulation: &mut Simulation,
     most: u64,
@@ -74,7 +75,8 @@ pub(crate) fn settle<O: Write, V: Watch>(
     }
 }
 
-// Rounds, at most so many, until nothing seen has changed for so many: how many there were then.
+// Runs rounds, at most `most`, until nothing seen has changed for `still` of them; returns how
+// many.
 fn pass_rounds<V: Watch>(
     simulation: &mut Simulation,
     most: u64,
@@ -114,7 +116,7 @@ fn pass_rounds<V: Watch>(
     Ok(Outcome::Unsettled)
 }
 
-// What a round leaves over: what sent the first datagram that waits for the next one.
+// What a round leaves over: the sender of the first datagram that waits for the next one.
 fn left_over(world: &World) -> Option<Option<InterfaceAddress>>
     ensures { result ≡ left_over world.now }
 {
@@ -124,7 +126,7 @@ fn left_over(world: &World) -> Option<Option<InterfaceAddress>>
     }
 }
 
-// How many rounds in a row are to change nothing: as many as a router waits at most, and one more,
+// How many rounds in a row must change nothing: as many as a router waits at most, and one more,
 // which delivers what waited before the first.
 fn rounds_to_stay(slots: &[Slot]) -> u64
     ensures { result ≡ fold longer_in min_ls_interval slots.now + 1 }
@@ -132,7 +134,7 @@ fn rounds_to_stay(slots: &[Slot]) -> u64
     u64::from(longest_wait(slots)) + 1
 }
 
-// How long a router waits at most until it drops a neighbour, repeats itself or issues an LSA.
+// How long a router waits at most until it drops a neighbour, retransmits or issues an LSA.
 fn longest_wait(slots: &[Slot]) -> u16
     ensures { result ≡ fold longer_in min_ls_interval slots.now }
 {
@@ -143,7 +145,7 @@ fn longest_wait(slots: &[Slot]) -> u16
     longest
 }
 
-// The longer of this one and those of these interfaces.
+// The maximum of this wait and those of these interfaces.
 fn longer_in(longest: u16, interfaces: &[Interface]) -> u16
     ensures { result ≡ fold longer longest interfaces.now }
 {
@@ -155,7 +157,7 @@ fn longer_in(longest: u16, interfaces: &[Interface]) -> u16
     longest
 }
 
-// The line of rounds behind which it stayed so.
+// The line of a simulation that settled.
 fn settled_line(alloc: Global, rounds: u64, still: u64) -> Result<String, AllocError>
     ensures { IfOk result (λ line. string_bytes line ≡ settled_line rounds still) }
 {
@@ -165,7 +167,7 @@ fn settled_line(alloc: Global, rounds: u64, still: u64) -> Result<String, AllocE
     Ok(line)
 }
 
-// The line of rounds behind which it did not, and how many in a row are to change nothing.
+// The line of one that did not, and how many rounds in a row must change nothing.
 fn unsettled_line(alloc: Global, rounds: u64, still: u64) -> Result<String, AllocError>
     ensures { IfOk result (λ line. string_bytes line ≡ unsettled_line rounds still) }
 {
@@ -186,7 +188,7 @@ fn storm_line(alloc: Global, from: Option<InterfaceAddress>) -> Result<String, A
     Ok(line)
 }
 
-// The network of an interface, where there is one.
+// The network of an interface, if it is known.
 fn network_text(alloc: Global, from: Option<InterfaceAddress>) -> Result<String, AllocError>
     ensures { IfOk result (λ text. string_bytes text ≡ network_text from) }
 {

@@ -14,7 +14,7 @@ use std::alloc::{AllocError, Global};
 use std::fmt::{self, Display, Formatter};
 use std::io::Write;
 
-// From where to where a walk goes.
+// The start and the target of a walk.
 #[derive(Clone, Copy)]
 struct EndsShown {
     from: RouterId,
@@ -32,7 +32,7 @@ impl Display for EndsShown {
     }
 }
 
-// Writes a walk, below a line where labels are asked for; where that fails, a beginning of it.
+// Writes a walk, below a heading if labels are on; if that fails, a beginning of it.
 pub(crate) fn write_walked<O: Write>(
     alloc: Global,
     is_labelled: bool,
@@ -51,7 +51,7 @@ pub(crate) fn write_walked<O: Write>(
     streams.write(out, &text)
 }
 
-// A walk, with a line above it where labels are asked for.
+// A walk, below a heading if labels are on.
 fn walked_lines(
     alloc: Global,
     is_labelled: bool,
@@ -94,14 +94,14 @@ fn end_text(end: WalkEnd) -> &'static str
     }
 }
 
-// The line of a text that is said.
+// The line of a text.
 pub(crate) fn said_line(alloc: Global, said: &String) -> Result<String, AllocError>
     ensures { IfOk result (λ line. string_bytes line ≡ said_line said.now) }
 {
     format!(in alloc; "{said}\n")
 }
 
-// The line above a walk.
+// The heading of a walk.
 fn walk_heading(alloc: Global, from: RouterId, address: Addr) -> Result<String, AllocError>
     ensures { IfOk result (λ line. string_bytes line ≡ walk_heading from address) }
 {

@@ -6,19 +6,19 @@ ghost use Rattle.ospf_commands.specs.Simulations.{begun_in};
 use ospf_rounds::Losses;
 use ospf_world::{Walk, World};
 
-/// A world, and what lines before have asked for or found.
+/// A world, and what earlier lines requested or found.
 #[derive(Drop)]
 pub struct Simulation {
     pub world: World,
-    /// What is lost in rounds from here on, if anything is.
+    /// The losses in rounds from now on, if there are any.
     pub losses: Option<Losses>,
-    /// The last walk that a line asked for, if one did.
+    /// The last walk that a line requested, if one did.
     pub walk: Option<Walk>,
-    /// Whether what is shown is headed by a line.
+    /// Whether output has a heading.
     pub is_labelled: bool,
-    /// Whether the last rounds that were to settle it did, and nothing can have come about since.
+    /// Whether the last settling rounds succeeded, and nothing can have happened since.
     pub is_settled: bool,
-    /// Whether something was not as it was expected.
+    /// Whether an expectation was not met.
     pub is_unmet: bool,
     /// Whether a line was refused.
     pub is_refused: bool,

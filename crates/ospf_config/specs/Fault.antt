@@ -1,4 +1,4 @@
--- The order of faults: the one of the least number is told.
+-- The order of faults: the one with the least number is reported.
 use Rattle.std.specs.Prelude.{ℕ, List, codes, nat_lt, if◌then◌else◌, Option, Some, None, MatchOption, Result, Err}
 use Rattle.ospf_base.specs.Faults as faults
 use Rattle.ospf_config.specs.declared.fault.ConfigFault.{ConfigFault}

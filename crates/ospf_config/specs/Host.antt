@@ -5,7 +5,7 @@ use Rattle.std.specs.Prelude.{ℕ, ◌+◌, ◌-◌, ◌/◌, ◌%◌, ◌^◌, 
 abbrev pub prefix_size : ℕ → ℕ
 prefix_size length = 2 ^ (32 - length)
 
--- the bits behind the prefix
+-- the bits after the prefix
 abbrev pub host_part : ℕ → ℕ → ℕ
 host_part address length = address % prefix_size length
 
@@ -13,7 +13,7 @@ host_part address length = address % prefix_size length
 abbrev pub first_octet : ℕ → ℕ
 first_octet address = address / 2 ^ 24
 
--- a prefix of 1 to 30 bits, the bits behind it neither all zeros nor all ones, and a
+-- a prefix of 1 to 30 bits, the bits after it neither all zeros nor all ones, and a
 -- first octet of a unicast address
 pub record IsHostAddress (address prefix_length : ℕ) : Type 0 where
   pub long : 1 ≤ prefix_length

@@ -27,7 +27,7 @@ ReadsArea t r = Required as_str IsAreaText (get_member (codes "area") t) r
 abbrev pub ReadsStubRouter : Members → Result Bool ConfigFault → Type 0
 ReadsStubRouter t r = Optional as_bool (λ b c. b ≡ c) false (get_member (codes "stub_router") t) r
 
--- the key `other_lsas`, `refuse` where it is not there: what becomes of LSAs of LS types 3 to 5
+-- the key `other_lsas`, `refuse` where it is not there: how LSAs of LS types 3 to 5 are handled
 abbrev pub ReadsOtherLsas : Members → Result Bool ConfigFault → Type 0
 ReadsOtherLsas t r = Optional as_str IsOtherLsasText false (get_member (codes "other_lsas") t) r
 

@@ -113,7 +113,7 @@ interface_keys =
 pub record IsOtherKey (known : List (List ℕ)) (key : List ℕ) : Type 0 where
   pub absent : Contains known key → ⊥
 
--- the table has a key beside these
+-- the table has a key other than these
 abbrev pub HasOtherKey : List (List ℕ) → Members → Type 0
 HasOtherKey known t = Any (IsOtherKey known) (keys_of t)
 

@@ -1,4 +1,4 @@
--- The texts that stand for Router IDs, areas, kinds and addresses of interfaces.
+-- The texts for Router IDs, areas, kinds and addresses of interfaces.
 use Rattle.std.specs.Prelude.{◌≡◌, ℕ, ◌^◌, ◌<◌, Bool, true, false, List, ◌++◌, codes, decimal}
 use Rattle.ospf_base.specs.Text.{IsDottedNumber}
 use Rattle.ospf_base.specs.declared.ids.RouterId.{RouterId}
@@ -23,16 +23,16 @@ abbrev pub kind_text : InterfaceKind → List ℕ
 kind_text PointToPoint = codes "point-to-point"
 kind_text Broadcast = codes "broadcast"
 
--- the text stands for this kind of interface
+-- the text denotes this kind of interface
 abbrev pub IsKindText : List ℕ → InterfaceKind → Type 0
 IsKindText text kind = text ≡ kind_text kind
 
--- how it is written whether LSAs of LS types 3 to 5 are passed over
+-- the text that says whether LSAs of LS types 3 to 5 are passed over
 abbrev pub other_lsas_text : Bool → List ℕ
 other_lsas_text false = codes "refuse"
 other_lsas_text true = codes "pass over"
 
--- the word for it that LSAs of LS types 3, 4 and 5 are passed over, or refused
+-- the text says whether LSAs of LS types 3, 4 and 5 are passed over or refused
 abbrev pub IsOtherLsasText : List ℕ → Bool → Type 0
 IsOtherLsasText text passes_over = text ≡ other_lsas_text passes_over
 
@@ -42,6 +42,6 @@ pub record IsPrefixText (text : List ℕ) (address prefix_length : ℕ) : Type 0
   pub address_spelled : IsDottedNumber dotted address
   pub spelled : text ≡ dotted ++ (codes "/" ++ decimal prefix_length)
 
--- the text stands for an interface's address and the length of its mask
+-- the text denotes an interface's address and the length of its mask
 abbrev pub IsAddressText : List ℕ → InterfaceAddress → Type 0
 IsAddressText text a = IsPrefixText text a.address.0 a.length

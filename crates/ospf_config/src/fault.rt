@@ -51,7 +51,7 @@ impl ConfigFault {
         }
     }
 
-    // The number by which the least fault is told.
+    // The number of a fault; the fault with the least one is reported.
     fn number(self) -> u8
         ensures { result ≡ config_fault_number self }
     {

@@ -92,7 +92,7 @@ fn interfaces_fault(values: &[Value]) -> Option<ConfigFault>
     least
 }
 
-// The first fault of a value that is to be an interface; one that is no table has none of these.
+// The first fault of a value that should be an interface; one that is no table has none of these.
 fn value_fault(value: &Value) -> Option<ConfigFault>
     ensures { IsLeastIfAny (λ f. IsTableWith (λ t. HasInterfaceFault t f) (view value.now)) result }
 {

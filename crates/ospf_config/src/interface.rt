@@ -9,7 +9,7 @@ use ospf_base::InterfaceKind;
 // The least port that needs no privilege.
 pub(crate) const LEAST_PORT: u16 = 1024;
 
-/// A UDP port that stands for an interface: 1024 to 65535.
+/// A UDP port that represents an interface: 1024 to 65535.
 #[derive(Clone, Copy, Debug, PartialEq, Eq)]
 pub struct Port {
     pub number: u16,

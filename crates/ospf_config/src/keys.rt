@@ -1,4 +1,4 @@
-//! What stands at a key.
+//! The values at keys.
 
 ghost use Rattle.std.specs.Prelude.{◌≡◌, ◌≤◌, IfOk, option_map, option_copied, Ok, codes};
 ghost use Rattle.ospf_base.specs.Constants.{max_age};

@@ -90,7 +90,7 @@ fn config_at(alloc: Global, table: &Table, values: &[Value]) -> Result<Config, C
     requires values { tables_among (items_view values.now)
         ≡ interface_tables (table_view table.now) }
     requires tables { All (λ v. IsSome (as_table (view v))) values.now }
-    // So it describes a configuration, and memory alone can be wanting.
+    // So it describes a configuration, and only memory can run out.
     ensures ok { IfOk result (IsConfigOf (table_view table.now)) }
     ensures fault { IfErr result (λ f. f ≡ fault.Memory) }
 {

@@ -149,7 +149,7 @@ fn is_value_dead(value: &Value) -> bool
     }
 }
 
-// Whether a table has a key beside these.
+// Whether a table has a key other than these.
 fn has_other_key(table: &Table, known: &[&str]) -> bool
     ensures { IsTrue result ↔ HasOtherKey (map (λ k. k.now) known.now) (table_view table.now) }
 {

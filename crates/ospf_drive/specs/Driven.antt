@@ -1,4 +1,4 @@
--- What comes of drivers in threads of their own.
+-- The results of drivers in threads of their own.
 use Rattle.std.specs.Prelude.{⊤, ◌≡◌, ℕ, Option, Result, Ok, Err}
 use Rattle.ospf_index.specs.Known.{Known}
 use Rattle.ospf_router.specs.Routers.{RouterValue}
@@ -9,11 +9,11 @@ use Rattle.ospf_drive.specs.Traffic.{Carried}
 use Rattle.ospf_drive.specs.declared.fault.DriveFault.{DriveFault}
 use Rattle.ospf_drive.specs.declared.fault.DriveFault.TheVariants as fault
 
--- a router, its writer, and what the last publish told; or why the driver ended
+-- a router, its writer, and the message of the last publish; or why the driver ended
 abbrev pub Outcome : Type 0
 Outcome = Result (RouterValue × Known × Option Known) DriveFault
 
--- the driver came to the end of what its wire handed over, with these
+-- the driver reached the end of what its wire delivered, with these
 pub record DrivesToEnd (rules : Rules) (a : Moment) (router : RouterValue) (known : Known)
     (told : Option Known) : Type 0 where
   pub traffic : Carried
@@ -25,7 +25,7 @@ pub record DrivesInto (rules : Rules) (a : Moment) (f : DriveFault) : Type 0 whe
   pub last : Moment
   pub drives : Drives rules a last (Err f)
 
--- what came of a driver that began there; nothing where its thread did not start
+-- the result of a driver that began there, or its thread did not start
 abbrev pub IsDriven : Rules → Moment → Outcome → Type 0
 IsDriven rules a (Ok driven) = DrivesToEnd rules a driven.0 driven.1 driven.2
 IsDriven rules a (Err fault.Thread) = ⊤

@@ -11,14 +11,14 @@ use Rattle.ospf_drive.specs.Traffic.Heard.{End}
 use Rattle.ospf_drive.specs.declared.fault.DriveFault.{DriveFault}
 use Rattle.ospf_drive.specs.declared.fault.DriveFault.TheVariants as fault
 
--- the `Told` of the last publish: it knows all that the writer has published
+-- the message of the last publish: it knows all that the writer has published
 abbrev pub last_told : List Table → Known → Option Known
 last_told [] known = None
 last_told (table ∷ tables) known = Some known
 
--- From one moment to the other the driver took arrivals that are no end. Each that is not passed
--- over was a step of the router, by the rules of its machine. What the steps sent went out, in
--- order, where the wire tells its traffic, and each table that a step changed was published, in
+-- From one moment to the other the driver took arrivals, none of them the end. Each that is not
+-- ignored was a step of the router, by the rules of its machine. What the steps sent went out, in
+-- order, if the wire reports its traffic, and each table that a step changed was published, in
 -- order.
 pub record DriverGoesOn (rules : Rules) (a b : Moment) (told : Option Known) : Type 0 where
   pub taken : List Heard
@@ -46,7 +46,7 @@ pub record Ended (a b : Moment) : Type 0 where
   pub failed : b.failed ≡ a.failed
   pub known : b.known ≡ a.known
 
--- the wire handed over nothing, and failed
+-- the wire delivered nothing, and failed
 pub record FailsToHear (a b : Moment) : Type 0 where
   pub router : b.router ≡ a.router
   pub traffic : TrafficGoes a [] [] b
@@ -98,7 +98,7 @@ Fails rules a b fault.Stopped = Stops rules a b
 Fails rules a b fault.Publish = FailsToPublish rules a b
 Fails rules a b fault.Thread = ⊥
 
--- a drive ends well, with what the router was last told, or by this fault
+-- a drive ends well, with the message of the last publish, or by this fault
 abbrev pub EndsDrive : Rules → Moment → Option Known → Moment
     → Result (Option Known) DriveFault → Type 0
 EndsDrive rules a told b (Ok last) = Ended a b × (last ≡ told)

@@ -3,7 +3,7 @@ use Rattle.std.specs.Prelude.{ℕ, List, codes}
 use Rattle.ospf_drive.specs.declared.fault.DriveFault.{DriveFault}
 use Rattle.ospf_drive.specs.declared.fault.DriveFault.TheVariants as fault
 
--- what is printed of a fault
+-- how a fault is printed
 abbrev pub drive_fault_text : DriveFault → List ℕ
 drive_fault_text fault.Recv = codes "U1 Recv"
 drive_fault_text fault.Send = codes "U2 Send"

@@ -10,7 +10,7 @@ use Rattle.ospf_drive.specs.Machines.{Rules}
 use Rattle.ospf_drive.specs.Traffic.{Heard, Carried}
 use Rattle.ospf_drive.specs.Traffic.Heard.{Datagram, Tick, LinkUp, LinkDown, End}
 
--- the router, the wire's traffic where it is told, how often the wire has failed,
+-- the router, the wire's traffic if it is reported, how often the wire has failed,
 -- and what the writer has published
 pub record Moment : Type 0 where
   pub router : RouterValue
@@ -23,8 +23,8 @@ abbrev pub at : RouterValue → Carried → ℕ → Known → Moment
 at router traffic failed known =
     record { router = router; traffic = traffic; failed = failed; known = known }
 
--- the event that an arrival is to a router of so many links. It is none, and is passed over, where
--- there is no such link, and where the datagram is longer than the buffer
+-- the event that an arrival is to a router with this many links; none, and the arrival is ignored,
+-- if there is no such link, or the datagram is longer than the buffer
 abbrev pub event_of : ℕ → Heard → Option Event
 event_of links (Datagram link source destination length bytes) =
     if nat_lt link links && nat_le length 16393

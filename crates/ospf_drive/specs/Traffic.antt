@@ -1,4 +1,4 @@
--- What a wire has handed over and sent.
+-- What a wire has delivered and sent.
 use Rattle.std.specs.Prelude.{⊤, ◌≡◌, ◌+◌, ◌≤◌, ℕ, Bool, true, false, Option, None, Some, List, [], ◌∷◌, ◌++◌, take}
 use Rattle.ospf_base.specs.declared.ids.Addr.{Addr}
 use Rattle.ospf_area.specs.Outputs.{SentValue}
@@ -6,7 +6,7 @@ use Rattle.ospf_drive.specs.declared.span.Span.{Span}
 use Rattle.ospf_drive.specs.declared.wire.Arrival.{Arrival}
 use Rattle.ospf_drive.specs.declared.wire.Arrival.TheVariants as arrival
 
--- an arrival, a datagram with its length and the bytes that came to stand in the buffer
+-- an arrival, a datagram with its length and the bytes that were written to the buffer
 pub data Heard : Type 0 where
   Datagram : (link : ℕ) (source destination : Addr) (length : ℕ) (bytes : List ℕ) → Heard
   Tick : Heard
@@ -14,7 +14,7 @@ pub data Heard : Type 0 where
   LinkDown : (link : ℕ) → Heard
   End : Heard
 
--- the arrival, with what stands in the buffer
+-- the arrival, with the bytes in the buffer
 abbrev pub heard_from : Arrival → List ℕ → Heard
 heard_from (arrival.Datagram link source destination length) buffer =
     Datagram link source destination length (take length buffer)
@@ -23,12 +23,12 @@ heard_from (arrival.LinkUp link) buffer = LinkUp link
 heard_from (arrival.LinkDown link) buffer = LinkDown link
 heard_from arrival.End buffer = End
 
--- the arrivals handed over, and the datagrams that went out
+-- the arrivals delivered, and the datagrams that went out
 pub record Traffic : Type 0 where
   pub taken : List Heard
   pub out : List SentValue
 
--- what a wire tells of that: all of it; only how many ticks it has handed over, and
+-- what a wire reports of that: all of it; only how many ticks it has delivered, and
 -- when the end comes; or nothing
 pub data Carried : Type 0 where
   Full : Traffic → Carried
@@ -63,9 +63,9 @@ and_goes taken out (Full t) = Full (record { taken = t.taken ++ taken; out = t.o
 and_goes taken out (Ticks handed span) = Ticks (handed + ticks_in taken) span
 and_goes taken out Untold = Untold
 
--- the end may come when so many ticks were handed over: all that there are, or no more than these
--- where the wire may be told to end; any number where it can be told and there is no last tick; and
--- never where there is none and it cannot
+-- the end may come when this many ticks were delivered: all that there are, or at most these if the
+-- wire may be signalled to end; any number if it can be signalled and there is no last tick; and
+-- never if there is none and it cannot
 abbrev pub MayEndAfter : Option ℕ → Bool → ℕ → Type 0
 MayEndAfter (Some ticks) false handed = handed ≡ ticks
 MayEndAfter (Some ticks) true handed = handed ≤ ticks

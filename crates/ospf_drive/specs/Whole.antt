@@ -24,9 +24,9 @@ pub record EndsInEnd (taken : List Heard) : Type 0 where
 pub record IsLastStep (steps before : List Done) (last : Done) : Type 0 where
   pub is : steps ≡ before ++ last ∷ []
 
--- the end came last, where the wire counts its ticks after as many as its span says: each arrival
--- that is not passed over was a step, all that these sent went out, and each table that one of them
--- changed was published. The last of these publishes is told
+-- the end came last, if the wire counts its ticks after as many as its span says: each arrival that
+-- is not ignored was a step, all that these sent went out, and each table that one of them changed
+-- was published. The driver returns the message of the last of these publishes
 pub record EndsWell (a b : Moment) (taken : List Heard) (steps : List Done) (out : List SentValue)
     (tables : List Table) (told : Option Known) : Type 0 where
   pub ended : EndsInEnd taken
@@ -38,7 +38,7 @@ pub record EndsWell (a b : Moment) (taken : List Heard) (steps : List Done) (out
   pub tells : told ≡ last_told (tables_published steps) b.known
   pub failed : b.failed ≡ a.failed
 
--- the wire failed where it was to hand over the next arrival
+-- the wire failed to deliver the next arrival
 pub record EndsUnheard (a b : Moment) (taken : List Heard) (steps : List Done)
     (out : List SentValue) (tables : List Table) : Type 0 where
   pub no_end : HasNoEnd taken
@@ -121,8 +121,8 @@ DrivesAreWhole rules =
     (a b : Moment) (result : Result (Option Known) DriveFault) → Drives rules a b result
     → Whole rules a b result
 
--- where the wire counts its ticks, a driver that comes to the end has taken as many as stand before
--- the end: all of them, and no more, where the wire cannot be told to end
+-- if the wire counts its ticks, a driver that reaches the end has taken as many as come before the
+-- end: all of them, and no more, if the wire cannot be signalled to end
 abbrev pub AllTicksAreTaken : Rules → Type 0
 AllTicksAreTaken rules =
     (a b : Moment) (told : Option Known) (handed : ℕ) (span : Span)

@@ -21,14 +21,14 @@ use std::thread::{Promise, PromisedHandle, Threads};
 /// What a driver of `drive_all` is given: a machine, its wire, and the writer of its table.
 pub type DriverJob<M, W, R> = (M, W, Writer<R>);
 
-/// What a driver of `drive_all` gives back: the router, the writer, and what the last publish told.
+/// What a driver in `drive_all` returns: the router, the writer, the message of the last publish.
 pub type Driven<R> = Result<(Router, Writer<R>, Option<Told>), DriveFault>;
 
 /// Drives each machine in a thread of its own, and waits for all of them. The results are in
-/// the order of the jobs: what `drive` answers, or `Thread` where a thread did not
-/// start. One that fails ends no other.
+/// the order of the jobs: what `drive` returns, or `Thread` if a thread did not
+/// start. A driver that fails does not end the others.
 ///
-/// `AllocError` where memory runs out; then none of them ran.
+/// `AllocError` if memory runs out; then none of them ran.
 pub fn drive_all<
     M: Machine + Send + Drop + 'static,
     W: Wire + Send + Drop + 'static,

@@ -15,16 +15,16 @@ use ospf_fib::{Told, Writer};
 use std::alloc::Global;
 use std::sync::Wait;
 
-/// Drives a machine, which is a router, until the end of what the wire hands over: each arrival is
-/// a step, what it sends goes out in order, and then a changed table is published. An arrival of a
-/// link that is not there, or longer than the buffer, is passed over. At the end it answers what
-/// the last publish told, if there was any.
+/// Drives a machine, which is a router, until the end of what the wire delivers: each arrival is
+/// a step, what it sends goes out in order, and then a changed table is published. An arrival on a
+/// link that does not exist, or one longer than the buffer, is ignored. At the end it returns the
+/// message of the last publish, if there was any.
 ///
-/// `Recv` and `Send` where the wire fails, `Stopped` where the machine stops, which a router does
-/// for want of memory, and `Publish` where a changed table met it. At `Stopped` the router has
-/// stopped, and what is published is as before the arrival; else the router is as the last step
-/// left it. At `Send` some of what that step sent has not gone out, and at `Send` and `Publish` its
-/// table is not published.
+/// `Recv` and `Send` if the wire fails, `Stopped` if the machine stops, which a router does when
+/// it runs out of memory, and `Publish` if memory ran out at a changed table. At `Stopped` the
+/// router has stopped, and what is published is as before the arrival; else the router is as the
+/// last step left it. At `Send` some of what that step sent has not gone out, and at `Send` and
+/// `Publish` its table is not published.
 pub fn drive<M: Machine, W: Wire, R: Wait + Drop, S: Wait>(
     rt: &S,
     alloc: Global,

@@ -3,16 +3,16 @@
 use std::fmt::{self, Display, Formatter, Write};
 use thiserror::Error;
 
-/// Why a driver ended before the end of what its wire hands over.
+/// Why a driver ended before the end of what its wire delivers.
 #[derive(Clone, Copy, Debug, PartialEq, Eq, Error)]
 pub enum DriveFault {
-    /// The wire failed where it was to hand over an arrival.
+    /// The wire failed to deliver an arrival.
     Recv,
-    /// The wire failed where it was to send a datagram.
+    /// The wire failed to send a datagram.
     Send,
-    /// The router met want of memory, and stands still.
+    /// The router ran out of memory, and has stopped.
     Stopped,
-    /// Memory ran out where a changed table was to be published.
+    /// Memory ran out when a changed table was to be published.
     Publish,
     /// The driver's thread did not start.
     Thread,

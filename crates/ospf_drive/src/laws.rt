@@ -14,8 +14,8 @@ pub fn drives_are_whole<M: Machine>()
     ensures { DrivesAreWhole M.rules }
 {}
 
-/// Where a wire counts its ticks, a driver that came to the end has taken as many as stand before
-/// the end: all of them, and no more, where the wire cannot be told to end.
+/// If a wire counts its ticks, a driver that reached the end has taken as many as come before the
+/// end: all of them, and no more, if the wire cannot be signalled to end.
 pub fn all_ticks_are_taken<M: Machine>()
     ensures { AllTicksAreTaken M.rules }
 {}

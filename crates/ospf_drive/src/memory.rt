@@ -1,4 +1,4 @@
-//! A wire in memory: it hands over what a script says, keeps what goes
+//! A wire in memory: it delivers the arrivals of a script, stores what goes
 //! out, and fails at a chosen call.
 
 ghost use Rattle.std.specs.Prelude.{◌≡◌, ◌≤◌, IfOk, vec_len, take, length};
@@ -34,7 +34,7 @@ pub enum Scripted {
 #[derive(Drop)]
 pub struct MemoryWire {
     arrivals: Vec<Scripted>,
-    // How many were handed over.
+    // How many were delivered.
     taken: usize,
     out: Vec<Sent>,
     failed: u64,

@@ -15,10 +15,10 @@ use ospf_router::{Event, Router, Sent, Step};
 use std::alloc::Global;
 use std::sync::Wait;
 
-/// What a turn came to.
+/// The outcome of a turn.
 #[derive(Drop)]
 pub(crate) enum Course {
-    /// With what was told, where a table was published.
+    /// The driver goes on, with the message of a publish if a table was published.
     On(Option<Told>),
     /// The end came.
     Over,
@@ -65,7 +65,7 @@ pub(crate) fn turn<M: Machine, W: Wire, R: Wait + Drop>(
     }
 }
 
-// The event that an arrival is, unless it is passed over.
+// The event that an arrival is, unless the arrival is ignored.
 fn event_at<'a>(router: &Router, arrival: Arrival, buffer: &'a [u8; LONGEST]) -> Option<Event<'a>>
     ensures some { IfSome result (λ event. event_of router.now.links (heard_from arrival buffer.now)
         ≡ Some (happening event)) }
@@ -109,7 +109,7 @@ fn event_at<'a>(router: &Router, arrival: Arrival, buffer: &'a [u8; LONGEST]) ->
     }
 }
 
-// Shows the wire what became of the router, and sends what its step puts out.
+// Shows the wire the router after a step, and sends what the step sends.
 fn show_and_send<W: Wire>(wire: &mut W, router: &Router, step: &Step) -> Result<(), WireFault>
     requires { W.failed wire.old + 1 < 2 ^ 64 }
     // On success all of it has gone out, and no failure is counted.

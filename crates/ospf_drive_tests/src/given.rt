@@ -16,7 +16,7 @@ pub(crate) const SECOND: RouterId = RouterId(0x0202_0202);
 // The number that a router uses first.
 pub(crate) const FIRST_NUMBER: i32 = -0x7fff_ffff;
 
-// An address behind the second router.
+// An address beyond the second router.
 pub(crate) const FAR: Addr = Addr(0xc0a8_0209);
 
 // A router with one link.
@@ -42,7 +42,7 @@ pub(crate) fn link(kind: LinkKind, id: u32, link_data: u32, metric: u16) -> Link
 }
 
 // The table of the first of two routers with a link between them and a stub
-// behind the second, at this cost.
+// network on the far side of the second, at this cost.
 pub(crate) fn two_routers(alloc: Global, cost: u16) -> Result<RouteTable, Fail> {
     let first = [
         link(LinkKind::PointToPoint, SECOND.0, 0x0a00_0001, 10),

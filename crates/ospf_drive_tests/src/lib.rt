@@ -1,5 +1,5 @@
-//! Tests that run at full speed: threads beside a writer, and publishes and drives for which each
-//! allocation is refused in turn.
+//! Tests that run at full speed: threads that run alongside a writer, and publishes and drives in
+//! which each allocation is refused in turn.
 #![tactic(auto)]
 
 #[cfg(test)]

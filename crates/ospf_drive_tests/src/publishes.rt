@@ -1,4 +1,4 @@
-//! Lookups beside publishes.
+//! Lookups during publishes.
 
 ghost use Rattle.std.specs.Prelude.{◌≡◌, IfOk};
 

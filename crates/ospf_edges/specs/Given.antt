@@ -33,7 +33,7 @@ LinkGives adverts a link e =
       link_data = link.link_data;
     }))
 
--- the network-LSA is the one that stands for its Link State ID
+-- the network-LSA is the one used for its Link State ID
 abbrev pub StandsFor : List Advertisement → ℕ → RouterId → Type 0
 StandsFor adverts n router =
     (r : RouterId) (m : ℕ) (others : List RouterId) → Contains adverts (network_lsa n r m others)

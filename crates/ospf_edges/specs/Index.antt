@@ -8,7 +8,7 @@ use Rattle.ospf_graph.specs.Pairs.{pair_code}
 use Rattle.ospf_edges.specs.Costs.{HasLinkTo}
 use Rattle.ospf_edges.specs.Given.{StandsFor}
 
--- the pair of a type 1 link: whom it names, and whose it is
+-- the pair of a type 1 link: which router it names, and whose it is
 abbrev pub LinkNames : RouterId → Link → ℕ → Type 0
 LinkNames router link q = (link.kind ≡ LinkKind.PointToPoint) × (q ≡ pair_code link.id router.0)
 
@@ -21,7 +21,7 @@ LinksOf (network_lsa _ _ _ _) q = ⊥
 abbrev pub NamedOn : ℕ → RouterId → ℕ → Type 0
 NamedOn n router q = q ≡ pair_code router.0 n
 
--- a network-LSA that stands for its network names this pair
+-- a network-LSA that is the one used for its network names this pair
 abbrev pub MembersOf : List Advertisement → Advertisement → ℕ → Type 0
 MembersOf adverts (router_lsa _ _) q = ⊥
 MembersOf adverts (network_lsa n router mask attached) q =

@@ -37,7 +37,7 @@ abbrev pub attached_at : List GraphItem → List RouterId
 attached_at (item.Attached r ∷ rest) = r ∷ attached_at rest
 attached_at _ = []
 
--- the LSAs that the items tell of, without their links of types 3 and 4
+-- the LSAs that the items describe, without their links of types 3 and 4
 abbrev pub graph_in : List GraphItem → List Advertisement
 graph_in [] = []
 graph_in (item.Router r ∷ rest) = router_lsa r (links_at rest) ∷ graph_in rest

@@ -34,7 +34,7 @@ pub record AreAttachedTo (adverts : List Advertisement) (n : ℕ) (attached : Li
   pub network : IsNetwork adverts n mask attached
   pub only : (m : ℕ) (others : List RouterId) → IsNetwork adverts n m others → others ≡ attached
 
--- no LSA stands for the transit network
+-- no LSA describes the transit network
 abbrev pub HasNoNetwork : List Advertisement → ℕ → Type 0
 HasNoNetwork adverts n =
     (mask : ℕ) (attached : List RouterId) → IsNetwork adverts n mask attached → ⊥

@@ -13,7 +13,7 @@ use ospf_lsa::{Link, LinkKind, Links, Listing};
 /// What a next hop costs a router: the least metric of its listed links from the hop's address to
 /// the hop's router, or to a network that this router is on. No link leads over `Attached`.
 ///
-/// It looks at the router's own links, and finds the LSAs behind them by their keys.
+/// It looks at the router's own links, and looks up the LSAs they point to by their keys.
 pub fn link_cost(listing: &Listing, router: RouterId, hop: &NextHop) -> Option<u16>
     ensures cost { IfSome result (λ cost. IsLinkCost (advertisements_of listing.now) router hop.now
         cost) }

@@ -55,7 +55,7 @@ fn stubs_of(alloc: Global, listing: &Listing, router: RouterId) -> Result<Vec<En
     }
 }
 
-// The end of a transit network, if an LSA stands for it.
+// The end of a transit network, if an LSA describes it.
 fn ends_on(alloc: Global, listing: &Listing, id: u32) -> Result<Vec<End>, AllocError>
     ensures { IfOk result (λ ends. AreEndsAt (advertisements_of listing.now) (Network id)
         ends.items) }

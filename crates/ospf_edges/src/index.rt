@@ -85,7 +85,7 @@ impl<'a> GraphIndex<'a> {
         address_at(&self.addresses, router, id)
     }
 
-    /// Whether the network-LSA of a router is the one that stands for its Link State ID.
+    /// Whether the network-LSA of a router is the one used for its Link State ID.
     pub(crate) fn stands_for(&self, id: u32, router: RouterId) -> bool
         ensures { IsTrue result ↔ StandsFor self.now id router }
     {
@@ -154,7 +154,7 @@ fn members_in(alloc: Global, listing: &Listing) -> Result<Pairs, AllocError>
     Ok(Pairs::of(pairs))
 }
 
-// Adds the pairs of an LSA that stands for a network.
+// Adds the pairs of an LSA if it is the one used for its network.
 fn push_named(listing: &Listing, lsa: &Lsa, pairs: &mut Vec<u64>) -> Result<(), AllocError>
     ensures { OnOk result (Adds (MembersOf (advertisements_of listing.now)
         (advertisement_of lsa.now)) pairs.old.items pairs.new.items) }

@@ -1,4 +1,4 @@
-//! What of a listing its graph depends on, kept beside the tree that was made of it.
+//! What of a listing its graph depends on, stored with the tree that was computed from it.
 
 ghost use Rattle.std.specs.Prelude.{◌≡◌, ◌++◌, ◌∷◌, [], List, IsTrue, IfOk, IfSome, IfNone, OnOk, ◌↔◌};
 ghost use Rattle.ospf_lsa.specs.declared.link.Link.{Link};
@@ -112,7 +112,7 @@ fn push_attached(attached: Attached, items: &mut Vec<GraphItem>) -> Result<(), A
     Ok(())
 }
 
-// What stands behind the items of an LSA, if those are the first.
+// What follows the items of an LSA, if the list begins with those.
 fn after_lsa<'a>(items: &'a [GraphItem], lsa: &Lsa) -> Option<&'a [GraphItem]>
     ensures some { IfSome result (λ rest. items.now ≡ items_of (advertisement_of lsa.now)
         ++ rest.now) }
@@ -138,7 +138,7 @@ fn after_lsa<'a>(items: &'a [GraphItem], lsa: &Lsa) -> Option<&'a [GraphItem]>
     }
 }
 
-// What stands behind an item, if that is the first.
+// What follows an item, if the list begins with it.
 fn after<'a>(items: &'a [GraphItem], item: GraphItem) -> Option<&'a [GraphItem]>
     ensures some { IfSome result (λ rest. items.now ≡ (item ∷ []) ++ rest.now) }
     ensures none { IfNone result ((rest : List GraphItem) → items.now ≡ (item ∷ []) ++ rest → ⊥) }
@@ -149,7 +149,7 @@ fn after<'a>(items: &'a [GraphItem], item: GraphItem) -> Option<&'a [GraphItem]>
     }
 }
 
-// What stands behind the items of links, if those are the first.
+// What follows the items of links, if the list begins with those.
 fn after_links<'a>(items: &'a [GraphItem], links: Links) -> Option<&'a [GraphItem]>
     ensures some { IfSome result (λ rest. items.now ≡ link_items links.entry ++ rest.now) }
     ensures none { IfNone result ((rest : List GraphItem) →
@@ -165,7 +165,7 @@ fn after_links<'a>(items: &'a [GraphItem], links: Links) -> Option<&'a [GraphIte
     Some(rest)
 }
 
-// What stands behind a link, if that is the first or no part of the graph.
+// What follows a link, if the list begins with it or it is no part of the graph.
 fn after_link<'a>(items: &'a [GraphItem], link: Link) -> Option<&'a [GraphItem]>
     ensures some { IfSome result (λ rest. items.now ≡ link_items (link ∷ []) ++ rest.now) }
     ensures none { IfNone result ((rest : List GraphItem) →
@@ -178,7 +178,7 @@ fn after_link<'a>(items: &'a [GraphItem], link: Link) -> Option<&'a [GraphItem]>
     }
 }
 
-// What stands behind the items of attached routers, if those are the first.
+// What follows the items of attached routers, if the list begins with those.
 fn after_attached<'a>(items: &'a [GraphItem], attached: Attached) -> Option<&'a [GraphItem]>
     ensures some { IfSome result (λ rest. items.now ≡ attached_items attached.entry ++ rest.now) }
     ensures none { IfNone result ((rest : List GraphItem) →

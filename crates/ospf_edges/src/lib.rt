@@ -1,10 +1,10 @@
-//! A listing as the graph of an area (RFC 2328, section 16.1): its edges, where its prefixes stand,
+//! A listing as the graph of an area (RFC 2328, section 16.1): its edges, where its prefixes are,
 //! what of it the graph depends on, and what a next hop costs.
 //!
-//! `edges_of` and `ends_of` give all edges of a listing and all ends of its prefixes, `edges_at`
-//! and `ends_at` those at one vertex. `items_in` gives what the graph depends on, and
+//! `edges_of` and `ends_of` return all edges of a listing and all ends of its prefixes, `edges_at`
+//! and `ends_at` those at one vertex. `items_in` returns what the graph depends on, and
 //! `are_items_of` compares it with another listing. `link_cost` is the least metric of the links
-//! that lead where a hop does. What each LSA gives stands in `specs/Given`.
+//! that lead where a hop does. `specs/Given` defines which edges each LSA gives.
 #![tactic(auto)]
 
 mod addresses;

@@ -18,7 +18,7 @@ pub fn is_listed(listing: &Listing, router: RouterId) -> bool
     }
 }
 
-// Whether the network-LSA of a router is the one that stands for its Link State ID.
+// Whether the network-LSA of a router is the one used for its Link State ID.
 pub(crate) fn stands_for(listing: &Listing, id: u32, router: RouterId) -> bool
     ensures { IsTrue result ↔ StandsFor (advertisements_of listing.now) id router }
 {

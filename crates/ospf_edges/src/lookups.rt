@@ -85,7 +85,7 @@ fn is_to(link: &Link, kind: LinkKind, id: u32) -> bool
     link.kind == kind && link.id == id
 }
 
-// Whether a router stands among the attached ones.
+// Whether a router is among the attached ones.
 fn has_member(mut attached: Attached, router: RouterId) -> bool
     ensures { IsTrue result ↔ Contains attached.entry router }
 {

@@ -15,8 +15,8 @@ use ospf_graph::{Edge, Vertex};
 use ospf_lsa::{Attached, Link, LinkKind, Links, Listing};
 use std::alloc::{AllocError, Global};
 
-/// The edges of a listing's graph that leave or enter a vertex, by the LSAs of the vertex and
-/// of its neighbours alone (RFC 2328, section 16.1). An edge may stand several times.
+/// The edges of a listing's graph that leave or enter a vertex, found only from the LSAs of the
+/// vertex and of its neighbours (RFC 2328, section 16.1). An edge may be listed several times.
 /// `AllocError` where memory runs out.
 pub fn edges_at(alloc: Global, listing: &Listing, vertex: Vertex) -> Result<Vec<Edge>, AllocError>
     ensures edges { IfOk result (λ e. AreEdgesAt (advertisements_of listing.now) vertex e.items) }

@@ -1,4 +1,4 @@
--- Laws of the exchange: what may come on a neighbour's lists, and what stays there.
+-- Laws of the exchange: what may be added to a neighbour's lists, and what stays there.
 use Rattle.std.specs.Prelude.{◌≡◌, ◌⊎◌, Bool, true, false, List, Contains, Some, Result, Ok, Err, map}
 use Rattle.ospf_base.specs.declared.ids.Instance.{Instance}
 use Rattle.ospf_base.specs.declared.ids.RouterId.{RouterId}
@@ -22,7 +22,7 @@ HasHeader db h = Contains (map header_at (entries db)) h
 abbrev pub HasInstance : List Held → Instance → Type 0
 HasInstance db i = Contains (map instance_at (entries db)) i
 
--- on the request list is only what stood there, or what the packet told (10.6)
+-- on the request list is only what was there, or what the packet listed (10.6)
 abbrev pub RequestsAreTold : Type 0
 RequestsAreTold =
     (local : Local) (sender : RouterId) (d : Description) (headers : List LsaHeader)
@@ -30,7 +30,7 @@ RequestsAreTold =
     → Contains (after_dd local sender d headers db n).requests h
     → Contains n.requests h ⊎ Contains headers h
 
--- from one neighbour to another only copies of the database come on the lists that are sent
+-- from one neighbour to another only copies of the database are added to the lists that are sent
 pub record OnlyCopies (db : List Held) (n m : NeighbourValue) : Type 0 where
   pub summary : (h : LsaHeader) → Contains m.summary h → Contains n.summary h ⊎ HasHeader db h
   pub last_dd : (h : LsaHeader) → Contains m.last_dd h
@@ -78,7 +78,7 @@ NotTakenIsUnchanged =
     → is_not_taken (dd_answer local sender d headers n) ≡ true
     → after_dd local sender d headers db n ≡ n
 
--- it makes no other neighbour of one
+-- it does not turn a neighbour into another one
 pub record KeepsRouter (n m : NeighbourValue) : Type 0 where
   pub router : m.router ≡ n.router
   pub address : m.address ≡ n.address

@@ -1,8 +1,8 @@
 //! The exchange of databases with one neighbour (RFC 2328, sections 10.6 to 10.9).
 //!
-//! `begin` enters ExStart, `on_dd` takes a Database Description, `next_request` asks for LSAs and
-//! `on_request` answers what a neighbour asks. Which rule a Database Description meets stands in
-//! `specs/Rules`, what it does in `specs/Exchange`.
+//! `begin` enters ExStart, `on_dd` processes a Database Description, `next_request` asks for LSAs
+//! and `on_request` answers what a neighbour asks. `specs/Rules` defines which rule a Database
+//! Description meets, `specs/Exchange` what it does.
 #![tactic(auto)]
 
 mod description;

@@ -49,13 +49,13 @@ abbrev pub exit_code_of : FailuresStatus → ℕ
 exit_code_of (Ended s) = code_of s
 exit_code_of Unmet = 1
 
--- where it is asked to be strict, that this holds is told by the status
+-- with `--strict`, the status reports whether P holds
 abbrev pub IsEndBy : Bool → Type 0 → FailuresStatus → Type 0
 IsEndBy strict P (Ended s) = (s ≡ status.Done) × ((strict ≡ true) → P → ⊥)
 IsEndBy strict P Unmet = (strict ≡ true) × P
 
--- what is told of a root: some failure cuts a prefix off, or the root has no router-LSA among those
--- listed, so that nothing of it was checked
+-- what a strict run reports for a root: some failure cuts a prefix off, or the root's router-LSA is
+-- not listed, so that nothing was checked for it
 abbrev pub IsUnmetAt : List Advertisement → RouterId → List ReportValue → Type 0
 IsUnmetAt adverts root printed = HasCut printed ⊎ (IsListed adverts root → ⊥)
 
@@ -63,8 +63,8 @@ IsUnmetAt adverts root printed = HasCut printed ⊎ (IsListed adverts root → �
 abbrev pub HasRouter : List Advertisement → Type 0
 HasRouter adverts = (router : RouterId) × IsListed adverts router
 
--- what is told over all routers: some failure cuts a prefix off from one, or no router-LSA is
--- listed, so that nothing was checked
+-- what a strict run reports over all routers: some failure cuts a prefix off from one of them, or
+-- no router-LSA is listed, so that nothing was checked
 abbrev pub IsUnmetSomewhere : List Advertisement → List Overall → Type 0
 IsUnmetSomewhere adverts printed = CutsSomewhere printed ⊎ (HasRouter adverts → ⊥)
 
@@ -79,7 +79,7 @@ IsAllPrinted end = (end ≡ Ended status.Done) ⊎ (end ≡ Unmet)
 
 -- ---- what is asked
 
--- the names of parts that are to be left out
+-- the names of the parts to leave out
 abbrev pub names_of : FailuresJob → List (String Global)
 names_of (Root root each strict form) = []
 names_of (All each strict form) = []
@@ -98,13 +98,13 @@ pub record IsFirstLarge (listing : List (List ℕ)) (router : RouterId) : Type 0
   pub large : IsLarge (advertisement_of lsa)
   pub router_is : router ≡ (key_of lsa).router
 
--- what is said of such a router
+-- the line about such a router
 abbrev pub large_line : RouterId → List ℕ
 large_line router = number_text router.0 ++ codes ": more than 1361 links\n"
 
--- what is said of an input that is refused, of its first line that is, or else, where parts are
--- named, of its first router of too many links; and of words that are refused, of the first name of
--- nothing in the area
+-- the text of a refusal. If the input is refused, it is about the first refused line or, where
+-- parts are named, about the first router with too many links; if the words are refused, about the
+-- first name that is not in the area
 pub data IsFailuresRefusal (job : FailuresJob) (input : List ℕ) (text : List ℕ)
     : Status → Type 0 where
   of_line : (number : ℕ) (fault : EntryFault) → Refuses input [] number fault
@@ -141,13 +141,13 @@ pub record SaysChanges (adverts : List Advertisement) (root : RouterId) (each st
   pub text_is : text ≡ changes_text form each root hidden printed
   pub ends : IsEndBy strict (IsUnmetAt adverts root printed) end
 
--- what is kept of the routes that change, where each is to be told
+-- how much is stored about the routes that change, by whether each of them is printed
 abbrev pub detail_of : Bool → FailuresForm → RouteDetail
 detail_of true form.Text = detail.Lines
 detail_of true form.Json = detail.Routes
 detail_of false form = detail.Sums
 
--- what is told over all routers, in a form
+-- what is printed over all routers, in a form
 abbrev pub added_text : FailuresForm → Bool → List HiddenCost → List Overall → List ℕ
 added_text form.Text each hidden printed = overalls_text printed
 added_text form.Json each hidden printed = overalls_json each hidden printed
@@ -171,18 +171,18 @@ SaysOf (Without root names addresses) adverts text end =
     IsTableWithout adverts (vec_items names) root (vec_items addresses) text
     × (end ≡ Ended status.Done)
 
--- what is said of a root: a line where its router-LSA is not listed, and else nothing
+-- the warning about a root: a line if its router-LSA is not listed, and otherwise nothing
 abbrev pub TellsOfRoot : List Advertisement → RouterId → List ℕ → Type 0
 TellsOfRoot adverts root text =
     ((IsListed adverts root → ⊥) × (text ≡ unlisted_line root))
     ⊎ (IsListed adverts root × (text ≡ []))
 
--- what is said of costs that no LSA contains: a line each
+-- the warning about costs that no LSA contains: a line each
 abbrev pub TellsHidden : List Advertisement → List ℕ → Type 0
 TellsHidden adverts text =
     (hidden : List HiddenCost) × AreHidden adverts hidden × (text ≡ hidden_text hidden)
 
--- what is said of the root, if there is one, and then of such costs after failures
+-- the warning about the root, if there is one, and then about such costs after failures
 abbrev pub WarnsOf : FailuresJob → List Advertisement → List ℕ → Type 0
 WarnsOf (Root root each strict form) adverts text =
     (own more : List ℕ) × TellsOfRoot adverts root own × TellsHidden adverts more
@@ -213,8 +213,8 @@ pub record IsFailuresAnswer (job : FailuresJob) (end : FailuresStatus) (input te
   pub warned : WarnsOfAll job listing warning
   pub says : SaysOf job (advertisements_of listing) text end
 
--- the answer stands on standard output, its warning on standard error, and
--- the status is that of the answer
+-- the answer is written to standard output, its warning to standard error, and the status is that
+-- of the answer
 pub record IsFailuresAnswered (job : FailuresJob) (end : FailuresStatus) (old new : Written)
     (input : List ℕ) : Type 0 where
   pub text : List ℕ
@@ -223,7 +223,7 @@ pub record IsFailuresAnswered (job : FailuresJob) (end : FailuresStatus) (old ne
   pub out : Appends old.out new.out text
   pub err : Appends old.err new.err warning
 
--- the refusal stands on standard error
+-- the refusal is written to standard error
 pub record IsFailuresRefusalTold (job : FailuresJob) (s : Status)
     (err_old err_new : Option (List ℕ)) (input : List ℕ) : Type 0 where
   pub text : List ℕ
@@ -275,7 +275,7 @@ pub data FailuresEndsBy (input : Option (List ℕ)) (job : FailuresJob) (failed 
       → IfSome input (IsFailuresAnswerBegun job old new)
       → FailuresEndsBy input job failed old new f
 
--- it ended by a failure, which was told last, as far as that could be written
+-- it ended by a failure, which was reported last, as far as that could be written
 pub record IsFailuresCutShort (input : Option (List ℕ)) (job : FailuresJob) (failed : FailedStreams)
     (old new : Written) (end : FailuresStatus) : Type 0 where
   pub cause : Failure
@@ -287,7 +287,7 @@ pub record IsFailuresCutShort (input : Option (List ℕ)) (job : FailuresJob) (f
 
 -- ---- on the way
 
--- what is to be said of a refusal that ends with this status
+-- the text of a refusal that ends with this status
 abbrev pub IsRefusalOf : Option (List ℕ) → FailuresJob → List ℕ → Status → Type 0
 IsRefusalOf input job text status.Refused =
     IfSome input (λ bytes. IsFailuresRefusal job bytes text status.Refused)
@@ -308,7 +308,7 @@ IsFailuresAnswerOf job answer input =
     IsFailuresAnswer job answer.said.end input (string_bytes answer.said.text)
     (string_bytes answer.warning)
 
--- the answer is printed, or the refusal is told
+-- the answer is printed, or the refusal is reported
 pub data IsFailuresSaid (input : Option (List ℕ)) (job : FailuresJob) (old new : Written)
     : FailuresStatus → Type 0 where
   is_answered : {end : FailuresStatus} → IsAllPrinted end

@@ -13,7 +13,7 @@ use Rattle.ospf_failures.specs.Warnings.{hidden_names}
 use Rattle.ospf_failures.specs.declared.overall.Overall.{Overall}
 use Rattle.ospf_table.specs.declared.sums.Sums.{Sums}
 
--- the routes that change, where each is told
+-- the routes that change, if each is printed
 abbrev pub routes_member : Bool → List Data → Members → Members
 routes_member each routes rest =
     if each then member (codes "routes") (array (items_of routes)) rest else rest
@@ -24,7 +24,7 @@ hidden_member [] = no_members
 hidden_member (name ∷ names) =
     member (codes "unknown_costs") (array (items_of (name ∷ names))) no_members
 
--- they are put behind the other members
+-- they are added to the other members
 abbrev pub with_hidden : List Data → Members → Members
 with_hidden [] members = members
 with_hidden (name ∷ names) members =
@@ -34,7 +34,7 @@ with_hidden (name ∷ names) members =
 abbrev pub totals_members : AreaFailure → Totals → Members → Members
 totals_members failure t rest = counted_members failure t.cut t.gone t.cost t.hops rest
 
--- and the routes, where each is told
+-- and the routes, if each is printed
 abbrev pub report_members : Bool → RouterId → ReportValue → Members → Members
 report_members each root r rest =
     totals_members r.0 (totals_of r.1) (routes_member each (map (change_data root) r.1) rest)
@@ -58,7 +58,7 @@ sums_members failure s rest =
     counted_members failure s.cut s.gone s.cost s.hops
     (member (codes "routers") (number (unsigned s.routers)) rest)
 
--- and the routes, where each is told
+-- and the routes, if each is printed
 abbrev pub overall_members : Bool → Overall → Members → Members
 overall_members each o rest =
     sums_members o.failure o.sums (routes_member each (flat_map sight_data o.sights.items) rest)

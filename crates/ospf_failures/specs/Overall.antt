@@ -50,7 +50,7 @@ pub record AreSights (adverts : List Advertisement) (failure : AreaFailure)
 
 -- ---- over all routers
 
--- what is told of the failure at each router, added up; and at how many of them something changes
+-- the totals of the failure at each router, added up; and at how many routers something changes
 abbrev pub sums_of : List SightValue → Sums
 sums_of sights = record {
   cut = sum_by (λ s. (totals_of s.1).cut) sights;
@@ -75,7 +75,7 @@ abbrev pub sights_kept : RouteDetail → List SightValue → List SightValue
 sights_kept detail.Routes sights = sights
 sights_kept _ sights = []
 
--- what is told of a failure, with the lines or the routes where they are wanted
+-- what is reported for a failure, with the lines or the routes where they are wanted
 pub record IsOverall (adverts : List Advertisement) (wanted : RouteDetail) (o : Overall)
     : Type 0 where
   pub sights : List SightValue
@@ -141,7 +141,7 @@ abbrev pub IsSightFrom : List Advertisement → List Before → SightValue → T
 IsSightFrom left befores sight =
     (b : Before) × Contains befores b × (b.root ≡ sight.0) × IsEffectIn left b.root b.table sight.1
 
--- what is told so far, of some routers
+-- the result so far, over some of the routers
 pub record IsSoFar (left : List Advertisement) (befores : List Before) (wanted : RouteDetail)
     (roots : List RouterId) (o : Overall) : Type 0 where
   pub sights : List SightValue
@@ -151,7 +151,7 @@ pub record IsSoFar (left : List Advertisement) (befores : List Before) (wanted :
   pub lines_are : string_bytes o.lines ≡ lines_kept wanted o.failure sights
   pub sights_are : o.sights.items ≡ sights_kept wanted sights
 
--- what is found of one failure: what is told of all routers, unless memory runs out
+-- the result for one failure: what is reported for all routers, unless memory runs out
 abbrev pub IsOverallFound : List Advertisement → List Before → RouteDetail → AreaFailure
     → Result Overall AllocError → Type 0
 IsOverallFound adverts befores wanted failure found =

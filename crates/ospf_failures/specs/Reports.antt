@@ -95,7 +95,7 @@ HasCut reports = Any (λ r. 0 < (totals_of r.1).cut) reports
 
 -- ---- on the way
 
--- what is found of one failure: what is told of it, which P says, unless memory runs out
+-- the result for one failure: what is reported for it, which satisfies P, unless memory runs out
 pub record IsFailureFound {X : Type 0} (failure_of : X → AreaFailure)
     (P : AreaFailure → X → Type 0) (failure : AreaFailure) (found : Result X AllocError)
     : Type 0 where

@@ -1,4 +1,4 @@
--- Costs that no LSA contains, as they are told.
+-- Costs that no LSA contains, as they are printed.
 use Rattle.std.specs.Prelude.{◌==◌, ◌&&◌, ◌++◌, ℕ, Bool, false, List, codes, filter, flat_map, map}
 use Rattle.serde_json.specs.Data.{Data, string}
 use Rattle.ospf_base.specs.Text.{number_text}

@@ -50,11 +50,11 @@ pub record IsFirstUnnamed (adverts : List Advertisement) (names : List (String G
   pub are_single : AreFailures adverts single
   pub first : IsFirstAmong single names name
 
--- what is said of it
+-- the line about it
 abbrev pub unnamed_line : String Global → List ℕ
 unnamed_line name = string_bytes name ++ codes ": not in this area\n"
 
--- why there is no table: memory ran out, or of the first name that names nothing this is to be said
+-- why there is no table: memory ran out, or the text is the line about the first unknown name
 abbrev pub IsFaultOfNames : (String Global → Type 0) → Unreported → Type 0
 IsFaultOfNames IsFirst (fault.Refused text) = ⊥
 IsFaultOfNames IsFirst (fault.Unnamed text) =

@@ -33,7 +33,7 @@ use std::io::{BufRead, Write};
 use std::process::ExitCode;
 use std::thread::Threads;
 
-// The most links of a router-LSA that can be made anew: one of `ospf_base::LARGEST_LSA` bytes.
+// The most links of a router-LSA that can be rebuilt: one of `ospf_base::LARGEST_LSA` bytes.
 const MOST_LINKS: usize = 1361;
 
 /// How what failures change is printed.
@@ -51,18 +51,19 @@ pub enum FailuresJob {
     /// What each failure but its own changes in a router's table.
     Root {
         root: RouterId,
-        /// Whether each changed prefix is told.
+        /// Whether each changed prefix is printed.
         each: bool,
-        /// Whether the status tells that a prefix is cut off, or that the root is not listed.
+        /// Whether the status reports that a prefix is cut off, or that the root is not listed.
         strict: bool,
         /// How it is printed.
         form: FailuresForm,
     },
     /// What each failure changes in the tables of all routers but the one that fails.
     All {
-        /// Whether each changed prefix of a router is told.
+        /// Whether each changed prefix of a router is printed.
         each: bool,
-        /// Whether the status tells that a prefix is cut off from a router, or that none is listed.
+        /// Whether the status reports that a prefix is cut off from a router, or that no router is
+        /// listed.
         strict: bool,
         /// How it is printed.
         form: FailuresForm,
@@ -81,7 +82,7 @@ impl FailuresJob {
     ghost use Rattle.std.specs.Prelude.{◌≡◌, ◌≢◌, ◌↔◌, [], IsTrue};
     ghost use Rattle.ospf_failures.specs.Answer.{names_of};
 
-    // Whether parts are named that are to be left out.
+    // Whether parts to leave out are named.
     fn has_names(&self) -> bool
         ensures { IsTrue result ↔ (names_of self.now ≢ []) }
     {
@@ -117,7 +118,7 @@ impl FailuresStatus {
     }
 }
 
-// Why nothing is to be printed: the input or a name is refused, and so told; or something failed.
+// Why nothing is printed: the input or a name is refused, with this text; or something failed.
 #[derive(Drop)]
 pub(crate) enum Unreported {
     Refused(String),
@@ -149,27 +150,30 @@ impl From<FailuresStatus> for ExitCode {
     }
 }
 
-/// Reads LSAs, one a line in hexadecimal as `ospf_table::table_text` does, and prints what is asked
-/// of the failures of their area. For a root it is what each single failure but its own changes in
-/// the root's routing table: with `each` a line a prefix that it changes, then a line of how many
-/// there are; those that cut off most prefixes come first. Over all routers it is the same, added
-/// up, and a line of a prefix begins with the router whose table it changes. Both are lines or JSON
-/// (`reports_json`, `overalls_json`). Or it is the root's table in the area without the parts that
-/// are named, with lookups, as `table_text` prints it.
+/// Reads LSAs, one per line in hexadecimal as `ospf_table::table_text` does, and prints what the
+/// job asks about failures in their area.
 ///
-/// Where the root's router-LSA is not listed, `err` says so. Over failures it also names the stub
-/// routers that a failure leaves alone on a network, at a cost that no LSA contains, and why routes
-/// may be missing (`ospf_table::reasons_text`).
+/// For a root it prints what each single failure except its own changes in the root's routing
+/// table: with `each` one line per changed prefix, then a line with the counts. Failures that cut
+/// off the most prefixes come first. Over all routers it prints the same, added up, and the line of
+/// a prefix begins with the router whose table changes. Both are lines or JSON (`reports_json`,
+/// `overalls_json`). The third job prints the root's table in the area without the named parts,
+/// with lookups, as `table_text` does.
 ///
-/// The status is `Ended(Done)`, or with `strict` `Unmet` where some failure cuts a prefix off, or
-/// the root's router-LSA is not listed, or over all routers none is. The first line that is refused
-/// is told on `err`, or where none is and parts are named, whose routers' LSAs are made anew, the
-/// first router whose router-LSA has more than 1,361 links, with status `Ended(Refused)`; else the
-/// first name of nothing in the area, with status `Ended(Words)`. Then nothing is printed.
+/// If the root's router-LSA is not listed, `err` says so. Over failures it also names the stub
+/// routers that a failure leaves as the only router on a network, at a cost that no LSA contains,
+/// and why routes may be missing (`ospf_table::reasons_text`).
 ///
-/// `Ended(Memory)` says that memory ran out, and `Ended(Stream)` that a read or a write failed.
-/// What it was is told on `err`, as far as that can be written, and no more than a beginning is
-/// printed. `progress` is told how far it has come.
+/// The status is `Ended(Done)`. With `strict` it is `Unmet` if some failure cuts a prefix off, or
+/// if the root's router-LSA is not listed, or over all routers if none is. If a line is refused,
+/// the first such line is reported on `err`, with status `Ended(Refused)`. Otherwise, where parts
+/// are named, the LSAs of their routers are rebuilt: the first router whose router-LSA has more
+/// than 1,361 links is reported, also with `Ended(Refused)`, or else the first name that is not in
+/// the area, with status `Ended(Words)`. In these cases nothing is printed.
+///
+/// `Ended(Memory)` says that memory ran out, and `Ended(Stream)` that a read or a write failed. The
+/// cause is reported on `err`, as far as that can be written, and no more than a beginning is
+/// printed. `progress` receives how many failures are done.
 pub fn failures_text<R: BufRead + Drop, O: Write, E: Write, P: Progress>(
     rt: &(impl AllocGlobal + Threads + Sync),
     job: &FailuresJob,
@@ -178,7 +182,7 @@ pub fn failures_text<R: BufRead + Drop, O: Write, E: Write, P: Progress>(
     err: &mut E,
     progress: &mut P,
 ) -> FailuresStatus
-    // All is printed; or the refusal is told, and nothing is printed.
+    // All is printed; or the refusal is reported, and nothing is printed.
     ensures answered { let old = written_on (O.contents out.old) (E.contents err.old) in
         let new = written_on (O.contents out.new) (E.contents err.new) in
         IsAllPrinted result →
@@ -188,7 +192,8 @@ pub fn failures_text<R: BufRead + Drop, O: Write, E: Write, P: Progress>(
         (IsFailuresRefusalTold job.now s (E.contents err.old) (E.contents err.new)) }
     ensures unwritten { (s : Status) → IsUnserved s → result ≡ FailuresStatus.Ended s →
         O.contents out.new ≡ O.contents out.old }
-    // Or memory or a stream failed, which is told last, as far as it can be; there is no other end.
+    // Or memory or a stream failed, which is reported last, as far as it can be. There is no other
+    // end.
     ensures cut { let old = written_on (O.contents out.old) (E.contents err.old) in
         let new = written_on (O.contents out.new) (E.contents err.new) in
         (result ≡ FailuresStatus.Ended Status.Memory)
@@ -208,7 +213,7 @@ struct PrintedText {
     end: FailuresStatus,
 }
 
-// What is to be printed.
+// What will be printed.
 #[derive(Drop)]
 struct FailuresAnswer {
     warning: String,
@@ -235,7 +240,7 @@ fn failures_noted<R: BufRead + Drop, O: Write, E: Write, P: Progress>(
     }
 }
 
-// Prints the answer, or tells what is refused. The answer is the status to end with.
+// Prints the answer, or reports what is refused. Returns the status to end with.
 fn answer_or_refuse<R: BufRead + Drop, O: Write, E: Write, P: Progress>(
     rt: &(impl AllocGlobal + Threads + Sync),
     job: &FailuresJob,
@@ -260,7 +265,7 @@ fn answer_or_refuse<R: BufRead + Drop, O: Write, E: Write, P: Progress>(
     }
 }
 
-// What is to be printed of the failures of the area whose LSAs the lines of an input are.
+// What to print about failures in the area whose LSAs are the lines of an input.
 fn answer_of<R: BufRead + Drop, P: Progress>(
     alloc: Global,
     rt: &(impl Threads + Sync),
@@ -361,7 +366,7 @@ fn are_more(links: Links, most: usize) -> bool
     false
 }
 
-// What is said beside the answer: of the root and of costs, and why routes may be missing.
+// What is printed besides the answer: about the root and costs, and why routes may be missing.
 fn warnings_of(alloc: Global, listing: &Listing, job: &FailuresJob) -> Result<String, AllocError>
     ensures { IfOk result (λ text. WarnsOfAll job.now listing.now (string_bytes text)) }
 {
@@ -394,7 +399,7 @@ fn router_refused(alloc: Global, router: RouterId) -> Unreported
     }
 }
 
-// What is said of the root, if there is one, and of costs after failures that no LSA contains.
+// The warning about the root, if there is one, and about costs after failures that no LSA contains.
 fn warning_of(alloc: Global, listing: &Listing, job: &FailuresJob) -> Result<String, AllocError>
     ensures { IfOk result (λ text. WarnsOf job.now (advertisements_of listing.now)
         (string_bytes text)) }
@@ -410,7 +415,7 @@ fn warning_of(alloc: Global, listing: &Listing, job: &FailuresJob) -> Result<Str
     }
 }
 
-// What is said of costs after failures that no LSA contains.
+// The warning about costs after failures that no LSA contains.
 fn hidden_warning(alloc: Global, listing: &Listing) -> Result<String, AllocError>
     ensures { IfOk result (λ text. TellsHidden (advertisements_of listing.now)
         (string_bytes text)) }
@@ -419,7 +424,7 @@ fn hidden_warning(alloc: Global, listing: &Listing) -> Result<String, AllocError
     hidden_text(alloc, &hidden)
 }
 
-// What is said of a root: that its router-LSA is not listed.
+// The warning about a root: that its router-LSA is not listed.
 fn root_warning(alloc: Global, listing: &Listing, root: RouterId) -> Result<String, AllocError>
     ensures { IfOk result (λ text. TellsOfRoot (advertisements_of listing.now) root
         (string_bytes text)) }
@@ -561,7 +566,7 @@ fn changes_text(
     }
 }
 
-// What is told over all routers in a form.
+// What is printed over all routers in a form.
 fn added_text(
     alloc: Global,
     printed: &[Overall],
@@ -630,7 +635,7 @@ fn print<O: Write, E: Write>(
     }
 }
 
-// Tells a refusal, which ends with this status.
+// Reports a refusal, which ends with this status.
 fn refuse<E: Write>(
     text: &str,
     status: Status,

@@ -31,10 +31,10 @@ use std::cmp::Reverse;
 use std::marker::Model;
 use std::thread::Threads;
 
-// In so many parts failures are gone through; behind each it is told how far they have come.
+// Failures are processed in at most this many parts; after each, progress is reported.
 const PARTS: usize = 16;
 
-/// What is kept of the routes that a failure changes, beside how many they are.
+/// What is stored about the routes that a failure changes, besides their number.
 #[derive(Clone, Copy, Debug, PartialEq, Eq)]
 pub enum RouteDetail {
     /// Nothing.
@@ -69,9 +69,9 @@ pub struct Overall {
     sights: Vec<Sight>,
 }
 
-/// What each failure of an area changes in the tables of all its routers but the one that fails,
-/// in the order in which it is printed: as `reports` has it for one root, by the sums over the
-/// routers, with the routes that the detail asks for. It is told how far the failures have come.
+/// What each failure of an area changes in the tables of all its routers but the one that fails, in
+/// the order in which it is printed. As `reports` does for one root, with sums over the routers and
+/// with the routes that `detail` asks for. `progress` receives how many failures are done.
 ///
 /// `AllocError` where memory runs out.
 pub fn overalls<P: Progress>(
@@ -107,8 +107,8 @@ pub fn overalls_text(alloc: Global, overalls: &[Overall]) -> Result<String, Allo
     Ok(text)
 }
 
-/// What is told of all failures as one value of JSON on a line, as `reports_json` has it, added up:
-/// `routers` is at how many anything changes, and with `each`, `routes` are those that were kept.
+/// All failures as one JSON value on a line, as in `reports_json`, added up: `routers` counts the
+/// routers where anything changes, and with `each`, `routes` holds the routes that were stored.
 ///
 /// `AllocError` where memory runs out.
 pub fn overalls_json(
@@ -315,7 +315,7 @@ fn effect_at(
 }
 
 impl Overall {
-    // A failure of which nothing is told yet.
+    // A failure with nothing counted yet.
     fn none(alloc: Global, failure: AreaFailure) -> Overall
         ensures failure { result.failure ≡ failure }
         ensures sums { result.sums ≡ sums_of [] }
@@ -388,7 +388,7 @@ impl Overall {
         }
     }
 
-    // What is told of it as an object.
+    // It as a JSON object.
     fn value(&self, alloc: Global, each: bool, hidden: &[HiddenCost]) -> Result<Value, AllocError>
         ensures { IfOk result (λ value. view value ≡ overall_data each hidden.now self.now) }
     {

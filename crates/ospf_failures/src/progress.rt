@@ -1,6 +1,6 @@
-//! Who is told how far the failures have come.
+//! Progress of the calculation over failures.
 
-/// Is told how far the failures have come. What is found does not hang on what it makes of that.
+/// Receives how many failures are done. The results do not depend on what it does with that.
 pub trait Progress {
     /// So many of them have been gone through at all routers.
     fn comes(&mut self, done: usize, count: usize);

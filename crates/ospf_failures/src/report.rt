@@ -84,7 +84,7 @@ impl Report {
         failure_lines(alloc, &self.failure, &self.changes, self.totals, each)
     }
 
-    // What is told of it at a root as an object.
+    // It as a JSON object, at a root.
     fn value(
         &self,
         alloc: Global,

@@ -1,4 +1,4 @@
-//! Costs that no LSA contains, as they are told.
+//! Costs that no LSA contains, as they are printed.
 
 ghost use Rattle.std.specs.Prelude.{◌≡◌, ◌++◌, ◌∷◌, [], IfOk, OnOk, filter, map, string_bytes};
 ghost use Rattle.serde_json.specs.View.{members_view, view};
@@ -32,7 +32,7 @@ fn hidden_line(alloc: Global, hidden: &HiddenCost) -> Result<String, AllocError>
     Ok(line)
 }
 
-// Puts the names of those that a failure brings about behind the members of its object.
+// Adds the names of those that a failure causes to the members of its object.
 pub(crate) fn put_hidden(
     alloc: Global,
     members: &mut Map<String, Value>,
@@ -82,7 +82,7 @@ fn push_hidden(
     Ok(())
 }
 
-// Whether a failure is that of the router beside the stub router, or of its interface there.
+// Whether a failure is that of the stub router's neighbor, or of its interface to the network.
 fn is_cause(failure: &AreaFailure, hidden: &HiddenCost) -> bool
     ensures { result ≡ is_cause failure.now hidden.now }
 {

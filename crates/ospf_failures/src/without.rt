@@ -90,7 +90,7 @@ fn named_one(
     }
 }
 
-// What is to be said of a name that names nothing.
+// The line about a name that is not in the area.
 fn unnamed(alloc: Global, name: &String) -> Unreported
     ensures { IsFaultOfNames (λ n. n ≡ name.now) result }
 {

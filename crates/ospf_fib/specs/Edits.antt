@@ -1,4 +1,4 @@
--- Edits of a table that stands for itself (RFC 2328, section 11).
+-- Edits of a table without an index (RFC 2328, section 11).
 use Rattle.std.specs.Prelude.{◌≤◌, ◌+◌, List, All, length}
 use Rattle.ospf_graph.specs.declared.route.Route.{Route}
 use Rattle.ospf_spf.specs.Changes.{PutsHops}

@@ -1,4 +1,4 @@
--- The rule of the shared table, and what each step tells.
+-- The rule of the shared table, and what each step says of it.
 use Rattle.std.specs.Prelude.{◌≡◌, ℕ, Bool, true, false, List, IsTrue}
 use mathlib.Core.Option.{some}
 use lib.ListN.{get_elem?}

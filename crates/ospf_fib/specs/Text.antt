@@ -1,4 +1,4 @@
--- What is printed where a forwarding table was not opened, or answers no more.
+-- What is printed if a forwarding table was not opened, or no longer answers.
 use Rattle.std.specs.Prelude.{ℕ, List, codes}
 
 -- the name where one was not opened

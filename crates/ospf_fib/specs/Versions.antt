@@ -24,12 +24,12 @@ abbrev pub found_of : Bool → Table → List Table → Option Table
 found_of true table tables = slice_get tables (length tables - 1)
 found_of false table tables = Some table
 
--- the list with this table behind it, unless the condition holds
+-- the list with this table at its end, unless the condition holds
 abbrev pub added_unless : Bool → Table → List Table → List Table
 added_unless true table tables = tables
 added_unless false table tables = tables ++ table ∷ []
 
--- the table that what is handed over leads to: at the opening it has no route
+-- the table that these changes make: at the opening it has no route
 abbrev pub edited_by : Bool → Table → List Change → Table
 edited_by true table changes = []
 edited_by false table changes = edited table changes

@@ -1,4 +1,4 @@
--- What the writer's copies show, and what they come to.
+-- What the writer's copies show, and what they will show.
 use Rattle.std.specs.Prelude.{◌≡◌, ◌++◌, ◌∷◌, [], true, List, fold}
 use Rattle.ospf_index.specs.Known.{Known, Table}
 use Rattle.ospf_fib.specs.declared.shown.ShownTable.{ShownTable}
@@ -22,7 +22,7 @@ common_of shown =
           };
     }
 
--- what is shown once the changes that were handed over are made: the opening adds no table
+-- what is shown once the changes in the log are made: the opening adds no table
 abbrev pub shown_after : Common → HandedOver → Common
 shown_after was next =
     record {
@@ -36,7 +36,7 @@ shown_after was next =
           };
     }
 
--- what is shown comes to this, once all that waits is absorbed
+-- what is shown once all that waits is absorbed
 abbrev pub shown_end : ShownTable → List HandedOver → Common
 shown_end shown waiting = fold shown_after (common_of shown) waiting
 
@@ -44,7 +44,7 @@ shown_end shown waiting = fold shown_after (common_of shown) waiting
 abbrev pub with_table : Known → Table → Known
 with_table known table = record { fib = known.fib; tables = known.tables ++ table ∷ [] }
 
--- what a publish works at: the list, and what comes of all that waits
+-- what a publish works on: the list, and what is shown once all that waits is absorbed
 pub record Offer : Type 0 where
   pub list : Known
   pub end : Common

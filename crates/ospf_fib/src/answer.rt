@@ -12,7 +12,7 @@ use ospf_index::IndexedTable;
 /// section 11.1), with one of its hops.
 #[derive(Clone, Copy, Debug, PartialEq, Eq)]
 pub struct Answer {
-    /// The place of the table that answers in the list of published tables, modulo 2^64.
+    /// The place of the answering table in the list of published tables, modulo 2^64.
     pub version: u64,
     pub prefix: Prefix,
     pub cost: u64,

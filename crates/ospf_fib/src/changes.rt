@@ -35,7 +35,7 @@ impl Changes {
         }
     }
 
-    /// These changes, which stand in the order of their prefixes.
+    /// These changes, which are in the order of their prefixes.
     pub fn of(list: Vec<Change>) -> Changes
         requires in_order { AllPairs IsChangeBefore list.items }
         requires have_hops { All PutsHops list.items }

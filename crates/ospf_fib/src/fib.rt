@@ -28,7 +28,7 @@ pub const MAX_SEATS: usize = 64;
 pub struct Fib;
 
 impl Fib {
-    /// A writer and so many seats. They know the opening table, which is empty and has version 0.
+    /// A writer and this many seats. They know the opening table, which is empty and has version 0.
     /// The writer waits by the handle `rt`.
     ///
     /// `OpenRefused` where memory runs out, or there is no place for a seat.
@@ -93,7 +93,7 @@ impl<T: Drop> From<AllocFailed<T>> for OpenRefused {
     }
 }
 
-// Two copies of the opening table, with places for so many seats. The
+// Two copies of the opening table, with places for this many seats. The
 // writer's place knows the list.
 fn opening_copies<R: Wait>(
     alloc: Global,
@@ -102,7 +102,7 @@ fn opening_copies<R: Wait>(
     tries: &Arc<Tries>,
     seats: usize,
 ) -> Result<Copies, AllocError>
-    // What is known is the opening table alone.
+    // Only the opening table is known.
     requires seats { (1 ≤ seats) × (seats ≤ MAX_SEATS) }
     requires opening { known.now.tables ≡ opening }
     requires counter { (arc_value tries.now).counter ≡ counter_of known.now.fib }
@@ -179,7 +179,7 @@ fn seats_of(
     ensures shown { copies.new.desk.shown ≡ copies.old.desk.shown }
     ensures waiting { drop copies.new.behind copies.new.log.items
         ≡ drop copies.old.behind copies.old.log.items }
-    // There are so many seats, and each knows the list.
+    // There are this many seats, and each knows the list.
     ensures count { IfOk result (λ seats. length seats.items ≡ count) }
     ensures seats { IfOk result (λ seats. All (λ seat. seat ≡ known.now) seats.items) }
 {
@@ -190,7 +190,7 @@ fn seats_of(
     Ok(seats)
 }
 
-// A seat at the copies, which is told which list they show.
+// A seat at the copies, which gets the list that they show.
 fn seat_of(copies: &mut Copies, known: &Published) -> Result<Seat, AllocError>
     requires { IsKnownBook (view copies.old.desk.place) known.now.fib }
     // The copies show what they showed.

@@ -28,7 +28,7 @@ pub(crate) type Copies = left_right::writer::Writer<ShownTable, HandedOver, Know
 pub(crate) struct Publisher {
     pub copies: Copies,
     pub list: ClosedList,
-    // What readers will find once all that was handed over is shown.
+    // What readers will find once all changes in the log are shown.
     pub handed: RouteTable,
     pub tries: Arc<Tries>,
     pub alloc: Global,
@@ -62,7 +62,7 @@ impl Publisher {
         &self.copies.published().table
     }
 
-    /// Publishes a table. At `Err` what readers find and the list are as they were.
+    /// Publishes a table. At `Err` what readers find and the list are unchanged.
     pub fn publish<R: Wait>(
         self,
         rt: &R,
@@ -80,7 +80,7 @@ impl Publisher {
     }
 
     /// Publishes the last table with these changes. At `Err` what readers find
-    /// and the list are as they were.
+    /// and the list are unchanged.
     pub fn publish_changes<R: Wait>(
         self,
         rt: &R,
@@ -97,8 +97,8 @@ impl Publisher {
         }
     }
 
-    // Opens the list. The publisher comes back as it was where the list
-    // has no room for three steps more.
+    // Opens the list. The publisher comes back unchanged if the list
+    // has no room for three more steps.
     fn opened(self) -> Result<OpenPublisher, Publisher>
         ensures opened { IfOk result (λ opened. opened.list ≡ self) }
         ensures full { IfErr result (λ publisher. publisher ≡ self) }
@@ -138,7 +138,7 @@ impl Publisher {
     }
 }
 
-// The list is closed again. Nobody adds a table beside this publish, which is not proved.
+// Closes the list again. Nothing but this publish adds a table meanwhile, which is not proved.
 pub(crate) fn closed<R: Wait>(rt: &R, opened: &Opened, counter: &Counter) -> ClosedList
     requires { counter.now ≡ counter_of opened.now.fib }
     ensures { result.known ≡ opened.now }
@@ -150,17 +150,17 @@ pub(crate) fn closed<R: Wait>(rt: &R, opened: &Opened, counter: &Counter) -> Clo
     unreachable!()
 }
 
-// Readers find all that was handed over from now on. At `Err` they find what they found.
+// From now on readers find all changes in the log. At `Err` they find what they found before.
 pub(crate) fn show<R: Wait>(copies: Copies, rt: &R) -> (Copies, Result<(), AllocError>)
     requires { (shown_end copies.desk.shown.value (drop copies.behind copies.log.items)).list.fib
         ≡ copies.desk.shown.value.known.fib }
-    // Readers find where the log led, under the same place, and nothing is left to hand over.
+    // Readers find where the log led, under the same place, and no change is left in the log.
     ensures shown { IfOk result.1 (λ _. common_of result.0.desk.shown.value
         ≡ shown_end copies.desk.shown.value (drop copies.behind copies.log.items)) }
     ensures named { IfOk result.1 (λ _. IsKnownBook (view result.0.desk.place)
         result.0.desk.shown.value.known.fib) }
     ensures done { IfOk result.1 (λ _. drop result.0.behind result.0.log.items ≡ []) }
-    // Where it is refused they find what they found, and the log waits as it did.
+    // If it is refused, readers find what they found before, and the log waits as before.
     ensures same { OnErr result.1 ((result.0.desk.shown.value ≡ copies.desk.shown.value)
         × (view result.0.desk.place ≡ view copies.desk.place)) }
     ensures waiting { OnErr result.1 (drop result.0.behind result.0.log.items
@@ -169,7 +169,7 @@ pub(crate) fn show<R: Wait>(copies: Copies, rt: &R) -> (Copies, Result<(), Alloc
     copies.publish_as::<Swaps, R>(rt)
 }
 
-/// Changes that are to be handed over, with the memory to keep up with them.
+/// Changes for the log, with the memory to keep up with them.
 #[derive(Drop)]
 struct HandOver {
     changes: Changes,
@@ -178,7 +178,7 @@ struct HandOver {
     number: u64,
 }
 
-/// The publisher while the list is open, which is within a publish alone.
+/// The publisher while the list is open, which it is only within a publish.
 struct OpenPublisher {
     copies: Copies,
     opened: Opened,
@@ -210,7 +210,7 @@ impl Model for OpenPublisher {
 }
 
 impl OpenPublisher {
-    // Closes the list, which is as it was.
+    // Closes the list, which is unchanged.
     fn close<R: Wait>(self, rt: &R) -> Publisher
         ensures { result ≡ self.list }
     {
@@ -231,7 +231,7 @@ impl OpenPublisher {
         }
     }
 
-    // Hands changes over. At `Err` nothing was handed over.
+    // Adds changes to the log. At `Err` nothing was added.
     fn hand_over(self, plan: HandOver) -> (OpenPublisher, Result<(), AllocError>)
         // The plan is whole: its edit makes its changes of this table, and it counts for this list.
         requires edit { changes_of plan.edit ≡ plan.changes }
@@ -284,7 +284,7 @@ impl OpenPublisher {
         (open, Ok(()))
     }
 
-    // Shows readers all that was handed over. At `Err` they find what they found, and it waits.
+    // Shows readers all changes in the log. At `Err` they find what they found, and the log waits.
     fn show<R: Wait>(self, rt: &R) -> (Publisher, Result<(), AllocError>)
         requires { self.end.list.fib ≡ self.list.fib }
         ensures shown { OnOk result.1 (result.0 ≡ self.end.list) }
@@ -342,7 +342,7 @@ impl OpenPublisher {
         ensures told { IfOk result.1 (λ told. told ≡ result.0) }
         ensures refused { OnErr result.1 (result.0.tables ≡ self.list.tables) }
     {
-        // What was refused still waits, and is handed over with what comes next.
+        // A change that was refused still waits in the log, and is shown with the next one.
         // Then the whole table is needed.
         if self.copies.has_pending_operations() {
             return self.publish_edited(rt, changes);
@@ -384,7 +384,7 @@ impl OpenPublisher {
         requires edit { changes_of plan.edit ≡ plan.changes }
         requires can_make { CanMake plan.edit self.end.table }
         requires counter { (arc_value plan.tries).counter ≡ counter_of self.list.fib }
-        // The list gets the edited table, or stays as it was, and what is told knows it.
+        // The list gets the edited table, or is unchanged, and the result knows it.
         ensures fib { result.0.fib ≡ self.list.fib }
         ensures published { IfOk result.1 (λ _. result.0.tables ≡ self.list.tables
             ++ edited self.end.table plan.changes ∷ []) }
@@ -406,7 +406,7 @@ impl OpenPublisher {
     }
 }
 
-// The changes from what was handed over to the table, in a try of their own.
+// The changes from the table that the log leads to, to this table, in a try of their own.
 fn planned_to(
     alloc: Global,
     handed: &RouteTable,
@@ -422,7 +422,7 @@ fn planned_to(
     planned(alloc, handed, tries, Changes::of(changes))
 }
 
-// The changes of what was handed over, in a try of their own.
+// These changes of the table that the log leads to, in a try of their own.
 fn planned(
     alloc: Global,
     handed: &RouteTable,
@@ -459,7 +459,7 @@ fn edited_copy(
     Ok(copy)
 }
 
-// Waits without an end.
+// Waits forever.
 fn wait_forever<R: Wait>(rt: &R)
     ensures { ⊥ }
 {

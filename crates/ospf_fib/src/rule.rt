@@ -1,5 +1,5 @@
 //! The rule of the shared table: all that read it and write it mean one list of published tables.
-//! It is for proofs alone, and nothing here has bytes.
+//! It is only for proofs, and nothing here has bytes.
 
 use crate::shown::ShownTable;
 use atomic_table::{Join, Split};
@@ -41,7 +41,7 @@ impl Outcome<ShownTable, Knows> for Swaps {
     ghost then = { NamesTheList };
 }
 
-/// The writer tells a new seat which list it is.
+/// The writer gives a new seat its list.
 pub(crate) struct Tells;
 
 impl Split<Knows> for Tells {

@@ -32,7 +32,7 @@ impl Display for Closed {
     }
 }
 
-/// What a publish tells: the tables that were published by then.
+/// What a publish returns: the tables that were published by then.
 #[derive(Drop)]
 pub struct Told {
     pub(crate) known: Published,
@@ -49,7 +49,7 @@ impl Model for Told {
 impl Told {
     ghost use Rattle.std.specs.Prelude.{◌↔◌, IsTrue};
 
-    /// The same, for another seat. It takes no memory.
+    /// The same, for another seat. No memory is allocated.
     pub fn copy(&self) -> Told
         ensures { result ≡ self.now }
     {
@@ -68,7 +68,7 @@ impl Told {
 }
 
 /// A thread's place at a forwarding table. Proofs see the tables that it knows to be published;
-/// it keeps no table and no answer.
+/// it stores no table and no answer.
 pub struct Seat {
     reader: Reader<ShownTable, Knows, OneList>,
     pub(crate) known: Published,
@@ -96,9 +96,9 @@ impl Drop for Seat {
 impl Seat {
     /// The answer of the last published table that the seat then knows: its route of longest prefix
     /// that holds the address (RFC 2328, section 11.1), with the hop at `choice` modulo the number
-    /// of hops; `None` where no route's prefix holds it. It waits for nobody and takes no memory.
+    /// of hops; `None` where no route's prefix holds it. It does not wait and allocates no memory.
     ///
-    /// `Closed` where the writer is gone; that it comes for nothing else is not proved.
+    /// `Closed` where the writer is gone; that there is no other reason for it is not proved.
     pub fn lookup(&mut self, address: Addr, choice: u32) -> Result<Option<Answer>, Closed>
         ensures fib { self.new.fib ≡ self.old.fib }
         ensures known { IfOk result (λ _. IsPrefix self.old.tables self.new.tables) }
@@ -115,14 +115,14 @@ impl Seat {
         answer
     }
 
-    /// Takes in what a publish told: lookups from here on answer from its table or a later one. It
-    /// waits for nobody and takes no memory. The seat and what it is told are of one `Fib::open`.
+    /// Takes in the result of a publish: lookups from here on answer from its table or a later one.
+    /// It does not wait and allocates no memory. The seat and the result are of one `Fib::open`.
     pub fn learn(&mut self, told: Told)
         requires { told.fib ≡ self.old.fib }
-        // It stays a seat of the same table, and forgets nothing.
+        // It remains a seat of the same table, and forgets nothing.
         ensures fib { self.new.fib ≡ self.old.fib }
         ensures own { IsPrefix self.old.tables self.new.tables }
-        // It knows what it is told too, and no list that is neither.
+        // It knows the tables of the result too, and its list is the old one or that of the result.
         ensures told { IsPrefix told.tables self.new.tables }
         ensures one { (self.new.tables ≡ self.old.tables) ⊎ (self.new.tables ≡ told.tables) }
     {
@@ -149,13 +149,13 @@ fn look_up(
     (Published, Result<Option<Answer>, Closed>),
 )
     requires { IsKnownBook (view reader.place) known.fib }
-    // The reader stays one of the same table.
+    // The reader remains one of the same table.
     ensures named { IsKnownBook (view result.0.place) known.fib }
     ensures fib { result.1.0.fib ≡ known.fib }
-    // An answer is that of the last table of a list that goes on where the known one ended.
+    // An answer is that of the last table of a list that continues where the known one ended.
     ensures known { IfOk result.1.1 (λ _. IsPrefix known.tables result.1.0.tables) }
     ensures answer { IfOk result.1.1 (IsAnswerOfLast result.1.0.tables address choice) }
-    // Without one the known list stays.
+    // Without one the known list is unchanged.
     ensures closed { OnErr result.1.1 (result.1.0.tables ≡ known.tables) }
 {
     match reader.enter_as::<Enters>() {

@@ -1,4 +1,4 @@
-//! What readers find, and what the writer hands over to get there.
+//! What readers find, and the changes by which the writer gets there.
 
 ghost use Rattle.std.specs.Prelude.{◌≡◌, true, false, not, OnOk, OnErr, Some};
 ghost use Rattle.std.specs.Arc.{arc_value};
@@ -14,7 +14,7 @@ use std::alloc::{AllocError, Global};
 use std::sync::Arc;
 use std::sync::atomic::{AtomicU64, Ordering};
 
-/// What the writer shares with the changes that it hands over: the counter of the list, and the
+/// What the writer shares with the changes in the log: the counter of the list, and the
 /// number of its present try to publish.
 #[derive(Drop)]
 pub(crate) struct Tries {
@@ -55,8 +55,8 @@ impl Absorb<HandedOver> for ShownTable {
     }
 }
 
-/// Changes that are handed over in the try of this number, with all that was published before it.
-/// The opening leaves the list as it is.
+/// Changes that are put into the log in the try of this number, with all that was published before
+/// it. The opening leaves the list unchanged.
 #[derive(Drop)]
 pub(crate) struct HandedOver {
     pub is_opening: bool,
@@ -82,8 +82,8 @@ impl HandedOver {
         table.edit(self.alloc, self.changes.as_slice())
     }
 
-    // All that is published with this table. It comes to stand in the list here, after all
-    // that may be refused for memory, and in the present try alone: changes that were
+    // All that is published with this table. The table is added to the list here, after all steps
+    // that may run out of memory, and only in the present try: changes that were
     // refused are absorbed by the next one.
     fn announced(&self, table: &RouteTable) -> (bool, Opened)
         ensures fib { result.1.fib ≡ self.now.known.fib }

@@ -1,4 +1,4 @@
-//! Edits of a table that stands for itself, without an index.
+//! Edits of a table without an index.
 
 ghost use Rattle.std.specs.Prelude.{◌≡◌, All, AllPairs, IfOk};
 ghost use Rattle.ospf_fib.specs.Edits.{CanMake, changes_of};
@@ -11,7 +11,7 @@ use std::alloc::{AllocError, Global};
 /// Changes of a table, with all the memory that it takes to make them.
 #[derive(Drop)]
 pub(crate) enum TableEdit {
-    /// Each puts a route in the place of one to the same prefix, and no other route is looked at.
+    /// Each replaces a route to the same prefix, and no other route is looked at.
     InPlace(Vec<Change>),
     /// They are made in one pass over the table.
     OnePass(Edit),
@@ -42,7 +42,7 @@ impl TableEdit {
         }
     }
 
-    /// Makes its changes of the table. It takes no memory.
+    /// Makes its changes of the table. No memory is allocated.
     pub fn make(self, alloc: Global, table: &mut RouteTable)
         requires { CanMake self table.old }
         ensures { table.new ≡ edited table.old (changes_of self) }

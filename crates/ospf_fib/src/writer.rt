@@ -63,8 +63,8 @@ impl<R: Wait + Drop> Writer<R> {
     }
 
     /// Publishes the table that was published last with these changes, which are in the
-    /// order of tables, as the next version. Where they are few, and each puts a route in
-    /// the place of one to the same prefix, mostly no other route is looked at. It may wait
+    /// order of tables, as the next version. If they are few, and each replaces a route to
+    /// the same prefix, mostly no other route is looked at. It may wait
     /// for lookups that are under way.
     ///
     /// `AllocError` where memory runs out, or the steps that the list counts, three a publish, are

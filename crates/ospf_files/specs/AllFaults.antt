@@ -38,7 +38,7 @@ pub data AreFaultsExplained (Holds : ConfigFault → Type 0)
 abbrev pub AreAllExplained : List ℕ → List FaultExplained → Type 0
 AreAllExplained text es = AreFaultsExplained (TextHasFault text) (IsExplained text) all_faults es
 
--- more is told than a verdict
+-- the program prints more than a verdict
 abbrev pub explains : Telling → Bool
 explains telling.Verdict = false
 explains telling.Explained = true

@@ -1,4 +1,4 @@
--- What is said of a text that is refused: the places that have its fault, in order.
+-- The explanation of a refused text: the places that have its fault, in order.
 use Rattle.std.specs.Prelude.{◌≡◌, ◌==◌, ◌&&◌, ◌||◌, ℕ, Bool, true, false, not, ◌+◌, ◌≤◌, List, [], ◌∷◌, ◌++◌, length, take, count_by, Any, Option, Some, None, option_map, IfSome, Ok, Err, String, codes, decimal, string_bytes}
 use Rattle.std.specs.declared.alloc.Global.{Global}
 use Rattle.std.specs.Char.{is_ascii_alphanumeric}
@@ -37,11 +37,11 @@ pub data KnownKey : Type 0 where
   port_key : KnownKey
   peers_key : KnownKey
 
--- the keys at the top, in the order in which they are told
+-- the keys at the top, in the order in which they are listed
 abbrev pub keys_at_top : List KnownKey
 keys_at_top = router_id_key ∷ area_key ∷ stub_router_key ∷ other_lsas_key ∷ interface_key ∷ []
 
--- the keys of an interface, in the order in which they are told
+-- the keys of an interface, in the order in which they are listed
 abbrev pub keys_of_interface : List KnownKey
 keys_of_interface =
     kind_key ∷ address_key ∷ cost_key ∷ priority_key ∷ hello_key ∷ dead_key ∷ retransmit_key
@@ -124,7 +124,7 @@ IsValueText (string s) text = IsQuotedText s text
 IsValueText (array ds) text = text ≡ codes "a list of " ++ decimal (item_number ds)
 IsValueText d text = text ≡ codes "a " ++ type_name d
 
--- what stood there in words, and none where nothing did
+-- what was found, in words; none if nothing was
 abbrev pub IsFoundText : Option Data → Option (List ℕ) → Type 0
 IsFoundText None found = found ≡ None
 IsFoundText (Some d) None = ⊥
@@ -145,7 +145,7 @@ IsKeyText key text = elim (is_bare key) [
   | false ↦ IsQuotedText key text
 ]
 
--- the place of a key: the number of its interface, if any, what belongs there and what stood there
+-- the place of a key: the number of its interface, if any, what belongs there and what was found
 pub record IsKeyPlace (number : Option ℕ) (t : Members) (key wanted : List ℕ) (e : Explained)
     : Type 0 where
   pub place : KeyExplained

@@ -1,4 +1,4 @@
--- Files that were named, the configurations in them, and what is told of one that is not taken.
+-- Named files, the configurations in them, and what is printed about a file that is refused.
 use Rattle.std.specs.Prelude.{◌≡◌, ◌⊎◌, ℕ, List, [], ◌++◌, Option, IsSome, IsUtf8, codes, option_map, string_bytes, unwrap_or}
 use Rattle.ospf_config.specs.Configs.{IsReading, TextHasFault}
 use Rattle.ospf_config.specs.Fault.{IsLeastFault, config_fault_text}

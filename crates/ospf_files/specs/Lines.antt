@@ -1,5 +1,5 @@
--- Lines of a text, with their numbers: a line ends with a line feed, before which a carriage
--- return may stand, or with the text.
+-- Lines of a text, with their numbers: a line ends with a line feed, with a carriage return and a
+-- line feed, or with the text.
 use Rattle.std.specs.Prelude.{◌≡◌, ◌≢◌, ◌==◌, ℕ, List, [], ◌∷◌, ◌++◌, map, take}
 use Rattle.std.specs.List.{All, enumerate_from, position_or_len}
 use Rattle.std.specs.Str.Lines as std
@@ -9,7 +9,7 @@ use Rattle.ospf_files.specs.declared.line.Line.{Line}
 abbrev pub lines_of : List ℕ → List (List ℕ)
 lines_of text = std.lines text
 
--- no line feed stands in a line
+-- the line contains no line feed
 abbrev pub HasNoFeed : List ℕ → Type 0
 HasNoFeed line = All (λ byte. byte ≢ 10) line
 
@@ -25,7 +25,7 @@ pub data BeginsWithLine (text line rest : List ℕ) : Type 0 where
 abbrev pub numbered_line : Line → ℕ × List ℕ
 numbered_line line = (line.number, line.text.now)
 
--- a line without its comment: that stands from the first # on
+-- a line without its comment, which begins at the first #
 abbrev pub uncommented : List ℕ → List ℕ
 uncommented line = take (position_or_len (λ b. b == 35) line) line
 

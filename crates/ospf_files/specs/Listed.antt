@@ -23,7 +23,7 @@ pub record IsFirstUnread (file : NamedFile) (files : List NamedFile) : Type 0 wh
 abbrev pub AreConfigs : List NamedFile → List Config → Type 0
 AreConfigs files configs = AllZip (λ file config. IsConfigIn (text_in file) config) files configs
 
--- a file holds a configuration, or it is told why it does not
+-- a file holds a configuration, or the reason why it does not is printed
 abbrev pub ConfigComes : NamedFile → Option Config → Option (List ℕ) → Option (List ℕ) → Type 0
 ConfigComes file (Some config) old new = IsConfigIn (text_in file) config × (new ≡ old)
 ConfigComes file None old new =
@@ -41,14 +41,14 @@ pub record IsFirstRefused (file : NamedFile) (fault : ConfigFault) (files : List
   pub are_configs : AreConfigs before configs
   pub refused : IsRefusedFor (text_in file) fault
 
--- the first file that holds no configuration is told, with its fault
+-- the first file that holds no configuration is reported, with its fault
 pub record IsRefusalTold (files : List NamedFile) (old new : Option (List ℕ)) : Type 0 where
   pub file : NamedFile
   pub fault : ConfigFault
   pub refused : IsFirstRefused file fault files
   pub told : Appends old new (refused_line file fault)
 
--- the files hold these configurations, or it is told which is the first that holds none, and why
+-- the files hold these configurations, or the first one that holds none is reported, with its fault
 abbrev pub ConfigsCome : List NamedFile → Option (List Config) → Option (List ℕ) → Option (List ℕ)
     → Type 0
 ConfigsCome files (Some configs) old new = AreConfigs files configs × (new ≡ old)

@@ -13,7 +13,7 @@ pub record IsRowOf (t : Members) (k : KnownKey) (row : Row) : Type 0 where
   pub wanted_is : row.wanted.now ≡ wanted_at k
   pub fault_is : MatchOption row.fault ((f : ConfigFault) → KeyHas t f k → ⊥) (λ f. KeyHas t f k)
 
--- behind the places so far stand some of which this holds
+-- the new list is the old one, followed by places of which this holds
 pub record AddsRows (Are : List Explained → Type 0) (old new : List Explained) : Type 0 where
   pub more : List Explained
   pub added : new ≡ old ++ more

@@ -18,7 +18,7 @@ abbrev pub failure_status : Failure → Status
 failure_status failure.Memory = Memory
 failure_status _ = Stream
 
--- a failure as it is told
+-- a failure as it is printed
 abbrev pub program_failure_text : Failure → List ℕ
 program_failure_text failure.Memory = codes "out of memory"
 program_failure_text failure.Input = codes "standard input: not read"

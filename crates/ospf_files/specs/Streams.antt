@@ -5,12 +5,12 @@ use Rattle.ospf_files.specs.declared.status.Failure.{Failure}
 use Rattle.ospf_files.specs.declared.status.Failure.TheVariants as failure
 use Rattle.ospf_files.specs.declared.streams.FailedStreams.{FailedStreams}
 
--- what stands written on standard output and on standard error, where that is known
+-- what was written to standard output and to standard error, where that is known
 pub record Written : Type 0 where
   pub out : Option (List ℕ)
   pub err : Option (List ℕ)
 
--- this stands on standard output, and that on standard error
+-- one text is on standard output, the other on standard error
 abbrev pub written_on : Option (List ℕ) → Option (List ℕ) → Written
 written_on out err = record { out = out; err = err }
 
@@ -37,17 +37,17 @@ with_output streams = record streams { output = true }
 abbrev pub with_error : FailedStreams → FailedStreams
 with_error streams = record streams { error = true }
 
--- the text was told, or standard error failed behind a beginning of it
+-- the text was printed, or standard error failed after a beginning of it
 abbrev pub IsTold : FailedStreams → FailedStreams → Option (List ℕ) → Option (List ℕ) → List ℕ
     → Type 0
 IsTold before after old new text =
     ((after ≡ before) × Appends old new text) ⊎ ((after ≡ with_error before) × IsBegun old new text)
 
--- which failures a failed write to standard output, or a failed flush of it, is told as
+-- how a failed write to standard output, or a failed flush of it, may be reported
 abbrev pub IsOfOutput : Failure → Type 0
 IsOfOutput f = (f ≡ failure.Memory) ⊎ (f ≡ failure.Output)
 
--- which failures a failed write to standard error, or a failed flush of it, is told as
+-- how a failed write to standard error, or a failed flush of it, may be reported
 abbrev pub IsOfError : Failure → Type 0
 IsOfError f = (f ≡ failure.Memory) ⊎ (f ≡ failure.Error)
 

@@ -1,4 +1,4 @@
--- Two files that configure one router, and what is told of them.
+-- Two files that configure one router, and what is printed about them.
 use Rattle.std.specs.Prelude.{◌≡◌, ◌≤◌, ◌++◌, ℕ, List, Some, codes, slice_get, string_bytes}
 use Rattle.ospf_base.specs.Text.{number_text}
 use Rattle.ospf_config.specs.Configs.{ShareRouter}

@@ -12,9 +12,9 @@ use std::fs;
 use std::io::{self, ErrorKind, Write};
 use std::rt::Runtime;
 
-/// The file of this name. One that cannot be read has no bytes.
+/// Reads the file of this name. A file that cannot be read has no bytes.
 ///
-/// The error is want of memory.
+/// Fails only if memory runs out.
 pub fn read_file<R: Runtime + AllocGlobal>(rt: &R, name: String) -> io::Result<NamedFile>
     ensures name { IfOk result (λ file. file.name ≡ name) }
     ensures memory { IfErr result (λ error. error_kind error ≡ ErrorKind.OutOfMemory) }
@@ -27,9 +27,9 @@ pub fn read_file<R: Runtime + AllocGlobal>(rt: &R, name: String) -> io::Result<N
     Ok(NamedFile { name, bytes })
 }
 
-/// The files of these names, in their order. One that cannot be read has no bytes.
+/// Reads the files of these names, in their order. A file that cannot be read has no bytes.
 ///
-/// The error is want of memory.
+/// Fails only if memory runs out.
 pub fn read_files<R: Runtime + AllocGlobal>(
     rt: &R,
     names: Vec<String>,
@@ -44,7 +44,7 @@ pub fn read_files<R: Runtime + AllocGlobal>(
     Ok(files)
 }
 
-/// Tells that a file could not be written. Where that fails, a beginning of the line was written.
+/// Reports that a file could not be written. If that fails, a beginning of the line was written.
 pub fn tell_unwritten<E: Write>(name: &str, err: &mut E) -> io::Result<()>
     ensures ok { OnOk result
         (Appends (E.contents err.old) (E.contents err.new) (unwritten name.now)) }
@@ -54,21 +54,21 @@ pub fn tell_unwritten<E: Write>(name: &str, err: &mut E) -> io::Result<()>
     write_joined(err, name, ": not written\n")
 }
 
-/// Writes a file. The answer is whether it was written; where it was not that is told, as far as
-/// `err` can be written.
+/// Writes a file, and returns whether it was written. If not, prints so on `err`, as far as `err`
+/// can be written.
 ///
-/// The error is want of memory.
+/// Fails only if memory runs out.
 pub fn write_file<R: Runtime + AllocGlobal, E: Write>(
     rt: &R,
     name: &str,
     bytes: &[u8],
     err: &mut E,
 ) -> io::Result<bool>
-    // A file that was written tells nothing, of another its line was begun.
+    // If the file was written, nothing is printed; if not, a beginning of its line is.
     ensures silent { result ≡ Ok true → E.contents err.new ≡ E.contents err.old }
     ensures told { result ≡ Ok false →
         IsBegun (E.contents err.old) (E.contents err.new) (unwritten name.now) }
-    // Want of memory, which tells nothing, is the only error.
+    // The only error is that memory ran out, and then nothing is printed.
     ensures unchanged { OnErr result (E.contents err.new ≡ E.contents err.old) }
     ensures memory { IfErr result (λ error. error_kind error ≡ ErrorKind.OutOfMemory) }
 {

@@ -44,7 +44,7 @@ pub struct KeyExplained {
     pub key: String,
     /// What belongs there, in words.
     pub wanted: &'static str,
-    /// What stood there; `None` where nothing did.
+    /// What was found there; `None` if nothing was.
     pub found: Option<String>,
 }
 
@@ -62,11 +62,11 @@ impl Display for KeyExplained {
     }
 }
 
-/// What to do about a text that `Config::from_text` refuses: each place that has the
-/// fault which that tells, first those at the top, then those of the interfaces in
-/// order. Nothing where it is accepted.
+/// What to do about a text that `Config::from_text` refuses: each place that has the fault it
+/// reports, first those at the top, then those of the interfaces in order. Empty if the text is
+/// accepted.
 ///
-/// `AllocError` where memory runs out.
+/// `AllocError` if memory runs out.
 pub fn explain(alloc: Global, text: &str) -> Result<Vec<Explained>, AllocError>
     ensures accepted { ((f : ConfigFault) → TextHasFault text.now f → ⊥) →
         IfOk result (λ places. places.items ≡ []) }
@@ -90,7 +90,7 @@ fn write_interface<W: Write>(f: &mut Formatter<W>, interface: Option<usize>) -> 
     }
 }
 
-// Writes what stood at a key.
+// Writes what was found at a key.
 fn write_found<W: Write>(f: &mut Formatter<W>, found: &Option<String>) -> fmt::Result
     ensures { WritesOnOk W.Write.write_str_gives f.old result (found_here_text found.now) f.new }
 {

@@ -1,14 +1,14 @@
-//! What the programs have in common: files that were named, the configurations in them and what is
-//! wrong with one, lines of texts and of routes, and how a program ends.
+//! What the programs have in common: named files, the configurations in them and what is wrong with
+//! one, lines of texts and of routes, and how a program ends.
 //!
-//! `read_files` and `write_file` read and write files whole, and `config_in` finds the
+//! `read_files` and `write_file` read and write whole files, and `config_in` finds the
 //! configuration in a file's bytes; `first_twins` finds two files that configure one router
-//! (`specs/Twins`). `explain` tells the places of the fault of least number of a
-//! text that holds none, and `explain_all` those of each fault that holds (`specs/Explained`,
+//! (`specs/Twins`). `explain` lists the places of the fault of least number in a text that holds no
+//! configuration, and `explain_all` those of each of its faults (`specs/Explained`,
 //! `specs/AllFaults`). `lines` gives the lines of a text, with their numbers and without comments.
-//! `print_routes` and `print_lookup` print a table and what a lookup found (RFC 2328, section 11),
-//! as `specs/Shown` has it. `FailedStreams` notes which stream failed, and `Failure::tell` tells
-//! why a program ends early (`specs/Status`).
+//! `print_routes` and `print_lookup` print a table and the result of a lookup (RFC 2328, section
+//! 11), as `specs/Shown` defines. `FailedStreams` notes which stream failed, and `Failure::tell`
+//! prints why a program ends early (`specs/Status`).
 #![tactic(auto)]
 
 mod all;

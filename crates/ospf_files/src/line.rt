@@ -16,10 +16,9 @@ pub struct Line<'a> {
     pub text: &'a [u8],
 }
 
-/// The first line of a text, without its end, and what stands behind it;
-/// `None` of a text that is empty.
+/// The first line of a text, without its end, and the text after it; `None` if the text is empty.
 ///
-/// A line ends with a line feed, before which a carriage return may stand, or with the text.
+/// A line ends with a line feed, with a carriage return and a line feed, or with the text.
 pub fn first_line(text: &[u8]) -> Option<(&[u8], &[u8])>
     ensures line { IfSome result (λ found. lines_of text.now ≡ found.0.now ∷ lines_of found.1.now) }
     ensures cut { IfSome result (λ found. BeginsWithLine text.now found.0.now found.1.now) }

@@ -142,7 +142,7 @@ fn is_bare_byte(byte: u8) -> bool
     byte.is_ascii_alphanumeric() || byte == b'_' || byte == b'-'
 }
 
-// What stands at a key, in words.
+// The value of a key, in words.
 fn found_in(alloc: Global, value: &Value) -> Result<String, AllocError>
     ensures { IfOk result (λ text. IsValueText (view value.now) (string_bytes text)) }
 {

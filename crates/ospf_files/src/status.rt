@@ -60,7 +60,7 @@ impl Failure {
     ghost use Rattle.ospf_files.specs.Status.{failure_line, failure_status, program_failure_text};
     ghost use Rattle.ospf_files.specs.Streams.{IsTold};
 
-    /// What an error of a stream is: want of memory, or else this failure of the stream.
+    /// The failure for an error of a stream: `Memory` if memory ran out, else `stream`.
     pub fn of(error: &io::Error, stream: Failure) -> Failure
         ensures memory { error_kind error.now ≡ kind.OutOfMemory → result ≡ Failure.Memory }
         ensures stream { error_kind error.now ≢ kind.OutOfMemory → result ≡ stream }
@@ -82,7 +82,7 @@ impl Failure {
         }
     }
 
-    /// The failure as it is told.
+    /// The failure as it is printed.
     pub fn text(self) -> &'static str
         ensures { result.now ≡ program_failure_text self }
     {
@@ -95,8 +95,8 @@ impl Failure {
         }
     }
 
-    /// Tells the failure on `err`, as far as that can be written, and notes in `streams` where it
-    /// cannot. The answer is the status to end with.
+    /// Prints the failure on `err`, as far as it can be written, and notes in `streams` where it
+    /// cannot. Returns the status to end with.
     pub fn tell<E: Write>(self, err: &mut E, streams: &mut FailedStreams) -> Status
         ensures status { result ≡ failure_status self }
         ensures told { IsTold streams.old streams.new (E.contents err.old) (E.contents err.new)

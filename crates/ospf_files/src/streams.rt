@@ -30,10 +30,10 @@ impl FailedStreams {
     ///
     /// `Memory` where that ran out, else `Output`; the stream is noted then.
     pub fn write<O: Write>(&mut self, out: &mut O, text: &str) -> Result<(), Failure>
-        // The text is written behind what stood there, and no stream has failed by it.
+        // The text is appended, and no stream has failed by it.
         ensures same { OnOk result (self.new ≡ self.old) }
         ensures written { OnOk result (Appends (O.contents out.old) (O.contents out.new) text.now) }
-        // Else a beginning of it stands there, and standard output has failed.
+        // Else a beginning of it was written, and standard output has failed.
         ensures begun { OnErr result (IsBegun (O.contents out.old) (O.contents out.new) text.now) }
         ensures failed { OnErr result (self.new ≡ with_output self.old) }
         ensures cut { IfErr result (IsOutputCut self.new) }
@@ -89,10 +89,10 @@ impl FailedStreams {
     ///
     /// `Memory` where that ran out, else `Error`; the stream is noted then.
     pub fn tell<E: Write>(&mut self, err: &mut E, text: &str) -> Result<(), Failure>
-        // The text is written behind what stood there, and no stream has failed by it.
+        // The text is appended, and no stream has failed by it.
         ensures told { OnOk result ((self.new ≡ self.old)
             × Appends (E.contents err.old) (E.contents err.new) text.now) }
-        // Else a beginning of it stands there, and standard error has failed, or memory ran out.
+        // Else a beginning of it was written, and standard error has failed, or memory ran out.
         ensures begun { OnErr result (IsBegun (E.contents err.old) (E.contents err.new) text.now) }
         ensures failed { OnErr result (self.new ≡ with_error self.old) }
         ensures failure { IfErr result (λ failure. (failure ≡ Failure.Memory)
@@ -128,7 +128,7 @@ pub fn write_line<W: Write>(writer: &mut W, text: &str) -> io::Result<()>
     write_joined(writer, text, "\n")
 }
 
-// Writes two texts, one behind the other, and flushes.
+// Writes two texts, one after the other, and flushes.
 pub(crate) fn write_joined<W: Write>(writer: &mut W, front: &str, back: &str) -> io::Result<()>
     ensures ok { OnOk result (Appends (W.contents writer.old) (W.contents writer.new)
         (front.now ++ back.now)) }

@@ -1,13 +1,13 @@
-//! How much is told of a configuration.
+//! How much is reported about a configuration.
 
-/// How much is told of a configuration that is checked.
+/// How much is reported about a configuration that is checked.
 #[derive(Clone, Copy, Debug, PartialEq, Eq)]
 pub enum Telling {
-    /// That it is accepted, or the fault of least number that it has.
+    /// That it is accepted, or its fault of least number.
     Verdict,
-    /// Also the places of that fault, and of an accepted one what it is warned of.
+    /// Also the places of that fault; for an accepted configuration, its warnings.
     Explained,
-    /// As `Explained`, with the places of each fault that it has.
+    /// As `Explained`, with the places of each of its faults.
     AllExplained,
 }
 
@@ -15,7 +15,7 @@ impl Telling {
     ghost use Rattle.std.specs.Prelude.{◌≡◌};
     ghost use Rattle.ospf_files.specs.AllFaults.{explains};
 
-    /// Whether more is told than a verdict.
+    /// Whether more than a verdict is printed.
     pub fn explains(self) -> bool
         ensures { result ≡ explains self }
     {

@@ -1,4 +1,4 @@
-//! What is told of a file that is not taken.
+//! What is printed about a file that is refused.
 
 ghost use Rattle.std.specs.Prelude.{◌≡◌, ◌⊎◌, IfErr, IfOk, OnErr, OnOk, string_bytes};
 ghost use Rattle.std.specs.Io.KnownBytes.{Appends};
@@ -12,9 +12,9 @@ use ospf_config::ConfigFault;
 use std::alloc::{AllocError, Global};
 use std::io::Write;
 
-/// Tells that a file could not be read, as `1.toml: not read`.
+/// Reports that a file could not be read, as `1.toml: not read`.
 ///
-/// `Failure` where memory runs out or the stream fails: then a beginning of it was written.
+/// `Failure` if memory runs out or the stream fails: then a beginning of the line was written.
 pub fn tell_unread<E: Write>(
     alloc: Global,
     file: &NamedFile,
@@ -25,7 +25,7 @@ pub fn tell_unread<E: Write>(
     ensures same { OnOk result (streams.new ≡ streams.old) }
     ensures told { OnOk result
         (Appends (E.contents err.old) (E.contents err.new) (unread_line file.now)) }
-    // Else a beginning of it stands there, and standard error has failed, or memory ran out.
+    // Else a beginning of it was written, and standard error has failed, or memory ran out.
     ensures begun { OnErr result
         (IsBegun (E.contents err.old) (E.contents err.new) (unread_line file.now)) }
     ensures failed { OnErr result ((streams.new ≡ streams.old)
@@ -36,9 +36,9 @@ pub fn tell_unread<E: Write>(
     streams.tell(err, &line)
 }
 
-/// Tells the fault of a file, as `1.toml: C6 SamePrefix`.
+/// Reports the fault of a file, as `1.toml: C6 SamePrefix`.
 ///
-/// `Failure` where memory runs out or the stream fails: then a beginning of it was written.
+/// `Failure` if memory runs out or the stream fails: then a beginning of the line was written.
 pub fn tell_refused<E: Write>(
     alloc: Global,
     file: &NamedFile,
@@ -50,7 +50,7 @@ pub fn tell_refused<E: Write>(
     ensures same { OnOk result (streams.new ≡ streams.old) }
     ensures told { OnOk result
         (Appends (E.contents err.old) (E.contents err.new) (refused_line file.now fault)) }
-    // Else a beginning of it stands there, and standard error has failed, or memory ran out.
+    // Else a beginning of it was written, and standard error has failed, or memory ran out.
     ensures begun { OnErr result
         (IsBegun (E.contents err.old) (E.contents err.new) (refused_line file.now fault)) }
     ensures failed { OnErr result ((streams.new ≡ streams.old)

@@ -39,9 +39,9 @@ pub fn first_twins<'a>(files: &'a [NamedFile], configs: &[Config]) -> Option<Twi
     None
 }
 
-/// What is told of them, as `W7 SameRouter`, and below it `  1.1.1.1: a.toml, b.toml`.
+/// The lines about them, as `W7 SameRouter`, and below it `  1.1.1.1: a.toml, b.toml`.
 ///
-/// `AllocError` where memory runs out.
+/// `AllocError` if memory runs out.
 pub fn same_router_lines(alloc: Global, twins: Twins<'_>) -> Result<String, AllocError>
     ensures { IfOk result (λ lines. string_bytes lines ≡ same_router_lines twins.entry) }
 {

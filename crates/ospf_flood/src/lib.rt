@@ -1,8 +1,8 @@
-//! Flooding (RFC 2328, section 13): what an LSA of an Update meets, and what it
+//! Flooding (RFC 2328, section 13): which rule an LSA of an Update meets, and what it
 //! does to one neighbour or one link.
 //!
-//! `lsa_rule` tells which rule an LSA meets, `flood_to` offers it to a neighbour, `is_flooded_out`
-//! tells whether a link sends it, and `acknowledge` how it is acknowledged.
+//! `lsa_rule` says which rule an LSA meets, `flood_to` offers it to a neighbour, `is_flooded_out`
+//! says whether a link sends it, and `acknowledge` how it is acknowledged.
 #![tactic(auto)]
 
 mod acknowledgement;

@@ -6,7 +6,7 @@ use Rattle.ospf_graph.specs.declared.graph.Vertex.TheVariants.{Router, Network}
 use Rattle.ospf_graph.specs.Advertisements.{Advertisement, router_lsa, network_lsa}
 use Rattle.ospf_graph.specs.Graph.{IsEdge}
 
--- what an LSA tells of: its router, or the network of its Link State ID
+-- what an LSA describes: its router, or the network of its Link State ID
 abbrev pub vertex_of : Advertisement → Vertex
 vertex_of (router_lsa r _) = Router r
 vertex_of (network_lsa n _ _ _) = Network n

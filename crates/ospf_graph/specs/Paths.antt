@@ -1,4 +1,4 @@
--- Shortest paths, told in lists (RFC 2328, section 16.1).
+-- Shortest paths as lists (RFC 2328, section 16.1).
 use Rattle.std.specs.Prelude.{List, Contains}
 use Rattle.std.specs.List.Sorted.{IsNonDecreasingBy}
 use Rattle.ospf_graph.specs.declared.graph.Edge.{Edge}
@@ -9,7 +9,7 @@ use Rattle.ospf_graph.specs.declared.paths.ShortestPaths.{ShortestPaths}
 use Rattle.ospf_graph.specs.Search.{AtIn, StartsIn, vertex_code}
 use Rattle.ospf_graph.specs.Tree.{AreLeast, IsTree}
 
--- the paths, told in lists, are a tree over the edges
+-- the paths, as lists, are a tree over the edges
 abbrev pub IsTreeOver : List Edge → Vertex → ShortestPaths → Type 0
 IsTreeOver edges root t =
     IsTree (Contains edges) root (AtIn t.settled.items) (StartsIn t.starts.items)

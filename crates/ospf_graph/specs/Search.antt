@@ -14,7 +14,7 @@ use Rattle.ospf_graph.specs.Tree.{rank, extend, RaisesRank}
 abbrev pub candidate_rank : SpfCandidate → ℕ
 candidate_rank c = rank c.edge.to c.distance
 
--- the two are one vertex
+-- the two are the same vertex
 abbrev pub vertex_eq : Vertex → Vertex → Bool
 vertex_eq (Router a) (Router b) = a.0 == b.0
 vertex_eq (Network a) (Network b) = a == b

@@ -1,4 +1,4 @@
-//! The graph of a listing, the shortest paths through it, and what walks along next hops come to
+//! The graph of a listing, the shortest paths through it, and where walks along next hops arrive
 //! (RFC 2328, section 16.1).
 #![tactic(auto)]
 

@@ -10,8 +10,8 @@ const SECOND_NUMBERS: u64 = 0x1_0000_0000;
 
 /// Pairs of numbers, each by its place in the order of pairs.
 ///
-/// A search looks first behind the place of the last one, since pairs
-/// are mostly asked for in order.
+/// A lookup first tries the place after that of the last lookup, since pairs
+/// are mostly looked up in order.
 #[derive(Drop)]
 pub struct Pairs {
     list: Vec<u64>,

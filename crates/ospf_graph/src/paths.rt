@@ -52,7 +52,7 @@ pub struct ShortestPaths {
     pub looks: u64,
 }
 
-/// Whether two vertices are one.
+/// Whether two vertices are the same.
 pub fn is_same(a: Vertex, b: Vertex) -> bool
     ensures value { result ≡ vertex_eq a b }
     ensures same { IsTrue result ↔ (a ≡ b) }
@@ -159,7 +159,7 @@ pub fn listed(alloc: Global, reached: &[Reached], looks: u64) -> Result<Shortest
     // All that is reached is listed, and nothing else.
     ensures settled { IfOk result (λ t. IsPermutation (settled_of reached.now) t.settled.items) }
     ensures starts { IfOk result (λ t. IsPermutation (starts_of reached.now) t.starts.items) }
-    // It stands in the order of vertices, and the looks are told on.
+    // The result is in the order of vertices, and `looks` is passed on.
     ensures settled_in_order { IfOk result (λ t. AreSettledInOrder t.settled.items) }
     ensures starts_in_order { IfOk result (λ t. AreStartsInOrder t.starts.items) }
     ensures looks { IfOk result (λ t. t.looks ≡ looks) }
@@ -193,7 +193,7 @@ pub fn shortest_paths(
         (StartsIn t.starts.items)) }
     ensures least { IfOk result (λ t. AreLeast (Contains edges.now) root (AtIn t.settled.items)
         (StartsIn t.starts.items)) }
-    // No distance is past the limit, and all stands in the order of vertices.
+    // No distance is past the limit, and both lists are in the order of vertices.
     ensures near { IfOk result (λ t. All (λ s. s.distance < 2 ^ 63) t.settled.items) }
     ensures settled_in_order { IfOk result (λ t. IsNonDecreasingBy (λ s. vertex_code s.vertex)
         t.settled.items) }
@@ -218,7 +218,7 @@ fn reach_root(
     // Nothing is reached yet.
     requires empty { reached.old.items ≡ [] }
     requires no_places { (q : ℕ) → get nat_eq places.old q ≡ None }
-    // Then the root alone is, at distance 0, as its own start.
+    // Then only the root is, at distance 0, as its own start.
     ensures settled { OnOk result (settled_of reached.new.items
         ≡ record { vertex = root; distance = 0 } ∷ []) }
     ensures starts { OnOk result (starts_of reached.new.items

@@ -1,4 +1,4 @@
--- What holds of each world that some list of events leads to.
+-- What holds for each world that some list of events leads to.
 use Rattle.std.specs.Prelude.{◌≡◌, ℕ, Bool, List, Some}
 use Rattle.ospf_base.specs.declared.ids.RouterId.{RouterId}
 use Rattle.ospf_base.specs.Sums.{contents}
@@ -30,8 +30,8 @@ pub record Headline (before after : World) : Type 0 where
       → AgreeUnlessIssuedAgain after.issued a b
   pub held_agree_now : (a b : List ℕ) → HeldAnywhere after a → HeldAnywhere after b
       → AgreeUnlessIssuedAgain after.issued a b
-  -- each running router has a route to each prefix that it has a way to by its own listing, and no
-  -- other: at the least cost, and with exactly the next hops of the least ways that count
+  -- each running router has a route to each prefix that it can reach by its own listing, and no
+  -- other: at the least cost, and with exactly the next hops of the least paths that count
   pub tables : (r : RouterId) (x : Running) → router_at after r ≡ Some x
       → IsTable (adverts x) r x.table
   -- where nothing issued collides and all listed routers run and list the same, each walk arrives
@@ -39,7 +39,7 @@ pub record Headline (before after : World) : Type 0 where
       → AllListedAgree after x → RunningWalksArrive after r x
   pub chosen : (r : RouterId) (x : Running) → NoCollision after.issued → router_at after r ≡ Some x
       → AllListedAgree after x → ChosenWalksArrive after r x
-  -- and so it does where those agree that the router reaches, whatever else is listed
+  -- and also where the routers that it reaches agree, whatever else is listed
   pub reached_walks : (r : RouterId) (x : Running) → NoCollision after.issued
       → router_at after r ≡ Some x → AllReachedAgree after r x → RunningWalksArrive after r x
   pub reached_chosen : (r : RouterId) (x : Running) → NoCollision after.issued

@@ -61,7 +61,7 @@ pub record LogsTake (before after : LogsValue) (r : RouterId) (first : Run)
   pub held :
       after.held ≡ before.held ++ (map (held_by r) out.taken ++ map (holdings_by r) out.issued)
 
--- the logs begin as they were
+-- the logs begin with what they were
 pub record StillHave (before after : LogsValue) : Type 0 where
   pub datagrams : take (length before.datagrams) after.datagrams ≡ before.datagrams
   pub issued : take (length before.issued) after.issued ≡ before.issued

@@ -48,7 +48,7 @@ pub record StartsAs (config : Config) (dd_start : ℕ) (floor : ℤ) (issued : L
   pub table : x.table ≡ []
   pub begins : IsRunningStarted issued config.router_id floor x
 
--- it has just started, where so many LSAs were issued before
+-- it has just started, when this many LSAs were issued before
 pub record Begins (config : Config) (dd_start issued : ℕ) (floor : ℤ) (v : RunningValue)
     : Type 0 where
   pub area : AreaValue

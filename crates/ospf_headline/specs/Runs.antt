@@ -1,4 +1,4 @@
--- Lists of events that are gone over, where those that are refused are counted.
+-- Lists of events that are applied, counting those that are refused.
 use Rattle.std.specs.Prelude.{◌≡◌, ◌+◌, ℕ, Bool, true, false, List, [], ◌∷◌, Some, Result, Ok, Err, slice_get, take}
 use Rattle.ospf_event.specs.declared.event.WorldFault.TheVariants as fault
 use Rattle.ospf_headline.specs.World.{WorldEvent, WorldFault}
@@ -12,7 +12,7 @@ is_memory _ = false
 abbrev pub EventRule : Type 0 → Type 1
 EventRule W = WorldEvent → W → Result (Unit {0}) WorldFault → W → Type 0
 
--- an event is taken, or refused and counted
+-- an event is accepted, or refused and counted
 pub data GoesOver {W : Type 0} (Does : EventRule W) (event : WorldEvent) (w : W) (n : ℕ) (w' : W)
     (n' : ℕ) : Type 0 where
   IsTaken : Does event w (Ok tt) w' → n' ≡ n → GoesOver Does event w n w' n'

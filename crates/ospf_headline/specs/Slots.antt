@@ -1,4 +1,4 @@
--- A router's place in a world, and what a world event comes to there.
+-- A router's place in a world, and what a world event does there.
 use Rattle.std.specs.Prelude.{⊤, ◌≡◌, ℕ, ℤ, List, [], Option, None, Some, Result, Ok, Err, true, false, nat_lt, slice_get, option_and_then, option_map, vec_len}
 use Rattle.std.specs.Ordering.{int_eq}
 use Rattle.ospf_area.specs.Outputs.{OutputsValue}
@@ -51,11 +51,11 @@ abbrev pub member_of : SlotValue → Member
 member_of s =
     record { router = s.config.router_id; links = vec_len s.config.interfaces; running = s.running }
 
--- the router runs so, and has dropped this
+-- the router runs in this state, and has dropped this
 abbrev pub with_running : SlotValue → Option Running → List DropCounts → SlotValue
 with_running s x drops = record { config = s.config; running = x; drops = drops }
 
--- the router that runs so
+-- the router that runs in this state
 pub record IsLent (running : Option Running) (r : RouterValue) : Type 0 where
   pub x : Running
   pub runs : running ≡ Some x
@@ -98,8 +98,8 @@ pub record SlotGoesOn (e : Event) (before : SlotValue) (logs : LogsValue) (after
   pub takes : LogsTake logs logs' before.config.router_id x.first x.later out
   pub runs : RunsGoOn logs'.issued out.ended x x'
 
--- the slot's router, if it runs, is stepped with the event: it goes on; or memory ran out, which it
--- does at no event that is dropped, it is stopped, and no log grows
+-- the slot's router, if it runs, is stepped with the event: it continues; or memory ran out, which
+-- it does at no event that is dropped, it is stopped, and no log grows
 pub data Feeds (e : Event) (before : SlotValue) (logs : LogsValue)
     (result : Result (Unit {0}) WorldFault) (after : SlotValue) (logs' : LogsValue) : Type 0 where
   NotRunning : before.running ≡ None → result ≡ Err fault.NotRunning → after ≡ before → logs' ≡ logs
@@ -130,7 +130,7 @@ pub data DeliversOn (l : ℕ) (sent : Option Datagram) (before : SlotValue) (log
       → Feeds (delivery l g) before logs result after logs'
       → DeliversOn l sent before logs result after logs'
 
--- its router is to start above the floor, as its configuration and this number say
+-- its router must start above the floor, as its configuration and this number say
 pub data StartsSlot (issued : List Issued) (dd_start : ℕ) (floor : ℤ) (before : SlotValue)
     (result : Result (Unit {0}) WorldFault) (after : SlotValue) : Type 0 where
   IsRunning : (x : Running) → before.running ≡ Some x → result ≡ Err fault.Running → after ≡ before
@@ -146,7 +146,7 @@ pub data StartsSlot (issued : List Issued) (dd_start : ℕ) (floor : ℤ) (befor
       → StartsAs before.config dd_start floor issued x
       → StartsSlot issued dd_start floor before result after
 
--- its router is to stop
+-- its router must stop
 pub data StopsSlot (before : SlotValue) (result : Result (Unit {0}) WorldFault) (after : SlotValue)
     : Type 0 where
   IsStopped : before.running ≡ None → result ≡ Err fault.NotRunning → after ≡ before
@@ -154,7 +154,7 @@ pub data StopsSlot (before : SlotValue) (result : Result (Unit {0}) WorldFault) 
   Ends : (x : Running) → before.running ≡ Some x → result ≡ Ok tt
       → after ≡ with_running before None [] → StopsSlot before result after
 
--- what an event that is not refused comes to: memory is wanting, before anything is done or, at an
+-- what an event that is not refused does: memory runs out, before anything is done or, at an
 -- event that is not dropped, so that the router stops; or the router starts exactly as it is
 -- configured, stops, or takes the exact step of what the event feeds it
 pub data SlotTakes (event : WorldEvent) (before : SlotValue) (logs : LogsValue)
@@ -175,7 +175,7 @@ pub data SlotTakes (event : WorldEvent) (before : SlotValue) (logs : LogsValue)
   Stepped : (e : Event) → fed_by logs.datagrams event ≡ Some e → result ≡ Ok tt
       → SlotGoesOn e before logs after logs' → SlotTakes event before logs result after logs'
 
--- what an event comes to at its router's slot: it is refused, with the first fault
+-- what an event does at its router's slot: it is refused, with the first fault
 -- that holds, exactly where one does
 pub data SlotSteps (event : WorldEvent) (before : SlotValue) (logs : LogsValue)
     (result : Result (Unit {0}) WorldFault) (after : SlotValue) (logs' : LogsValue) : Type 0 where

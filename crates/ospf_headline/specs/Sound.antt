@@ -33,7 +33,7 @@ pub record WasIssued (issued : List Issued) (content : List ℕ) : Type 0 where
   pub at : IssuedAt issued place entry
   pub is : contents entry.lsa ≡ content
 
--- the LSA stands in the database of a running router, or in an Update ever sent
+-- the LSA is in the database of a running router, or in an Update ever sent
 pub data HeldAnywhere (w : World) (lsa : List ℕ) : Type 0 where
   InDatabase : (r : RouterId) (x : Running) → router_at w r ≡ Some x → HasCopy x.state lsa
       → HeldAnywhere w lsa
@@ -116,8 +116,9 @@ pub record HasToldOf (w : World) (q : RouterId) (i : Instance) : Type 0 where
   pub covers : Covers held i
 
 -- sound acknowledgement, for a router that went from s to s' by this event with these outputs: what
--- it no longer waits for, and what it never waited for, the neighbour told of, unless a newer LSA
--- took the place of what had waited, or the neighbour is below Exchange
+-- it no longer waits for, and what it never waited for, the neighbour installed, issued or
+-- acknowledged (`HasToldOf`), unless a newer LSA took the place of what had waited, or the
+-- neighbour is below Exchange
 pub record IsSoundFor (after : World) (e : Event) (s : AreaValue) (out : OutputsValue)
     (s' : AreaValue) : Type 0 where
   pub left : (l : ℕ) (q : RouterId) (i : Instance) → Awaits s l q i
@@ -128,8 +129,8 @@ pub record IsSoundFor (after : World) (e : Event) (s : AreaValue) (out : Outputs
       → is_exchanging (state_in (neighbour s' l q)) ≡ true → Awaits s' l q i ⊎ HasToldOf after q i
 
 -- nothing was done; or the event steps another router than r, or none, and r, running as x before,
--- runs on so; or it stepped r, which runs as x' after, and r's acknowledgements are sound for the
--- outputs by which the logs grew
+-- continues unchanged; or it stepped r, which runs as x' after, and r's acknowledgements are sound
+-- for the outputs by which the logs grew
 pub data SoundFor (event : WorldEvent) (before after : World) (r : RouterId) (x x' : Running)
     : Type 0 where
   NothingDone : after ≡ before → SoundFor event before after r x x'

@@ -50,16 +50,16 @@ pub record StepsOn (w : World) (address : ℕ) (a b : RouterId) (cost : ℕ) : T
   pub runs : router_at w a ≡ Some running
   pub step : IsWalkStep (adverts running) (table_at w) address a b cost
 
--- a walk from a through these routers, as far as it has come: to b, with what its links cost
+-- a walk from a through these routers, as far as it has got: to b, with what its links cost
 abbrev pub WalksOn : World → ℕ → RouterId → List RouterId → RouterId → ℕ → Type 0
 WalksOn w address a [] b paid = (a ≡ b) × (paid ≡ 0)
 WalksOn w address a (c ∷ rest) b paid =
     (cost left : ℕ) × StepsOn w address a c cost × WalksOn w address c rest b left
     × (paid ≡ cost + left)
 
--- where a walk stands that began with the first route: router b runs, and its best route is to the
+-- where a walk is that began with the first route: router b runs, and its best route is to the
 -- same prefix. What the walk has paid and the cost of b's route make the cost of the first one.
--- Each of the hops of b's route is `Attached`, where the walk ends, or leads on to a router that
+-- Each of the hops of b's route is `Attached`, where the walk ends, or leads to a router that
 -- runs
 pub record StandsOnWay (w : World) (address : ℕ) (first : Route) (b : RouterId) (paid : ℕ)
     : Type 0 where
@@ -75,8 +75,8 @@ pub record StandsOnWay (w : World) (address : ℕ) (first : Route) (b : RouterId
       ⊎ ((c : RouterId) × (cost : ℕ) × IsNext hop c × IsLinkCost (adverts running) b hop cost
       × (y : Running) × (router_at w c ≡ Some y))
 
--- there are further routers, maybe none, by which the walk, as far as
--- it has come, goes on and arrives
+-- there are further routers, maybe none, by which the walk continues from
+-- where it is and arrives
 pub record GoesOnToEnd (w : World) (address : ℕ) (a : RouterId) (first : Route)
     (routers : List RouterId) : Type 0 where
   pub more : List RouterId
@@ -85,8 +85,8 @@ pub record GoesOnToEnd (w : World) (address : ℕ) (a : RouterId) (first : Route
   pub walk : WalksOn w address a (routers ++ more) last total
   pub arrives : graph.Arrives (table_at w) address first last total
 
--- what is true of a walk from a, which runs as x: it stands on the way of the first route, meets no
--- router twice, has fewer steps than x lists router-LSAs, and can go on until it arrives
+-- what is true of a walk from a, which runs as x: it is on the path of the first route, meets no
+-- router twice, has fewer steps than x lists router-LSAs, and can continue until it arrives
 pub record StaysOnWay (w : World) (x : Running) (address : ℕ) (a : RouterId) (first : Route)
     (routers : List RouterId) (b : RouterId) (paid : ℕ) : Type 0 where
   pub stands : StandsOnWay w address first b paid
@@ -94,8 +94,8 @@ pub record StaysOnWay (w : World) (x : Running) (address : ℕ) (a : RouterId) (
   pub short : length routers < length (listed_routers (adverts x))
   pub ends : GoesOnToEnd w address a first routers
 
--- of one router that runs as x: each walk from it, as far as it has come, stays on
--- the prefix of its best route, meets no router twice, and can go on until it
+-- of one router that runs as x: each walk from it, as far as it has got, stays on
+-- the prefix of its best route, meets no router twice, and can continue until it
 -- arrives, with that route's cost paid
 abbrev pub RunningWalksArrive : World → RouterId → Running → Type 0
 RunningWalksArrive w a x = (address : ℕ) (first : Route) → IsBest x.table address first →
@@ -118,7 +118,7 @@ other_choices (c ∷ choices) = choices
 abbrev pub HasNoRoute : List Route → ℕ → Type 0
 HasNoRoute routes address = (route : Route) → Contains routes route → Holds route.prefix address → ⊥
 
--- what comes of a walk at one router: the routers met from there, what is paid, and the end. GoesOn
+-- the result of a walk at one router: the routers met from there, what is paid, and the end. GoesOn
 -- says the same of the walk from the next router
 pub data WalksBy (w : World) (address choice : ℕ)
     (GoesOn : RouterId → List RouterId → ℕ → WalkEnd → Type 0) (at : RouterId)
@@ -136,7 +136,7 @@ pub data WalksBy (w : World) (address choice : ℕ)
       → IsLinkCost (adverts x) at hop link → GoesOn next rest left end → routers ≡ at ∷ rest
       → paid ≡ link + left → WalksBy w address choice GoesOn at routers paid end
 
--- a walk that goes on at most so many times: at each router by the hop of its best route at the
+-- a walk of at most this many hops: at each router by the hop of its best route at the
 -- chosen place, modulo how many hops that route has; a missing choice is 0
 abbrev pub IsWalkOf : World → ℕ → ℕ → List ℕ → RouterId → List RouterId → ℕ → WalkEnd → Type 0
 IsWalkOf w address zero choices at routers paid end =
@@ -145,7 +145,7 @@ IsWalkOf w address (suc left) choices at routers paid end =
     WalksBy w address (choice_of choices) (IsWalkOf w address left (other_choices choices)) at
     routers paid end
 
--- what a walk comes to that may have as many hops as the world has routers
+-- the result of a walk that may have as many hops as the world has routers
 abbrev pub WorldWalk : World → ℕ → List ℕ → RouterId → List RouterId → ℕ → WalkEnd → Type 0
 WorldWalk w address choices at routers paid end =
     IsWalkOf w address (length w.routers) choices at routers paid end

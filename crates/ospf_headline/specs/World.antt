@@ -59,7 +59,7 @@ pub record World : Type 0 where
 unfoldable pub router_at : World → RouterId → Option Running
 router_at w r = option_and_then (λ m. m.running) (find (λ m. m.router.0 == r.0) w.routers)
 
--- which router a world event steps, and with what. A loss is a delivery that never comes
+-- which router a world event steps, and with what. A lost datagram is one that is never delivered
 abbrev pub stepped_by : World → WorldEvent → Option (RouterId × Event)
 stepped_by w (Start r dd floor) = None
 stepped_by w (Stop r) = None
@@ -72,18 +72,18 @@ stepped_by w (Deliver d r l) =
 
 -- ---- what is refused
 
--- what a router takes that runs
+-- what a running router accepts
 abbrev pub unless_stopped : Member → Option WorldFault
 unless_stopped m = if is_some m.running then None else Some fault.NotRunning
 
--- what one takes that does not run: a start, whose first number is above the floor (12.1.6)
+-- what a stopped router accepts: a start, whose first number is above the floor (12.1.6)
 abbrev pub unless_running : ℤ → Member → Option WorldFault
 unless_running floor m =
     if is_some m.running then Some fault.Running
     else if int_eq floor max_sequence_number then Some fault.Floor
     else None
 
--- what it takes on one of its links
+-- what it accepts on one of its links
 abbrev pub fault_on_link : ℕ → Member → Option WorldFault
 fault_on_link l m = if nat_lt l m.links then unless_stopped m else Some fault.NoLink
 
@@ -171,8 +171,9 @@ pub record RunsGoOn (issued : List Issued) (ended : List LsaKey) (x x' : Running
       ≡ (if among ended key then record { name = length issued; base = lowest_number }
       else run_of x.first x.later key)
 
--- router r, running as x, takes a step by the event, puts out `out` and runs on as x'. Of the step
--- itself this asks only that it accounts for what the router sends, issues, holds and waits for
+-- router r, running as x, takes a step by the event, with the outputs `out`, and runs as x' then.
+-- Of the step itself this asks only that it accounts for what the router sends, issues, holds and
+-- waits for
 pub record StepsRouter (before after : World) (r : RouterId) (event : Event) (x x' : Running)
     (out : OutputsValue) : Type 0 where
   pub was : router_at before r ≡ Some x
@@ -189,7 +190,7 @@ WantsRoom (Start r dd floor) = ⊤
 WantsRoom (TickOf r) = ⊤
 WantsRoom _ = ⊥
 
--- what a world event does, and what is answered: it is refused, with the first fault that holds,
+-- what a world event does, and its result: it is refused, with the first fault that holds,
 -- exactly where one does; or memory runs out, before anything is done (`Memory false`) or, at an
 -- event that is not dropped, so that the router stops (`Memory true`); or the router starts, stops,
 -- or takes a step. Which events a router drops may depend on the event and its state in any way
@@ -217,7 +218,7 @@ pub data Comes (is_dropped : Event → AreaValue → Bool) (event : WorldEvent) 
       → stepped_by before event ≡ Some (r, e) → StepsRouter before after r e x x' out
       → Comes is_dropped event before result after
 
--- the event comes, whatever is answered: it happens, or it is refused
+-- the event comes, whatever its result: it happens, or it is refused
 abbrev pub Happens : (Event → AreaValue → Bool) → WorldEvent → World → World → Type 0
 Happens is_dropped event before after =
     (result : Result (Unit {0}) WorldFault) × Comes is_dropped event before result after

@@ -42,8 +42,8 @@ pub fn tables_are_exact()
 
 /// Where nothing issued collides, and all listed routers run and list the same
 /// instances, every walk along next hops ends on the prefix of its first route at that
-/// route's cost, and meets no router twice. It is enough that those do which the first
-/// router reaches in its listing.
+/// route's cost, and meets no router twice. It is enough if the routers that the first router
+/// reaches in its listing run and list the same instances.
 pub fn walks_arrive()
     ensures listed { (is_dropped : Event → AreaValue → Bool) (events : List WorldEvent)
         (start end : World) (a : RouterId) (x : Running) →
@@ -57,7 +57,7 @@ pub fn walks_arrive()
     walk_law()
 }
 
-/// There each walk by choices arrives, and none turns.
+/// There each walk by choices arrives, and none runs out of hops.
 pub fn chosen_walks_arrive()
     ensures listed { (is_dropped : Event → AreaValue → Bool) (events : List WorldEvent)
         (start end : World) (a : RouterId) (x : Running) →
@@ -89,8 +89,9 @@ pub fn bases_are_floors()
         BasesAreFloors is_dropped start events end }
 {}
 
-/// A neighbour that a router no longer waits for has told of the instance, or a later one, to
-/// somebody, unless a newer LSA took the instance's place or the neighbour is below Exchange.
+/// If a router no longer waits for a neighbour's acknowledgement, that neighbour has installed,
+/// issued or acknowledged the instance, or a later one, unless a newer LSA replaced the instance
+/// or the neighbour is below Exchange.
 pub fn acknowledgement_is_sound()
     ensures { (is_dropped : Event → AreaValue → Bool) (events : List WorldEvent)
         (event : WorldEvent) (start before after : World) →
@@ -98,7 +99,7 @@ pub fn acknowledgement_is_sound()
         Happens is_dropped event before after → IsSoundAcknowledgement event before after }
 {}
 
-/// The headline holds of every world that was reached, and of every one that it goes on to.
+/// The headline holds for every world that was reached, and for every one that follows from it.
 pub fn headline()
     ensures { (is_dropped : Event → AreaValue → Bool) (later : List WorldEvent)
         (before after : World) →
@@ -123,7 +124,7 @@ pub fn soundness()
     acknowledgement_is_sound()
 }
 
-/// What goes over a list of events leads on as some list of them does.
+/// A run over a list of events leads where some list of events leads.
 pub fn runs_lead_on()
     ensures { (is_dropped : Event → AreaValue → Bool) (events : List WorldEvent)
         (before after : World) (result : Result ℕ WorldFault) →
@@ -131,7 +132,7 @@ pub fn runs_lead_on()
         × RunsEvents is_dropped later before after }
 {}
 
-/// There are worlds to speak of: in one a router has started, and a second has passed.
+/// There are worlds to which this applies: in one a router has started, and a second has passed.
 pub fn some_world_ticks()
     ensures { (start after : World) × (events : List WorldEvent) × (r : RouterId) × (x : Running)
         × IsNewWorld start ×

@@ -99,10 +99,10 @@ impl Logs {
         &self.held
     }
 
-    /// The logs grow by what a router put out, and the runs of the
+    /// The logs grow by the outputs of a router, and the runs of the
     /// keys that have ended begin again.
     ///
-    /// `AllocError` where memory runs out: then the logs are as before.
+    /// `AllocError` where memory runs out: then the logs are unchanged.
     pub(crate) fn take(
         &mut self,
         router: RouterId,
@@ -150,7 +150,7 @@ impl Logs {
         begin_again(later, &ended, run)
     }
 
-    // The logs grow by what a router put out; it answers the keys whose run has ended.
+    // The logs grow by the outputs of a router; it returns the keys whose run has ended.
     fn grow(
         &mut self,
         router: RouterId,

@@ -40,7 +40,7 @@ impl Model for RunningRouter {
 }
 
 impl RunningRouter {
-    /// A router that starts, where so many LSAs were issued before.
+    /// A router that starts, when this many LSAs were issued before.
     ///
     /// `StartFault::Floor` where no number is above the floor, else
     /// `StartFault::Memory` where memory runs out.
@@ -106,7 +106,7 @@ impl RunningRouter {
         let Step { out, dropped, .. } = self.router.step(event, alloc)?;
         self.drops.count(link, dropped);
         if dropped.is_some() {
-            // Nothing is put out by it.
+            // A dropped event has no outputs.
             return Ok(());
         }
         self.settle(out, logs, router)
@@ -142,13 +142,13 @@ impl RunningRouter {
         } = self.router.step(event, alloc)?;
         self.drops.count(link, dropped);
         if dropped.is_some() {
-            // Nothing is put out by it.
+            // A dropped event has no outputs.
             return Ok(());
         }
         self.settle(outputs, logs, router)
     }
 
-    // The logs grow by what a step of the router put out, and its runs go on.
+    // The logs grow by the outputs of a step of the router, and its runs continue.
     fn settle(&mut self, outputs: Outputs, logs: &mut Logs, router: RouterId) -> Result<(), Stopped>
         ensures settles { OnOk result (SettlesLogs router self.old outputs logs.old self.new
             logs.new) }

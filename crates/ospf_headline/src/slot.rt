@@ -80,7 +80,7 @@ impl Slot {
         }
     }
 
-    /// What an event at this router comes to; the logs grow by what the router puts out.
+    /// Applies an event at this router; the logs grow by its outputs.
     ///
     /// The first fault that holds, of `NoLink`, `NoDatagram`, `Running` and `NotRunning`, and
     /// `Floor`: then nothing is changed. `Memory` where memory runs out, which it does at a start
@@ -93,7 +93,7 @@ impl Slot {
         alloc: Global,
     ) -> Result<(), WorldFault>
         ensures steps { SlotSteps event.now self.old logs.old result self.new logs.new }
-        // Before anything is done memory is wanting at a start alone.
+        // Before anything is done memory runs out only at a start.
         ensures begun { (r : RouterId) → event.now ≡ Tick r →
             result ≡ Err (fault.Memory false) → ⊥ }
     {
@@ -151,7 +151,7 @@ impl Slot {
         Ok(())
     }
 
-    // The router is stepped, if it runs, where it stands: it is large, and moving it
+    // The router is stepped, if it runs, in place: it is large, and moving it
     // would take a good part of the step.
     fn feed(&mut self, event: Event<'_>, logs: &mut Logs, alloc: Global) -> Result<(), WorldFault>
         ensures { Feeds (happening event.entry) self.old logs.old result self.new logs.new }
@@ -227,7 +227,7 @@ impl Slot {
     }
 }
 
-// Memory ran out for a router while it was stepped: it runs no more.
+// Memory ran out for a router while it was stepped: it no longer runs.
 fn end(running: &mut Option<RunningRouter>) -> Result<(), WorldFault>
     ensures ended { running.new ≡ None }
     ensures fault { result ≡ Err (fault.Memory true) }

@@ -73,7 +73,7 @@ changes_role own e =
 abbrev pub declaring : RouterId → Elected → Candidate → Candidate
 declaring me e c = if c.id.0 == me.0 then record c { dr = e.dr; backup = e.backup } else c
 
--- the election: one round, and where the router's own role changes by it, another with its result
+-- the election: one round, and if it changes the router's own role, another with its result
 -- as the router's own declaration (9.4, step 4)
 pub record IsElected (candidates : List Candidate) (me : RouterId) (e : Elected) : Type 0 where
   pub own : Candidate

@@ -7,7 +7,7 @@ use Rattle.ospf_iface.specs.declared.machine.Iface.{Iface}
 use Rattle.ospf_iface.specs.Election.{IsElected, AreDistinct, AreOthers, HasMe, AreCandidatesRising}
 use Rattle.ospf_iface.specs.Machine.{own_candidate, CanElect}
 
--- the order of the candidates does not matter, nor does one that stands twice
+-- neither the order of the candidates matters, nor a candidate that is listed twice
 abbrev pub OrderDoesNotMatter : Type 0
 OrderDoesNotMatter = (candidates others : List Candidate) (me : RouterId) (e : Elected)
     → ((c : Candidate) → Contains candidates c ↔ Contains others c) → IsElected candidates me e
@@ -18,13 +18,14 @@ abbrev pub OneResult : Type 0
 OneResult = (candidates : List Candidate) (me : RouterId) (e f : Elected)
     → AreDistinct candidates → IsElected candidates me e → IsElected candidates me f → e ≡ f
 
--- a router beside others, whose Router IDs rise, can be elected from among them, as itself
+-- a router and others, whose Router IDs rise and are not its own, are distinct candidates, with the
+-- router among them
 abbrev pub OwnBesideOthers : Type 0
 OwnBesideOthers = (own : Candidate) (others : List Candidate)
     → AreCandidatesRising others → AreOthers own.id others
     → AreDistinct (own ∷ others) × HasMe (own ∷ others) own.id
 
--- the own router beside others, whose Router IDs rise, can be elected from among them
+-- the own router and others, whose Router IDs rise and are not its own, can hold an election
 abbrev pub OwnMayBeElected : Type 0
 OwnMayBeElected = (i : Iface) (others : List Candidate)
     → AreCandidatesRising others → AreOthers i.settings.router others

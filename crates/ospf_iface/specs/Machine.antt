@@ -60,7 +60,7 @@ elected_state own e =
 abbrev pub is_changed : Iface → Elected → Bool
 is_changed i e = not ((e.dr.0 == i.dr.0) && (e.backup.0 == i.backup.0))
 
--- what is told of the interface as it is now
+-- what is reported of the interface as it is now
 abbrev pub change_of : Iface → Bool → Bool → Bool → IfaceChange
 change_of i adj_ok kills hello =
     record {
@@ -103,7 +103,7 @@ own_candidate i =
     }
 
 -- the election's result is the interface's DR and Backup, and AdjOK? is due where
--- they are others than before (9.4)
+-- they changed (9.4)
 pub record Elects (candidates : List Candidate) (before after : Iface) (change : IfaceChange)
     : Type 0 where
   pub result : Elected
@@ -111,7 +111,7 @@ pub record Elects (candidates : List Candidate) (before after : Iface) (change :
   pub state : after ≡ elected result before
   pub tells : change ≡ change_of after (is_changed before result) false false
 
--- what an action makes of an interface, and what it tells: AdjOK?, KillNbr, a Hello
+-- what an action does to an interface, and what it reports: AdjOK?, KillNbr, a Hello
 abbrev pub DoesAction : Action → Iface → Iface → IfaceChange → Type 0
 DoesAction Action.Start before after change =
     (after ≡ started before) × (change ≡ change_of after false false true)

@@ -33,7 +33,7 @@ pub fn elect(candidates: &[Candidate], me: RouterId) -> Elected
     }
 }
 
-// What a candidate has to be to be chosen.
+// What a candidate must be to be chosen.
 #[derive(Clone, Copy)]
 enum Standing {
     DeclaresDr,

@@ -71,7 +71,7 @@ impl Iface {
         }
     }
 
-    /// Takes an event (section 9.3). An election is that of `elect`. No memory is taken.
+    /// Processes an event (section 9.3). An election is that of `elect`. No memory is taken.
     pub fn event(&mut self, event: IfaceEvent) -> IfaceChange
         requires { CanTakeAction (action self.old.state event) self.old }
         ensures { DoesAction (action self.old.state event.entry) self.old self.new result }
@@ -99,8 +99,8 @@ impl Iface {
     }
 
     /// One tick of the Hello timer; whether a Hello is due (RFC 2328, section 9.5).
-    /// As a Hello is due the timer starts again at HelloInterval, and while the
-    /// interface is Down it stands still.
+    /// When a Hello is due, the timer starts again at HelloInterval; while the
+    /// interface is Down, it does not run.
     pub fn hello_tick(&mut self) -> bool
         ensures due { IsTrue result ↔ IsHelloDue self.old }
         ensures again { OnTrue result (self.new
@@ -137,7 +137,7 @@ impl Iface {
         self.change(false, false, true)
     }
 
-    // What is told of the interface as it is.
+    // What is reported of the interface as it is.
     fn change(&self, adj_ok: bool, kills: bool, hello: bool) -> IfaceChange
         ensures { result ≡ change_of self.now adj_ok kills hello }
     {
@@ -166,7 +166,7 @@ impl Iface {
         self.change(adj_ok, false, false)
     }
 
-    // Whether the elected Designated Router or Backup is another one.
+    // Whether the elected Designated Router or Backup changed.
     fn differs(&self, e: Elected) -> bool
         ensures { result ≡ is_changed self.now e }
     {

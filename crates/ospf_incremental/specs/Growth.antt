@@ -128,7 +128,7 @@ OnOkFalse result P = IfOk result (λ b. IsFalse b → P)
 abbrev pub HasPlaces : FoundPaths → Type 0
 HasPlaces f = ArePlaces (get nat_eq f.places) f.reached.items
 
--- where the vertex stands, if it is found
+-- the place of the vertex, if it is found
 abbrev pub found_place : FoundPaths → Vertex → Option ℕ
 found_place f v = get nat_eq f.places (vertex_code v)
 
@@ -193,6 +193,6 @@ PaysAll edges waited old new =
 abbrev pub HoldsAll : List Vertex → List Vertex → Type 0
 HoldsAll some all = (v : Vertex) → Contains some v → Contains all v
 
--- the new ones are the old ones, with more behind them or none
+-- the new ones are the old ones, perhaps followed by more
 abbrev pub Extends : List Vertex → List Vertex → Type 0
 Extends old new = (more : List Vertex) × (new ≡ old ++ more)

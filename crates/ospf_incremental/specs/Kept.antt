@@ -1,4 +1,4 @@
--- Shortest paths that are kept beside their edges.
+-- Shortest paths that are stored with their edges.
 use Rattle.std.specs.Prelude.{◌≡◌, ◌<◌, ◌↔◌, ◌⊎◌, ◌^◌, ℕ, List, Contains, map}
 use Rattle.ospf_graph.specs.declared.graph.Edge.{Edge}
 use Rattle.ospf_graph.specs.declared.graph.Vertex.{Vertex}
@@ -11,7 +11,7 @@ use Rattle.ospf_incremental.specs.Growth.{AreNear, HasPlaces, HasStart, IsAt}
 use Rattle.ospf_graph.specs.Search.{AreEdgesInOrder, AtIn, AreFitEdges, StartsIn, vertex_id}
 use Rattle.ospf_graph.specs.Tree.{IsTree}
 
--- their root, the edges, and of each vertex that is reached its distance
+-- their root, the edges, and for each vertex that is reached its distance
 -- and the starts of its least paths
 pub record KeptTree : Type 0 where
   pub root : Vertex
@@ -23,7 +23,7 @@ pub record KeptTree : Type 0 where
 abbrev pub IsKeptTree : KeptTree → Type 0
 IsKeptTree k = IsTree (Contains k.edges) k.root (AtIn k.settled) (StartsIn k.starts)
 
--- what is kept: edges that fit, in order, what is found of them, and the tree
+-- what is stored: edges that fit, in order, what was found over them, and the tree
 pub record AreKeptPaths (root : Vertex) (edges : List Edge) (found : FoundPaths) : Type 0 where
   pub fit : AreFitEdges edges
   pub root_fits : vertex_id root < 2 ^ 32

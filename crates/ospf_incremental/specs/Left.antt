@@ -1,5 +1,5 @@
--- What is left of kept paths where edges go, beside these paths: what a least path reached over one
--- of the edges is found anew (RFC 2328, section 16.1).
+-- What is left of stored paths when edges are removed, without changing these paths: what a least
+-- path reached over one of the edges is searched for again (RFC 2328, section 16.1).
 use Rattle.std.specs.Prelude.{◌≡◌, ◌==◌, ◌⊎◌, ◌↔◌, ◌&&◌, ◌||◌, ◌++◌, ℕ, Bool, not, List, Contains, filter}
 use Rattle.std.specs.List.{list_any}
 use Rattle.ospf_graph.specs.declared.graph.Edge.{Edge}
@@ -16,13 +16,13 @@ use Rattle.ospf_incremental.specs.Shrinking.{AreVerticesInOrder, IsClosed, Takes
 
 -- ---- what is left
 
--- of each edge another one leads back
+-- for each edge another one leads back
 abbrev pub LeadBack : List Edge → Type 0
 LeadBack edges =
     (e : Edge) → Contains edges e
     → (back : Edge) × Contains edges back × (back.from ≡ e.to) × (back.to ≡ e.from)
 
--- two edges are one
+-- two edges are the same
 abbrev pub same_edge : Edge → Edge → Bool
 same_edge a b =
     (vertex_code a.from == vertex_code b.from) && ((vertex_code a.to == vertex_code b.to)
@@ -32,11 +32,11 @@ same_edge a b =
 abbrev pub edges_without : List Edge → List Edge → List Edge
 edges_without less edges = filter (λ e. not (list_any (same_edge e) less)) edges
 
--- the vertex was found anew: as all were, or as one of these
+-- the vertex was searched for again: because all were, or as one of these
 abbrev pub is_anew : Bool → List Vertex → Vertex → Bool
 is_anew is_all gone v = is_all || list_any (λ w. vertex_code w == vertex_code v) gone
 
--- what is kept without these edges: what was found anew, and all else of the whole
+-- the paths without these edges: what was found again, and all else from the stored paths
 abbrev pub left_kept : KeptTree → List Edge → Bool → List Vertex → List Reached → KeptTree
 left_kept whole less is_all gone own = record {
   root = whole.root;
@@ -47,7 +47,7 @@ left_kept whole less is_all gone own = record {
       ++ filter (λ b. is_anew is_all gone b.vertex) (starts_of own);
 }
 
--- what is found anew stands at its places, and the vertices in order
+-- what was found again has its places, and the vertices are in order
 pub record IsLeftKept (gone : List Vertex) (own : FoundPaths) : Type 0 where
   pub in_order : AreVerticesInOrder gone
   pub places : HasPlaces own
@@ -71,7 +71,7 @@ abbrev pub AreEdgesTo : List Edge → List Edge → List Vertex → List Edge �
 AreEdgesTo edges less gone ends =
     (e : Edge) → Contains ends e ↔ (Contains edges e × (Contains less e → ⊥) × Contains gone e.to)
 
--- whoever is found here is found so there, with the same starts
+-- a vertex found here is found there at the same distance, with the same starts
 pub record AreCopies (there here : List Reached) : Type 0 where
   pub at : (v : Vertex) (d : ℕ) → IsAt here v d → IsAt there v d
   pub starts : (v : Vertex) (x : Start) → HasStart here v x → HasStart there v x
@@ -94,7 +94,7 @@ pub record AreBeside (there : List Reached) (root : Vertex) (some : List Edge) (
       → IsAt there e.from d → IsAt here e.from d
   pub free : (Contains gone root → ⊥) → (v : Vertex) (d : ℕ) → IsAt here v d → Contains gone v → ⊥
 
--- the vertex is at this distance: as before, or if it is gone, as it was found anew
+-- the vertex is at this distance: as before, or if it is gone, as it was found again
 abbrev pub IsAtLeft : List Vertex → List Reached → List Reached → Vertex → ℕ → Type 0
 IsAtLeft gone whole own v d =
     ((Contains gone v → ⊥) × IsAt whole v d) ⊎ (Contains gone v × IsAt own v d)

@@ -1,4 +1,4 @@
--- Shortest paths from which edges go: what is behind them goes too.
+-- Shortest paths from which edges are removed: what is reached over them is removed too.
 use Rattle.std.specs.Prelude.{◌+◌, ◌↔◌, ◌⊎◌, ℕ, List, Contains}
 use Rattle.std.specs.List.Sorted.{IsNonDecreasingBy}
 use Rattle.ospf_graph.specs.declared.candidates.SpfCandidate.{SpfCandidate}

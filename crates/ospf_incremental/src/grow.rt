@@ -87,8 +87,8 @@ pub(crate) fn offer_all(
     Ok(())
 }
 
-/// Takes edges that wait until none does, or these many were taken, or one leads too far. Whether
-/// none is left. The vertices that are reached nearer or from more starts are put behind `changed`.
+/// Takes waiting edges until none is left, this many were taken, or one leads too far. Returns
+/// whether none is left. Vertices that come nearer or get more starts are appended to `changed`.
 pub(crate) fn settle(
     alloc: Global,
     edges: &[Edge],
@@ -106,7 +106,7 @@ pub(crate) fn settle(
     // What is found stays below the limit and in its places.
     ensures near { OnOk result (AreNear found.new.reached.items) }
     ensures places { OnOk result (HasPlaces found.new) }
-    // Only vertices that are put behind `changed` are found otherwise than before.
+    // Only vertices that are appended to `changed` are found differently than before.
     ensures spares { OnOk result (SparesIn changed.new.items found.old found.new) }
     ensures changed { Extends changed.old.items changed.new.items }
 {
@@ -150,7 +150,7 @@ fn take_edge(
     // What is found stays below the limit and in its places.
     ensures near { OnOk result (AreNear found.new.reached.items) }
     ensures places { OnOk result (HasPlaces found.new) }
-    // Only vertices that are put behind `changed` are found otherwise than before.
+    // Only vertices that are appended to `changed` are found differently than before.
     ensures spares { OnOk result (SparesIn changed.new.items found.old found.new) }
     ensures changed { Extends changed.old.items changed.new.items }
 {
@@ -187,7 +187,7 @@ fn step(
     // What is found stays below the limit and in its places.
     ensures near { OnOk result (AreNear found.new.reached.items) }
     ensures places { OnOk result (HasPlaces found.new) }
-    // Only vertices that are put behind `changed` are found otherwise than before.
+    // Only vertices that are appended to `changed` are found differently than before.
     ensures spares { OnOk result (SparesIn changed.new.items found.old found.new) }
     ensures changed { Extends changed.old.items changed.new.items }
 {

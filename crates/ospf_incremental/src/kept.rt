@@ -1,4 +1,5 @@
-//! The shortest paths from a vertex, kept with their edges, so that edges can come and go.
+//! The shortest paths from a vertex, stored with their edges, so that edges can be added and
+//! removed.
 
 ghost use Rattle.std.specs.Prelude.{◌≡◌, ◌++◌, ◌<◌, ◌↔◌, ◌^◌, ℕ, All, Contains, IsPermutation, IfOk, IfSome, OnOk, Some};
 ghost use Rattle.ospf_incremental.specs.Growth.{Extends};
@@ -20,8 +21,8 @@ use ospf_graph::{
 use std::alloc::{AllocError, Global};
 use std::marker::Model;
 
-/// The shortest paths from a root over a list of edges, kept so that edges can come
-/// and go (RFC 2328, section 16.1).
+/// The shortest paths from a root over a list of edges, stored so that edges can be added
+/// and removed (RFC 2328, section 16.1).
 #[derive(Drop)]
 pub struct KeptPaths {
     root: Vertex,
@@ -53,7 +54,7 @@ impl KeptPaths {
         // The edges and the root are those of an area.
         requires fit { AreFitEdges edges.now }
         requires root_fits { vertex_id root < 2 ^ 32 }
-        // What is kept is the tree of shortest paths from this root over just these edges.
+        // The result is the tree of shortest paths from this root over exactly these edges.
         ensures root { IfOk result (λ k. k.root ≡ root) }
         ensures edges { IfOk result (λ k. IsPermutation edges.now k.edges) }
         ensures tree { IfOk result (λ k. IsKeptTree k) }
@@ -84,10 +85,11 @@ impl KeptPaths {
     ///
     /// `AllocError` where memory runs out.
     pub fn shortest(&self, alloc: Global) -> Result<ShortestPaths, AllocError>
-        // What is found is the tree of shortest paths, and so all that is reached, at least cost.
+        // The result is the tree of shortest paths, and so all that is reached, at least cost.
         ensures tree { IfOk result (IsTreeOver self.now.edges self.now.root) }
         ensures least { IfOk result (AreLeastOver self.now.edges self.now.root) }
-        // No distance is past the limit, and all that is kept is told, in the order of vertices.
+        // No distance is past the limit, and all that is stored is listed, in the order of
+        // vertices.
         ensures near { IfOk result (λ t. All (λ s. s.distance < 2 ^ 63) t.settled.items) }
         ensures settled { IfOk result (λ t. IsPermutation self.now.settled t.settled.items) }
         ensures starts { IfOk result (λ t. IsPermutation self.now.starts t.starts.items) }
@@ -100,13 +102,13 @@ impl KeptPaths {
         Ok(paths)
     }
 
-    /// The shortest paths with more edges. What was found is kept, and only what the new
-    /// edges bring nearer, or from more starts, is gone through. Those vertices are put
-    /// behind `changed`, some perhaps more than once. Where it goes on for as many steps as
-    /// there are edges, or a way is too long, the paths are searched for anew, and all
-    /// vertices that are reached are put there.
+    /// The shortest paths with more edges. It starts from the stored paths, and visits only
+    /// vertices that the new edges bring nearer or give more starts. Those vertices are appended to
+    /// `changed`, some perhaps more than once. If this takes as many steps as there are edges, or a
+    /// path is too long, the search starts from scratch, and all vertices that are reached are
+    /// appended.
     ///
-    /// `AllocError` where memory runs out: the paths are gone then, and
+    /// `AllocError` when memory runs out: the paths are lost then, and
     /// `changed` may have got some vertices.
     pub fn grow(
         self,
@@ -115,11 +117,11 @@ impl KeptPaths {
         changed: &mut Vec<Vertex>,
     ) -> Result<KeptPaths, AllocError>
         requires fit { AreFitEdges more.now }
-        // What is kept is the tree of shortest paths from the same root, over the added edges too.
+        // The result is the tree of shortest paths from the same root, over the added edges too.
         ensures root { IfOk result (λ k. k.root ≡ self.root) }
         ensures edges { IfOk result (λ k. Adds (Contains more.now) self.edges k.edges) }
         ensures tree { IfOk result (λ k. IsKeptTree k) }
-        // Only vertices that are put behind `changed` are reached otherwise than before.
+        // Only vertices that are appended to `changed` are reached differently than before.
         ensures same { IfOk result (λ k. IsSameBut changed.new.items self k) }
         ensures changed { Extends changed.old.items changed.new.items }
     {
@@ -139,13 +141,13 @@ impl KeptPaths {
         Ok(paths)
     }
 
-    /// The shortest paths without some edges. Only what some least path reached over one of them
-    /// goes, and grows again from what is left. Those vertices are put behind `changed`, some
-    /// perhaps more than once, and some perhaps with the distance and the starts that they had.
-    /// Where it goes on for as many steps as there are edges, or a way is too long, the paths are
-    /// searched for anew, and all that was reached is put there.
+    /// The shortest paths without some edges. Only vertices that some least path reached over one
+    /// of them are removed, and then searched for again from what is left. They are appended to
+    /// `changed`, some perhaps more than once, and some perhaps with the same distance and starts
+    /// as before. If this takes as many steps as there are edges, or a path is too long, the search
+    /// starts from scratch, and all vertices that were reached are appended.
     ///
-    /// `AllocError` where memory runs out: the paths are gone then, and
+    /// `AllocError` when memory runs out: the paths are lost then, and
     /// `changed` may have got some vertices.
     pub fn shrink(
         self,
@@ -153,11 +155,11 @@ impl KeptPaths {
         less: &[Edge],
         changed: &mut Vec<Vertex>,
     ) -> Result<KeptPaths, AllocError>
-        // What is kept is the tree of shortest paths from the same root, over the edges left.
+        // The result is the tree of shortest paths from the same root, over the edges left.
         ensures root { IfOk result (λ k. k.root ≡ self.root) }
         ensures edges { IfOk result (λ k. TakesEdges less.now self.edges k.edges) }
         ensures tree { IfOk result (λ k. IsKeptTree k) }
-        // Only vertices that are put behind `changed` are reached otherwise than before.
+        // Only vertices that are appended to `changed` are reached differently than before.
         ensures same { IfOk result (λ k. IsSameBut changed.new.items self k) }
         ensures changed { Extends changed.old.items changed.new.items }
     {
@@ -184,13 +186,13 @@ impl KeptPaths {
         Ok(paths)
     }
 
-    /// The shortest paths without some edges, beside these, which stay: as `shrink`, but of what
-    /// stays only the root and what stands at the other ends of edges to the vertices that go is
-    /// copied, and only edges at these and at those vertices are looked at. Where a test at run
-    /// time does not show that nothing else was reached, or it goes on for too many steps, all is
-    /// searched for anew. Of each edge that is kept another one has to lead back.
+    /// The shortest paths without some edges; these paths stay unchanged. As `shrink`, but of the
+    /// vertices that stay it copies only the root and those at the other ends of edges to removed
+    /// vertices, and it looks only at edges of these and of the removed vertices. If a test at run
+    /// time does not show that nothing else was reached, or it takes too many steps, the search
+    /// starts from scratch. For each stored edge there must be one that leads back.
     ///
-    /// `AllocError` where memory runs out; `changed` may have got some vertices then.
+    /// `AllocError` when memory runs out; `changed` may have got some vertices then.
     pub fn without<'a>(
         &'a self,
         alloc: Global,
@@ -198,11 +200,11 @@ impl KeptPaths {
         changed: &mut Vec<Vertex>,
     ) -> Result<LeftPaths<'a>, AllocError>
         requires both_ways { LeadBack self.now.edges }
-        // What is left is the tree of shortest paths from the same root, over the edges left.
+        // The result is the tree of shortest paths from the same root, over the edges left.
         ensures root { IfOk result (λ k. k.root ≡ self.now.root) }
         ensures edges { IfOk result (λ k. TakesEdges less.now self.now.edges k.edges) }
         ensures tree { IfOk result (λ k. IsKeptTree k) }
-        // Only vertices that are put behind `changed` are reached otherwise than before.
+        // Only vertices that are appended to `changed` are reached differently than before.
         ensures same { IfOk result (λ k. IsSameBut changed.new.items self.now k) }
         ensures changed { Extends changed.old.items changed.new.items }
     {
@@ -245,11 +247,11 @@ impl KeptPaths {
         changed: &mut Vec<Vertex>,
     ) -> Result<KeptPaths, AllocError>
         requires fit { AreFitEdges more.now }
-        // What is kept is the tree of shortest paths from the same root, over the changed edges.
+        // The result is the tree of shortest paths from the same root, over the changed edges.
         ensures root { IfOk result (λ k. k.root ≡ self.root) }
         ensures edges { IfOk result (λ k. ChangesEdges less.now more.now self.edges k.edges) }
         ensures tree { IfOk result (λ k. IsKeptTree k) }
-        // Only vertices that are put behind `changed` are reached otherwise than before.
+        // Only vertices that are appended to `changed` are reached differently than before.
         ensures same { IfOk result (λ k. IsSameBut changed.new.items self k) }
         ensures changed { Extends changed.old.items changed.new.items }
     {
@@ -312,7 +314,7 @@ fn insert_edge(edges: &mut Vec<Edge>, edge: Edge) -> Result<(), AllocError>
     Ok(())
 }
 
-// Puts the vertices that are reached behind others.
+// Appends the vertices that are reached to others.
 fn push_vertices(reached: &[Reached], vertices: &mut Vec<Vertex>) -> Result<(), AllocError>
     ensures all { OnOk result (vertices.new.items ≡ vertices.old.items ++ vertices_of reached.now) }
     ensures behind { Extends vertices.old.items vertices.new.items }

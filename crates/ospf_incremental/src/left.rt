@@ -1,5 +1,5 @@
-//! What is left of shortest paths where edges go, beside those that are kept: what a least path
-//! reached over one of them is found anew, and all else is as it was.
+//! What is left of shortest paths when edges are removed, without changing the stored paths: what a
+//! least path reached over one of them is searched for again, and all else is as before.
 
 ghost use Rattle.std.specs.Prelude.{◌≡◌, ◌↔◌, ◌<◌, ◌^◌, ℕ, Contains, IfOk, IfSome, IsTrue, OnOk, Some};
 ghost use Rattle.ospf_graph.specs.Search.{AreEdgesInOrder, AtIn, StartsIn};
@@ -46,15 +46,15 @@ impl Paths for KeptPaths {
     }
 }
 
-/// The shortest paths without some edges, beside those with them.
+/// The shortest paths without some edges, alongside those with them.
 #[derive(Drop)]
 pub struct LeftPaths<'a> {
     pub(crate) whole: &'a KeptPaths,
     pub(crate) less: &'a [Edge],
-    // What is found anew: all, or these vertices, in order.
+    // What is searched for again: all, or these vertices, in order.
     pub(crate) is_all: bool,
     pub(crate) gone: Vec<Vertex>,
-    // It has others too, of which it was found.
+    // It also holds others, from which the search started.
     pub(crate) own: FoundPaths,
 }
 
@@ -90,7 +90,7 @@ impl<'a> Paths for LeftPaths<'a> {
     }
 }
 
-// Whether a vertex was found anew: as all were, or as one of these.
+// Whether a vertex was searched for again: because all were, or as one of these.
 fn is_anew(is_all: bool, gone: &[Vertex], vertex: Vertex) -> bool
     requires { AreVerticesInOrder gone.now }
     ensures { result ≡ is_anew is_all gone.now vertex }
@@ -98,8 +98,8 @@ fn is_anew(is_all: bool, gone: &[Vertex], vertex: Vertex) -> bool
     is_all || is_among(gone, vertex)
 }
 
-/// What is reached of vertices that are gone, over edges that are left, beside what stands at the
-/// other ends of these; nothing where that takes too long.
+/// The paths to vertices that are gone, over edges that are left, and to the other ends of these;
+/// nothing where that takes too long.
 pub(crate) fn regrown(
     alloc: Global,
     edges: &[Edge],

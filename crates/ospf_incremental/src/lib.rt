@@ -1,9 +1,9 @@
-//! Shortest paths that are kept, and go on where edges come or go
+//! Shortest paths that are stored, and updated when edges are added or removed
 //! (incremental SPF; RFC 2328, section 16.1).
 //!
-//! `KeptPaths` holds what a search has found. `grow` takes edges that come, `shrink`
-//! edges that go, and `change` both; `without` is what is left where edges go, beside what is
-//! kept. Each finds again only what the edges touch, or searches for all anew.
+//! `KeptPaths` holds the result of a search. `grow` adds edges, `shrink` removes edges, and
+//! `change` does both; `without` gives the paths without some edges and leaves the stored ones
+//! unchanged. Each searches again only for what the edges affect, or for all from scratch.
 #![tactic(auto)]
 
 mod grow;

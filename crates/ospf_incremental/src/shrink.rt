@@ -1,5 +1,5 @@
-//! Shortest paths from which edges go: what is behind them goes too, and
-//! grows again from what is left.
+//! Shortest paths from which edges are removed: what is reached over them is removed too,
+//! and searched for again from what is left.
 
 ghost use Rattle.std.specs.Prelude.{◌↔◌, ◌∷◌, [], All, Contains, IsFalse, IsTrue, IfOk, OnOk};
 ghost use Rattle.ospf_incremental.specs.Growth.{AreNear, Extends, HasPlaces, HoldsAll};
@@ -25,8 +25,8 @@ pub(crate) fn left_of(alloc: Global, edges: &[Edge], less: &[Edge]) -> Result<Ve
     Ok(left)
 }
 
-/// The vertices behind edges that go, in their order: those that some least path reaches over one.
-/// Nothing is promised of them but the order, since `is_closed` tests what is needed.
+/// The vertices that some least path reaches over a removed edge, in their order. Only
+/// the order is promised, since `is_closed` tests what is needed.
 pub(crate) fn behind(
     alloc: Global,
     edges: &[Edge],
@@ -43,8 +43,8 @@ pub(crate) fn behind(
     Ok(gone)
 }
 
-/// Whether these vertices are closed: all that is behind an edge that goes, or behind one of them,
-/// is among them, and the root is not.
+/// Whether these vertices are closed: what a least path reaches over a removed edge, or from one of
+/// them, is among them, and the root is not.
 pub(crate) fn is_closed(
     found: &FoundPaths,
     edges: &[Edge],
@@ -56,7 +56,8 @@ pub(crate) fn is_closed(
     requires places { HasPlaces found.now }
     requires near { AreNear found.now.reached.items }
     requires gone { AreVerticesInOrder gone.now }
-    // Where it holds the root stays, and these edges end at what goes where a least path has them.
+    // If so, the root is not among them, and an edge that is removed or begins at one of them ends
+    // at one of them, where it is the last one of a least path.
     ensures root { IsTrue result → Contains gone.now root → ⊥ }
     ensures less { IsTrue result → All (LeadsTo gone.now found.now) less.now }
     ensures from { IsTrue result → (e : Edge) → Contains edges.now e → Contains gone.now e.from →
@@ -65,7 +66,7 @@ pub(crate) fn is_closed(
     !is_among(gone, root) && lead_to(gone, found, less) && all_lead_to(gone, found, edges)
 }
 
-/// Takes these vertices out of what is found, and puts them behind `changed`.
+/// Removes these vertices from what is found, and appends them to `changed`.
 pub(crate) fn leave(
     gone: &[Vertex],
     found: &mut FoundPaths,
@@ -75,7 +76,7 @@ pub(crate) fn leave(
     // They are gone, and all others are found as they were, in their places.
     ensures places { OnOk result (HasPlaces found.new) }
     ensures left { OnOk result (LeavesIn gone.now found.old found.new) }
-    // They are put behind `changed`.
+    // They are appended to `changed`.
     ensures changed { Extends changed.old.items changed.new.items }
     ensures gone { OnOk result (HoldsAll gone.now changed.new.items) }
 {
@@ -127,7 +128,7 @@ fn left_of_sorted(alloc: Global, edges: &[Edge], less: &[Edge]) -> Result<Vec<Ed
     Ok(left)
 }
 
-// The vertices behind edges that go, each once, those first that such an edge leads to.
+// The vertices that least paths reach over removed edges, each once, direct ends of these first.
 fn ends_behind(
     alloc: Global,
     edges: &[Edge],

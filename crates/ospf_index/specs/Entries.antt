@@ -16,7 +16,7 @@ abbrev pub IsEntryOf : Route → ℕ → Entry → Type 0
 IsEntryOf route number entry =
     (entry.prefix ≡ route.prefix) × (entry.cost ≡ route.cost) × (entry.set ≡ number)
 
--- what the route at this place says; behind the last route there is no hop
+-- what the route at this place says; after the last route there is no hop
 abbrev pub IsEntryAt : List Route → List ℕ → ℕ → Entry → Type 0
 IsEntryAt routes numbers place entry =
     (place < length routes → (d : Route)

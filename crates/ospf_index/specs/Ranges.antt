@@ -5,11 +5,11 @@ use Rattle.ospf_base.specs.declared.prefix.Prefix.{Prefix}
 use Rattle.ospf_graph.specs.declared.route.Route.{Route}
 use Rattle.ospf_spf.specs.Table.{IsBestPlace}
 
--- the first address behind those of a prefix
+-- the first address after those of a prefix
 abbrev pub end_of : Prefix → ℕ
 end_of prefix = prefix.address.0 + 2 ^ (32 - prefix.length)
 
--- the place of the route of longest prefix that holds the address, or one behind the
+-- the place of the route of longest prefix that holds the address, or a place after the
 -- last route where no route does
 abbrev pub IsPlaceFor : List Route → ℕ → ℕ → Type 0
 IsPlaceFor routes address place =
@@ -17,7 +17,7 @@ IsPlaceFor routes address place =
     × (length routes ≤ place → (k : ℕ) (d : Route) → k < length routes
     → Holds (get_or routes k d).prefix address → ⊥)
 
--- each range begins behind the one before it
+-- each range begins after the one before it
 abbrev pub AreStartsRising : List ℕ → Type 0
 AreStartsRising starts =
     (i j : ℕ) → i < j → j < length starts → get_or starts i 0 < get_or starts j 0
@@ -38,7 +38,7 @@ pub record HasRanges (routes : List Route) (starts places : List ℕ) : Type 0 w
       → IsPlaceFor routes address (get_or places i 0)
 
 -- the first addresses of the blocks of a directory, by the first 16 bits,
--- and the one behind the last block
+-- and the first one after the last block
 abbrev pub block_start : ℕ → ℕ
 block_start block = block * 65536
 

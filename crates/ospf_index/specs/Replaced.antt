@@ -19,7 +19,7 @@ abbrev pub Replaces : List Route → Change → Type 0
 Replaces routes (Put route) = Reaches routes route.prefix
 Replaces routes (Gone _) = ⊥
 
--- the changes are few beside the routes: an eighth of them and 8 at most
+-- the changes are few compared to the routes: an eighth of them and 8 at most
 abbrev pub AreFew : List Change → List Route → Type 0
 AreFew changes routes = length changes ≤ length routes / 8 + 8
 
@@ -35,14 +35,14 @@ pub record AreSetsLonger (old : HopSets) (route : Route) (new : HopSets) : Type 
   pub room_sets : vec_capacity old.sets ≤ vec_capacity new.sets
   pub room_hops : vec_capacity old.hops ≤ vec_capacity new.hops
 
--- so many routes stand before the prefix, and none of the others does
+-- this many routes are before the prefix, and none of the others is
 pub record AreRoutesBefore (routes : List Route) (prefix : Prefix) (count : ℕ) : Type 0 where
   pub before : (k : ℕ) (d : Route) → k < count → k < length routes
       → IsPrefixBefore (slice_index_or routes k d).prefix prefix
   pub behind : (k : ℕ) (d : Route) → count ≤ k → k < length routes
       → IsPrefixBefore (slice_index_or routes k d).prefix prefix → ⊥
 
--- so many ranges begin before the address
+-- this many ranges begin before the address
 pub record AreBefore (starts : List ℕ) (address count : ℕ) : Type 0 where
   pub within : count ≤ length starts
   pub before : (i : ℕ) → i < count → get_or starts i 0 < address
@@ -52,8 +52,8 @@ pub record AreBefore (starts : List ℕ) (address count : ℕ) : Type 0 where
 abbrev pub answered_entry : Route → ℕ → Entry
 answered_entry route number = record { prefix = route.prefix; cost = route.cost; set = number }
 
--- of these ranges each that a route to the entry's prefix answered is answered by the entry, and
--- no other range is answered anew
+-- of these ranges, each that a route to the entry's prefix answered is now answered by the entry,
+-- and a range that no such route answered is unchanged
 pub record AreAnsweredAnew (old new : List Entry) (from to : ℕ) (entry : Entry) : Type 0 where
   pub same_length : length new ≡ length old
   pub anew : (i : ℕ) (d : Entry) → from ≤ i → i < to
@@ -63,7 +63,7 @@ pub record AreAnsweredAnew (old new : List Entry) (from to : ℕ) (entry : Entry
       → ((slice_index_or old i d).prefix ≡ entry.prefix → (slice_index_or old i d).set ≡ 0)
       → slice_index_or new i d ≡ slice_index_or old i d
 
--- the index with a route in the place of the one to its prefix: its hops come behind all other
+-- the index with a route in the place of the one to its prefix: its hops come after all other
 -- sets, and the ranges within its prefix that the route to this prefix answered are answered by it
 pub record IsRoutePut (old : Index) (route : Route) (new : Index) : Type 0 where
   pub addresses : All (λ start. start < 2 ^ 32) old.starts.items

@@ -8,14 +8,14 @@ use Rattle.ospf_index.specs.Sweep.{IsSwept, blocks_of}
 use Rattle.ospf_index.specs.declared.index.IndexRoom.{IndexRoom}
 use Rattle.ospf_index.specs.declared.sweep.Sweep.{Sweep}
 
--- so many of the routes were begun
+-- this many of the routes were begun
 abbrev pub IsSweptTo : List Route → ℕ → Sweep → Type 0
 IsSweptTo routes begun sweep =
     IsSwept (blocks_of routes) begun sweep.opened.items sweep.ranges.starts.items
     sweep.ranges.places.items
 
--- there is room for all ranges that so many routes and those that are open can still begin, and
--- no more than so many come of it
+-- there is room for all ranges that this many routes and those that are open can still begin, and
+-- they are at most this many in all
 pub record HasRoom (most : ℕ) (sweep : Sweep) (left : ℕ) : Type 0 where
   pub few : vec_len sweep.ranges.places + vec_len sweep.opened + 2 * left ≤ most
   pub starts : vec_len sweep.ranges.starts + vec_len sweep.opened + 2 * left
@@ -24,7 +24,7 @@ pub record HasRoom (most : ℕ) (sweep : Sweep) (left : ℕ) : Type 0 where
       ≤ vec_capacity sweep.ranges.places
   pub opened : vec_len sweep.opened + left ≤ vec_capacity sweep.opened
 
--- nothing has begun, and there is room for so many routes
+-- nothing has begun, and there is room for this many routes
 pub record IsRoomFor (count : ℕ) (sweep : Sweep) : Type 0 where
   pub no_start : sweep.ranges.starts.items ≡ []
   pub no_place : sweep.ranges.places.items ≡ []
@@ -42,8 +42,8 @@ abbrev pub hops_put : Change → ℕ
 hops_put (Put route) = length route.hops
 hops_put (Gone _) = 0
 
--- nothing has begun, and there is room for the index of so many routes,
--- which have so many hops in all
+-- nothing has begun, and there is room for the index of this many routes,
+-- which have this many hops in all
 pub record HasIndexRoom (count hops : ℕ) (room : IndexRoom) : Type 0 where
   pub sweep : IsRoomFor count room.sweep
   pub none : room.directory.items ≡ []

@@ -1,4 +1,4 @@
--- The rule of the list of events, and what each step tells.
+-- The rule of the list of events, and what each step reports.
 use Rattle.std.specs.Prelude.{ℕ, ◌≡◌, ◌==◌, suc, Bool, true, false, not, ◌&&◌, List, [], ◌∷◌, ◌++◌, length, replicate, MatchBool, ⊤}
 use Rattle.logbook.specs.Pages.{Cell, Step, View, Book, Named, nib, may_make}
 use Rattle.ospf_index.specs.Known.{Table}
@@ -58,7 +58,7 @@ pub record IsCounted (cells : List Cell) (log : List ListEvent) : Type 0 where
 abbrev pub counter_of : Book → Named
 counter_of book = record { tracked = true; key = 0; book = book }
 
--- where the count was the expected one, the event stands after all that was known
+-- where the count was the expected one, the event comes after all that was known
 abbrev pub AddsWhereCounted : Step ListEvent → View ListEvent ℕ → ℕ → View ListEvent ℕ → Type 0
 AddsWhereCounted s before found after =
     MatchBool (found == s.old) (after.0 ≡ before.0 ++ s.ask ∷ []) ⊤
@@ -70,7 +70,7 @@ ClosesWhereCounted s before found after =
     ((after.0 ≡ before.0 ++ s.ask ∷ [])
     × (after.1.0 ≡ (nib may_make (suc (suc (opens before.0))) 0))) ⊤
 
--- the event stands after all that was known
+-- the event comes after all that was known
 abbrev pub OpensAlways : Step ListEvent → View ListEvent ℕ → ℕ → View ListEvent ℕ → Type 0
 OpensAlways s before found after = after.0 ≡ before.0 ++ s.ask ∷ []
 

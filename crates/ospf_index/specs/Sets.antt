@@ -5,7 +5,7 @@ use Rattle.ospf_graph.specs.declared.route.Route.{Route}
 use Rattle.ospf_index.specs.declared.numbering.SetNumbers.{SetNumbers}
 use Rattle.ospf_index.specs.declared.sets.HopSets.{HopSets}
 
--- each set stands in the list of all hops
+-- each set lies within the list of all hops
 abbrev pub AreSets : HopSets → Type 0
 AreSets sets = All (λ s. s.first + s.count ≤ length sets.hops.items) sets.sets.items
 
@@ -36,8 +36,8 @@ pub record AreChained (n : SetNumbers) : Type 0 where
       → get_or n.chains.items k 0 ≤ length n.sets.sets.items
   pub links : (k : ℕ) → k < length n.links.items → get_or n.links.items k 0 ≤ k
 
--- there is the set of no hop alone, and room for those of so many routes,
--- which have so many hops in all
+-- there is only the set without hops, and room for those of this many routes,
+-- which have this many hops in all
 pub record IsBegunFor (routes hops : ℕ) (n : SetNumbers) : Type 0 where
   pub chained : AreChained n
   pub none : hops_of n.sets 0 ≡ []
@@ -47,7 +47,7 @@ pub record IsBegunFor (routes hops : ℕ) (n : SetNumbers) : Type 0 where
   pub room_hops : hops ≤ vec_capacity n.sets.hops
   pub room_links : routes + 1 ≤ vec_capacity n.links
 
--- there is a set more at most, of at most so many hops, and those before are the same
+-- there is at most one set more, of at most this many hops, and those before are the same
 pub record IsGrown (hops : ℕ) (old new : SetNumbers) : Type 0 where
   pub more : vec_len old.sets.sets ≤ vec_len new.sets.sets
   pub one_more : vec_len new.sets.sets ≤ vec_len old.sets.sets + 1

@@ -30,7 +30,7 @@ IsLongest b address t =
     → BlockHas b t address × ((k : ℕ) → k < b.count → BlockHas b k address → b.long k ≤ b.long t))
     × (b.count ≤ t → (k : ℕ) → k < b.count → BlockHas b k address → ⊥)
 
--- the last start, which is where the sweep stands
+-- the last start, which is where the sweep is
 abbrev pub here : List ℕ → ℕ
 here starts = get_or starts (length starts - 1) 0
 
@@ -44,7 +44,7 @@ IsRenamed starts places start place next_starts next_places =
     (0 < length starts) × (here starts ≡ start) × (next_starts ≡ starts)
     × (next_places ≡ take (length places - 1) places ++ place ∷ [])
 
--- a range begins behind the last one
+-- a range begins after the last one
 abbrev pub IsRangeAdded : List ℕ → List ℕ → ℕ → ℕ → List ℕ → List ℕ → Type 0
 IsRangeAdded starts places start place next_starts next_places =
     (0 < length starts → here starts ≡ start → ⊥) × (next_starts ≡ starts ++ start ∷ [])
@@ -56,7 +56,7 @@ IsRangeBegun starts places start place next_starts next_places =
     IsRenamed starts places start place next_starts next_places
     ⊎ IsRangeAdded starts places start place next_starts next_places
 
--- so many blocks were begun. Those that are open lie in one another, all others have ended, and
+-- this many blocks were begun. Those that are open are nested, all others have ended, and
 -- each range but the last has its answer
 pub record IsSwept (b : Blocks) (begun : ℕ) (opened starts places : List ℕ) : Type 0 where
   pub within : begun ≤ b.count

@@ -9,7 +9,7 @@ use std::alloc::AllocError;
 
 /// How many hops the routes may have in all after the changes.
 ///
-/// `AllocError` where no memory has room for so many.
+/// `AllocError` where no memory has room for that many.
 pub(crate) fn most_hops(routes: &[Route], changes: &[Change]) -> Result<usize, AllocError>
     ensures { IfOk result (λ hops. hops ≡ hops_in routes.now + sum_by hops_put changes.now) }
 {
@@ -18,7 +18,7 @@ pub(crate) fn most_hops(routes: &[Route], changes: &[Change]) -> Result<usize, A
     old.checked_add(put).ok_or(AllocError)
 }
 
-/// How many hops the changes put in all; `None` where no number says it.
+/// How many hops the changes put in all; `None` where the number overflows.
 pub(crate) fn count_hops_put(changes: &[Change]) -> Option<usize>
     ensures { IfSome result (λ hops. hops ≡ sum_by hops_put changes.now) }
 {
@@ -29,7 +29,7 @@ pub(crate) fn count_hops_put(changes: &[Change]) -> Option<usize>
     Some(hops)
 }
 
-// How many hops the routes have in all; `None` where no number says it.
+// How many hops the routes have in all; `None` where the number overflows.
 fn count_hops(routes: &[Route]) -> Option<usize>
     ensures { IfSome result (λ hops. hops ≡ hops_in routes.now) }
 {

@@ -80,8 +80,8 @@ impl Opened {
         }
     }
 
-    /// Adds a table: in one step it stands at the end of the list. `None` where another was faster,
-    /// or the list has 2^64 - 1 tables or steps; that it comes for nothing else is not proved.
+    /// Adds a table: in one step it is appended to the list. `None` where another was faster, or
+    /// the list has 2^64 - 1 tables or steps; that it is returned for nothing else is not proved.
     pub fn added(&self, counter: &Counter, table: &RouteTable) -> Option<Opened>
         requires { counter.now ≡ counter_of self.now.fib }
         ensures fib { IfSome result (λ after. after.fib ≡ self.now.fib) }

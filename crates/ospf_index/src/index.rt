@@ -21,17 +21,17 @@ const BLOCKS: usize = 65536;
 // How many addresses a block has.
 const BLOCK_SIZE: u64 = 65536;
 
-// The bits of an address behind those that name its block.
+// The bits of an address after those that name its block.
 const BLOCK_BITS: u32 = 16;
 
-// How many addresses there are, and how many bits tell them apart.
+// How many addresses there are, and how many bits identify one.
 const ADDRESSES: u64 = 1 << 32;
 
 const ADDRESS_BITS: u32 = 32;
 
 /// Where the ranges of a table's routes begin, what each of them answers, with the
-/// sets of hops, and for each block of addresses, and for what stands behind the last
-/// one, the range in which it begins.
+/// sets of hops, and for each block of addresses, and for what follows the last
+/// block, the range in which it begins.
 #[derive(Drop)]
 pub(crate) struct Index {
     pub starts: Vec<u32>,
@@ -100,7 +100,7 @@ impl IndexRoom {
     ghost use Rattle.std.specs.Prelude.{IfOk};
     ghost use Rattle.ospf_index.specs.Room.{HasIndexRoom};
 
-    /// The memory for the index of a table of so many routes, which have so many hops in all.
+    /// The memory for the index of a table of this many routes, which have this many hops in all.
     ///
     /// `AllocError` where memory runs out.
     pub fn new(alloc: Global, count: usize, hops: usize) -> Result<IndexRoom, AllocError>
@@ -136,8 +136,8 @@ fn directory_of(starts: &[u32], room: Vec<u32>) -> Vec<u32>
     directory
 }
 
-// How many blocks begin before this range does; all, and what stands behind them,
-// where it is behind the last one.
+// How many blocks begin before this range does; all, and what follows them,
+// where it is after the last one.
 fn blocks_before(starts: &[u32], range: usize) -> usize
     ensures few { result ≤ 65537 }
     ensures all { length starts.now ≤ range → result ≡ 65537 }
@@ -174,9 +174,9 @@ fn name_before(directory: &mut Vec<u32>, past: usize, range: u32)
 }
 
 // The range that has an address, which lies from one range on and up to another. Prefixes are
-// mostly spread evenly over a block, so it is first looked for where it would stand then.
+// mostly spread evenly over a block, so it is first looked for where it would be then.
 fn range_near(starts: &[u32], from: usize, last: usize, address: u32) -> usize
-    // The ranges stand in order, and the address lies within these.
+    // The ranges are in order, and the address lies within these.
     requires in_order { AreStartsRising starts.now }
     requires within { (from ≤ last) × (last < length starts.now) × (last < 2 ^ 32) }
     requires low { get_or starts.now from 0 ≤ address }
@@ -206,7 +206,7 @@ fn guess_between(from: usize, last: usize, address: u32) -> usize
 
 // The range that has an address, which lies from one range on and before another.
 fn range_between(starts: &[u32], from: usize, to: usize, address: u32) -> usize
-    // The ranges stand in order, and the address lies within these.
+    // The ranges are in order, and the address lies within these.
     requires in_order { AreStartsRising starts.now }
     requires within { (from < to) × (to ≤ length starts.now) }
     requires low { get_or starts.now from 0 ≤ address }

@@ -8,8 +8,8 @@ use crate::rule::{CountsEvents, ListEvent};
 use logbook::Seen;
 use std::marker::Model;
 
-/// The tables published up to some version, from the opening table on. Proofs see their list, of
-/// which the code has the length alone.
+/// The tables published up to some version, from the opening table on. Proofs see their list; the
+/// code has only its length.
 #[derive(Drop)]
 pub struct Published {
     pub(crate) count: u64,

@@ -26,7 +26,7 @@ impl SetNumbers {
     ghost use Rattle.std.specs.Prelude.{◌≡◌, ◌≤◌, ◌<◌, ◌+◌, IfOk, IfSome, length, vec_len, vec_capacity};
     ghost use Rattle.ospf_index.specs.Sets.{AreChained, IsBegunFor, IsGrown, hops_of};
 
-    /// All the memory for the sets of so many routes, which have so many hops in all.
+    /// All the memory for the sets of this many routes, which have this many hops in all.
     ///
     /// `AllocError` where memory runs out.
     pub fn with_room(alloc: Global, routes: usize, hops: usize) -> Result<SetNumbers, AllocError>

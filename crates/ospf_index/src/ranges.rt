@@ -3,7 +3,7 @@
 use std::alloc::Global;
 
 /// Ranges of addresses: where each begins, and the place of the route that answers for it. Where
-/// none does, the place is behind the last route.
+/// none does, the place is after the last route.
 #[derive(Drop)]
 pub(crate) struct Ranges {
     pub starts: Vec<u32>,

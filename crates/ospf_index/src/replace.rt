@@ -19,7 +19,7 @@ use std::alloc::Global;
 use std::collections::VecDeque;
 use std::mem;
 
-// From one change for so many routes on, one pass over the table takes less time
+// From one change for this many routes on, one pass over the table takes less time
 // than a search for each change.
 const ROUTES_FOR_A_CHANGE: usize = 8;
 
@@ -99,7 +99,7 @@ impl Index {
         requires entries { length self.old.entries.items ≡ length self.old.starts.items }
         requires stand { AreSets self.old.sets }
         requires room { HasSetRoom (Change.Put route.now ∷ []) self.old.sets }
-        // The route stands where one to its prefix stood, and takes no room but that of its hops.
+        // The route replaces the one to its prefix, and takes no room but that of its hops.
         ensures put { IsRoutePut self.old route.now self.new }
         ensures longer { AreSetsLonger self.old.sets route.now self.new.sets }
     {
@@ -129,7 +129,7 @@ fn is_replacing(routes: &[Route], change: &Change) -> bool
     }
 }
 
-// How many routes stand before a prefix.
+// How many routes are before a prefix.
 fn routes_before(routes: &[Route], prefix: Prefix) -> usize
     requires { AllPairs IsRouteBefore routes.now }
     ensures { AreRoutesBefore routes.now prefix result }

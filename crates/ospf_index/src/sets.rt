@@ -1,4 +1,4 @@
-//! Sets of hops, each of which stands once.
+//! Sets of hops, by number.
 
 ghost use Rattle.std.specs.Prelude.{◌≡◌, ◌≤◌, ◌<◌, ◌+◌, ◌++◌, ◌∷◌, [], length, vec_len, vec_capacity};
 ghost use Rattle.ospf_index.specs.Sets.{AreSets, hops_of, lists_of};
@@ -6,7 +6,7 @@ ghost use Rattle.ospf_index.specs.Sets.{AreSets, hops_of, lists_of};
 use ospf_graph::NextHop;
 use std::alloc::Global;
 
-/// Where a set stands in the list of the hops of all sets.
+/// Where the hops of a set are in the list of the hops of all sets.
 #[derive(Clone, Copy)]
 pub(crate) struct HopSet {
     pub first: usize,
@@ -36,11 +36,11 @@ impl HopSets {
 
     /// Puts a set at the end, for which there is room.
     pub fn push(&mut self, hops: &[NextHop])
-        // The sets stand, and have room for one more.
+        // The sets lie within the list of hops, and have room for one more.
         requires stand { AreSets self.old }
         requires room_sets { vec_len self.old.sets < vec_capacity self.old.sets }
         requires room_hops { vec_len self.old.hops + length hops.now ≤ vec_capacity self.old.hops }
-        // They stand, and this one comes behind all others.
+        // They still do, and this one comes after all others.
         ensures stand { AreSets self.new }
         ensures lists { lists_of self.new ≡ lists_of self.old ++ hops.now ∷ [] }
         // How long the lists are then, and that no room is lost.

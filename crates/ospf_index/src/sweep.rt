@@ -26,7 +26,7 @@ impl Sweep {
     ghost use Rattle.ospf_index.specs.Room.{HasRoom, IsRoomFor, IsSweptTo};
     ghost use Rattle.ospf_index.specs.Sweep.{IsRangeBegun, blocks_of, top};
 
-    /// All the memory for a sweep over so many routes.
+    /// All the memory for a sweep over this many routes.
     ///
     /// `AllocError` where memory runs out.
     pub fn with_room(alloc: Global, count: usize) -> Result<Sweep, AllocError>
@@ -47,7 +47,7 @@ impl Sweep {
         // There is room for one more range.
         requires starts { vec_len self.old.ranges.starts < vec_capacity self.old.ranges.starts }
         requires places { vec_len self.old.ranges.places < vec_capacity self.old.ranges.places }
-        // It comes behind the last one, or in its place, and no route opens or ends by it.
+        // It comes after the last one, or in its place, and no route opens or ends by it.
         ensures begun { IsRangeBegun self.old.ranges.starts.items self.old.ranges.places.items start
             place self.new.ranges.starts.items self.new.ranges.places.items }
         ensures opened { self.new.opened ≡ self.old.opened }
@@ -80,7 +80,7 @@ impl Sweep {
         self.opened.last().copied().unwrap_or(otherwise)
     }
 
-    // The end of the route that was opened last, unless it is behind the limit.
+    // The end of the route that was opened last, unless it is after the limit.
     fn ended(&self, routes: &[Route], begun: usize, limit: u32) -> Option<u32>
         requires { IsSweptTo routes.now begun self.now }
         ensures { MatchOption result
@@ -106,14 +106,14 @@ impl Sweep {
 
     // Ends the routes that end at the limit or before it. The next route does not begin before it.
     fn close_to(&mut self, routes: &[Route], begun: usize, limit: u32)
-        // The sweep stands before the limit, and no route is left behind.
+        // This many routes have begun, and no other one begins before the limit.
         requires order { AllPairs IsRouteBefore routes.now }
         requires swept { IsSweptTo routes.now begun self.old }
         requires ahead { (k : ℕ) → begun ≤ k → k < length routes.now →
             limit ≤ (blocks_of routes.now).first k }
         // There is room for what is left.
         requires room { HasRoom (2 * length routes.now + 1) self.old (length routes.now - begun) }
-        // It stands there still, all that is open goes on behind the limit, and room is left.
+        // The same routes have begun, all that is open goes on after the limit, and room is left.
         ensures swept { IsSweptTo routes.now begun self.new }
         ensures open { 0 < length self.new.opened.items →
             limit < (blocks_of routes.now).end
@@ -129,12 +129,12 @@ impl Sweep {
 
     // Opens the route at this place, which is the next.
     fn open(&mut self, routes: &[Route], place: usize)
-        // The sweep stands before this route, with room for what is left.
+        // The routes before this one have begun, with room for what is left.
         requires order { AllPairs IsRouteBefore routes.now }
         requires within { place < length routes.now }
         requires swept { IsSweptTo routes.now place self.old }
         requires room { HasRoom (2 * length routes.now + 1) self.old (length routes.now - place) }
-        // Then it stands behind it.
+        // Now this one has begun too.
         ensures swept { IsSweptTo routes.now (place + 1) self.new }
         ensures room { HasRoom (2 * length routes.now + 1) self.new
             (length routes.now - (place + 1)) }
@@ -149,14 +149,14 @@ impl Sweep {
     }
 }
 
-/// How many ranges so many routes have at most; `None` where there is no memory for so many.
+/// How many ranges this many routes have at most; `None` where the number overflows.
 pub(crate) fn most_ranges(count: usize) -> Option<usize>
     ensures { IfSome result (λ most. most ≡ 2 * count + 1) }
 {
     count.checked_mul(2)?.checked_add(1)
 }
 
-/// The first address behind a prefix.
+/// The first address after a prefix.
 pub(crate) fn end_address(prefix: Prefix) -> u64
     ensures { result ≡ end_of prefix }
 {

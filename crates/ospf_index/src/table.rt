@@ -79,8 +79,8 @@ impl IndexedTable {
     }
 
     /// Makes changes, which are in the order of tables. Where they are few, and each puts a route
-    /// in the place of one to the same prefix, mostly no other route is looked at; else it is one
-    /// pass over the table, and a new index.
+    /// in the place of one to the same prefix, mostly no other route is looked at; otherwise it
+    /// takes one pass over the table, and a new index.
     ///
     /// `AllocError` where memory runs out; then the table is as it was.
     pub fn edit(&mut self, alloc: Global, changes: &[Change]) -> Result<(), AllocError>

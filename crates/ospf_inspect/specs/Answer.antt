@@ -51,14 +51,14 @@ Says (Table router) listing text = SaysTableInJson (advertisements_of listing) r
 Says (Path from address choices) listing text =
     SaysPath (advertisements_of listing) from address.0 (vec_items choices) (length listing) text
 
--- what is said of a way: of the router that it begins at, and, where its table has no route for the
--- address, of routes outside the area
+-- the warning about a path: about the router where it starts and, if that router's table has no
+-- route for the address, about routes outside the area
 abbrev pub WarnsOfWay : List (List ℕ) → RouterId → Addr → List ℕ → Type 0
 WarnsOfWay listing from address text =
     (table : List Route) × IsTable (advertisements_of listing) from table
     × IsTableWarning listing from table (address ∷ []) text
 
--- what is said of the router whose table it is, or of the way
+-- the warning about the router of a table, or about the path
 abbrev pub WarnsOfJob : InspectJob → List (List ℕ) → List ℕ → Type 0
 WarnsOfJob (Lsas f) listing text = text ≡ []
 WarnsOfJob Drawing listing text = text ≡ []
@@ -80,7 +80,7 @@ pub record IsInspectAnswer (job : InspectJob) (text warning input : List ℕ) : 
   pub warns : Warns job listing left_out warning
   pub says : Says job listing text
 
--- the answer stands on standard output, and its warning on standard error
+-- the answer is written to standard output, and its warning to standard error
 pub record IsInspectAnswered (job : InspectJob) (old new : Written) (input : List ℕ) : Type 0 where
   pub text : List ℕ
   pub warning : List ℕ
@@ -88,14 +88,14 @@ pub record IsInspectAnswered (job : InspectJob) (old new : Written) (input : Lis
   pub out : Appends old.out new.out text
   pub err : Appends old.err new.err warning
 
--- what is said of an input that is refused, of its first line that is
+-- the text about an input that is refused: about its first refused line
 pub record IsInspectRefusal (text input : List ℕ) : Type 0 where
   pub number : ℕ
   pub fault : EntryFault
   pub refused : Refuses input [] number fault
   pub text_is : text ≡ refusal_line number fault
 
--- the refusal stands on standard error
+-- the refusal is written to standard error
 pub record IsInspectRefusalTold (err_old err_new : Option (List ℕ)) (input : List ℕ) : Type 0 where
   pub text : List ℕ
   pub is : IsInspectRefusal text input
@@ -142,7 +142,7 @@ pub data InspectEndsBy (input : Option (List ℕ)) (job : InspectJob) (failed : 
       → IfSome input (IsInspectAnswerBegun job old new)
       → InspectEndsBy input job failed old new f
 
--- it ended by a failure, which was told last, as far as that could be written
+-- it ended by a failure, which was reported last, as far as that could be written
 pub record IsInspectCutShort (input : Option (List ℕ)) (job : InspectJob) (failed : FailedStreams)
     (old new : Written) (end : Status) : Type 0 where
   pub cause : Failure
@@ -164,7 +164,7 @@ abbrev pub IsInspectAnswerOf : InspectJob → InspectAnswer → List ℕ → Typ
 IsInspectAnswerOf job answer input =
     IsInspectAnswer job (string_bytes answer.text) (string_bytes answer.warning) input
 
--- the answer is printed, or the refusal is told
+-- the answer is printed, or the refusal is reported
 pub data IsInspectSaid (input : Option (List ℕ)) (job : InspectJob) (old new : Written)
     : Status → Type 0 where
   is_answered : IfSome input (IsInspectAnswered job old new)

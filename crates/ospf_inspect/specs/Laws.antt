@@ -20,8 +20,8 @@ pub record EndsOnRoute (adverts : List Advertisement) (address : ℕ) (from : Ro
   pub legs : List ℕ
   pub is : text ≡ legs ++ arrived_line route.prefix route.cost
 
--- the law: where each router has its table of a listing, what is said of a way from a router is
--- that this has no route, or ends on the prefix of its route, at the cost of that
+-- the law: if each router has its table of a listing, the text about the path from a router says
+-- that this router has no route, or ends at the prefix of its route, at the cost of that route
 abbrev pub WaysArrive : Type 0
 WaysArrive =
     (lsas : List (List ℕ)) (tables : RouterId → List Route) (from : RouterId) (address : ℕ)

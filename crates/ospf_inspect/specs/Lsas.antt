@@ -29,7 +29,7 @@ use Rattle.ospf_inspect.specs.Lines.{AreLines}
 abbrev pub IsMarkUnless : Type 0 → List ℕ → List ℕ → Type 0
 IsMarkUnless holds word mark = (holds × (mark ≡ [])) ⊎ ((holds → ⊥) × (mark ≡ word))
 
--- the mark of a link that its other end does not tell (16.1, step 2 b)
+-- the mark of a link that its other end does not advertise (16.1, step 2 b)
 abbrev pub one_way : List ℕ
 one_way = codes " one-way"
 
@@ -150,7 +150,7 @@ network_name_of lsa =
       router = (key_of lsa).router;
     }
 
--- a network: its prefix, and the network-LSA that tells of it
+-- a network: its prefix, and the network-LSA that describes it
 abbrev pub network_name_text : NetworkName → List ℕ
 network_name_text name =
     prefix_under name.id.0 name.mask ++ codes " of " ++ number_text name.id.0 ++ codes " by "
@@ -168,7 +168,8 @@ SaysOfRouter adverts lsa text =
     × (text
     ≡ router_line (key_of lsa).router (header_of lsa).age (instance_of lsa) (flags_of lsa) ++ lines)
 
--- marked where another of its Link State ID stands for the network, and the routers that it names
+-- marked if another LSA with its Link State ID is used for the network, and the routers that it
+-- names
 abbrev pub SaysOfNetwork : List Advertisement → List ℕ → List ℕ → Type 0
 SaysOfNetwork adverts lsa text =
     (mark lines : List ℕ)
@@ -177,11 +178,11 @@ SaysOfNetwork adverts lsa text =
     × (text
     ≡ network_line (network_name_of lsa) (header_of lsa).age (instance_of lsa) mark ++ lines)
 
--- the lines say what an LSA of this kind tells
+-- the lines show an LSA of this kind
 abbrev pub SaysOfLsaKind : List Advertisement → List ℕ → Kind → List ℕ → Type 0
 SaysOfLsaKind adverts lsa kind.Router text = SaysOfRouter adverts lsa text
 SaysOfLsaKind adverts lsa kind.Network text = SaysOfNetwork adverts lsa text
 
--- the lines say what an LSA tells
+-- the lines show an LSA
 abbrev pub SaysOfLsa : List Advertisement → List ℕ → List ℕ → Type 0
 SaysOfLsa adverts lsa text = SaysOfLsaKind adverts lsa (kind_of lsa) text

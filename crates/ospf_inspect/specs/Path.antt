@@ -52,7 +52,7 @@ arrived_line prefix paid = arrived_text prefix paid ++ codes "\n"
 abbrev pub no_route_line : RouterId → List ℕ
 no_route_line at = number_text at.0 ++ codes " no route\n"
 
--- the line of a way that comes to a router a second time
+-- the line of a path that reaches a router a second time
 abbrev pub turns_line : RouterId → List ℕ
 turns_line at = number_text at.0 ++ codes " turns\n"
 
@@ -63,7 +63,7 @@ abbrev pub first_choice : List ℕ → ℕ
 first_choice [] = 0
 first_choice (choice ∷ _) = choice
 
--- the choices of the legs behind the first
+-- the choices of the legs after the first
 abbrev pub later_choices : List ℕ → List ℕ
 later_choices [] = []
 later_choices (_ ∷ choices) = choices
@@ -83,9 +83,9 @@ pub record HasNoRouteFor (adverts : List Advertisement) (address : ℕ) (at : Ro
   pub is_table : IsTable adverts at table
   pub none : (route : Route) → Contains table route → Holds route.prefix address → ⊥
 
--- what is said of the way from a router, where so much is paid already and so many routers more may
--- be met: it ends there without a route; it has arrived; it goes on at the router that the hop
--- names, over a link of least cost; or where as many were met as may be, it turns in a circle
+-- the text about the path from a router, after this cost so far and with this many more routers
+-- allowed: it ends there without a route; it has arrived; it continues at the router that the hop
+-- names, over a link of least cost; or no more routers are allowed, and it turns in a circle
 pub data SaysWay (adverts : List Advertisement) (address : ℕ)
     : ℕ → List ℕ → RouterId → ℕ → List ℕ → Type 0 where
   strays : {most : ℕ} {choices : List ℕ} {at : RouterId} {paid : ℕ}
@@ -118,7 +118,7 @@ SaysLeg adverts address way said (Some next) =
     → SaysWay adverts address next.most next.choices.now next.at next.paid rest
     → SaysWay adverts address way.most way.choices.now way.at way.paid (said ++ rest))
 
--- what is said of the way from a router at its start: no more routers
--- may be met than LSAs are listed
+-- the text about the path from a router at its start: it may not meet more routers than LSAs are
+-- listed
 abbrev pub SaysPath : List Advertisement → RouterId → ℕ → List ℕ → ℕ → List ℕ → Type 0
 SaysPath adverts from address choices most text = SaysWay adverts address most choices from 0 text

@@ -67,12 +67,12 @@ root_data router routes =
     (member (codes "root") (string (number_text router))
     (member (codes "routes") routes no_members))
 
--- the value tells a router and its table
+-- the value shows a router and its table
 abbrev pub TellsRoot : List Advertisement → ℕ → Data → Type 0
 TellsRoot adverts router d =
     (routes : Data) × TellsTable adverts router routes × (d ≡ root_data router routes)
 
--- the value tells the router of an LSA and its table
+-- the value shows the router of an LSA and its table
 abbrev pub TellsRootOf : List Advertisement → List ℕ → Data → Type 0
 TellsRootOf adverts lsa d = TellsRoot adverts (number_at 8 4 lsa) d
 

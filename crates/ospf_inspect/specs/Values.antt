@@ -1,4 +1,4 @@
--- The LSAs of a listing as a value of JSON (RFC 8259), which tells what stands in words.
+-- The LSAs of a listing as a JSON value (RFC 8259), which shows what the text form shows.
 use Rattle.std.specs.Prelude.{◌≡◌, ◌↔◌, ℕ, List, Bool, IsTrue, codes}
 use Rattle.serde_json.specs.Data.{Data, Members, boolean, number, object, string, unsigned, member, no_members}
 use Rattle.ospf_base.specs.Text.{number_text}
@@ -23,8 +23,8 @@ use Rattle.ospf_inspect.specs.declared.lsas.NetworkName.{NetworkName}
 
 -- ---- links of a router
 
--- a link to a router or a transit network: its cost, the address that it is from, what it leads to,
--- and whether that is told from here alone
+-- a link to a router or a transit network: its cost, its local address, what it leads to, and
+-- whether only this end advertises it
 abbrev pub way_data : List ℕ → Link → Bool → Data
 way_data what link one_way =
     object
@@ -53,7 +53,7 @@ virtual_data to =
 abbrev pub IsOneWay : List Advertisement → Vertex → Vertex → Bool → Type 0
 IsOneWay adverts v w one_way = IsTrue one_way ↔ (AreJoined adverts v w → ⊥)
 
--- the value tells a link of this kind, and whether its other end does not
+-- the value shows a link of this kind, and whether its other end does not advertise it
 abbrev pub TellsKind : List Advertisement → RouterId → Link → LinkKind → Data → Type 0
 TellsKind adverts router link PointToPoint d =
     (one_way : Bool)
@@ -65,7 +65,7 @@ TellsKind adverts router link Transit d =
 TellsKind adverts router link Stub d = d ≡ stub_data link
 TellsKind adverts router link Virtual d = d ≡ virtual_data link.id
 
--- the value tells a link of a router-LSA
+-- the value shows a link of a router-LSA
 abbrev pub TellsLink : List Advertisement → RouterId → Link → Data → Type 0
 TellsLink adverts router link d = TellsKind adverts router link link.kind d
 
@@ -78,8 +78,8 @@ member_data router one_way =
     (member (codes "one_way") (boolean one_way)
     (member (codes "router") (string (number_text router.0)) no_members))
 
--- the value tells an attached router, and whether its own LSA does not tell the
--- network (RFC 2328, section 12.4.2)
+-- the value shows an attached router, and whether its own LSA does not name the network (RFC 2328,
+-- section 12.4.2)
 abbrev pub TellsAttached : List Advertisement → ℕ → RouterId → Data → Type 0
 TellsAttached adverts n router d =
     (one_way : Bool) × IsOneWay adverts (vertex.Network n) (vertex.Router router) one_way
@@ -108,7 +108,7 @@ router_data router age i flags links =
     (member (codes "sum") (string (hexadecimal 4 i.sum)) no_members)))))))
 
 -- a network-LSA: its age, the routers that it names, its Link State ID, number, prefix, router and
--- sum, and whether another stands for its network
+-- sum, and whether another LSA is used for its network
 abbrev pub network_data : NetworkName → ℕ → Instance → Data → Bool → Data
 network_data name age i attached unused =
     object
@@ -122,15 +122,15 @@ network_data name age i attached unused =
     (member (codes "sum") (string (hexadecimal 4 i.sum))
     (member (codes "unused") (boolean unused) no_members)))))))))
 
--- the value tells a router-LSA and its links in order
+-- the value shows a router-LSA and its links in order
 abbrev pub TellsRouter : List Advertisement → List ℕ → Data → Type 0
 TellsRouter adverts lsa d =
     (links : Data) × IsArray (TellsLink adverts (key_of lsa).router) (links_of lsa) links
     × (d
     ≡ router_data (key_of lsa).router (header_of lsa).age (instance_of lsa) (flags_of lsa) links)
 
--- the value tells a network-LSA, its attached routers in order, and whether
--- another LSA stands for the network
+-- the value shows a network-LSA, its attached routers in order, and whether another LSA is used for
+-- the network
 abbrev pub TellsNetwork : List Advertisement → List ℕ → Data → Type 0
 TellsNetwork adverts lsa d =
     (attached : Data) × (unused : Bool)
@@ -138,12 +138,12 @@ TellsNetwork adverts lsa d =
     × (IsTrue unused ↔ (StandsFor adverts (key_of lsa).id (key_of lsa).router → ⊥))
     × (d ≡ network_data (network_name_of lsa) (header_of lsa).age (instance_of lsa) attached unused)
 
--- the value tells an LSA of this kind
+-- the value shows an LSA of this kind
 abbrev pub TellsLsaKind : List Advertisement → List ℕ → Kind → Data → Type 0
 TellsLsaKind adverts lsa kind.Router d = TellsRouter adverts lsa d
 TellsLsaKind adverts lsa kind.Network d = TellsNetwork adverts lsa d
 
--- the value tells an LSA
+-- the value shows an LSA
 abbrev pub TellsLsa : List Advertisement → List ℕ → Data → Type 0
 TellsLsa adverts lsa d = TellsLsaKind adverts lsa (kind_of lsa) d
 

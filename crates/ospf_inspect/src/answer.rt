@@ -33,7 +33,7 @@ pub enum Form {
     Json,
 }
 
-/// What is to be printed of the LSAs of an area.
+/// What to print about the LSAs of an area.
 #[derive(Debug, Drop)]
 pub enum InspectJob {
     /// Each LSA.
@@ -52,7 +52,7 @@ pub enum InspectJob {
     },
 }
 
-// Why nothing is to be printed: the input is refused, and this is said of it, or something failed.
+// Why nothing is printed: the input is refused, with this text, or something failed.
 #[derive(Drop)]
 pub(crate) enum Unanswered {
     Refused(String),
@@ -71,17 +71,17 @@ impl From<AllocError> for Unanswered {
     }
 }
 
-/// Reads LSAs, one a line in hexadecimal as `ospf_table::table_text` does, and prints what is asked
-/// of them: each in words or as JSON, a drawing of all, the routing table of each router or of one,
-/// or the way from a router to an address.
+/// Reads LSAs, one per line in hexadecimal as `ospf_table::table_text` does, and prints what the
+/// job asks for: each LSA in words or as JSON, a drawing of all, the routing table of each router
+/// or of one, or the path from a router to an address.
 ///
-/// `err` says how many LSAs were left out at `MAX_AGE`, if any were; where LSAs are listed and the
-/// router-LSA of the router whose table it is, or that a way begins at, is not among them; and of a
-/// way whose first router has no route to the address, which routers are at the border of the area
-/// (`ospf_table::warning_text`). The first line that is refused is told on `err`; then
-/// nothing is printed, with status `Refused`. Status `Memory` says that memory ran out, and
-/// `Stream` that a read or a write failed; what it was is told on `err`, as far as that can be
-/// written. Then no more than a beginning is printed.
+/// `err` says how many LSAs were left out at `MAX_AGE`, if any were. If LSAs are listed, but not
+/// the router-LSA of the table's router or of the path's first router, it says so. If the first
+/// router of a path has no route to the address, it names the routers at the border of the area
+/// (`ospf_table::warning_text`). The first refused line is reported on `err`; then nothing is
+/// printed, with status `Refused`. Status `Memory` says that memory ran out, and `Stream` that a
+/// read or a write failed. The cause is reported on `err`, as far as that can be written. Then no
+/// more than a beginning is printed.
 pub fn inspect_text<R: BufRead + Drop, O: Write, E: Write>(
     alloc: Global,
     job: &InspectJob,
@@ -89,7 +89,7 @@ pub fn inspect_text<R: BufRead + Drop, O: Write, E: Write>(
     out: &mut O,
     err: &mut E,
 ) -> Status
-    // All is printed; or the refusal is told, and nothing is printed.
+    // All is printed; or the refusal is reported, and nothing is printed.
     ensures answered { let old = written_on (O.contents out.old) (E.contents err.old) in
         let new = written_on (O.contents out.new) (E.contents err.new) in
         result ≡ Status.Done → IfSome (R.remaining input) (IsInspectAnswered job.now old new) }
@@ -97,7 +97,8 @@ pub fn inspect_text<R: BufRead + Drop, O: Write, E: Write>(
         IfSome (R.remaining input) (IsInspectRefusalTold (E.contents err.old)
         (E.contents err.new)) }
     ensures unwritten { result ≡ Status.Refused → O.contents out.new ≡ O.contents out.old }
-    // Or memory or a stream failed, which is told last, as far as it can be; there is no other end.
+    // Or memory or a stream failed, which is reported last, as far as it can be. There is no other
+    // end.
     ensures cut { let old = written_on (O.contents out.old) (E.contents err.old) in
         let new = written_on (O.contents out.new) (E.contents err.new) in
         (result ≡ Status.Memory) ⊎ (result ≡ Status.Stream) →
@@ -108,7 +109,7 @@ pub fn inspect_text<R: BufRead + Drop, O: Write, E: Write>(
     inspect_noted(alloc, job, input, out, err, &mut FailedStreams::none())
 }
 
-// What is to be printed.
+// What will be printed.
 #[derive(Drop)]
 struct InspectAnswer {
     warning: String,
@@ -134,7 +135,7 @@ fn inspect_noted<R: BufRead + Drop, O: Write, E: Write>(
     }
 }
 
-// Prints the answer, or tells what is refused. The answer is the status to end with.
+// Prints the answer, or reports what is refused. Returns the status to end with.
 fn answer_or_refuse<R: BufRead + Drop, O: Write, E: Write>(
     alloc: Global,
     job: &InspectJob,
@@ -157,7 +158,7 @@ fn answer_or_refuse<R: BufRead + Drop, O: Write, E: Write>(
     }
 }
 
-// What is to be printed of the LSAs that the lines of an input are.
+// What to print about the LSAs in the lines of an input.
 fn answer_of<R: BufRead + Drop>(
     alloc: Global,
     job: &InspectJob,
@@ -199,7 +200,7 @@ fn line_refused(alloc: Global, number: u64, fault: EntryFault) -> Unanswered
     }
 }
 
-// What is said of the LSAs that were left out, and of what is asked.
+// The warning about the LSAs that were left out, and about what the job asks for.
 fn warning_of(
     alloc: Global,
     job: &InspectJob,
@@ -214,7 +215,7 @@ fn warning_of(
     Ok(text)
 }
 
-// What is said of the router whose table it is, or of the way that is asked for.
+// The warning about the router of a table, or about the path that is asked for.
 fn job_warning(alloc: Global, job: &InspectJob, listing: &Listing) -> Result<String, AllocError>
     ensures { IfOk result (λ text. WarnsOfJob job.now listing.now (string_bytes text)) }
 {
@@ -225,7 +226,7 @@ fn job_warning(alloc: Global, job: &InspectJob, listing: &Listing) -> Result<Str
     }
 }
 
-// What is said of the router that a way begins at, and where it has no route.
+// The warning about the router where a path starts, and if it has no route.
 fn way_warning(
     alloc: Global,
     listing: &Listing,
@@ -296,7 +297,7 @@ fn print<O: Write, E: Write>(
     }
 }
 
-// Tells a refusal.
+// Reports a refusal.
 fn refuse<E: Write>(text: &str, err: &mut E, streams: &mut FailedStreams) -> Result<Status, Failure>
     ensures said { (input : Option (List ℕ)) (job : InspectJob) (out : Option (List ℕ)) →
         IfSome input (IsInspectRefusal text.now) → IfOk result (IsInspectSaid input job

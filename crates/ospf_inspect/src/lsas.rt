@@ -22,8 +22,8 @@ use ospf_script::FloorShown;
 use std::alloc::{AllocError, Global};
 use std::fmt::{self, Display, Formatter, Write};
 
-// What is said of a link whose other end does not name its router, and of
-// an LSA that another stands for.
+// The marks of a link whose other end does not name its router, and of an LSA that is not used
+// because another has its Link State ID.
 const ONE_WAY: &str = " one-way";
 
 const UNUSED: &str = " unused";
@@ -404,7 +404,7 @@ pub(crate) fn name_of(lsa: &LsaView) -> NetworkName
     }
 }
 
-// Whether the network-LSA of a router is the one that stands for its Link State ID.
+// Whether the network-LSA of a router is the one that is used for its Link State ID.
 pub(crate) fn stands_for(listing: &Listing, id: u32, router: RouterId) -> bool
     ensures { IsTrue result ↔ StandsFor (advertisements_of listing.now) id router }
 {

@@ -23,8 +23,8 @@ use ospf_script::FloorShown;
 use serde_json::{Map, Value, json, put};
 use std::alloc::{AllocError, Global};
 
-/// The LSAs of a listing as one value of JSON on a line: an array, in their order, of an object
-/// each, which tells what `lsas_text` does. An `lsa` that is a `router` has `links`, and one that
+/// The LSAs of a listing as one JSON value on a line: an array, in their order, with one object
+/// each, which shows what `lsas_text` does. An `lsa` that is a `router` has `links`, and one that
 /// is a `network` its `attached` routers.
 ///
 /// `AllocError` where memory runs out.

@@ -1,4 +1,4 @@
--- What changes of a router in a step, as a journal tells it.
+-- What changes of a router in a step, as a journal reports it.
 use Rattle.std.specs.Prelude.{◌≡◌, ◌==◌, ◌&&◌, ◌++◌, ◌↔◌, ℕ, ℤ, zero, suc, Bool, true, false, not, List, [], ◌∷◌, AllPairs, Contains, Option, None, Some, find, flat_map, is_some, length, map, max, slice_get, if◌then◌else◌}
 use Rattle.std.specs.Ordering.{int_eq}
 use Rattle.ospf_base.specs.Addresses.{nowhere}
@@ -197,7 +197,7 @@ pub record LeadsOn (before now : List Route) (routes : List spf.Change) : Type 0
   pub puts : (route : Route) → Contains routes (put.Put route) ↔ tables.IsNewRoute before now route
   pub gone : (prefix : Prefix) → Contains routes (put.Gone prefix) ↔ tables.IsGone before now prefix
 
--- as a journal tells it
+-- as a journal reports it
 abbrev pub route_change : spf.Change → RouterChange
 route_change (put.Put route) = change.Route route
 route_change (put.Gone prefix) = change.NoRoute prefix

@@ -1,11 +1,12 @@
-//! A journal of routers: what changes of one in a step, a line a change.
+//! A journal of routers: what changes of one in a step, one line per change.
 //!
-//! A `Seen` is what is kept of a router from step to step. `Seen::follow` takes what a step reports
-//! (`Reported`): the datagram that it dropped and the LSAs that it issued. It gives what changed of
-//! the router (`RouterChange`), in the order that `specs/Changes` states. `JournalLine` and
-//! `Object` write a change as a line of text and as a JSON object (`specs/Lines`,
-//! `specs/Objects`); that it is one is a law (`objects_are_json`). `dropped_of` gives why a router
-//! drops a datagram that comes to it, and `drop_lines` how many it dropped (`specs/Counted`).
+//! A `Seen` is what is remembered of a router from step to step. `Seen::follow` receives what a
+//! step reports (`Reported`): the datagram that it dropped and the LSAs that it issued. It returns
+//! what changed of the router (`RouterChange`), in the order that `specs/Changes` states.
+//! `JournalLine` and `Object` write a change as a line of text and as a JSON object (`specs/Lines`,
+//! `specs/Objects`); it is a law that the object is JSON (`objects_are_json`). `dropped_of` returns
+//! why a router drops a datagram that it receives, and `drop_lines` how many it dropped, as lines
+//! (`specs/Counted`).
 #![tactic(auto)]
 
 mod cause;

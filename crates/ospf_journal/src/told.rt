@@ -418,7 +418,7 @@ fn was_flushed(before: Option<SeenCopy>, number: i32) -> bool
     }
 }
 
-// A change of a table, as a journal tells it.
+// A change of a table, as a journal reports it.
 fn route_change(change: &spf::Change, alloc: Global) -> Result<RouterChange, AllocError>
     ensures { IfOk result (λ told. told ≡ route_change change.now) }
 {

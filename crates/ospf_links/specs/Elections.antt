@@ -8,7 +8,7 @@ use Rattle.ospf_area.specs.State.{AreaValue, LinkValue}
 use Rattle.ospf_area.specs.declared.sending.RouterContext.{RouterContext}
 use Rattle.ospf_area.specs.Outboxes.{posted_all}
 
--- where an election is due, one comes about
+-- where an election is due, one can take place
 pub record IsReady (link : LinkValue) : Type 0 where
   pub electing : link.elects ≡ true → elects_in link.iface.state ≡ true
   pub others : link.elects ≡ true → AreOfLink link.iface link.neighbours

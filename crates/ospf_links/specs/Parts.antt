@@ -38,13 +38,13 @@ neighbourhood_at link p = neighbourhood link.neighbours link.elects p
 abbrev pub with_neighbourhood : Neighbourhood → LinkValue → LinkValue
 with_neighbourhood x link = record link { neighbours = x.neighbours; elects = x.elects }
 
--- and what it leaves beside the link
+-- and what it leaves besides the link
 abbrev pub left_beside : Neighbourhood → OutboxValue
 left_beside x = record { next = x.next; sent = x.sent }
 
--- ---- packets that come
+-- ---- packets that arrive
 
--- a Hello of the router f that comes on a link, and names this router or does not (10.5)
+-- a Hello of the router f that arrives on a link, and names this router or does not (10.5)
 abbrev pub hello_comes : RouterContext → PacketSource → Hello → Bool → OutboxValue → LinkValue
     → Neighbourhood
 hello_comes own f h named p link =
@@ -69,7 +69,7 @@ description_on i local q d headers db x = elim (neighbour_of x.neighbours q) [
       put_back (is_settled i.state && changes) t x
 ]
 
--- a Database Description that comes on a link
+-- a Database Description that arrives on a link
 abbrev pub description_comes : RouterContext → PacketSource → Description → List LsaHeader
     → List Held → OutboxValue
     → LinkValue
@@ -95,7 +95,7 @@ request_on i local q delay db entries x =
       | Some n ↦ put_back false (answer_turn i local delay db entries (turn_of n x)) x
     ]
 
--- a Request that comes on a link
+-- a Request that arrives on a link
 abbrev pub request_at : RouterContext → PacketSource → List Held → List RequestEntry → OutboxValue
     → LinkValue
     → Neighbourhood
@@ -111,7 +111,7 @@ request_part own f db entries next link =
     request_on link.iface (local_by own link.settings) f.router link.settings.transmit_delay db
     entries (neighbourhood_of link next)
 
--- the keys whose copies answer a Request of router q on a link, where both are there (10.7)
+-- the keys whose copies answer a Request of router q on a link, where both exist (10.7)
 abbrev pub answered_on : Option LinkValue → RouterId → List Held → List RequestEntry → List LsaKey
 answered_on None q db entries = []
 answered_on (Some link) q db entries =

@@ -14,10 +14,10 @@ use ospf_adjacency::{go_down, go_up, send_hello};
 use ospf_area::{Area, AreaLink, Outbox, Outputs, RouterContext, context_of};
 use std::alloc::{AllocError, Global};
 
-/// A link of the router goes up (RFC 2328, section 9.3): where it was
-/// down its first Hello goes out.
+/// A link of the router goes up (RFC 2328, section 9.3): if it was down, its first Hello
+/// is sent.
 ///
-/// `AllocError` where memory runs out; then the router is to be stopped.
+/// `AllocError` when memory runs out; then the router must be stopped.
 pub fn take_up(
     area: &mut Area,
     number: usize,
@@ -36,7 +36,7 @@ pub fn take_up(
 }
 
 /// A link of the router goes down (RFC 2328, section 9.3): its
-/// neighbours are gone. No memory is taken.
+/// neighbours are removed. No memory is taken.
 pub fn take_down(area: &mut Area, number: usize, alloc: Global)
     ensures { area.new ≡ link_changed link_down number area.old }
 {
@@ -45,7 +45,7 @@ pub fn take_down(area: &mut Area, number: usize, alloc: Global)
     }
 }
 
-// A link goes up; where it was down its first Hello goes out.
+// A link goes up; if it was down, its first Hello is sent.
 fn link_goes_up(
     link: &mut AreaLink,
     number: usize,

@@ -1,4 +1,4 @@
-//! Database Descriptions that come.
+//! Received Database Descriptions.
 
 ghost use Rattle.std.specs.Prelude.{◌≡◌, ◌&&◌, false, IfOk, OnOk};
 ghost use Rattle.ospf_iface.specs.Election.{differs};
@@ -21,10 +21,10 @@ use ospf_neighbour::{Neighbour, place_for};
 use ospf_packet::{Description, Headers};
 use std::alloc::{AllocError, Global};
 
-/// Takes a Database Description that comes on a link of the router (RFC 2328, section 10.6). One
-/// that is dropped, or whose sender or link is not there, changes nothing.
+/// Processes a Database Description received on a link of the router (RFC 2328, section 10.6). One
+/// that is dropped, or whose sender or link does not exist, changes nothing.
 ///
-/// `AllocError` where memory runs out; then the router is to be stopped.
+/// `AllocError` when memory runs out; then the router must be stopped.
 pub fn take_description(
     area: &mut Area,
     from: PacketSource,
@@ -59,7 +59,7 @@ pub fn take_description(
     }
 }
 
-// A Database Description comes on a link.
+// Processes a Database Description received on a link.
 fn description_comes(
     link: &mut AreaLink,
     from: PacketSource,
@@ -86,7 +86,7 @@ fn description_comes(
     Ok(())
 }
 
-// Takes a Database Description from one of the neighbours that were taken out.
+// Processes a Database Description from one of the neighbours that were taken out.
 fn describe_in(
     all: &mut Vec<Neighbour>,
     from: PacketSource,
@@ -112,7 +112,7 @@ fn describe_in(
     Ok(elects)
 }
 
-// Takes a Database Description from a neighbour. Answers whether an election is due by it.
+// Processes a Database Description from a neighbour. Returns whether it makes an election due.
 fn describe(
     neighbour: &mut Neighbour,
     from: PacketSource,

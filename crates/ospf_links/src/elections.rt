@@ -16,7 +16,7 @@ use std::alloc::{AllocError, Global};
 
 /// The elections that are due, link by link, with AdjOK? (RFC 2328, section 9.4).
 ///
-/// `AllocError` where memory runs out; then the router is to be stopped.
+/// `AllocError` when memory runs out; then the router must be stopped.
 pub fn elect(area: &mut Area, out: &mut Outputs, alloc: Global) -> Result<(), AllocError>
     requires { AreReady area.old.links }
     ensures { OnOk result (ElectsFrom (length area.old.links) area.old out.old out.new area.new) }
@@ -45,7 +45,7 @@ fn elect_at(
     }
 }
 
-// The election of a link, where one is due, and what goes out by it.
+// The election of a link, where one is due, and what it sends.
 fn elect_link(
     link: &mut AreaLink,
     number: usize,

@@ -1,4 +1,4 @@
-//! Hellos that come.
+//! Received Hellos.
 
 ghost use Rattle.std.specs.Prelude.{◌≡◌, ◌<◌, None, Some, OnOk, length, slice_get};
 ghost use Rattle.ospf_neighbour.specs.Neighbours.{max_neighbours, neighbour_of};
@@ -16,11 +16,11 @@ use ospf_area::{
 use ospf_packet::{Hello, Neighbours};
 use std::alloc::{AllocError, Global};
 
-/// Takes a Hello that comes on a link of the router (RFC 2328, section 10.5) and is
-/// not dropped: its sender is a neighbour, or there is room for one more. Where there
-/// is no such link nothing is done.
+/// Processes a Hello that was received on a link of the router (RFC 2328, section 10.5) and is
+/// not dropped: its sender is a neighbour, or there is room for one more. If there
+/// is no such link, nothing happens.
 ///
-/// `AllocError` where memory runs out; then the router is to be stopped.
+/// `AllocError` when memory runs out; then the router must be stopped.
 pub fn take_hello(
     area: &mut Area,
     from: PacketSource,
@@ -51,7 +51,7 @@ pub fn take_hello(
     }
 }
 
-// Takes a Hello that comes on a link.
+// Processes a Hello received on a link.
 fn hello_comes(
     link: &mut AreaLink,
     from: PacketSource,

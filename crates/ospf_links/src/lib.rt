@@ -1,8 +1,8 @@
 //! The parts of a step on the links of a router (RFC 2328, sections 9.3 to 9.5, 10.2, 10.5 and
-//! 10.6): packets that come, links that go up and down, ticks, and the elections that end the step.
+//! 10.6): received packets, links that go up and down, ticks, and the elections that end the step.
 //!
-//! What a part makes of a link is a function of the link; `specs/Works` says what that makes of
-//! the router, and what goes out.
+//! What a part does to a link is a function of the link; `specs/Works` says what that does to
+//! the router, and what is sent.
 #![tactic(auto)]
 
 mod changes;

@@ -9,7 +9,7 @@ use ospf_neighbour::Neighbour;
 use std::alloc::Global;
 use std::mem;
 
-// Takes the neighbours of a link out, to be worked on.
+// Takes the neighbours out of a link, to work on them.
 pub(crate) fn take_out(link: &mut AreaLink, alloc: Global) -> Vec<Neighbour>
     ensures neighbours { result.items ≡ link.old.neighbours }
     ensures rest { link.new ≡ record link.old { neighbours = [] } }

@@ -8,7 +8,7 @@ use ospf_base::LsaKey;
 use std::alloc::AllocError;
 use std::collections::BTreeSet;
 
-// Copies of these keys went out in Updates in this tick.
+// Marks that copies of these keys were sent in Updates in this tick.
 pub(crate) fn mark_all(
     sent: &mut BTreeSet<LsaKey>,
     keys: &BTreeSet<LsaKey>,

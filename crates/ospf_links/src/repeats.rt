@@ -1,4 +1,4 @@
-//! What is sent again in a tick.
+//! Retransmissions in a tick.
 
 ghost use Rattle.std.specs.Prelude.{◌≡◌, OnOk, map};
 ghost use Rattle.std.specs.List.{flat_map};
@@ -20,11 +20,11 @@ use ospf_neighbour::Neighbour;
 use std::alloc::{AllocError, Global};
 use std::collections::BTreeSet;
 
-/// What is due on all links is sent again (RFC 2328, sections 10.8, 10.9 and 13.6):
+/// Sends again what is due on all links (RFC 2328, sections 10.8, 10.9 and 13.6):
 /// Database Descriptions, Requests, and the copies of what waits on retransmission lists,
 /// whose keys are marked as sent.
 ///
-/// `AllocError` where memory runs out; then the router is to be stopped.
+/// `AllocError` when memory runs out; then the router must be stopped.
 pub fn repeat_all(
     links: &mut [AreaLink],
     database: &Lsdb,
@@ -50,7 +50,7 @@ pub fn repeat_all(
     Ok(())
 }
 
-// A link out of which packets go again, by its number.
+// A link on which packets are sent again, by its number.
 #[derive(Clone, Copy)]
 struct Repeating {
     own: RouterContext,
@@ -59,7 +59,7 @@ struct Repeating {
     settings: LinkSettings,
 }
 
-// The repeats on a link.
+// The retransmissions on a link.
 fn repeat_on(
     link: &mut AreaLink,
     number: usize,
@@ -90,7 +90,7 @@ fn repeat_on(
     Ok(())
 }
 
-// The repeats to neighbours that were taken out.
+// The retransmissions to neighbours that were taken out.
 fn repeat_to_all(
     all: &mut Vec<Neighbour>,
     on: &Repeating,
@@ -122,7 +122,7 @@ fn repeat_to_all(
     Ok(())
 }
 
-// The repeats to neighbours.
+// The retransmissions to neighbours.
 fn repeat_to_each(
     all: &mut [Neighbour],
     on: &Repeating,
@@ -155,7 +155,7 @@ fn repeat_to_each(
     Ok(())
 }
 
-// The repeats to a neighbour.
+// The retransmissions to a neighbour.
 fn repeat_to(
     neighbour: &mut Neighbour,
     on: &Repeating,

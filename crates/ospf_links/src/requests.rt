@@ -1,4 +1,4 @@
-//! Requests that come.
+//! Received Requests.
 
 ghost use Rattle.std.specs.Prelude.{◌≡◌, false, true, Some, IfOk, OnOk, slice_get, [], None};
 ghost use Rattle.ospf_adjacency.specs.Answers.{answered_keys};
@@ -25,11 +25,11 @@ use ospf_packet::Requests;
 use std::alloc::{AllocError, Global};
 use std::collections::BTreeSet;
 
-/// Takes a Request that comes on a link of the router (RFC 2328, section 10.7) from a neighbour in
-/// Exchange or above: the keys whose copies answer it are marked as sent in this tick. Where its
-/// sender or the link is not there nothing is done.
+/// Processes a Request received on a link of the router (RFC 2328, section 10.7) from a neighbour
+/// in Exchange or above: the keys whose copies answer it are marked as sent in this tick. If its
+/// sender or the link does not exist, nothing happens.
 ///
-/// `AllocError` where memory runs out; then the router is to be stopped.
+/// `AllocError` when memory runs out; then the router must be stopped.
 pub fn take_request(
     area: &mut Area,
     from: PacketSource,
@@ -65,7 +65,7 @@ pub fn take_request(
     }
 }
 
-// A Request comes on a link. Answers the keys whose copies go out.
+// Processes a Request received on a link. Returns the keys whose copies are sent.
 fn request_comes(
     link: &mut AreaLink,
     from: PacketSource,
@@ -101,7 +101,7 @@ fn request_comes(
     Ok(keys)
 }
 
-// Takes a Request from one of the neighbours that were taken out.
+// Processes a Request from one of the neighbours that were taken out.
 fn answer_in(
     all: &mut Vec<Neighbour>,
     from: PacketSource,

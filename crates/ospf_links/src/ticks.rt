@@ -23,9 +23,10 @@ pub fn count_timers(links: &mut [AreaLink], alloc: Global)
     }
 }
 
-/// A tick of the Hello timers of all links: the Hellos that are due go out (RFC 2328, section 9.5).
+/// A tick of the Hello timers of all links: the Hellos that are due are sent (RFC 2328, section
+/// 9.5).
 ///
-/// `AllocError` where memory runs out; then the router is to be stopped.
+/// `AllocError` when memory runs out; then the router must be stopped.
 pub fn send_hellos(
     links: &mut [AreaLink],
     own: RouterContext,

@@ -13,13 +13,13 @@ kind_byte Transit = 2
 kind_byte Stub = 3
 kind_byte Virtual = 4
 
--- a link as it stands in an LSA, with its TOS metrics, which are carried and not used
+-- a link as it is in an LSA, with its TOS metrics, which are carried and not used
 pub record LinkEntry : Type 0 where
   pub link : Link
   pub tos_count : ℕ
   pub tos : List ℕ
 
--- the bytes of a link, with what stands behind it of other TOS
+-- the bytes of a link, with the metrics of other TOS that follow it
 abbrev pub entry_bytes : LinkEntry → List ℕ
 entry_bytes e =
     number_bytes 4 e.link.id ++ number_bytes 4 e.link.link_data
@@ -47,7 +47,7 @@ pub record EntryFits (e : LinkEntry) : Type 0 where
   pub tos_length : length e.tos ≡ 4 * e.tos_count
   pub tos_bytes : AreBytes e.tos
 
--- the bytes are so many links, one after the other, and nothing else
+-- the bytes are this many links, one after the other, and nothing else
 pub record AreLinks (count : ℕ) (bytes : List ℕ) : Type 0 where
   pub entries : List LinkEntry
   pub counted : length entries ≡ count
@@ -87,23 +87,23 @@ entry_at bytes =
       tos = take (4 * slice_index bytes 9) (drop 12 bytes);
     }
 
--- so many links with their TOS metrics, one after the other
+-- this many links with their TOS metrics, one after the other
 abbrev pub entries_in : ℕ → List ℕ → List LinkEntry
 entries_in zero bytes = []
 entries_in (suc n) bytes = entry_at bytes ∷ entries_in n (drop (link_length bytes) bytes)
 
--- so many links, one after the other
+-- this many links, one after the other
 abbrev pub links_in : ℕ → List ℕ → List Link
 links_in n bytes = map (λ (e : LinkEntry). e.link) (entries_in n bytes)
 
--- a link stands at the front: its type is known, and it is whole
+-- a link is at the front: its type is known, and it is whole
 pub record IsLink (bytes : List ℕ) : Type 0 where
   pub whole : 12 ≤ length bytes
   pub tos : link_length bytes ≤ length bytes
   pub kind_low : 1 ≤ slice_index bytes 8
   pub kind_high : slice_index bytes 8 ≤ 4
 
--- this link stands at the front, and these bytes behind it
+-- this link is at the front, and these bytes follow it
 pub record IsFirstLink (bytes : List ℕ) (link : Link) (rest : List ℕ) : Type 0 where
   pub is : IsLink bytes
   pub link_is : link ≡ link_at bytes

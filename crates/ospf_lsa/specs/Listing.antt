@@ -14,7 +14,7 @@ use Rattle.ospf_lsa.specs.Lsa.{IsLsa, IsNetworkLsa, key_of}
 abbrev pub IsListable : List ℕ → Type 0
 IsListable lsa = IsLsa lsa × HeaderFits (header_of lsa) × ((header_of lsa).age < max_age)
 
--- LSAs below age MaxAge, at most one a key, in the order of their keys
+-- LSAs below age MaxAge, at most one per key, in the order of their keys
 pub record IsListing (lsas : List (List ℕ)) : Type 0 where
   pub rising : IsRisingBy (λ a b. Precedes (key_of a) (key_of b)) lsas
   pub listed : AllByRecursion IsListable lsas
@@ -50,7 +50,7 @@ pub record IsPlace (lsas : List (List ℕ)) (key : LsaKey) (at : ℕ) : Type 0 w
   pub before : AllByRecursion (λ lsa. Precedes (key_of lsa) key) (take at lsas)
   pub after : AllByRecursion (λ lsa. Precedes key (key_of lsa)) (drop at lsas)
 
--- the first n LSAs, and no others, have keys that do not stand after this one
+-- the first n LSAs, and no others, have keys that do not come after this one
 pub record IsCount (lsas : List (List ℕ)) (key : LsaKey) (n : ℕ) : Type 0 where
   pub within : n ≤ length lsas
   pub before : (k : ℕ) (d : List ℕ) → k < n → Precedes key (key_of (slice_index_or lsas k d)) → ⊥

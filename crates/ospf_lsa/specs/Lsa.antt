@@ -44,7 +44,7 @@ key_of lsa = record {
   router = record { 0 = number_at 8 4 lsa };
 }
 
--- what tells it from other instances of its key
+-- what distinguishes it from other instances of its key
 abbrev pub instance_of : List ℕ → Instance
 instance_of lsa = record { key = key_of lsa; number = signed_at 12 lsa; sum = number_at 16 2 lsa }
 
@@ -101,7 +101,7 @@ IsFreeOf fault.Memory lsa = ⊤
 abbrev pub IsLsa : List ℕ → Type 0
 IsLsa lsa = (f : LsaFault) → IsFreeOf f lsa
 
--- the order in which faults are told
+-- the order in which faults are reported
 abbrev pub lsa_fault_number : LsaFault → ℕ
 lsa_fault_number fault.Short = 1
 lsa_fault_number fault.Length = 2

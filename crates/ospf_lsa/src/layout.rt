@@ -1,9 +1,9 @@
-//! Where the fields of an LSA stand in its bytes, and sizes in bytes (RFC 2328, appendix A.4).
+//! Where the fields of an LSA are in its bytes, and sizes in bytes (RFC 2328, appendix A.4).
 
-/// Where the Options stand in the header (A.4.1).
+/// Where the Options are in the header (A.4.1).
 pub const OPTIONS_AT: usize = 2;
 
-/// Where the LS type stands.
+/// Where the LS type is.
 pub const TYPE_AT: usize = 3;
 
 // Where the Link State ID begins.

@@ -95,7 +95,7 @@ impl Link {
         }
     }
 
-    // The link at the front and the bytes after it, if one stands there.
+    // The link at the front and the bytes after it, if there is a link at the front.
     fn first(bytes: &[u8]) -> Option<(Link, &[u8])>
         ensures found { IfSome result (λ f. IsFirstLink bytes.now f.0 f.1.now) }
         ensures none { IfNone result (IsLink bytes.now → ⊥) }
@@ -111,7 +111,7 @@ impl Link {
     }
 }
 
-/// A walk over links that stand one after the other.
+/// A walk over links, one after the other.
 #[derive(Drop)]
 pub struct Links<'a> {
     left: u16,
@@ -154,7 +154,7 @@ impl<'a> Iterator for Links<'a> {
 impl<'a> Links<'a> {
     ghost use Rattle.ospf_lsa.specs.Link.{links_in, AreLinks};
 
-    // The walk over so many links, which are all of the bytes.
+    // The walk over this many links, which are all of the bytes.
     pub(crate) fn new(count: u16, bytes: &'a [u8]) -> Links<'a>
         requires { AreLinks count bytes.now }
         ensures { result ≡ links_in count bytes.now }
@@ -165,7 +165,7 @@ impl<'a> Links<'a> {
         }
     }
 
-    // Whether the bytes are so many links.
+    // Whether the bytes are this many links.
     pub(crate) fn are_all(count: u16, bytes: &[u8]) -> bool
         ensures { IsTrue result ↔ AreLinks count bytes.now }
     {

@@ -57,9 +57,9 @@ impl Display for ListingFault {
     }
 }
 
-/// LSAs below age `MAX_AGE`, at most one a key, in the order of their keys.
+/// LSAs below age `MAX_AGE`, at most one per key, in the order of their keys.
 ///
-/// Their keys stand beside them, so that a search reads no LSA.
+/// Their keys are stored next to them, so that a search reads no LSA.
 #[derive(Drop)]
 pub struct Listing {
     keys: Vec<LsaKey>,
@@ -159,10 +159,10 @@ impl Listing {
     ///
     /// `AllocError` where memory runs out: then the listing is unchanged.
     pub fn append(&mut self, lsa: Lsa) -> Result<(), AllocError>
-        // Its key stands behind the others, and its age is below `MAX_AGE`.
+        // Its key comes after the others, and its age is below `MAX_AGE`.
         requires last { AllByRecursion (λ other. Precedes (key_of other) (key_of lsa)) self.old }
         requires young { (header_of lsa).age < max_age }
-        // It stands at the end; where it is refused the listing is unchanged.
+        // It is added at the end; if it is refused, the listing is unchanged.
         ensures ok { OnOk result (self.new ≡ self.old ++ lsa ∷ []) }
         ensures err { OnErr result (self.new ≡ self.old) }
     {
@@ -173,16 +173,16 @@ impl Listing {
         insert_at(&mut self.keys, &mut self.lsas, end, lsa)
     }
 
-    /// Puts an LSA in the place of the one of its key, or in where its key belongs if none is
+    /// Replaces the LSA of the same key, or inserts the LSA where its key belongs if none is
     /// listed (RFC 2328, section 12.2).
     ///
     /// `MaxAge` where its age is `MAX_AGE`, else `Memory` where none of its key is listed and
     /// memory runs out. The listing is unchanged by each.
     pub fn put(&mut self, lsa: Lsa) -> Result<(), ListingFault>
-        // The LSA stands in its place; where it is refused the listing is unchanged.
+        // The LSA is in its place; if it is refused, the listing is unchanged.
         ensures ok { OnOk result (IsPut lsa self.old self.new) }
         ensures err { OnErr result (self.new ≡ self.old) }
-        // `MaxAge` just where it is that old, and want of memory only where its key was not listed.
+        // `MaxAge` exactly if it is that old, and `Memory` only if its key was not listed.
         ensures faults { IfErr result (λ f. (f ≡ fault.MaxAge) ⊎ (f ≡ fault.Memory)) }
         ensures max_age { (result ≡ Err fault.MaxAge) ↔ ((header_of lsa).age ≡ max_age) }
         ensures memory { result ≡ Err fault.Memory → HasKey self.old (key_of lsa) → ⊥ }
@@ -210,14 +210,14 @@ fn search(keys: &[LsaKey], lsas: &[Lsa], key: &LsaKey) -> Result<usize, usize>
     if at == 0 {
         return Err(0);
     }
-    // What does not stand behind the key, nor before it, bears it.
+    // A key that is neither after the key nor before it is the key.
     if keys[at - 1].precedes(key) {
         return Err(at);
     }
     Ok(at - 1)
 }
 
-// How many LSAs have keys that do not stand after this one.
+// How many LSAs have keys that do not come after this one.
 fn count_through(keys: &[LsaKey], lsas: &[Lsa], key: &LsaKey) -> usize
     requires rising { IsRisingBy (λ a b. Precedes (key_of a) (key_of b)) lsas.now }
     requires keys { AreKeysOf keys.now lsas.now }
@@ -282,16 +282,16 @@ fn place_of(keys: &[LsaKey], lsas: &[Lsa], key: &LsaKey) -> Option<usize>
     }
 }
 
-// Puts an LSA in the place of the one of its key, or in where its key belongs.
+// Replaces the LSA of the same key, or inserts the LSA where its key belongs.
 fn put_in(keys: &mut Vec<LsaKey>, lsas: &mut Vec<Lsa>, lsa: Lsa) -> Result<(), AllocError>
     requires listing { IsKeyed keys.old.items lsas.old.items }
     requires listed { IsListable lsa }
-    // The LSA stands in its place.
+    // The LSA is in its place.
     ensures ok { OnOk result (IsPut lsa lsas.old.items lsas.new.items) }
-    // Want of memory comes only where its key was not listed, and changes nothing.
+    // It runs out of memory only where its key was not listed, and then changes nothing.
     ensures err { OnErr result (lsas.new.items ≡ lsas.old.items) }
     ensures none { OnErr result (HasKey lsas.old.items (key_of lsa) → ⊥) }
-    // What is listed stays a listing, beside its keys.
+    // The listing remains a listing, with its keys.
     ensures listing { IsKeyed keys.new.items lsas.new.items }
 {
     match search(keys, lsas, &lsa.view().key()) {
@@ -303,7 +303,7 @@ fn put_in(keys: &mut Vec<LsaKey>, lsas: &mut Vec<Lsa>, lsa: Lsa) -> Result<(), A
     }
 }
 
-// Puts an LSA in at a place, and its key beside it.
+// Inserts an LSA at a place, and its key at the same place.
 fn insert_at(
     keys: &mut Vec<LsaKey>,
     lsas: &mut Vec<Lsa>,
@@ -312,7 +312,7 @@ fn insert_at(
 ) -> Result<(), AllocError>
     requires within { at ≤ length lsas.old.items }
     requires keys { AreKeysOf keys.old.items lsas.old.items }
-    // It stands there; where there is no memory nothing has changed.
+    // It is at that place; if there is no memory, nothing has changed.
     ensures ok { OnOk result (lsas.new.items ≡ insert lsas.old.items at lsa) }
     ensures err { OnErr result (lsas.new.items ≡ lsas.old.items) }
     ensures keys { AreKeysOf keys.new.items lsas.new.items }

@@ -85,7 +85,7 @@ impl<'a> LsaView<'a> {
         }
     }
 
-    /// What tells it from other LSAs: LS type, Link State ID and Advertising
+    /// What distinguishes it from other LSAs: LS type, Link State ID and Advertising
     /// Router (RFC 2328, section 12.1).
     pub fn key(&self) -> LsaKey
         ensures { result ≡ key_of self.now }

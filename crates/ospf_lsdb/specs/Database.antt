@@ -14,7 +14,7 @@ use Rattle.ospf_lsa.specs.declared.header.LsaHeader.{LsaHeader}
 
 -- ---- entries
 
--- an entry: the LSA as its age and the bytes behind it, the tick in which it was installed,
+-- an entry: the LSA as its age and the bytes after the age, the tick in which it was installed,
 -- and whether it came by flooding
 pub record Entry : Type 0 where
   pub age : ℕ
@@ -75,12 +75,12 @@ held_of db key = find (λ h. same_key (key_at h) key) db
 abbrev pub entry_of : List Held → LsaKey → Option Entry
 entry_of db key = option_map (λ h. h.entry) (held_of db key)
 
--- a database: its entries in the order of their keys, at most one a key, none older than MaxAge
+-- a database: its entries in the order of their keys, at most one per key, none older than MaxAge
 pub record IsDatabase (db : List Held) : Type 0 where
   pub rising : IsRisingBy (λ a b. Precedes (key_at a) (key_at b)) db
   pub ages : AllByRecursion (λ h. h.entry.age ≤ max_age) db
 
--- the entry of one key is another, which may be none, and all else is as it was
+-- the entry of one key is replaced, perhaps by none, and nothing else changes
 abbrev pub Puts : LsaKey → Option Held → List Held → List Held → Type 0
 Puts key held before after =
     (k : LsaKey) → held_of after k ≡ (if same_key key k then held else held_of before k)
@@ -96,11 +96,11 @@ Installs e before after =
 abbrev pub ls_refresh_time : ℕ
 ls_refresh_time = 1800
 
--- the ages that a tick tells of
+-- the ages that a tick reports
 abbrev pub is_told : ℕ → Bool
 is_told age = (age == ls_refresh_time) || (age == max_age)
 
--- an entry a tick later, without what the tick tells
+-- an entry a tick later, without what the tick reports
 unfoldable pub aged : Entry → Entry
 aged e = if is_fresh e then record e { age = e.age + 1 } else e
 
@@ -118,7 +118,7 @@ abbrev pub Ages : List Held → List Held → Type 0
 Ages before after = (k : LsaKey) → held_of after k ≡ option_map older (held_of before k)
 
 -- an entry brought to MaxAge before its time: the contents, the tick and
--- the origin stay (section 14.1)
+-- the origin are unchanged (section 14.1)
 unfoldable pub expired : Held → Held
 expired h =
     if is_fresh h.entry then record { entry = record h.entry { age = max_age }; reached = false }
@@ -129,11 +129,11 @@ abbrev pub is_some_and : (Held → Bool) → Option Held → Bool
 is_some_and test None = false
 is_some_and test (Some h) = test h
 
--- an entry that has come to MaxAge
+-- an entry that has reached MaxAge
 abbrev pub is_expired : Held → Bool
 is_expired h = h.entry.age == max_age
 
--- an entry of MaxAge is taken out, a younger one is not
+-- an entry at MaxAge is removed, a younger one is not
 unfoldable pub removed : Option Held → Option Held
 removed None = None
 removed (Some h) = if is_expired h then None else Some h

@@ -10,7 +10,7 @@ pub record KeysValue : Type 0 where
   pub keys : List LsaKey
   pub room : ℕ
 
--- from now on a key is in the list, or not, and all else is as it was
+-- from now on a key is in the list, or not, and nothing else changes
 abbrev pub SetsKey : LsaKey → Bool → List LsaKey → List LsaKey → Type 0
 SetsKey key is_in before after =
     (k : LsaKey) → among after k ≡ (if same_key key k then is_in else among before k)

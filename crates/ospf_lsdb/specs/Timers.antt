@@ -40,7 +40,7 @@ stored_of entries key = lookup (λ k. same_key key k) entries
 abbrev pub timer_stopped : Stored → Stored
 timer_stopped s = record s { timer = Expired }
 
--- the entries of these keys come to MaxAge, and all others stay
+-- the entries of these keys reach MaxAge, and all others are unchanged
 abbrev pub StopsTimers : (LsaKey → Bool) → List (LsaKey × Stored) → List (LsaKey × Stored) → Type 0
 StopsTimers test before after =
     (q : LsaKey)
@@ -51,7 +51,7 @@ StopsTimers test before after =
 abbrev pub age_of : ℕ → List (LsaKey × Stored) → LsaKey → Option ℕ
 age_of clock entries key = option_map (λ s. age_at clock s.timer) (stored_of entries key)
 
--- this is the moment at which an entry of such an age comes to a told age
+-- this is the moment at which an entry of such an age reaches an age that a tick reports
 pub record ComesToAge (clock : ℕ) (present : Option ℕ) (d : AgeDue) : Type 0 where
   pub told : is_told d.age ≡ true
   pub within : d.moment < 65536
@@ -59,20 +59,20 @@ pub record ComesToAge (clock : ℕ) (present : Option ℕ) (d : AgeDue) : Type 0
   pub is : present ≡ Some age
   pub then_is : age + ahead clock d.moment ≡ d.age
 
--- what is due is what entries come to; what has come to pass may stay until the
--- next tick, as long as it is so
+-- what is due is what entries will reach; what they reached at this very moment may stay until
+-- the next tick, as long as it holds
 pub record AreDue (clock : ℕ) (entries : List (LsaKey × Stored)) (due : List AgeDue) : Type 0 where
   pub sound : (d : AgeDue) → has_due due d ≡ true → ComesToAge clock (age_of clock entries d.key) d
   pub whole : (d : AgeDue) → 0 < ahead clock d.moment
       → ComesToAge clock (age_of clock entries d.key) d → has_due due d ≡ true
 
--- each entry stands at its key, and its timer runs below MaxAge
+-- each entry is stored under its key, and its timer runs below MaxAge
 abbrev pub IsStored : ℕ → LsaKey × Stored → Type 0
 IsStored clock e =
     (key_in e.1.lsa ≡ e.0) × (age_at clock e.1.timer ≤ max_age)
     × (age_at clock e.1.timer ≡ max_age → e.1.timer ≡ Expired)
 
--- a database as it is stored, at this moment, and the ages that its entries are yet to come to
+-- a database as it is stored, at this moment, and the ages that its entries have yet to reach
 pub record AreKeptEntries (clock : ℕ) (entries : List (LsaKey × Stored)) (due : List AgeDue)
     : Type 0 where
   pub on_ring : clock < 65536

@@ -7,7 +7,7 @@ use ospf_base::Age;
 use ospf_lsa::{Lsa, LsaView};
 use std::marker::Model;
 
-// An LSA whose age is kept elsewhere: its age field is 0.
+// An LSA whose age is stored elsewhere: its age field is 0.
 #[derive(Drop)]
 pub(crate) struct Ageless {
     lsa: Lsa,

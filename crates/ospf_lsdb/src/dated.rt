@@ -1,5 +1,5 @@
 //! The entries of a database: a map of entries, whose ages follow from the
-//! moment that a ring has come to.
+//! present moment on a ring.
 
 ghost use Rattle.std.specs.Prelude.{◌≡◌, ◌≤◌, ◌<◌, ◌⊎◌, ◌+◌, ◌-◌, List, [], length, map, ◌^◌, OnOk, OnErr, IfOk, option_map};
 ghost use Rattle.ospf_base.specs.Constants.{max_age};
@@ -106,10 +106,10 @@ impl Dated {
         Entries::new(self.clock, self.entries.values())
     }
 
-    /// Puts an LSA in place of its key's (RFC 2328, section 13.2), with the number of the present
-    /// tick, as the caller counts, and whether it came by flooding.
+    /// Installs an LSA in place of the one of its key (RFC 2328, section 13.2), with the number of
+    /// the present tick, as the caller counts, and whether it came by flooding.
     ///
-    /// `AllocError` where memory runs out; then the database is as it was.
+    /// `AllocError` where memory runs out; then the database is unchanged.
     pub(crate) fn install(
         &mut self,
         lsa: Lsa,
@@ -149,9 +149,9 @@ impl Dated {
 
     /// A tick passes: each age below `MAX_AGE` is one more (RFC 2328, section 14).
     ///
-    /// Answers how many entries it looked at: those that came to `MAX_AGE`. The
-    /// moments that the last tick told of are dropped as well, each once; that looks
-    /// at no entry, and is not counted.
+    /// Returns how many entries it looked at: those that reached `MAX_AGE`. It also
+    /// drops the moments that the last tick reported, each once; that looks at no
+    /// entry, and is not counted.
     pub(crate) fn tick(&mut self) -> u64
         ensures ages { Ages self.old self.new }
         ensures looks { result ≡ length (reached_at max_age self.new) }
@@ -165,7 +165,7 @@ impl Dated {
     }
 
     /// Brings the age of a key's entry to `MAX_AGE` and changes nothing else of it, so that it can
-    /// be flushed (RFC 2328, section 14.1). Answers whether there was one below that age.
+    /// be flushed (RFC 2328, section 14.1). Returns whether there was one below that age.
     pub(crate) fn expire(&mut self, key: &LsaKey) -> bool
         ensures entry { Puts key.now (option_map expired (held_of self.old key.now)) self.old
             self.new }
@@ -184,7 +184,7 @@ impl Dated {
         true
     }
 
-    /// Takes the entry of a key out if its age is `MAX_AGE`, and answers whether it did.
+    /// Takes the entry of a key out if its age is `MAX_AGE`, and returns whether it did.
     pub(crate) fn remove_expired(&mut self, key: &LsaKey) -> bool
         ensures entry { Puts key.now (removed (held_of self.old key.now)) self.old self.new }
         ensures was_expired { result ≡ is_some_and is_expired (held_of self.old key.now) }
@@ -293,7 +293,7 @@ fn look_at_all(entries: &mut BTreeMap<LsaKey, Stored>, keys: AgesReached<'_>) ->
     // The map is one, and the keys can be counted.
     requires count { length keys < 2 ^ 64 }
     requires ordered { IsOrdered key_cmp entries.old }
-    // The entries of these keys stop, all others stay, and each key is a look.
+    // The entries of these keys stop, all others are unchanged, and each key is a look.
     ensures entry { StopsTimers (among keys.entry) entries.old.entries entries.new.entries }
     ensures ordered { IsOrdered key_cmp entries.new }
     ensures looks { result ≡ length keys.entry }
@@ -305,7 +305,7 @@ fn look_at_all(entries: &mut BTreeMap<LsaKey, Stored>, keys: AgesReached<'_>) ->
     looks
 }
 
-// The one look of a tick at an entry: it has come to `MAX_AGE`.
+// The one look of a tick at an entry, which has reached `MAX_AGE`.
 fn look(entries: &mut BTreeMap<LsaKey, Stored>, key: LsaKey, looks: u64) -> u64
     requires { looks + 1 < 2 ^ 64 }
     ensures entry { StopsTimers (same_key key) entries.old.entries entries.new.entries }

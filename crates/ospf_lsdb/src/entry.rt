@@ -43,7 +43,7 @@ impl<'a> Model for EntryView<'a> {
 }
 
 impl<'a> EntryView<'a> {
-    /// The LSA as it was installed, with an age field of 0: `age` and `header` tell the present
+    /// The LSA as it was installed, with an age field of 0: `age` and `header` give the present
     /// age, and `copy` has it in its bytes.
     pub fn lsa(&self) -> LsaView<'a>
         ensures bytes { result ≡ 0 ∷ 0 ∷ self.now.contents }
@@ -136,7 +136,7 @@ impl<'a> EntryView<'a> {
     }
 }
 
-// Adds the LSA of an entry below `MAX_AGE`, whose key stands behind those of a listing.
+// Adds the LSA of an entry below `MAX_AGE`, whose key comes after those of a listing.
 pub(crate) fn add_fresh(
     listing: &mut Listing,
     entry: &EntryView,

@@ -53,7 +53,7 @@ impl ExpiredKeys {
         &self.keys
     }
 
-    /// Makes room for so many keys in all.
+    /// Makes room for this many keys in all.
     ///
     /// `AllocError` where memory runs out.
     pub(crate) fn make_room(&mut self, count: usize) -> Result<(), AllocError>
@@ -64,11 +64,11 @@ impl ExpiredKeys {
         self.keys.reserve(count.saturating_sub(self.keys.len()))
     }
 
-    /// Puts a key in, for which there is room.
+    /// Adds a key, for which there is room.
     pub(crate) fn put(&mut self, key: LsaKey)
         requires { length self.old.keys < self.old.room }
         ensures keys { SetsKey key true self.old.keys self.new.keys }
-        // The keys stay in order; there is at most one more, and no less room.
+        // The keys remain in order; there is at most one more, and no less room.
         ensures rising { IsRisingBy Precedes self.new.keys }
         ensures room { self.old.room ≤ self.new.room }
         ensures one_more { length self.new.keys ≤ length self.old.keys + 1 }
@@ -81,7 +81,7 @@ impl ExpiredKeys {
         }
     }
 
-    /// Puts keys in, for which there is room.
+    /// Adds keys, for which there is room.
     pub(crate) fn put_all(&mut self, keys: AgesReached<'_>)
         requires { length self.old.keys + length keys ≤ self.old.room }
         ensures keys { (k : LsaKey) → among self.new.keys k

@@ -16,12 +16,12 @@ use std::marker::Model;
 
 /// The link state database (RFC 2328, sections 12.2 and 14).
 ///
-/// A tick looks only at the entries that come to `MAX_AGE` in it: the ages of the others follow
+/// A tick looks only at the entries that reach `MAX_AGE` in it: the ages of the others follow
 /// from the moments at which they began.
 #[derive(Drop)]
 pub struct Lsdb {
     dated: Dated,
-    // The keys of the entries at `MAX_AGE`, with room for those of all: a tick takes no memory.
+    // The keys of the entries at `MAX_AGE`, with room for those of all: a tick allocates no memory.
     expired: ExpiredKeys,
 }
 
@@ -88,10 +88,10 @@ impl Lsdb {
         self.expired.keys()
     }
 
-    /// Puts an LSA in place of its key's (RFC 2328, section 13.2), with the number of the present
-    /// tick, as the caller counts, and whether it came by flooding.
+    /// Installs an LSA in place of the one of its key (RFC 2328, section 13.2), with the number of
+    /// the present tick, as the caller counts, and whether it came by flooding.
     ///
-    /// `AllocError` where memory runs out; then the database is as it was.
+    /// `AllocError` where memory runs out; then the database is unchanged.
     pub fn install(&mut self, lsa: Lsa, tick: u64, by_flooding: bool) -> Result<(), AllocError>
         ensures ok { OnOk result (Installs (entry_from lsa tick by_flooding) self.old self.new) }
         ensures err { OnErr result (self.new ≡ self.old) }
@@ -112,9 +112,9 @@ impl Lsdb {
 
     /// A tick passes: each age below `MAX_AGE` is one more (RFC 2328, section 14).
     ///
-    /// Answers how many entries it looked at: those that came to `MAX_AGE`. The
-    /// moments that the last tick told of are dropped as well, each once; that looks
-    /// at no entry, and is not counted.
+    /// Returns how many entries it looked at: those that reached `MAX_AGE`. It also
+    /// drops the moments that the last tick reported, each once; that looks at no
+    /// entry, and is not counted.
     pub fn tick(&mut self) -> u64
         ensures ages { Ages self.old self.new }
         ensures looks { result ≡ length (reached_at max_age self.new) }
@@ -122,7 +122,7 @@ impl Lsdb {
         is_database(&self.dated);
         let looks = self.dated.tick();
         is_database(&self.dated);
-        // Mostly none comes to `MAX_AGE`: then the ordered set of moments is not asked.
+        // Mostly no entry reaches `MAX_AGE`: then this does not search the set of moments.
         if looks == 0 {
             return 0;
         }
@@ -131,7 +131,7 @@ impl Lsdb {
     }
 
     /// Brings the age of a key's entry to `MAX_AGE` and changes nothing else of it, so that it can
-    /// be flushed (RFC 2328, section 14.1). Answers whether there was one below that age.
+    /// be flushed (RFC 2328, section 14.1). Returns whether there was one below that age.
     pub fn expire(&mut self, key: &LsaKey) -> bool
         ensures entry { Puts key.now (option_map expired (held_of self.old key.now)) self.old
             self.new }
@@ -147,7 +147,7 @@ impl Lsdb {
         was_fresh
     }
 
-    /// Takes the entry of a key out if its age is `MAX_AGE`, and answers whether it did.
+    /// Takes the entry of a key out if its age is `MAX_AGE`, and returns whether it did.
     pub fn remove_expired(&mut self, key: &LsaKey) -> bool
         ensures entry { Puts key.now (removed (held_of self.old key.now)) self.old self.new }
         ensures was_expired { result ≡ is_some_and is_expired (held_of self.old key.now) }

@@ -1,4 +1,4 @@
-//! Moments on a ring, and the entries that come to `LS_REFRESH_TIME` or `MAX_AGE` at each.
+//! Moments on a ring, and the entries that reach `LS_REFRESH_TIME` or `MAX_AGE` at each.
 
 ghost use Rattle.std.specs.Prelude.{◌≡◌, ◌&&◌, ◌||◌, ◌⊎◌, ◌+◌, ◌-◌, ◌^◌, ◌<◌, ◌≤◌, min, not, length, [], OnOk, OnErr, IfOk, true, false};
 ghost use Rattle.std.specs.List.Sorted.{IsStrictlySortedBy};
@@ -21,7 +21,7 @@ const FIRST_KEY: LsaKey = LsaKey {
     router: RouterId(0),
 };
 
-// At this moment the entry of a key comes to an age.
+// At this moment the entry of a key reaches an age.
 #[derive(Clone, Copy, PartialEq, Eq, PartialOrd, Ord, Drop)]
 pub(crate) struct AgeDue {
     moment: u16,
@@ -30,7 +30,7 @@ pub(crate) struct AgeDue {
 }
 
 impl AgeDue {
-    // When an entry that is younger now comes to an age.
+    // When an entry that is younger now reaches an age.
     fn coming(clock: u16, age: u16, told: u16, key: LsaKey) -> AgeDue
         ensures { result ≡ coming clock age told key }
     {
@@ -66,7 +66,7 @@ impl Moments {
         }
     }
 
-    // Adds what an entry of an age comes to.
+    // Adds the ages that an entry of an age will reach.
     pub(crate) fn add_coming(&mut self, clock: u16, age: u16, key: LsaKey) -> Result<(), AllocError>
         ensures ok { OnOk result ((q : AgeDue) →
             has_due self.new q ≡ (is_coming clock age key q || has_due self.old q)) }
@@ -84,7 +84,7 @@ impl Moments {
         }
     }
 
-    // Removes what an entry of an age comes to.
+    // Removes the ages that an entry of an age will reach.
     pub(crate) fn remove_coming(&mut self, clock: u16, age: u16, key: LsaKey)
         ensures { (q : AgeDue) → has_due self.new q
             ≡ (not (is_coming clock age key q) && has_due self.old q) }
@@ -96,7 +96,7 @@ impl Moments {
         self.remove_if(age < MAX_AGE, AgeDue::coming(clock, age, MAX_AGE, key));
     }
 
-    // Removes that an entry came to an age at this moment.
+    // Removes that an entry reached an age at this moment.
     pub(crate) fn remove_reached(&mut self, moment: u16, age: u16, key: LsaKey)
         ensures gone { (q : AgeDue) → has_due self.new q
             ≡ (not (same_due (due_at moment age key) q) && has_due self.old q) }
@@ -106,7 +106,7 @@ impl Moments {
         self.remove(AgeDue { moment, age, key });
     }
 
-    // Removes all that came to an age at a moment.
+    // Removes all that reached an age at a moment.
     pub(crate) fn forget(&mut self, moment: u16, age: u16)
         requires { age ≤ max_age }
         ensures { (q : AgeDue) → has_due self.new q
@@ -117,7 +117,7 @@ impl Moments {
         }
     }
 
-    // The keys whose entries came to this age at this moment.
+    // The keys whose entries reached this age at this moment.
     pub(crate) fn at(&self, moment: u16, age: u16) -> AgesReached<'_>
         requires { age ≤ max_age }
         ensures keys { result ≡ keys_at moment age self.now }
@@ -153,14 +153,14 @@ impl Moments {
         if let Some(due) = self.set.range(now..).next() {
             return moments_until(clock, due.moment);
         }
-        // The ring goes round: what stands in front of the clock comes last.
+        // The ring wraps around: what is before the clock comes last.
         match self.set.first() {
             Some(due) => moments_until(clock, due.moment),
             None => u16::MAX,
         }
     }
 
-    // Adds what is due, if it is, and answers whether that was new.
+    // Adds what is due, if it is, and returns whether that was new.
     fn add_if(&mut self, is_due: bool, due: AgeDue) -> Result<bool, AllocError>
         ensures added { IfOk result (λ is_new. is_new ≡ (is_due && not (has_due self.old due))) }
         ensures ok { OnOk result ((q : AgeDue) →
@@ -232,8 +232,8 @@ pub(crate) fn moments_until(clock: u16, moment: u16) -> u16
     moment.wrapping_sub(clock)
 }
 
-// In how many moments an entry of an age comes to the next of the ages that are told; `u16::MAX`
-// where it has come to the last.
+// In how many moments an entry of an age reaches the next of the ages that a tick reports;
+// `u16::MAX` where it has reached the last.
 pub(crate) fn until_told(age: u16) -> u16
     ensures refresh { age < ls_refresh_time → age + result ≡ ls_refresh_time }
     ensures expiry { ls_refresh_time ≤ age → age < max_age → age + result ≡ max_age }
@@ -248,7 +248,7 @@ pub(crate) fn until_told(age: u16) -> u16
     }
 }
 
-// This moment, or the one in so many moments, whichever is sooner.
+// This moment, or the one in this many moments, whichever is sooner.
 pub(crate) fn sooner(clock: u16, moment: u16, count: u16) -> u16
     ensures { ahead clock result ≡ min (ahead clock moment) count }
 {

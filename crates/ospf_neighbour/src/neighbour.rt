@@ -34,7 +34,7 @@ pub struct Declared {
     pub backup: Addr,
 }
 
-/// How a database exchange stands.
+/// The state of a database exchange.
 #[derive(Clone, Copy, Debug, PartialEq, Eq)]
 pub struct Exchanging {
     /// Whether this router is the master.
@@ -161,7 +161,7 @@ impl Neighbour {
         self.inactivity
     }
 
-    /// How the exchange of databases stands.
+    /// The state of the exchange of databases.
     pub fn exchanging(&self) -> Exchanging
         ensures { result ≡ self.now.exchanging }
     {
@@ -182,7 +182,7 @@ impl Neighbour {
         &self.last_dd
     }
 
-    /// The headers of the LSAs that are to be requested of it.
+    /// The headers of the LSAs that must be requested from it.
     pub fn requests(&self) -> &[LsaHeader]
         ensures { result.now ≡ self.now.requests }
     {
@@ -224,7 +224,7 @@ impl Neighbour {
         self.retransmission.entries()
     }
 
-    /// Takes an event (section 10.3). `dead` is the interface's
+    /// Processes an event (section 10.3). `dead` is the interface's
     /// RouterDeadInterval, in ticks. No memory is taken.
     pub fn event(&mut self, event: NbrEvent, dead: u32) -> NbrChange
         ensures tells { result ≡ transition self.old.state event (is_empty self.old.requests) }
@@ -265,14 +265,14 @@ impl Neighbour {
         self.retransmission.put(entry)
     }
 
-    /// Takes an instance off the retransmission list (section 13.7). No memory is taken.
+    /// Removes an instance from the retransmission list (section 13.7). No memory is taken.
     pub fn unlist(&mut self, instance: &Instance)
         ensures { self.new ≡ unlisted instance.now self.old }
     {
         self.retransmission.remove_instance(instance);
     }
 
-    /// Takes all instances of a key off the retransmission list (section
+    /// Removes all instances of a key from the retransmission list (section
     /// 13, step 5). No memory is taken.
     pub fn unlist_key(&mut self, key: &LsaKey)
         ensures { self.new ≡ key_unlisted key.now self.old }
@@ -295,7 +295,7 @@ impl Neighbour {
         self.requests.request_of(key)
     }
 
-    /// Takes the entry of a key off the request list; of those that the last Request named, the
+    /// Removes the entry of a key from the request list; of those that the last Request named, the
     /// others are still asked for (section 13.3). No memory is taken.
     pub fn remove_request(&mut self, key: &LsaKey)
         ensures { self.new ≡ unrequested key.now self.old }
@@ -307,16 +307,16 @@ impl Neighbour {
         }
     }
 
-    /// Puts how the exchange of databases stands, which nothing else of the neighbour hangs on.
+    /// Sets the state of the exchange of databases, on which nothing else of the neighbour depends.
     pub fn put_exchanging(&mut self, exchanging: Exchanging)
         ensures { self.new ≡ record self.old { exchanging = exchanging } }
     {
         self.exchanging = exchanging;
     }
 
-    /// NegotiationDone (section 10.3), with the headers that are to be described and
-    /// the instances that go on the retransmission list, at most one a key. Want of
-    /// memory changes nothing that is told.
+    /// NegotiationDone (section 10.3), with the headers that must be described and the
+    /// instances that go on the retransmission list, at most one per key. Running out of
+    /// memory does not change the result.
     pub fn begin_exchange(&mut self, is_master: bool, summary: Vec<LsaHeader>, listed: Vec<Listed>)
         requires state { self.old.state ≡ NeighbourState.ExStart }
         requires alone { IsAloneOfKeys listed.items }

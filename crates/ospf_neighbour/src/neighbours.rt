@@ -123,7 +123,7 @@ impl Neighbours {
         self.all.iter().any(|n| n.is_key_listed(key))
     }
 
-    /// Takes all instances of a key off the retransmission lists of all neighbours (RFC 2328,
+    /// Removes all instances of a key from the retransmission lists of all neighbours (RFC 2328,
     /// section 13, step 5). No memory is taken.
     pub fn unlist_key(&mut self, key: &LsaKey)
         ensures { self.new ≡ map (key_unlisted key.now) self.old }
@@ -131,7 +131,7 @@ impl Neighbours {
         unlist_key_of(key, &mut self.all);
     }
 
-    /// Takes the neighbour of a Router ID out, if there is one. No memory is taken.
+    /// Removes the neighbour with a Router ID, if there is one. No memory is taken.
     pub fn remove(&mut self, router: RouterId)
         ensures { self.new ≡ without_router router self.old }
     {
@@ -140,7 +140,7 @@ impl Neighbours {
         }
     }
 
-    /// Takes all of them out. No memory is taken.
+    /// Removes all of them. No memory is taken.
     pub fn clear(&mut self)
         ensures { self.new ≡ [] }
     {
@@ -157,7 +157,7 @@ impl Neighbours {
         Some(&self.all[at])
     }
 
-    /// Puts a neighbour in where its Router ID belongs, which none of them has.
+    /// Inserts a neighbour where its Router ID, which none of them has, belongs.
     ///
     /// `Full` where there are `MAX_NEIGHBOURS`, else `Memory` where memory runs out. The
     /// neighbours are as they were after each.
@@ -178,7 +178,7 @@ impl Neighbours {
     }
 }
 
-/// Where a neighbour of a Router ID stands, or is put in, among neighbours in rising Router ID.
+/// Where a neighbour with a Router ID is, or is inserted, among neighbours in rising Router ID.
 pub fn place_for(all: &[Neighbour], router: RouterId) -> usize
     requires { AreNeighboursRising all.now }
     ensures { result ≡ place_for all.now router.0 }
@@ -186,7 +186,7 @@ pub fn place_for(all: &[Neighbour], router: RouterId) -> usize
     all.partition_point(|n| n.router().0 < router.0)
 }
 
-// Takes all instances of a key off the retransmission lists of these neighbours.
+// Removes all instances of a key from the retransmission lists of these neighbours.
 fn unlist_key_of(key: &LsaKey, all: &mut [Neighbour])
     ensures { all.new ≡ map (key_unlisted key.now) all.old }
 {

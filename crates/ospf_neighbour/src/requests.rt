@@ -107,7 +107,7 @@ impl Requests {
         }
     }
 
-    // Takes the entry of a key off the list. No memory is taken.
+    // Removes the entry of a key from the list. No memory is taken.
     pub(crate) fn remove(&mut self, key: &LsaKey)
         ensures { self.new ≡ requests_without key.now self.old }
     {
@@ -128,7 +128,7 @@ impl Requests {
         put_requests(headers, &mut self.entries, &mut self.names)
     }
 
-    // Takes all entries off the list. No memory is taken.
+    // Removes all entries from the list. No memory is taken.
     pub(crate) fn clear(&mut self)
         ensures { self.new ≡ [] }
     {

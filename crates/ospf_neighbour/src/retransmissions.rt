@@ -117,7 +117,7 @@ impl Retransmissions {
         }
     }
 
-    // Takes an instance off the list. No memory is taken.
+    // Removes an instance from the list. No memory is taken.
     pub(crate) fn remove_instance(&mut self, instance: &Instance)
         ensures { self.new ≡ without_instance instance.now self.old }
     {
@@ -128,7 +128,7 @@ impl Retransmissions {
         }
     }
 
-    // Takes all instances of a key off the list. No memory is taken.
+    // Removes all instances of a key from the list. No memory is taken.
     pub(crate) fn remove_key(&mut self, key: &LsaKey)
         ensures { self.new ≡ without_key key.now self.old }
     {
@@ -148,7 +148,7 @@ impl Retransmissions {
         ensures err { OnErr result (self.new ≡ self.old) }
     {
         if let Some(at) = self.key_place(&entry.instance.key) {
-            // It is the only one of the key, and leaves room: no memory is wanted.
+            // It is the only one of the key, and leaves room: no memory is needed.
             if self.is_keyed {
                 self.instances.insert(entry.instance.key, entry.instance)?;
             }
@@ -173,8 +173,8 @@ impl Retransmissions {
         self.entries[at].sent_at = tick;
     }
 
-    // Puts other entries in place of all. No memory is wanted: where there is
-    // none, their instances are not kept by key.
+    // Replaces all entries by others. No memory is needed: where there is none, their
+    // instances are not stored by key.
     pub(crate) fn replace(&mut self, entries: Vec<Listed>)
         requires { IsAloneOfKeys entries.items }
         ensures { self.new ≡ entries.items }
@@ -183,7 +183,7 @@ impl Retransmissions {
         self.entries = entries;
     }
 
-    // Takes all entries off the list. No memory is taken.
+    // Removes all entries from the list. No memory is taken.
     pub(crate) fn clear(&mut self)
         ensures { self.new ≡ [] }
     {
@@ -193,7 +193,7 @@ impl Retransmissions {
     }
 }
 
-// Keeps the instances of these entries alone. `AllocError` where memory runs out.
+// Stores only the instances of these entries. `AllocError` where memory runs out.
 fn keep_instances(
     entries: &[Listed],
     instances: &mut HashMap<LsaKey, Instance>,

@@ -6,13 +6,13 @@ use Rattle.ospf_records.specs.Datagram.{datagram_bytes}
 use Rattle.ospf_records.specs.Ip.{largest_ip_packet}
 use Rattle.ospf_records.specs.declared.moment.Moment.{Moment}
 
--- what stands in its file, where that is known, as long as there is a file to write to; and whether
--- all could be written so far
+-- the contents of its file, if they are known, as long as there is a file to write to; and whether
+-- everything could be written so far
 pub record CaptureValue : Type 0 where
   pub contents : Option (Option (List ℕ))
   pub is_written : Bool
 
--- a packet as it is captured at a moment; nothing of one that fits into no IP packet
+-- a packet as captured at a moment; no bytes if it does not fit into an IP packet
 abbrev pub IsRecord : Moment → Addr → Addr → List ℕ → List ℕ → Type 0
 IsRecord at source destination packet bytes =
     (bytes ≡ datagram_bytes at source destination packet)

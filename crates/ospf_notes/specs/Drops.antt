@@ -4,7 +4,7 @@ use Rattle.ospf_journal.specs.declared.change.DroppedAt.{DroppedAt}
 use Rattle.ospf_notes.specs.declared.dropped.Heard.{Heard}
 use Rattle.ospf_step.specs.declared.dropped.Dropped.{Dropped}
 
--- the drop of the packet that had come in, where one had and the step has a cause
+-- the drop of the packet that had arrived, if one had and the step has a cause
 abbrev pub dropped_in : Option Heard → Option Dropped → Option DroppedAt
 dropped_in None cause = None
 dropped_in (Some h) None = None

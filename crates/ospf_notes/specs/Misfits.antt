@@ -1,4 +1,4 @@
--- Packets that a router drops for how their sender is set, or the router itself.
+-- Packets that a router drops because of how their sender, or the router itself, is configured.
 use Rattle.std.specs.Prelude.{◌≡◌, ◌⊎◌, ◌==◌, ◌&&◌, ◌||◌, ◌/◌, ◌∷◌, ◌++◌, ℕ, Bool, true, false, not, nat_lt, List, [], Option, None, Some, bit_and, codes, count_by, decimal, if◌then◌else◌, is_some, length, option_map}
 use Rattle.std.specs.List.{list_any}
 use Rattle.ospf_area.specs.State.{AreaValue}
@@ -26,23 +26,23 @@ use Rattle.ospf_views.specs.declared.detail.Detail.TheVariants as detail
 
 -- ---- one packet
 
--- why bytes are no packet, if they are none (RFC 2328, section 8.2)
+-- why bytes are not a packet, if they are not (RFC 2328, section 8.2)
 abbrev pub HasPacketFault : List ℕ → Option PacketFault → Type 0
 HasPacketFault packet None = IsPacket packet
 HasPacketFault packet (Some fault) = IsFirstPacketFault packet fault
 
--- the AuType in the header (RFC 2328, appendix A.3.1); 0 where the bytes are too few for one
+-- the AuType in the header (RFC 2328, appendix A.3.1); 0 if the bytes are too few to have one
 abbrev pub au_type : List ℕ → ℕ
 au_type packet = if nat_lt (length packet) packet_header then 0 else number_at 14 2 packet
 
--- by the AuType a password (1, appendix D) or a cryptographic digest (2; 3 in RFC 7474), else this
+-- by the AuType, a password (1, appendix D) or a cryptographic digest (2; 3 in RFC 7474), else this
 -- fault
 abbrev pub typed_flaw : ℕ → PacketFault → Flaw
 typed_flaw au fault =
     if au == 1 then Password else if (au == 2 || au == 3) then Digest else Fault fault
 
--- authentication where the AuType names one: a digest makes the bytes longer than the length field
--- says, and leaves the checksum 0 (appendix D.4.3); any other fault as it is
+-- authentication, if the AuType says so: a digest makes the bytes longer than the length field
+-- says, and leaves the checksum 0 (appendix D.4.3); any other fault unchanged
 abbrev pub flaw_of : ℕ → PacketFault → Flaw
 flaw_of au packet.Short = Fault packet.Short
 flaw_of au packet.Version = Fault packet.Version
@@ -53,9 +53,10 @@ flaw_of au packet.Auth = typed_flaw au packet.Auth
 flaw_of au packet.Body = Fault packet.Body
 flaw_of au packet.TooLong = Fault packet.TooLong
 
--- a cause that lasts as long as the sender and the router are set as they are: bytes that are no
--- packet, one of another area, of the router's own Router ID or from another network, a Hello that
--- does not agree, and a Database Description of too large an MTU (8.2, 10.5 and 10.6)
+-- a cause that lasts as long as the configuration of the sender and the router does not change:
+-- bytes that are not a packet, a packet from another area, with the router's own Router ID or from
+-- another network, a Hello that does not agree, and a Database Description with too large an MTU
+-- (8.2, 10.5 and 10.6)
 abbrev pub is_lasting : Dropped → Option Flaw → Option Detail → Bool
 is_lasting dropped.Packet flaw field = is_some flaw
 is_lasting dropped.Area flaw field = true
@@ -67,7 +68,7 @@ is_lasting dropped.NoNeighbour flaw field = false
 is_lasting dropped.WrongRouter flaw field = false
 is_lasting dropped.State flaw field = is_some field
 
--- what is reported of a packet that was dropped, if its cause lasts
+-- what is reported of a dropped packet, if its cause lasts
 abbrev pub misfit_of : DroppedAt → Option Flaw → Option Detail → Option Misfit
 misfit_of at flaw field =
     if is_lasting at.cause flaw field
@@ -80,7 +81,7 @@ misfit_of at flaw field =
     })
     else None
 
--- that, by its bytes, where a router dropped it
+-- that, from the bytes of a packet that a router dropped
 abbrev pub IsMisfit : Option AreaValue → DroppedAt → List ℕ → Option Misfit → Type 0
 IsMisfit area at packet misfit =
     (fault : Option PacketFault) × HasPacketFault packet fault
@@ -96,7 +97,7 @@ flaw_text Password = codes "simple password authentication there, none here"
 flaw_text Digest = codes "cryptographic authentication there, none here"
 flaw_text (Fault fault) = packet_fault_text fault
 
--- why it is no packet that the router takes, if it is none
+-- why the router does not accept it as a packet, if it does not
 abbrev pub flaw_words : Option Flaw → List ℕ
 flaw_words None = []
 flaw_words (Some flaw) = codes ": " ++ flaw_text flaw
@@ -114,7 +115,7 @@ area_kind_words (detail.Options there) =
 area_kind_words (detail.Mask there here) = []
 area_kind_words (detail.Mtu there here) = []
 
--- that, where a field explains the cause
+-- the same, if a field explains the cause
 abbrev pub area_words : Option Detail → List ℕ
 area_words None = []
 area_words (Some field) = area_kind_words field
@@ -123,7 +124,7 @@ area_words (Some field) = area_kind_words field
 abbrev pub field_words : Option Detail → List ℕ
 field_words field = area_words field ++ detail_words field
 
--- as the router of a file tells it
+-- the message about a misfit, with the name of the router's file
 abbrev pub misfit_text : List ℕ → Misfit → List ℕ
 misfit_text file m =
     file ++ codes ": link " ++ decimal m.link ++ codes ": what " ++ number_text m.source.0
@@ -132,11 +133,11 @@ misfit_text file m =
 
 -- ---- when
 
--- the ticks of a run are divided into periods of so many
+-- the ticks of a run are divided into periods of this many
 abbrev pub period_ticks : ℕ
 period_ticks = 600
 
--- so many with one cause on one link are reported in a period
+-- this many with one cause on one link are reported in a period
 abbrev pub most_alike : ℕ
 most_alike = 8
 
@@ -148,7 +149,7 @@ topic_of m = record { link = m.link; cause = m.cause; flaw = m.flaw }
 abbrev pub is_alike : Misfit → Misfit → Bool
 is_alike one other = topic.eq-value.it (topic_of one) (topic_of other)
 
--- the bytes that came in last, where there was room for them; a period, and what was reported in it
+-- the bytes that arrived last, if there was room for them; a period, and what was reported in it
 pub record MisfitsValue : Type 0 where
   pub packet : Option (List ℕ)
   pub period : ℕ
@@ -158,14 +159,14 @@ pub record MisfitsValue : Type 0 where
 abbrev pub told_at : ℕ → MisfitsValue → List Misfit
 told_at tick m = if m.period == tick / period_ticks then m.told else []
 
--- none that is equal was reported, and few that are alike
+-- no equal misfit was reported in the period, and few that are alike
 abbrev pub is_new_misfit : List Misfit → Misfit → Bool
 is_new_misfit told m =
     not (list_any (λ t. eq-value.it t m) told)
     && nat_lt (count_by (λ t. is_alike t m) told) most_alike
 
--- what is reported at a tick after a step in which this was dropped, of the packet that came in
--- last: a misfit that is new in the period; where memory runs out it is reported again
+-- what is reported at a tick after a step that dropped this, for the packet that arrived last: a
+-- misfit that is new in the period; if memory runs out it is reported again
 pub data TellsMisfit (area : Option AreaValue) (tick : ℕ) (before : MisfitsValue)
     (dropped : Option DroppedAt) (after : MisfitsValue) : Option Misfit → Type 0 where
   none_dropped : dropped ≡ None → after ≡ before → TellsMisfit area tick before dropped after None

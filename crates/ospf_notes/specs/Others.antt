@@ -10,8 +10,8 @@ use Rattle.ospf_packet.specs.Meaning.{BodyMeaning, Meaning, hello, description, 
 
 -- ---- what is refused
 
--- an LS type that the router refuses: neither that of router-LSAs nor that of network-LSAs,
--- nor one that it passes over (RFC 2328, sections 10.6 and 13 (2) and (3))
+-- an LS type that the router refuses: not that of router-LSAs or network-LSAs, nor one that it
+-- passes over (RFC 2328, sections 10.6 and 13 (2) and (3))
 abbrev pub is_refused : (passes_over : Bool) → ℕ → Bool
 is_refused passes_over kind =
     not (kind == 1) && (not (kind == 2) && not (passes_over && is_other kind))
@@ -24,9 +24,9 @@ first_refused passes_over kinds = find (is_refused passes_over) kinds
 abbrev pub is_opaque : ℕ → Bool
 is_opaque kind = nat_le 9 kind && nat_le kind 11
 
--- an LS type that the router refuses and whose sender waits for an acknowledgment: an opaque LSA it
--- multicasts on a network where two others take them, and does not expect a router to acknowledge
--- that has not set the O bit (RFC 5250, section 3.1)
+-- an LS type that the router refuses and whose sender waits for an acknowledgment. An opaque LSA is
+-- multicast on a network where two other routers accept it, and its sender does not expect an
+-- acknowledgment from a router that has not set the O bit (RFC 5250, section 3.1)
 abbrev pub is_unwanted : (passes_over : Bool) → ℕ → Bool
 is_unwanted passes_over kind = not (is_opaque kind) && is_refused passes_over kind
 
@@ -35,7 +35,7 @@ abbrev pub first_unwanted : (passes_over : Bool) → List ℕ → Option ℕ
 first_unwanted passes_over kinds = find (is_unwanted passes_over) kinds
 
 -- of the LSAs that a packet describes or sends, the first of an LS type that the router refuses: in
--- a Database Description, or in a Link State Update, where its sender waits for an acknowledgment
+-- a Database Description, or in a Link State Update, if its sender waits for an acknowledgment
 abbrev pub untaken_of : (passes_over : Bool) → BodyMeaning → Option Untaken
 untaken_of passes_over (hello fields heard) = None
 untaken_of passes_over (description fields headers) =
@@ -45,16 +45,16 @@ untaken_of passes_over (update lsas) =
     option_map Sent (first_unwanted passes_over (map type_of lsas))
 untaken_of passes_over (acknowledgment headers) = None
 
--- what a packet on a link has that the router refuses, if it is a packet that has such
+-- the LSA in a packet on a link that the router refuses, if there is one
 abbrev pub refused_in : (passes_over : Bool) → ℕ → Option Meaning → Option RefusedLsa
 refused_in passes_over link None = None
 refused_in passes_over link (Some m) =
     option_map (untaken_from link m.router) (untaken_of passes_over m.body)
 
--- ---- what is told
+-- ---- what is reported
 
--- whether it passes LSAs of LS types 3, 4 and 5 over; what the packet has that came in last;
--- and of which neighbours it was told
+-- whether the router passes over LSAs of LS types 3, 4 and 5; the refused LSA in the last packet
+-- that arrived; and the neighbours reported so far
 pub record OthersValue : Type 0 where
   pub passes_over : Bool
   pub heard : Option RefusedLsa

@@ -13,7 +13,7 @@ use std::time::Clock;
 /// The capture of a run in a file, up to the first write that fails.
 #[derive(Drop)]
 pub(crate) struct Capture<F: Write + Drop> {
-    // `None` where nothing is captured, or no more.
+    // `None` if nothing is captured, or no longer.
     file: Option<F>,
     is_written: bool,
 }
@@ -34,7 +34,7 @@ impl<F: Write + Drop> Capture<F> {
     ghost use Rattle.std.specs.Prelude.{◌≡◌, ◌≢◌, None, true, false, IfOk, IfSome, IsErr, option_map};
     ghost use Rattle.std.specs.Io.KnownBytes.{Appends};
 
-    /// Nothing is captured yet, and nothing will be where there is no file.
+    /// Nothing is captured yet, and nothing will be if there is no file.
     pub(crate) fn new(file: Option<F>) -> Capture<F>
         ensures { result
             ≡ record { contents = option_map (λ f. F.contents f) file; is_written = true } }
@@ -45,22 +45,21 @@ impl<F: Write + Drop> Capture<F> {
         }
     }
 
-    /// Whether all could be written so far.
+    /// Whether everything could be written so far.
     pub(crate) fn is_written(&self) -> bool
         ensures { result ≡ self.now.is_written }
     {
         self.is_written
     }
 
-    /// Writes bytes behind what stands there. Where that fails, or they could not be made, no more
-    /// is written.
+    /// Appends bytes. If that fails, or they could not be made, nothing more is written.
     pub(crate) fn write(&mut self, bytes: Result<Vec<u8>, io::Error>)
         ensures none { self.old.contents ≡ None → self.new ≡ self.old }
-        // As long as there is a file all stands there.
+        // As long as there is a file, all bytes are in it.
         ensures written { IfSome self.old.contents (λ old. IfSome self.new.contents
             (λ new. IfOk bytes (λ bytes. Appends old new bytes.items))) }
         ensures kept { self.new.contents ≢ None → self.new.is_written ≡ self.old.is_written }
-        // It goes where that fails, and not all is written then.
+        // If that fails the file is dropped, and not everything is written.
         ensures unmade { IsErr bytes → self.new.contents ≡ None }
         ensures ended { self.old.contents ≢ None → self.new.contents ≡ None →
             self.new.is_written ≡ false }
@@ -79,7 +78,7 @@ impl<F: Write + Drop> Capture<F> {
     }
 }
 
-/// A datagram as it is captured now; nothing of one that fits into no IP packet.
+/// A datagram as captured now; no bytes if it does not fit into an IP packet.
 pub(crate) fn record_of<C: Clock>(
     clock: &C,
     sent: &Sent,
@@ -93,7 +92,7 @@ pub(crate) fn record_of<C: Clock>(
     record_at(alloc, at, sent)
 }
 
-// A datagram as it is captured at a moment.
+// A datagram as captured at a moment.
 fn record_at(alloc: Global, at: Moment, sent: &Sent) -> Result<Vec<u8>, io::Error>
     ensures { IfOk result (λ bytes. IsRecord at sent.now.source sent.now.destination sent.now.bytes
         bytes.items) }

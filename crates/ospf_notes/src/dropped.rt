@@ -7,14 +7,14 @@ use ospf_base::Addr;
 use ospf_journal::DroppedAt;
 use ospf_run::Step;
 
-/// A packet that came in: on which link, and where from.
+/// A packet that arrived: on which link, and from where.
 #[derive(Clone, Copy)]
 pub(crate) struct Heard {
     pub(crate) link: usize,
     pub(crate) source: Addr,
 }
 
-/// What was dropped in a step, which was that of the packet if one had come in.
+/// What a step dropped: the packet, if one had arrived.
 pub(crate) fn dropped_in(step: &Step, heard: Option<Heard>) -> Option<DroppedAt>
     ensures { result ≡ dropped_in heard step.now.dropped }
 {

@@ -1,4 +1,4 @@
-//! LSAs that a router refuses for what they say.
+//! LSAs that a router refuses because of their contents.
 
 ghost use Rattle.std.specs.Prelude.{◌≡◌};
 ghost use Rattle.ospf_packet.specs.PacketOf.{packet_of};
@@ -13,12 +13,12 @@ use std::alloc::Global;
 use std::collections::BTreeSet;
 use std::marker::Model;
 
-/// What a router was told of LSAs that it refuses for what they say, neighbour for neighbour.
+/// The LSAs that a router refused because of their contents and that were reported, by neighbour.
 #[derive(Drop)]
 pub struct Faulty {
-    // Of the packet that came in last.
+    // From the packet that arrived last.
     heard: Option<RefusedLsa>,
-    // The links and neighbours that are told of.
+    // The links and neighbours that were reported.
     told: BTreeSet<ToldKey>,
 }
 
@@ -47,7 +47,7 @@ impl Faulty {
         }
     }
 
-    /// A packet has come in.
+    /// A packet has arrived.
     pub fn hears(&mut self, link: usize, packet: &[u8])
         ensures heard { IsFaultyIn link (packet_of packet.now) self.new.heard }
         ensures told { self.new.told ≡ self.old.told }
@@ -55,8 +55,8 @@ impl Faulty {
         self.heard = faulty_in(link, packet);
     }
 
-    /// What is to be told after a step: the LSA of the packet that came in last, where a neighbour
-    /// of the router sent it, and once a neighbour. Where memory runs out it is told again.
+    /// Returns what to report after a step: the LSA of the packet that arrived last, if a neighbour
+    /// of the router sent it, once for each neighbour. If memory runs out it is reported again.
     pub fn due(&mut self, router: &Router) -> Option<RefusedLsa>
         ensures due { result ≡ refused_due router.now self.old.told self.old.heard }
         ensures heard { self.new.heard ≡ None }
@@ -72,7 +72,7 @@ impl Faulty {
     }
 }
 
-// What a packet on a link sends that the router refuses for what it says.
+// The LSA in a packet on a link that the router refuses because of its contents.
 fn faulty_in(link: usize, packet: &[u8]) -> Option<RefusedLsa>
     ensures { IsFaultyIn link (packet_of packet.now) result }
 {
@@ -113,7 +113,7 @@ fn first_fault(lsas: Lsas<'_>) -> Option<LsaFault>
     None
 }
 
-// Why bytes are refused as an LSA, if it is for what they say.
+// Why bytes are refused as an LSA, if it is because of their contents.
 fn fault_of(lsa: &[u8]) -> Option<LsaFault>
     ensures { HasContentsFault lsa.now result }
 {
@@ -128,7 +128,7 @@ fn contents_fault(fault: Option<LsaFault>) -> Option<LsaFault>
     is_of_contents(fault).then_some(fault)
 }
 
-// A fault of the length or the checksum may be the wire's, and LS types are told of by `Others`.
+// A fault of the length or the checksum may come from the wire, and `Others` reports LS types.
 fn is_of_contents(fault: LsaFault) -> bool
     ensures { result ≡ is_of_contents fault }
 {

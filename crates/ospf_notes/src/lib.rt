@@ -1,14 +1,14 @@
-//! What is kept and shown of routers while they run.
+//! What is recorded and shown of routers while they run.
 //!
 //! `Notes` is a tap of `ospf_run`: it writes what the routers send into a capture, whose packets
 //! are those of `ospf_records`; prints their tables from time to time, each as `ospf_run` prints
-//! it; counts what they drop; and tells on standard error how far the run has come, where that is a
-//! terminal, which packets are dropped for how their sender or the router is set (`Misfits`,
-//! `specs/Misfits`), and which neighbours have LSAs that their router refuses, for their LS type
-//! (`Others`, `specs/Others`) or for what they say (`Faulty`, `specs/Faulty`). The tables and the
-//! capture promise what is appended to their files (`specs/Tables`, `specs/Capturing`). The routers
-//! of a run share these under one lock, and what stands behind it no contract tells; that all of it
-//! gives back to the run, and that nothing wraps, is proved.
+//! it; and counts what they drop. On standard error it shows the progress of the run, if that is a
+//! terminal, and reports packets that are dropped because of how their sender or the router is
+//! configured (`Misfits`, `specs/Misfits`), and neighbours with LSAs that their router refuses, for
+//! their LS type (`Others`, `specs/Others`) or for their contents (`Faulty`, `specs/Faulty`).
+//! Contracts cover what is appended to the files of the tables and the capture (`specs/Tables`,
+//! `specs/Capturing`). The routers of a run share these under one lock, and no contract covers what
+//! is under it; that it returns everything to the run, and that nothing wraps, is proved.
 #![tactic(auto)]
 
 mod capture;

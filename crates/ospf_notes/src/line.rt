@@ -1,25 +1,24 @@
-//! Standard error while something runs: messages, and on a terminal a line
-//! that tells how far it has come.
+//! Standard error while something runs: messages, and on a terminal a line that shows the progress.
 
 use std::io::Write;
 use std::time::{Clock, Duration};
 
-// How much time goes by between two lines, and before the first one, in milliseconds.
+// The time between two lines, and before the first one, in milliseconds.
 const BETWEEN_LINES: u64 = 200;
 
-/// Standard error. On a terminal each line of how far something has come is written over the
-/// last. What is not written is lost.
+/// Standard error. On a terminal each progress line overwrites the last. What cannot be written is
+/// lost.
 #[derive(Drop)]
 pub struct StatusLine<T: Write + Drop> {
     stream: T,
     is_terminal: bool,
-    // When the next is due; `None` before the first is asked for.
+    // When the next line is due; `None` before the first is requested.
     next: Option<Duration>,
     is_shown: bool,
 }
 
 impl<T: Write + Drop> StatusLine<T> {
-    /// No line yet. Where the stream is no terminal there never is one.
+    /// No line yet. If the stream is not a terminal there never is one.
     pub fn new(stream: T, is_terminal: bool) -> StatusLine<T> {
         StatusLine {
             stream,
@@ -43,13 +42,13 @@ impl<T: Write + Drop> StatusLine<T> {
         Some(&mut self.stream)
     }
 
-    /// Where to write a message, which ends in a line feed. A line that is shown goes first.
+    /// Where to write a message, which ends in a line feed. A line that is shown is erased first.
     pub fn messages(&mut self) -> &mut T {
         self.erase();
         &mut self.stream
     }
 
-    /// Takes the line away.
+    /// Erases the line.
     pub fn erase(&mut self) {
         if !self.is_shown {
             return;
@@ -58,7 +57,7 @@ impl<T: Write + Drop> StatusLine<T> {
         let _ = write!(self.stream, "\r\x1b[K");
     }
 
-    // Whether a line is due now. Then the next one is later.
+    // Whether a line is due now. If so, the next one is due later.
     fn is_due<C: Clock>(&mut self, clock: &C) -> bool {
         let Ok(now) = clock.monotonic() else {
             return false;

@@ -1,4 +1,4 @@
-//! Packets that a router drops for how their sender is set, or the router itself.
+//! Packets that a router drops because of how their sender, or the router itself, is configured.
 
 ghost use Rattle.std.specs.Fmt.{WritesOnOk};
 ghost use Rattle.std.specs.Prelude.{◌≡◌, option_map};
@@ -15,9 +15,9 @@ use std::alloc::Global;
 use std::fmt::{self, Display, Formatter, Write};
 use std::marker::Model;
 
-// In so many ticks a misfit is reported once, and afterwards again where it lasts.
+// A misfit is reported once in this many ticks, and then again if it lasts.
 const PERIOD: u64 = 600;
-// So many are reported in a period for one cause on one link at most, whatever comes in.
+// At most this many are reported in a period for one cause on one link, whatever arrives.
 const MOST_ALIKE: usize = 8;
 
 // Where the AuType begins (RFC 2328, appendix A.3.1), and the values of its appendix D and of RFC
@@ -33,12 +33,12 @@ const EXTENDED_CRYPTOGRAPHIC: u16 = 3;
 // The N bit of the Options: with it and without the E bit the sender's area is an NSSA (RFC 3101).
 const N_BIT: u8 = 8;
 
-/// Why bytes are no packet that the router takes.
+/// Why the router does not accept bytes as a packet.
 #[derive(Clone, Copy, Debug, PartialEq, Eq)]
 pub enum Flaw {
-    /// The sender authenticates by a password, and the router does not.
+    /// The sender authenticates with a password, and the router does not.
     Password,
-    /// The sender authenticates by a cryptographic digest, and the router does not.
+    /// The sender authenticates with a cryptographic digest, and the router does not.
     Digest,
     /// Another fault.
     Fault(PacketFault),
@@ -60,20 +60,20 @@ impl Display for Flaw {
     }
 }
 
-/// A packet that was dropped for a cause that lasts as long as its sender and the router are set
-/// as they are (RFC 2328, sections 8.2, 10.5 and 10.6).
+/// A packet that was dropped for a cause that lasts as long as the configuration of its sender and
+/// the router does not change (RFC 2328, sections 8.2, 10.5 and 10.6).
 #[derive(Clone, Copy, Debug, PartialEq, Eq)]
 pub struct Misfit {
     pub link: usize,
     pub source: Addr,
     pub cause: Dropped,
-    /// Why it is no packet that the router takes, where it is none.
+    /// Why the router does not accept it as a packet, if it does not.
     pub flaw: Option<Flaw>,
-    /// The field that does not fit, where one explains the cause.
+    /// The field that does not agree, if one explains the cause.
     pub detail: Option<Detail>,
 }
 
-/// What misfits are alike in of which few are reported: their link and cause.
+/// The link and the cause of a misfit: few misfits with the same topic are reported.
 #[derive(Clone, Copy, Debug, PartialEq, Eq)]
 pub struct Topic {
     pub link: usize,
@@ -81,7 +81,7 @@ pub struct Topic {
     pub flaw: Option<Flaw>,
 }
 
-/// A misfit, by the name of the router's file.
+/// A misfit, with the name of the router's file.
 #[derive(Clone, Copy)]
 pub struct MisfitShown<'a> {
     pub file: &'a str,
@@ -106,13 +106,14 @@ impl Display for MisfitShown<'_> {
     }
 }
 
-/// The misfits of one router: in a period each is reported once, and few of one cause on one link.
+/// The misfits of one router: in a period each is reported once, and few with one cause on one
+/// link.
 #[derive(Drop)]
 pub struct Misfits {
-    // The packet that came in last, where there was room for it.
+    // The packet that arrived last, if there was room for it.
     packet: Vec<u8>,
     is_kept: bool,
-    // The period of the misfits that are kept here as reported.
+    // The period of the misfits that are stored here as reported.
     period: u64,
     told: Vec<Misfit>,
 }
@@ -146,7 +147,7 @@ impl Misfits {
         }
     }
 
-    /// A packet has come in.
+    /// A packet has arrived.
     pub fn hears(&mut self, packet: &[u8])
         ensures packet { (self.new.packet ≡ Some packet.now) ⊎ (self.new.packet ≡ None) }
         ensures period { self.new.period ≡ self.old.period }
@@ -156,8 +157,8 @@ impl Misfits {
         self.is_kept = self.packet.extend_from_slice(packet).is_ok();
     }
 
-    /// What is to be reported after a step of a router, which has taken so many ticks, in which the
-    /// packet that came in last was dropped, if it was.
+    /// Returns what to report after a step of a router that has taken this many ticks, if the step
+    /// dropped the packet that arrived last.
     pub fn due(&mut self, router: &Router, tick: u64, dropped: Option<DroppedAt>) -> Option<Misfit>
         ensures { TellsMisfit router.now.area tick self.old dropped self.new result }
     {
@@ -178,7 +179,7 @@ impl Misfits {
         Some(misfit)
     }
 
-    // With another period what was reported is forgotten.
+    // Forgets what was reported when a new period begins.
     fn forget(&mut self, tick: u64)
         ensures packet { self.new.packet ≡ self.old.packet }
         ensures period { self.new.period ≡ tick / period_ticks }
@@ -205,7 +206,7 @@ impl Misfits {
         self.told.iter().filter(|it| is_alike(it, misfit)).count()
     }
 
-    // It is reported now. Where memory runs out it is reported again.
+    // It is reported now. If memory runs out it is reported again.
     fn add(&mut self, misfit: Misfit)
         ensures packet { self.new.packet ≡ self.old.packet }
         ensures period { self.new.period ≡ self.old.period }
@@ -215,7 +216,7 @@ impl Misfits {
         let _ = self.told.push(misfit);
     }
 
-    // The packet that came in last, where it is kept.
+    // The packet that arrived last, if it is stored.
     fn kept(&self) -> Option<&[u8]>
         ensures { option_map (λ packet. packet.now) result ≡ self.now.packet }
     {
@@ -270,8 +271,9 @@ fn misfit_of(at: DroppedAt, flaw: Option<Flaw>, detail: Option<Detail>) -> Optio
     })
 }
 
-// Whether a cause lasts as long as both are set as they are. A packet for other routers is none,
-// nor is one before its sender is a neighbour, or of a neighbour that has started again.
+// Whether a cause lasts as long as the configuration of both routers does not change. Not so for a
+// packet for other routers, nor for one from a sender that is not a neighbour yet or that has
+// started again.
 fn is_lasting(cause: Dropped, flaw: Option<Flaw>, detail: Option<Detail>) -> bool
     ensures { result ≡ is_lasting cause flaw detail }
 {
@@ -293,8 +295,8 @@ fn flaw_in(packet: &[u8], fault: Option<PacketFault>) -> Option<Flaw>
     }
 }
 
-// A digest makes the packet longer than its length field says and leaves its checksum 0, so that
-// those faults are found before the AuType is looked at (RFC 2328, appendix D.4.3).
+// A digest makes the packet longer than its length field says and leaves its checksum 0, so these
+// faults are found before the AuType is checked (RFC 2328, appendix D.4.3).
 fn flaw_of(au_type: u16, fault: PacketFault) -> Flaw
     ensures { result ≡ flaw_of au_type fault }
 {
@@ -320,7 +322,7 @@ fn typed_flaw(au_type: u16, fault: PacketFault) -> Flaw
     }
 }
 
-// The AuType in the header; 0 where the bytes are too few for one.
+// The AuType in the header; 0 if the bytes are too few to have one.
 fn au_type(packet: &[u8]) -> u16
     ensures { result ≡ au_type packet.now }
 {
@@ -331,7 +333,7 @@ fn au_type(packet: &[u8]) -> u16
     }
 }
 
-// Why it is no packet, if it is none.
+// Writes why it is not a packet, if it is not.
 fn write_flaw<W: Write>(f: &mut Formatter<W>, flaw: Option<Flaw>) -> fmt::Result
     ensures { WritesOnOk W.Write.write_str_gives f.old result (flaw_words flaw) f.new }
 {
@@ -341,7 +343,7 @@ fn write_flaw<W: Write>(f: &mut Formatter<W>, flaw: Option<Flaw>) -> fmt::Result
     }
 }
 
-// The field that does not fit, if there is one, behind the kind of the sender's area.
+// Writes the kind of the sender's area and the field that does not agree, if there is one.
 fn write_field<W: Write>(f: &mut Formatter<W>, detail: Option<Detail>) -> fmt::Result
     ensures { WritesOnOk W.Write.write_str_gives f.old result (field_words detail) f.new }
 {
@@ -349,7 +351,7 @@ fn write_field<W: Write>(f: &mut Formatter<W>, detail: Option<Detail>) -> fmt::R
     write_detail(f, detail)
 }
 
-// Of which kind the sender's area is, if it is of another than the router's.
+// Writes the kind of the sender's area, if it differs from the router's.
 fn write_area<W: Write>(f: &mut Formatter<W>, detail: Option<Detail>) -> fmt::Result
     ensures { WritesOnOk W.Write.write_str_gives f.old result (area_words detail) f.new }
 {
@@ -378,7 +380,7 @@ fn write_kind<W: Write>(f: &mut Formatter<W>, detail: Detail) -> fmt::Result
     }
 }
 
-// The field, if there is one.
+// Writes the field, if there is one.
 fn write_detail<W: Write>(f: &mut Formatter<W>, detail: Option<Detail>) -> fmt::Result
     ensures { WritesOnOk W.Write.write_str_gives f.old result (detail_words detail) f.new }
 {

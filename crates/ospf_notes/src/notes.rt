@@ -1,6 +1,6 @@
-//! What is kept and shown of routers while they run: a capture of what they send, their
-//! tables from time to time, what they drop, a line on a terminal, and messages of
-//! neighbours whose LSAs a router refuses and of packets that do not fit it.
+//! What is recorded and shown of routers while they run: a capture of what they send, their tables
+//! from time to time, what they drop, a line on a terminal, and messages about neighbours whose
+//! LSAs a router refuses and about packets that do not fit it.
 
 ghost use Rattle.std.specs.Prelude.{◌≡◌, IfOk};
 ghost use Rattle.ospf_records.specs.Pcap.{file_header};
@@ -28,29 +28,29 @@ use std::mem;
 use std::sync::{Arc, Mutex, Wait};
 use std::time::Clock;
 
-/// What is to be noted of a run.
+/// What to record and show of a run.
 #[derive(Drop)]
 pub struct Noted<F: Write + Drop, T: Write + Drop, O: Write + Drop> {
     /// How many ticks the run has, if one is the last.
     pub of: Option<u64>,
-    /// Where what is sent is captured, if it is, and the name of that file.
+    /// The file into which sent packets are captured, if they are, and its name.
     pub capture: Option<F>,
     pub pcap: Option<String>,
-    /// Where messages go, and how far the run has come.
+    /// Where messages go, and the progress of the run.
     pub line: StatusLine<T>,
-    /// Where tables are printed while the routers run, if they are, and what ends the run where
-    /// they cannot be printed any more.
+    /// Where tables are printed while the routers run, if they are, and what ends the run if they
+    /// can no longer be printed.
     pub tables: Option<Tables<O>>,
     pub ending: Option<Ending>,
-    /// Whether it is counted what the routers drop.
+    /// Whether to count what the routers drop.
     pub drops: bool,
     /// Where a journal is written, if one is, and the name of that file.
     pub journal: Option<Journal<F>>,
     pub log: Option<String>,
 }
 
-/// What is noted of one router. The notes of all routers of a run share a
-/// capture, tables, counts and a line.
+/// The notes of one router. The notes of all routers of a run share a capture, tables, counts and a
+/// line.
 #[derive(Drop)]
 pub struct Notes<R: Wait + Clock + Copy + Drop, F: Write + Drop, T: Write + Drop, O: Write + Drop> {
     rt: R,
@@ -65,7 +65,7 @@ pub struct Notes<R: Wait + Clock + Copy + Drop, F: Write + Drop, T: Write + Drop
     ticks: u64,
     has_ticked: bool,
     full: usize,
-    // The packet that came in last, until a step has been made.
+    // The packet that arrived last, until a step has been made.
     heard: Option<Heard>,
     // What the router dropped on its links, if that is counted.
     counts: Option<Vec<DropCounts>>,
@@ -80,10 +80,10 @@ impl<R: Wait + Clock + Copy + Drop, F: Write + Drop, T: Write + Drop, O: Write +
     T,
     O,
 > {
-    /// The notes of a run, which note this. The capture's head is written. That a file cannot be
-    /// written is told where messages go, as soon as it is known.
+    /// Makes the notes of a run and writes the capture's header. If a file cannot be written, that
+    /// is reported with the messages, as soon as it is known.
     ///
-    /// `AllocError` where memory runs out.
+    /// `AllocError` if memory runs out.
     pub fn new(
         rt: R,
         alloc: Global,
@@ -113,12 +113,12 @@ impl<R: Wait + Clock + Copy + Drop, F: Write + Drop, T: Write + Drop, O: Write +
         })
     }
 
-    /// Whether the capture, if there is one, could be written so far.
+    /// Whether the capture, if there is one, is complete so far.
     pub fn is_written(&self) -> bool {
         self.shared.lock(&self.rt).capture.is_written()
     }
 
-    /// Whether the journal, if there is one, could be written so far.
+    /// Whether the journal, if there is one, is complete so far.
     pub fn is_logged(&self) -> bool {
         match &self.shared.lock(&self.rt).journal {
             Some(journal) => journal.is_written(),
@@ -126,12 +126,12 @@ impl<R: Wait + Clock + Copy + Drop, F: Write + Drop, T: Write + Drop, O: Write +
         }
     }
 
-    /// Why tables are printed no more, or drops are not known, if that is so.
+    /// Why tables are no longer printed, if they are not.
     pub fn failure(&self) -> Option<Failure> {
         self.shared.lock(&self.rt).failure
     }
 
-    // What is noted of a step of the router.
+    // Notes a step of the router.
     fn follow(&mut self, router: &Router, step: &Step) {
         let other = self.teller.other_due(router);
         self.tell_refused(other);
@@ -150,8 +150,8 @@ impl<R: Wait + Clock + Copy + Drop, F: Write + Drop, T: Write + Drop, O: Write +
         }
     }
 
-    // Writes what the step dropped, if it did, and issued, and what changed of the router
-    // into the journal, if there is one.
+    // Writes what the step dropped and issued, and what changed of the router, into the journal, if
+    // there is one.
     fn log(&mut self, router: &Router, step: &Step, dropped: Option<DroppedAt>) {
         let Some(seen) = &mut self.seen else {
             return;
@@ -169,7 +169,7 @@ impl<R: Wait + Clock + Copy + Drop, F: Write + Drop, T: Write + Drop, O: Write +
         all.log(self.alloc, self.ticks, self.teller.router, changes);
     }
 
-    // Tells of a neighbour that has an LSA which the router refuses, if one is to be told of.
+    // Reports a neighbour that has an LSA which the router refuses, if there is one to report.
     fn tell_refused(&mut self, due: Option<RefusedLsa>) {
         let Some(refused) = due else {
             return;
@@ -179,7 +179,7 @@ impl<R: Wait + Clock + Copy + Drop, F: Write + Drop, T: Write + Drop, O: Write +
         all.tell(RefusedShown { file, refused });
     }
 
-    // Reports a packet that the router dropped for how it or its sender is set.
+    // Reports a packet that the router dropped because of how it or its sender is configured.
     fn tell_misfit(&mut self, router: &Router, dropped: Option<DroppedAt>) {
         let Some(misfit) = self.teller.misfits.due(router, self.ticks, dropped) else {
             return;
@@ -189,7 +189,7 @@ impl<R: Wait + Clock + Copy + Drop, F: Write + Drop, T: Write + Drop, O: Write +
         all.tell(MisfitShown { file, misfit });
     }
 
-    // Prints the router's table, where one is due after this tick.
+    // Prints the router's table, if one is due after this tick.
     fn print_table(&mut self, router: &Router) {
         let Some(every) = self.every else {
             return;
@@ -200,7 +200,7 @@ impl<R: Wait + Clock + Copy + Drop, F: Write + Drop, T: Write + Drop, O: Write +
         }
     }
 
-    // Shows how far the run has come.
+    // Shows the progress of the run.
     fn show(&mut self, router: &Router) {
         if !self.shows {
             return;
@@ -286,18 +286,18 @@ struct Shared<F: Write + Drop, T: Write + Drop, O: Write + Drop> {
     capture: Capture<F>,
     // The name of its file.
     pcap: Option<String>,
-    // `None` where no tables are printed, or no more.
+    // `None` if no tables are printed, or no longer.
     tables: Option<Tables<O>>,
-    // What ends the run then.
+    // What ends the run in that case.
     ending: Option<Ending>,
-    // `None` where no journal is written.
+    // `None` if no journal is written.
     journal: Option<Journal<F>>,
     // The name of its file.
     log: Option<String>,
-    // Why tables are printed no more.
+    // Why tables are no longer printed.
     failure: Option<Failure>,
     line: StatusLine<T>,
-    // What routers have dropped that have ended; `None` where some of it could not be kept.
+    // What routers that have ended dropped; `None` if some of it could not be stored.
     drops: Option<Vec<Drops>>,
     // The most ticks that a router has taken.
     ticks: u64,
@@ -306,7 +306,7 @@ struct Shared<F: Write + Drop, T: Write + Drop, O: Write + Drop> {
 }
 
 impl<F: Write + Drop, T: Write + Drop, O: Write + Drop> Shared<F, T, O> {
-    // What is shared of what is to be noted, before anything is.
+    // Makes the shared part, before anything is noted.
     fn new(alloc: Global, noted: Noted<F, T, O>) -> Shared<F, T, O> {
         Shared {
             capture: Capture::new(noted.capture),
@@ -324,8 +324,8 @@ impl<F: Write + Drop, T: Write + Drop, O: Write + Drop> Shared<F, T, O> {
         }
     }
 
-    // A router took its tick of this number, and has so many Full
-    // neighbours in place of so many before.
+    // A router took its tick of this number, and its number of Full neighbours changed from
+    // `before` to `full`.
     fn note<C: Clock>(
         &mut self,
         clock: &C,
@@ -348,7 +348,7 @@ impl<F: Write + Drop, T: Write + Drop, O: Write + Drop> Shared<F, T, O> {
         }
     }
 
-    // Writes a record into the capture. That it is written no more is told once.
+    // Writes a record into the capture. When the capture fails, this is reported once.
     fn capture(&mut self, record: Result<Vec<u8>, io::Error>) {
         let was_written = self.capture.is_written();
         self.capture.write(record);
@@ -357,7 +357,8 @@ impl<F: Write + Drop, T: Write + Drop, O: Write + Drop> Shared<F, T, O> {
         }
     }
 
-    // Writes what changed of a router into the journal. That it is written no more is told once.
+    // Writes what changed of a router into the journal. When the journal fails, this is reported
+    // once.
     fn log(
         &mut self,
         alloc: Global,
@@ -375,8 +376,8 @@ impl<F: Write + Drop, T: Write + Drop, O: Write + Drop> Shared<F, T, O> {
         }
     }
 
-    // Prints the table of a router that has taken so many ticks, up to the first that fails: the
-    // run ends with it.
+    // Prints the table of a router that has taken this many ticks. The first print that fails is
+    // the last, and the run ends with it.
     fn print_table(&mut self, alloc: Global, id: RouterId, ticks: u64, router: &Router) {
         let Some(tables) = &mut self.tables else {
             return;
@@ -391,7 +392,7 @@ impl<F: Write + Drop, T: Write + Drop, O: Write + Drop> Shared<F, T, O> {
         }
     }
 
-    // Keeps what a router has dropped that ends.
+    // Stores what a router dropped that ends.
     fn keep(&mut self, router: RouterId, links: Vec<DropCounts>) {
         let Some(drops) = &mut self.drops else {
             return;
@@ -401,19 +402,19 @@ impl<F: Write + Drop, T: Write + Drop, O: Write + Drop> Shared<F, T, O> {
         }
     }
 
-    // What is kept of that, once.
+    // Returns what is stored of that, once.
     fn take_drops(&mut self, alloc: Global) -> Result<Vec<Drops>, AllocError> {
         mem::replace(&mut self.drops, Some(Vec::new(alloc))).ok_or(AllocError)
     }
 
-    // Tells a line.
+    // Writes a message.
     fn tell<D: Display + Drop>(&mut self, line: D) {
         let messages = self.line.messages();
         let _ = writeln!(messages, "{line}");
         let _ = messages.flush();
     }
 
-    // A router ends. With the last one the line goes.
+    // A router ends. The line is erased with the last one.
     fn end(&mut self) {
         self.running = self.running.saturating_sub(1);
         if self.running == 0 {
@@ -422,7 +423,7 @@ impl<F: Write + Drop, T: Write + Drop, O: Write + Drop> Shared<F, T, O> {
     }
 }
 
-// Tells that a file of this name is written no more.
+// Reports that a file of this name is no longer written.
 fn tell_lost<T: Write + Drop>(name: &Option<String>, line: &mut StatusLine<T>) {
     let Some(name) = name else {
         return;
@@ -432,8 +433,8 @@ fn tell_lost<T: Write + Drop>(name: &Option<String>, line: &mut StatusLine<T>) {
     let _ = messages.flush();
 }
 
-// What is told of one router: by its Router ID, by the name of its file, of LSAs that it refuses,
-// and of packets that do not fit it.
+// The messages about one router: its Router ID, the name of its file, and what is known of LSAs
+// that it refuses and packets that do not fit it.
 #[derive(Drop)]
 struct Teller {
     router: RouterId,
@@ -444,7 +445,7 @@ struct Teller {
 }
 
 impl Teller {
-    // The router of no file, of which nothing is told.
+    // For the router of no file, about which nothing is reported.
     fn none(alloc: Global) -> Teller {
         Teller {
             router: RouterId(0),
@@ -467,7 +468,7 @@ impl Teller {
         })
     }
 
-    // What is to be told of an LSA of an LS type that the router refuses.
+    // The LSA of a refused LS type that must be reported now, if there is one.
     fn other_due(&mut self, router: &Router) -> Option<RefusedLsa> {
         match &mut self.others {
             Some(others) => others.due(router),
@@ -476,7 +477,7 @@ impl Teller {
     }
 }
 
-// The head of a capture.
+// The file header of a capture.
 fn capture_head(alloc: Global) -> Result<Vec<u8>, AllocError>
     ensures { IfOk result (λ head. head.items ≡ file_header) }
 {
@@ -485,7 +486,7 @@ fn capture_head(alloc: Global) -> Result<Vec<u8>, AllocError>
     Ok(head)
 }
 
-// What a router of these interfaces has dropped at first, if it is counted.
+// The drop counts of a router with these interfaces at the start, if they are counted.
 fn first_counts(
     is_counted: bool,
     interfaces: &[Interface],
@@ -498,7 +499,7 @@ fn first_counts(
     }
 }
 
-// What is seen of a router before its first step, if a journal is written.
+// What is known of a router before its first step, if a journal is written.
 fn first_seen(is_wanted: bool, alloc: Global) -> Option<Seen> {
     if is_wanted {
         Some(Seen::nothing(alloc))
@@ -507,7 +508,7 @@ fn first_seen(is_wanted: bool, alloc: Global) -> Option<Seen> {
     }
 }
 
-// In memory that can be shared.
+// Puts it in memory that can be shared.
 fn share<S: Drop>(shared: S, alloc: Global) -> Result<Arc<Mutex<S>, Global>, AllocError> {
     Arc::new(alloc, Mutex::new(shared)).map_err(AllocError::from)
 }

@@ -21,13 +21,13 @@ const LINK_OPAQUE: u8 = 9;
 
 const AS_OPAQUE: u8 = 11;
 
-/// What a router was told of LSAs that it refuses, neighbour for neighbour.
+/// The refused LSAs of a router that were reported, by neighbour.
 #[derive(Drop)]
 pub struct Others {
     passes_over: bool,
-    // Of the packet that came in last.
+    // From the packet that arrived last.
     heard: Option<RefusedLsa>,
-    // The links and neighbours that are told of.
+    // The links and neighbours that were reported.
     told: BTreeSet<ToldKey>,
 }
 
@@ -45,7 +45,7 @@ impl Others {
     ghost use Rattle.ospf_notes.specs.Others.{refused_in};
     ghost use Rattle.ospf_notes.specs.Refused.{IsToldOnce, refused_due};
 
-    /// None yet. The router passes LSAs of LS types 3, 4 and 5 over, or refuses them.
+    /// None yet. The router passes over LSAs of LS types 3, 4 and 5, or refuses them.
     pub fn new(alloc: Global, passes_over: bool) -> Others
         ensures settings { result.passes_over ≡ passes_over }
         ensures heard { result.heard ≡ None }
@@ -58,7 +58,7 @@ impl Others {
         }
     }
 
-    /// A packet has come in.
+    /// A packet has arrived.
     pub fn hears(&mut self, link: usize, packet: &[u8])
         ensures { self.new ≡ record self.old {
           heard = refused_in self.old.passes_over link (packet_of packet.now);
@@ -67,12 +67,12 @@ impl Others {
         self.heard = refused_in(self.passes_over, link, packet);
     }
 
-    /// What is to be told after a step: the LSA of the packet that came in last, where a neighbour
-    /// of the router described or sent it, and once a neighbour. Where memory runs out it is told
-    /// again.
+    /// Returns what to report after a step: the LSA of the packet that arrived last, if a neighbour
+    /// of the router described or sent it, once for each neighbour. If memory runs out it is
+    /// reported again.
     pub fn due(&mut self, router: &Router) -> Option<RefusedLsa>
         ensures due { result ≡ refused_due router.now self.old.told self.old.heard }
-        // What is kept.
+        // What is stored.
         ensures settings { self.new.passes_over ≡ self.old.passes_over }
         ensures heard { self.new.heard ≡ None }
         ensures told { IfSome result (λ r. IsToldOnce self.old.told r self.new.told) }
@@ -87,7 +87,7 @@ impl Others {
     }
 }
 
-// What a packet on a link has that the router refuses.
+// The LSA in a packet on a link that the router refuses, if there is one.
 fn refused_in(passes_over: bool, link: usize, packet: &[u8]) -> Option<RefusedLsa>
     ensures { result ≡ refused_in passes_over link (packet_of packet.now) }
 {
@@ -105,8 +105,8 @@ fn refused_in(passes_over: bool, link: usize, packet: &[u8]) -> Option<RefusedLs
     })
 }
 
-// The first LSA in a Database Description of an LS type that the router refuses, or in an Update
-// for which its sender waits, too.
+// The first LSA of an LS type that the router refuses: in a Database Description, or in an Update
+// if its sender waits for an acknowledgment.
 fn untaken_of(passes_over: bool, body: Body<'_>) -> Option<Untaken>
     ensures { result ≡ untaken_of passes_over (body_said body.entry) }
 {
@@ -142,15 +142,15 @@ fn first_sent(passes_over: bool, lsas: Lsas<'_>) -> Option<u8>
     None
 }
 
-// The LS type of a slice, each of which is as long as a header.
+// The LS type of a slice, which is as long as an LSA header.
 fn type_of(lsa: &[u8]) -> u8
     ensures { result ≡ type_of lsa.now }
 {
     lsa.get(TYPE_AT).copied().unwrap_or(0)
 }
 
-// Whether a neighbour waits for an acknowledgment of a refused LSA that it sends. It does not of an
-// opaque LSA: where two others on a network take those, they multicast them.
+// Whether a neighbour waits for the acknowledgment of a refused LSA that it sends. It does not for
+// an opaque LSA: if two other routers on a network accept these, they multicast them.
 fn is_unwanted(kind: u8, passes_over: bool) -> bool
     ensures { result ≡ is_unwanted passes_over kind }
 {
@@ -163,8 +163,8 @@ fn is_opaque(kind: u8) -> bool
     kind >= LINK_OPAQUE && kind <= AS_OPAQUE
 }
 
-// Whether a router refuses LSAs of an LS type: all but router-LSAs and network-LSAs, and those that
-// it passes over.
+// Whether a router refuses LSAs of an LS type: all but router-LSAs, network-LSAs and those that it
+// passes over.
 fn is_refused(kind: u8, passes_over: bool) -> bool
     ensures { result ≡ is_refused passes_over kind }
 {

@@ -1,4 +1,4 @@
-//! LSAs that neighbours have and their router refuses: each neighbour is told of once.
+//! LSAs that neighbours have and their router refuses: each neighbour is reported once.
 
 ghost use Rattle.std.specs.Fmt.{WritesOnOk};
 ghost use Rattle.std.specs.Prelude.{◌≡◌, OnErr, OnOk, false, true};
@@ -12,7 +12,7 @@ use std::alloc::AllocError;
 use std::collections::BTreeSet;
 use std::fmt::{self, Display, Formatter, Write};
 
-/// What a packet has that the router refuses.
+/// An LSA in a packet that the router refuses.
 #[derive(Clone, Copy)]
 pub enum Untaken {
     /// An LSA of this LS type, which a Database Description describes (RFC 2328, section 10.6).
@@ -20,7 +20,7 @@ pub enum Untaken {
     /// An LSA of this LS type, which a Link State Update sends (RFC 2328, section 13).
     Sent(u8),
     /// A router-LSA or network-LSA with this fault, which a Link State Update sends: it is never
-    /// acknowledged, and a neighbour that was asked for it stays in Loading (section 10.9).
+    /// acknowledged, and a neighbour from which it was requested stays in Loading (section 10.9).
     Invalid(LsaFault),
 }
 
@@ -59,7 +59,7 @@ fn write_type<W: Write>(f: &mut Formatter<W>, kind: u8) -> fmt::Result
     )
 }
 
-/// A neighbour on a link, and what it has that the router refuses.
+/// A neighbour on a link, and its LSA that the router refuses.
 #[derive(Clone, Copy)]
 pub struct RefusedLsa {
     pub link: usize,
@@ -67,7 +67,7 @@ pub struct RefusedLsa {
     pub untaken: Untaken,
 }
 
-/// That, by the name of the router's file.
+/// A refused LSA, with the name of the router's file.
 #[derive(Clone, Copy)]
 pub struct RefusedShown<'a> {
     pub file: &'a str,
@@ -92,8 +92,8 @@ impl Display for RefusedShown<'_> {
 /// The number of a link, and the Router ID of a neighbour there.
 pub type ToldKey = (usize, u32);
 
-/// Whether it is to be told now: where it is of a neighbour of the router, and once a neighbour.
-/// Where memory runs out it is told again.
+/// Whether to report it now: if it is from a neighbour of the router, once for each neighbour. If
+/// memory runs out it is reported again.
 pub fn tell_once(told: &mut BTreeSet<ToldKey>, router: &Router, refused: RefusedLsa) -> bool
     ensures value { result ≡ is_told_now router.now told.old refused }
     ensures told { result ≡ true → IsToldOnce told.old refused told.new }
@@ -118,7 +118,7 @@ fn was_told_of(told: &BTreeSet<ToldKey>, refused: RefusedLsa) -> bool
     told.contains(&(refused.link, refused.neighbour.0))
 }
 
-// It is told of.
+// Adds it to the reported ones.
 fn add(told: &mut BTreeSet<ToldKey>, refused: RefusedLsa) -> Result<(), AllocError>
     ensures ok { OnOk result (MarksNeighbour told.old refused told.new) }
     ensures err { OnErr result (told.new ≡ told.old) }
@@ -129,7 +129,7 @@ fn add(told: &mut BTreeSet<ToldKey>, refused: RefusedLsa) -> Result<(), AllocErr
     }
 }
 
-// Whether the one that has it is a neighbour on the link.
+// Whether the router that has it is a neighbour on the link.
 fn is_of_neighbour(router: &Router, refused: RefusedLsa) -> bool
     ensures { result ≡ is_of_neighbour router.now refused }
 {

@@ -7,7 +7,7 @@ use std::alloc::Global;
 use std::io::Write;
 use std::marker::Model;
 
-/// Where the tables of routers are printed, each after so many of its ticks.
+/// Prints the tables of routers, each after a number of its ticks.
 #[derive(Drop)]
 pub struct Tables<O: Write + Drop> {
     every: u64,
@@ -40,15 +40,15 @@ impl<O: Write + Drop> Tables<O> {
         }
     }
 
-    // After how many ticks each is printed.
+    // After how many ticks each table is printed.
     pub(crate) fn every(&self) -> u64
         ensures { result ≡ self.now.every }
     {
         self.every
     }
 
-    // Prints the table of a router that has taken so many ticks; where that
-    // fails, a beginning of it.
+    // Prints the table of a router that has taken this many ticks; if that fails, a beginning of
+    // it.
     pub(crate) fn print(
         &mut self,
         alloc: Global,

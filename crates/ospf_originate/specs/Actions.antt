@@ -9,15 +9,15 @@ use Rattle.ospf_wanted.specs.Wanted.{WantedValue}
 use Rattle.ospf_originate.specs.declared.action.OwnAction.{OwnAction}
 use Rattle.ospf_originate.specs.declared.action.OwnAction.TheVariants.{Leave, Flush, Issue}
 
--- the LSA is issued with the number after the kept one, if there is one; else its copy makes room
--- for the numbers to begin again, or does so already (12.1.6)
+-- the LSA is issued with the number after the recorded one, if there is one; else its copy makes
+-- room for the numbers to begin again, or does so already (12.1.6)
 abbrev pub next_action : Option Entry → ℤ → OwnAction
 next_action copy kept =
     if int_eq kept max_sequence_number
     then elim copy [ None ↦ Leave | Some e ↦ (if is_fresh e then Flush else Leave) ]
     else Issue (kept +ℤ pos 1)
 
--- a wanted LSA is due: the database has no copy of it, or one that has come to
+-- a wanted LSA is due: the database has no copy of it, or one that has reached
 -- LSRefreshTime or says something else (12.4)
 abbrev pub is_due : WantedValue → Option Entry → Bool
 is_due w None = true
@@ -35,9 +35,9 @@ abbrev pub unwanted_action : Option Entry → Bool → Bool → OwnAction
 unwanted_action None heard own = Leave
 unwanted_action (Some copy) heard own = if heard || (own && is_fresh copy) then Flush else Leave
 
--- what becomes of the LSA of a key: by what is wanted of it, its copy in the database, whether a
+-- what happens to the LSA of a key: by what is wanted of it, its copy in the database, whether a
 -- self-originated one was installed in this step, whether its Advertising Router is this one,
--- whether it was issued less than MinLSInterval ago, and the kept number
+-- whether it was issued less than MinLSInterval ago, and the recorded number
 unfoldable pub own_action : Option WantedValue → Option Entry → Bool → Bool → Bool → ℤ → OwnAction
 own_action None copy heard own waits kept = unwanted_action copy heard own
 own_action (Some w) copy heard own waits kept = wanted_action w copy heard waits kept

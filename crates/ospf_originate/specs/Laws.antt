@@ -1,5 +1,5 @@
--- Laws of own LSAs: their numbers, and what is kept for them; those of what is
--- wanted stand in `ospf_wanted`.
+-- Laws of own LSAs: their numbers, and what is recorded for them; those of what is
+-- wanted are in `ospf_wanted`.
 use Rattle.std.specs.Prelude.{◌≡◌, ◌&&◌, ◌+ℤ◌, ◌≤ℤ◌, ℕ, ℤ, pos, true, List, [], Option, Some, if◌then◌else◌, map, option_and_then}
 use Rattle.std.specs.Int.{int_max}
 use Rattle.ospf_area.specs.Asking.{turned_link}
@@ -38,7 +38,8 @@ pub use Rattle.ospf_wanted.specs.Laws.{WantedAreOfTheirKeys, WantedAreOwn, Wante
 
 -- ---- numbers
 
--- an issued LSA's number is kept, if it is the router's own, and no other number changes (12.1.6)
+-- an issued LSA's number is recorded, if it is the router's own, and no other number changes
+-- (12.1.6)
 abbrev pub IssuedIsKept : Type 0
 IssuedIsKept =
     (w : WantedValue) (number : ℤ) (s : AreaValue) (o o' : OutputsValue) (s' : AreaValue)
@@ -58,7 +59,7 @@ IssuedWaits =
 
 -- ---- the own LSAs that end a step
 
--- an issue is of what is wanted, with the number after the kept one (12.1.6)
+-- an issue is of what is wanted, with the number after the recorded one (12.1.6)
 pub record IsNextIssue (w : Option WantedValue) (kept number : ℤ) : Type 0 where
   pub value : WantedValue
   pub is_wanted : w ≡ Some value
@@ -70,7 +71,7 @@ IssueIsNext =
     (s : AreaValue) (key : LsaKey) (number : ℤ) → action_of s key ≡ Issue number
     → IsNextIssue (wanted_of (wants s) key) (kept_number s key) number
 
--- it is newer than a copy whose number is not above the kept one (13.1)
+-- it is newer than a copy whose number is not above the recorded one (13.1)
 abbrev pub NextIsNewer : Type 0
 NextIsNewer =
     (new copy : LsaHeader) (kept : ℤ) → copy.number ≤ℤ kept → new.number ≡ kept +ℤ pos 1

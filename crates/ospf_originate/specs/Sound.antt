@@ -1,4 +1,4 @@
--- What a router keeps, so that its own LSAs can be made, told apart and numbered (RFC
+-- What a router records, so that its own LSAs can be made, distinguished and numbered (RFC
 -- 2328, sections 12.1.6 and 12.4).
 use Rattle.std.specs.Prelude.{◌≡◌, ◌≤ℤ◌, true, Some, is_some}
 use Rattle.ospf_base.specs.declared.ids.LsaKey.{LsaKey}
@@ -15,13 +15,13 @@ AreNumbered s =
     (key : LsaKey) → is_some (database_entry s key) ≡ true → is_own s.router key ≡ true
     → is_some (numbering_of s.numbering key) ≡ true
 
--- and the number of its copy is at most the kept one: the next one issued is newer (12.1.6)
+-- and the number of its copy is at most the recorded one: the next one issued is newer (12.1.6)
 abbrev pub AreCounted : AreaValue → Type 0
 AreCounted s =
     (key : LsaKey) (copy : Entry) → database_entry s key ≡ Some copy → is_own s.router key ≡ true
     → (header_at copy).number ≤ℤ kept_number s key
 
--- no kept number is above the greatest one
+-- no recorded number is above the greatest one
 abbrev pub AreBelowGreatest : AreaValue → Type 0
 AreBelowGreatest s = (key : LsaKey) → kept_number s key ≤ℤ s.greatest
 

@@ -28,8 +28,8 @@ use Rattle.ospf_originate.specs.declared.action.OwnAction.TheVariants.{Leave, Fl
 -- ---- an issue
 
 -- a wanted LSA is issued with a number (12.4): it is stored as any other, in place of the old
--- copy, which is on no retransmission list, at age 0, flooded to all, and its number kept; and
--- the tick of the issue is kept too
+-- copy, which is on no retransmission list, at age 0, flooded to all, and its number recorded; and
+-- the tick of the issue is recorded too
 pub record Issues (w : WantedValue) (number : ℤ) (before : AreaValue) (out out' : OutputsValue)
     (after : AreaValue) : Type 0 where
   pub lsa : List ℕ
@@ -52,13 +52,13 @@ pub record Issues (w : WantedValue) (number : ℤ) (before : AreaValue) (out out
 abbrev pub wants : AreaValue → List WantedValue
 wants s = wanted_lsas s.stub_router s.router s.links
 
--- what becomes of a key (12.4, 13.4)
+-- what happens to a key (12.4, 13.4)
 unfoldable pub action_of : AreaValue → LsaKey → OwnAction
 action_of s key =
     own_action (wanted_of (wants s) key) (database_entry s key) (among s.heard key)
     (is_own s.router key) (waits s.tick s.numbering key) (kept_number s key)
 
--- an issue, and LoadingDone and the next Requests that come of it (10.3, 10.9)
+-- an issue, and LoadingDone and the next Requests that follow from it (10.3, 10.9)
 pub record IssuesAndTurns (w : WantedValue) (number : ℤ) (before : AreaValue)
     (out out' : OutputsValue) (after : AreaValue) : Type 0 where
   pub mid : AreaValue

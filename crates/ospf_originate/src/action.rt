@@ -1,4 +1,4 @@
-//! What becomes of an own LSA.
+//! What happens to an own LSA.
 
 ghost use Rattle.std.specs.Prelude.{◌≡◌, IfErr, IfOk, None, OnErr, Some, false, if◌then◌else◌, option_map, option_copied};
 ghost use Rattle.ospf_lsa.specs.Value.{IsUnmade};
@@ -13,7 +13,7 @@ use ospf_lsdb::{EntryView, LS_REFRESH_TIME};
 use ospf_wanted::OwnLsa;
 use std::alloc::Global;
 
-/// What becomes of an own LSA.
+/// What happens to an own LSA.
 #[derive(Clone, Copy, Debug, PartialEq, Eq)]
 pub enum OwnAction {
     /// Nothing.
@@ -31,8 +31,8 @@ pub struct DueAction {
     pub action: OwnAction,
 }
 
-/// What becomes of the LSA of a key (RFC 2328, sections 12.4, 13.4 and 14.1), by what is wanted of
-/// it, if anything, and its copy in the database. `heard` tells whether a self-originated one was
+/// What happens to the LSA of a key (RFC 2328, sections 12.4, 13.4 and 14.1), by what is wanted of
+/// it, if anything, and its copy in the database. `heard` says whether a self-originated one was
 /// installed in this step, `own` whether its Advertising Router is this one, `waits` whether it was
 /// issued less than MinLSInterval ago; `kept` is the greatest number of its numbering run.
 ///
@@ -66,7 +66,7 @@ pub(crate) fn is_fresh(copy: &EntryView<'_>) -> bool
     copy.age().ticks() < MAX_AGE
 }
 
-// What an LSA that is to be issued comes to.
+// What happens to an LSA that must be issued.
 pub(crate) fn next_action(copy: Option<EntryView<'_>>, kept: i32) -> OwnAction
     ensures is { result ≡ next_action copy.entry kept }
     ensures used { IsUsed result }
@@ -78,7 +78,7 @@ pub(crate) fn next_action(copy: Option<EntryView<'_>>, kept: i32) -> OwnAction
     }
 }
 
-// What a wanted LSA comes to.
+// What happens to a wanted LSA.
 fn wanted_action(
     wanted: &OwnLsa,
     copy: Option<EntryView<'_>>,
@@ -118,7 +118,7 @@ fn is_due(wanted: &OwnLsa, copy: Option<&EntryView<'_>>, alloc: Global) -> Resul
     }
 }
 
-// What one that is not wanted comes to.
+// What happens to one that is not wanted.
 fn unwanted_action(copy: Option<EntryView<'_>>, heard: bool, own: bool) -> OwnAction
     ensures is { result ≡ unwanted_action copy.entry heard own }
     ensures used { IsUsed result }
@@ -129,7 +129,7 @@ fn unwanted_action(copy: Option<EntryView<'_>>, heard: bool, own: bool) -> OwnAc
     }
 }
 
-// What an LSA without a next number comes to.
+// What happens to an LSA without a next number.
 fn makes_room(copy: Option<EntryView<'_>>) -> OwnAction
     ensures is { result ≡ (elim copy.entry [
       | None ↦ OwnAction.Leave

@@ -22,7 +22,7 @@ use ospf_wanted::{is_dr_of, says_network, says_router};
 
 /// Whether no self-originated LSA was heard in this step, and nothing is due of any key
 /// (RFC 2328, sections 12.4, 13.4 and 14.1). What is wanted is compared with its copies
-/// as they stand: nothing is built.
+/// as they are: nothing is built.
 pub(crate) fn is_idle(area: &Area) -> bool
     requires { IsSound area.now }
     ensures { IsTrue result ↔ IsIdle area.now }
@@ -78,7 +78,7 @@ fn router_is_due(area: &Area, copy: Option<&EntryView<'_>>) -> bool
     }
 }
 
-// Whether nothing becomes of a wanted LSA, as it is due or not.
+// Whether a wanted LSA is left as it is, given whether it is due.
 fn stays(area: &Area, key: &LsaKey, copy: Option<EntryView<'_>>, due: bool) -> bool
     ensures { result ≡ ((waits area.now.tick area.now.numbering key.now || not due)
         || is_left (next_action copy.entry (kept_number area.now key.now))) }

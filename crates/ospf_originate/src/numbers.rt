@@ -11,7 +11,7 @@ use ospf_base::{LsaKey, have_passed};
 /// MinLSInterval: the fewest ticks between two issues of an LSA (RFC 2328, appendix B).
 pub const MIN_LS_INTERVAL: u16 = 5;
 
-/// The number kept for a key: the greatest of its numbering run, or the floor.
+/// The number recorded for a key: the greatest of its numbering run, or the floor.
 pub(crate) fn kept_number(all: &[Numbering], floor: i32, key: &LsaKey) -> i32
     ensures { result ≡ (elim (numbering_of all.now key.now) [ None ↦ floor | Some n ↦ n.kept ]) }
 {

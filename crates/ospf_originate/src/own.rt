@@ -33,7 +33,7 @@ use std::collections::BTreeSet;
 /// and 14.1), in the order of their keys, at the end of a step. Where nothing is due and none
 /// was heard, no memory is taken.
 ///
-/// `AllocError` where memory runs out; then the router is to be stopped.
+/// `AllocError` when memory runs out; then the router must be stopped.
 pub fn own_lsas(area: &mut Area, out: &mut Outputs, alloc: Global) -> Result<(), AllocError>
     requires { IsSound area.old }
     ensures own { OnOk result (OwnLsas area.old out.old out.new area.new) }
@@ -68,11 +68,11 @@ fn wanted_by(area: &Area, alloc: Global) -> Result<Vec<OwnLsa>, AllocError>
 
 // All that is due.
 fn due_now(area: &Area, all: &[OwnLsa], alloc: Global) -> Result<Vec<DueAction>, AllocError>
-    // These are the LSAs that are wanted, their numbers are kept, and each can be made.
+    // These are the LSAs that are wanted, their numbers are recorded, and each can be made.
     requires wants { map wanted_value all.now ≡ wants area.now }
     requires numbered { AreNumbered area.now }
     requires made { AllByRecursion CanBeMade (wants area.now) }
-    // Then just what is due is told, each with a number that is used.
+    // Then exactly what is due is returned, each with a number that is used.
     ensures is { IfOk result (λ v. IsDue area.now v.items) }
     ensures used { IfOk result (λ v. AllByRecursion HasUsedNumber v.items) }
 {
@@ -178,7 +178,7 @@ fn due_of(
     Ok(out)
 }
 
-// What becomes of a key.
+// What happens to a key.
 #[tactic(auto, unfolding(crate::specs::Steps::action_of))]
 fn action_of(
     area: &Area,

@@ -16,10 +16,10 @@ use ospf_update::store;
 use ospf_wanted::OwnLsa;
 use std::alloc::{AllocError, Global};
 
-/// Issues a wanted LSA with a number (RFC 2328, section 12.4): it is stored as an LSA of a
-/// neighbour's is, at age 0, and flooded to all.
+/// Issues a wanted LSA with a number (RFC 2328, section 12.4): it is stored as a neighbour's LSA
+/// would be, at age 0, and flooded to all.
 ///
-/// `AllocError` where memory runs out; then the router is to be stopped.
+/// `AllocError` when memory runs out; then the router must be stopped.
 pub fn issue(
     area: &mut Area,
     wanted: &OwnLsa,
@@ -58,13 +58,13 @@ fn made(wanted: &OwnLsa, number: i32, alloc: Global) -> Result<Lsa, AllocError>
     }
 }
 
-// Tells of an LSA that is issued.
+// Reports an LSA that is issued.
 fn tell_issued(out: &mut Outputs, lsa: &LsaView<'_>, alloc: Global) -> Result<(), AllocError>
     ensures told { OnOk result (out.new ≡ record out.old
         { issued = out.old.issued ++ lsa.now ∷ [] }) }
     ensures valid { OnOk result (IsLsa lsa.now) }
 {
-    // By its bytes the view tells that it is of an LSA.
+    // The bytes of the view show that it is of an LSA.
     let _bytes = lsa.as_bytes();
     match Lsa::copy(alloc, lsa) {
         Ok(copy) => {
@@ -75,7 +75,7 @@ fn tell_issued(out: &mut Outputs, lsa: &LsaView<'_>, alloc: Global) -> Result<()
     }
 }
 
-// The tick of an issue is kept.
+// The tick of an issue is recorded.
 fn note_tick(area: &mut Area, key: &LsaKey)
     ensures { area.new ≡ record area.old
         { numbering = issued key.now area.old.tick area.old.numbering } }

@@ -7,7 +7,7 @@ use Rattle.ospf_lsa.specs.Header.{header_of, header_bytes, HeaderFits}
 use Rattle.ospf_lsa.specs.declared.header.LsaHeader.{LsaHeader}
 use Rattle.ospf_packet.specs.Entries.{packet_entries_in}
 
--- so many headers, one after the other
+-- this many headers, one after the other
 abbrev pub headers_in : ℕ → List ℕ → List LsaHeader
 headers_in = packet_entries_in lsa_header header_of
 

@@ -38,7 +38,7 @@ packet_body_type (request entries) = 3
 packet_body_type (update lsas) = 4
 packet_body_type (acknowledgment headers) = 5
 
--- the bytes of what it says, behind the header
+-- the bytes of what it says, after the header
 abbrev pub packet_body_bytes : BodyMeaning → List ℕ
 packet_body_bytes (hello fields neighbours) = hello_bytes fields ++ routers_bytes neighbours
 packet_body_bytes (description fields headers) =

@@ -18,7 +18,7 @@ use Rattle.ospf_packet.specs.declared.fault.PacketFault.TheVariants as fault
 abbrev pub packet_type : List ℕ → ℕ
 packet_type packet = slice_index packet 1
 
--- what stands behind the header (appendix A.3.1)
+-- what follows the header (appendix A.3.1)
 abbrev pub body_of : List ℕ → List ℕ
 body_of packet = drop packet_header packet
 
@@ -46,7 +46,7 @@ IsPacketFreeOf fault.Body packet = IsBody (packet_type packet) (body_of packet)
 abbrev pub IsPacket : List ℕ → Type 0
 IsPacket packet = (f : PacketFault) → IsPacketFreeOf f packet
 
--- the order in which faults are told
+-- the order in which faults are reported
 abbrev pub fault_order : PacketFault → ℕ
 fault_order fault.TooLong = 0
 fault_order fault.Short = 1
@@ -57,7 +57,7 @@ fault_order fault.Sum = 5
 fault_order fault.Auth = 6
 fault_order fault.Body = 7
 
--- the bytes have this fault, and none that is told before it
+-- the bytes have this fault, and none that comes before it in that order
 abbrev pub IsFirstPacketFault : List ℕ → PacketFault → Type 0
 IsFirstPacketFault packet f = faults.IsFirstBroken fault_order (λ g. IsPacketFreeOf g packet) f
 

@@ -9,7 +9,7 @@ use Rattle.ospf_packet.specs.Packet.{meaning_of, packet_type, body_of}
 use Rattle.ospf_packet.specs.Requests.{request_size}
 use Rattle.ospf_packet.specs.Slices.{lsa_length}
 
--- the bytes are so many slices and nothing else, as a test (`AreSlices` of Slices)
+-- the bytes are this many slices and nothing else, as a test (`AreSlices` of Slices)
 abbrev pub are_slices : ℕ → List ℕ → Bool
 are_slices zero bytes = length bytes == 0
 are_slices (suc n) bytes =

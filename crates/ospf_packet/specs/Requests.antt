@@ -27,6 +27,6 @@ pub record RequestEntryFits (e : RequestEntry) : Type 0 where
   pub id : e.id < 2 ^ 32
   pub router : e.router.0 < 2 ^ 32
 
--- so many entries, one after the other
+-- this many entries, one after the other
 abbrev pub requests_in : ℕ → List ℕ → List RequestEntry
 requests_in = packet_entries_in request_size request_entry_at

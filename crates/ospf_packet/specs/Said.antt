@@ -1,4 +1,4 @@
--- What a packet that was read says, and what one that is to be written says.
+-- What a packet that was read says, and what one that will be written says.
 use Rattle.ospf_packet.specs.declared.body.Body.{Body}
 use Rattle.ospf_packet.specs.declared.body.Body.TheVariants as read
 use Rattle.ospf_packet.specs.declared.packet.Packet.{Packet}
@@ -19,7 +19,7 @@ body_said (read.Acknowledgment headers) = acknowledgment headers
 abbrev pub said : Packet → Meaning
 said p = record { router = p.router; area = p.area; body = body_said p.body }
 
--- what the body of a packet that is to be written says
+-- what the body of a packet that will be written says
 abbrev pub body_meant : BodyValue → BodyMeaning
 body_meant (owned.Hello fields neighbours) = hello fields neighbours.items
 body_meant (owned.Description fields headers) = description fields headers.items
@@ -27,6 +27,6 @@ body_meant (owned.Request entries) = request entries.items
 body_meant (owned.Update lsas) = update lsas.items
 body_meant (owned.Acknowledgment headers) = acknowledgment headers.items
 
--- what a packet that is to be written says
+-- what a packet that will be written says
 abbrev pub meant : PacketValue → Meaning
 meant p = record { router = p.router; area = p.area; body = body_meant p.body }

@@ -13,30 +13,30 @@ pub record IsSlice (lsa : List ℕ) : Type 0 where
   pub long : lsa_header ≤ length lsa
   pub length_is : lsa_length lsa ≡ length lsa
 
--- their bytes, one LSA behind the other
+-- their bytes, one LSA after the other
 abbrev pub lsas_bytes : List (List ℕ) → List ℕ
 lsas_bytes lsas = flat_map (λ (lsa : List ℕ). lsa) lsas
 
--- the bytes are so many slices, one after the other, and nothing else
+-- the bytes are exactly this number of slices, one after the other
 pub record AreSlices (count : ℕ) (bytes : List ℕ) : Type 0 where
   pub slices : List (List ℕ)
   pub counted : length slices ≡ count
   pub each : AllByRecursion IsSlice slices
   pub spelled : bytes ≡ lsas_bytes slices
 
--- so many slices, one after the other
+-- this number of slices, one after the other
 abbrev pub slices_in : ℕ → List ℕ → List (List ℕ)
 slices_in zero bytes = []
 slices_in (suc n) bytes =
     take (lsa_length bytes) bytes ∷ slices_in n (drop (lsa_length bytes) bytes)
 
--- a slice stands at the front
+-- the bytes begin with a slice
 pub record IsFirstSlice (bytes : List ℕ) : Type 0 where
   pub header : lsa_header ≤ length bytes
   pub long : lsa_header ≤ lsa_length bytes
   pub whole : lsa_length bytes ≤ length bytes
 
--- a slice stands at the front, it is this one, and these bytes stand behind it
+-- the bytes begin with this slice, and these bytes follow it
 pub record IsSplit (bytes lsa rest : List ℕ) : Type 0 where
   pub is : IsFirstSlice bytes
   pub lsa_is : lsa ≡ take (lsa_length bytes) bytes

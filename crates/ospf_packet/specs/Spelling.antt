@@ -9,7 +9,7 @@ use Rattle.ospf_lsa.specs.declared.header.LsaHeader.{LsaHeader}
 use Rattle.ospf_packet.specs.Fields.{description_bytes}
 use Rattle.ospf_packet.specs.Meaning.{BodyMeaning, hello, description, request, update, acknowledgment, Meaning, packet_body_type, packet_body_bytes, head_bytes}
 
--- a header as it stands in a packet: its age field may be above MaxAge
+-- a header as a packet carries it: its age field may be above MaxAge
 pub record HeaderEntry : Type 0 where
   pub header : LsaHeader
   pub age_field : ℕ

@@ -101,8 +101,8 @@ impl Description {
     }
 }
 
-/// The body of a packet, read where it lies: its fields, and a walk
-/// over what is listed behind them.
+/// The body of a packet, read in place: its fields, and an iterator
+/// over the list after them.
 #[derive(Drop)]
 pub enum Body<'a> {
     /// With the Router IDs of the neighbours that were heard.

@@ -7,7 +7,7 @@ use ospf_base::{RouterId, u32_at};
 /// What a router asks for: an LSA by LS type, Link State ID and Advertising
 /// Router (RFC 2328, appendix A.3.4).
 ///
-/// The LS type is as it stands in the packet, of any kind.
+/// The LS type is the number in the packet, of any kind.
 #[derive(Clone, Copy, Debug, PartialEq, Eq)]
 pub struct RequestEntry {
     pub kind: u32,

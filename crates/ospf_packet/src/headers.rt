@@ -51,7 +51,7 @@ impl<'a> Headers<'a> {
     ghost use Rattle.ospf_base.specs.Constants.{lsa_header};
     ghost use Rattle.ospf_packet.specs.Headers.{headers_in};
 
-    /// The same walk, from where it stands.
+    /// The same walk, from where it is.
     pub fn copy(&self) -> Headers<'a>
         ensures { result ≡ self.now }
     {

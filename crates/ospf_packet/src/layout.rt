@@ -1,31 +1,31 @@
-//! Where the fields of a packet's header stand, packet types, and sizes in bytes (RFC 2328,
+//! Offsets of the fields of a packet's header, packet types, and sizes in bytes (RFC 2328,
 //! appendix A.3).
 
 // OSPF version 2.
 pub(crate) const VERSION: u8 = 2;
 
-// Where the version stands in the header (A.3.1).
+// The offset of the version in the header (A.3.1).
 pub(crate) const VERSION_AT: usize = 0;
 
-// Where the packet type stands.
+// The offset of the packet type.
 pub(crate) const TYPE_AT: usize = 1;
 
-// Where the packet length begins.
+// The offset of the packet length.
 pub(crate) const LENGTH_AT: usize = 2;
 
-// Where the Router ID begins.
+// The offset of the Router ID.
 pub(crate) const ROUTER_AT: usize = 4;
 
-// Where the Area ID begins.
+// The offset of the Area ID.
 pub(crate) const AREA_AT: usize = 8;
 
-// Where the checksum begins.
+// The offset of the checksum.
 pub(crate) const SUM_AT: usize = 12;
 
-// Where its lower byte stands.
+// The offset of its lower byte.
 pub(crate) const SUM_LOW_AT: usize = 13;
 
-// Where the AuType begins.
+// The offset of the AuType.
 pub(crate) const AUTH_AT: usize = 14;
 
 // The type of a Hello (A.3.2).

@@ -1,9 +1,9 @@
 //! The five packets of OSPF version 2 (RFC 2328, appendix A.3): reading them
-//! where they lie, and writing them.
+//! in place, and writing them.
 //!
-//! `Packet::read` judges a datagram and lends what it lists as walks. `write_packet`
-//! appends what a `PacketValue` says. What bytes are a packet stands in `specs/Packet`, how
-//! one is spelled in `specs/Meaning`.
+//! `Packet::read` checks a datagram and lends its lists as iterators. `write_packet`
+//! appends what a `PacketValue` says. `specs/Packet` defines which bytes are a packet,
+//! `specs/Meaning` how a packet is encoded.
 #![tactic(auto)]
 
 mod body;

@@ -7,10 +7,10 @@ use ospf_base::{LSA_HEADER, u16_at};
 use ospf_lsa::LENGTH_AT;
 use std::marker::Model;
 
-/// A walk over the LSAs in a Link State Update (RFC 2328, appendix A.3.5), each the slice of the
-/// packet that its length field ends.
+/// An iterator over the LSAs in a Link State Update (RFC 2328, appendix A.3.5), each the slice of
+/// the packet that its length field delimits.
 ///
-/// Whether a slice is a valid LSA is for `LsaView::read` to tell.
+/// `LsaView::read` checks whether a slice is a valid LSA.
 #[derive(Drop)]
 pub struct Lsas<'a> {
     left: u32,
@@ -52,7 +52,7 @@ impl<'a> Iterator for Lsas<'a> {
 impl<'a> Lsas<'a> {
     ghost use Rattle.ospf_packet.specs.Slices.{slices_in, AreSlices};
 
-    // The walk over so many LSAs, which are all of the bytes.
+    // The walk over this many LSAs, which are all of the bytes.
     pub(crate) fn new(count: u32, bytes: &'a [u8]) -> Lsas<'a>
         requires { AreSlices count bytes.now }
         ensures { result ≡ slices_in count bytes.now }
@@ -63,7 +63,7 @@ impl<'a> Lsas<'a> {
         }
     }
 
-    // Whether the bytes are so many LSAs.
+    // Whether the bytes are exactly this many LSAs.
     pub(crate) fn are_all(count: u32, bytes: &[u8]) -> bool
         ensures { IsTrue result ↔ AreSlices count bytes.now }
     {
@@ -78,7 +78,7 @@ impl<'a> Lsas<'a> {
     }
 }
 
-// The LSA at the front and the bytes after it, if one stands there.
+// The LSA at the front and the bytes after it, if there is one.
 fn first(bytes: &[u8]) -> Option<(&[u8], &[u8])>
     ensures found { IfSome result (λ f. IsSplit bytes.now f.0.now f.1.now) }
     ensures none { IfNone result (IsFirstSlice bytes.now → ⊥) }

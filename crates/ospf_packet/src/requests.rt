@@ -48,7 +48,7 @@ impl<'a> Requests<'a> {
     ghost use Rattle.std.specs.Prelude.{◌≡◌, ◌/◌, length};
     ghost use Rattle.ospf_packet.specs.Requests.{request_size, requests_in};
 
-    /// The same walk, from where it stands.
+    /// The same walk, from where it is.
     pub fn copy(&self) -> Requests<'a>
         ensures { result ≡ self.now }
     {

@@ -14,7 +14,7 @@ pub struct PacketValue {
     pub body: BodyValue,
 }
 
-/// The body of a packet: its fields, and what is listed behind them.
+/// The body of a packet: its fields, and the list after them.
 #[derive(Drop)]
 pub enum BodyValue {
     /// With the Router IDs of the neighbours that were heard.

@@ -30,15 +30,15 @@ use ospf_lsa::{Lsa, LsaHeader};
 /// `TooLong` where the packet is longer than `LARGEST_PACKET`, else `Memory` where the output had
 /// no room for it and could not grow. The output is unchanged by each.
 pub fn write_packet(value: &PacketValue, out: &mut Vec<u8>) -> Result<(), WriteFault>
-    // The packet comes behind what stood there, and is read again as what it was made of.
+    // The packet is appended to what was there, and reads back as what it was made of.
     ensures ok { OnOk result (out.new.items ≡ out.old.items ++ packet_bytes (meant value.now)) }
     ensures again { OnOk result (packet_of (packet_bytes (meant value.now))
         ≡ Some (meant value.now)) }
-    // A refusal leaves the output: `TooLong` comes just where the packet is that long,
+    // A refusal leaves the output unchanged: `TooLong` exactly where the packet is that long,
     ensures err { OnErr result (out.new.items ≡ out.old.items) }
     ensures too_long { (result ≡ Err fault.TooLong)
         ↔ (largest_packet < length (packet_bytes (meant value.now))) }
-    // and want of memory only where there is no room for it.
+    // and out of memory only where there is no room for it.
     ensures memory { (result ≡ Err fault.Memory)
         → vec_capacity out.old < vec_len out.old + length (packet_bytes (meant value.now)) }
 {
@@ -78,14 +78,14 @@ fn body_length(body: &BodyValue) -> Option<usize>
     }
 }
 
-// The number of bytes of so many entries behind the fields of a body,
-// unless a packet does not hold them.
+// The number of bytes of this many entries after the fields of a body,
+// unless they do not fit in a packet.
 fn entries_length(fields: usize, count: usize, size: usize) -> Option<usize>
     // The fields and the entries are those of a body.
     requires fields { fields ≤ hello_fields }
     requires positive { 0 < size }
     requires small { size ≤ lsa_header }
-    // The length is told just where a packet holds it.
+    // The length is returned exactly where it fits in a packet.
     ensures found { IfSome result (λ n. (n ≡ fields + count * size)
         × (packet_header + n ≤ largest_packet)) }
     ensures none { IfNone result (largest_packet < packet_header + (fields + count * size)) }
@@ -119,14 +119,14 @@ fn lsas_length(lsas: &[Lsa]) -> Option<usize>
     Some(total)
 }
 
-// Puts a packet of so many bytes at the end, where there is room for them.
+// Appends a packet of this many bytes, where there is room for them.
 fn push_packet(out: &mut Vec<u8>, value: &PacketValue, size: u16)
     // The size is that of the packet, which is short enough, and there is room for it.
     requires size { size ≡ packet_header + length (packet_body_bytes (body_meant value.now.body)) }
     requires short { size ≤ largest_packet }
     requires count { CountFits (body_meant value.now.body) }
     requires room { vec_len out.old + size ≤ vec_capacity out.old }
-    // Then its bytes come behind what stood there.
+    // Then its bytes follow what was there.
     ensures bytes { out.new.items ≡ out.old.items ++ packet_bytes (meant value.now) }
     ensures fits { MeaningFits (meant value.now) }
 {

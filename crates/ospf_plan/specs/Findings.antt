@@ -10,7 +10,7 @@ use Rattle.ospf_plan.specs.declared.finding.Finding.{Finding}
 use Rattle.ospf_plan.specs.declared.finding.Surroundings.{Surroundings}
 use Rattle.ospf_plan.specs.Ends.{can_be_elected, first_around, first_at, first_at_port, first_of, first_on, is_found, is_same, is_slow_end, network_key, others, port_of}
 
--- the faults that are looked for at each interface, in the order in which they are told
+-- the faults that are looked for at each interface, in the order in which they are reported
 abbrev pub every_fault : List AreaFault
 every_fault =
     fault.SameRouter ∷ fault.SameAddress ∷ fault.Area ∷ fault.Kind ∷ fault.Hello ∷ fault.Dead

@@ -20,11 +20,11 @@ set_has s q = sorted.contains nat_cmp s q
 abbrev pub touches : (ℕ → Bool) → Join → Bool
 touches s j = s j.one || s j.other
 
--- what is reached behind the join
+-- what is reached after the join
 abbrev pub marked_by : (ℕ → Bool) → Join → ℕ → Bool
 marked_by s j q = s q || (touches s j && ((j.one == q) || (j.other == q)))
 
--- what is reached behind the joins, one after the other
+-- what is reached after the joins, one after the other
 abbrev pub reached_after : (ℕ → Bool) → List Join → ℕ → Bool
 reached_after s [] q = s q
 reached_after s (j ∷ js) q = reached_after (marked_by s j) js q

@@ -74,8 +74,8 @@ pub record HoldsApart (ends : List LinkEnd) (f : Finding) : Type 0 where
   pub other : first_of_all ends ≡ Some f.other
   pub apart : IsWay (adjacent_ends ends) 0 f.here.file → ⊥
 
--- what is told of configurations is what holds of their interfaces, of who sends to whom, of who
--- does not hear whom, and of the parts of the area
+-- the findings about configurations are exactly what holds of their interfaces, of who sends to
+-- whom, of who does not hear whom, and of the parts of the area
 abbrev pub TellsExactly : Type 0
 TellsExactly =
     (configs : List Config) (fs : List Finding) (f : Finding) → AreFindings configs fs
@@ -84,13 +84,13 @@ TellsExactly =
     ⊎ HoldsUnheard (ends_of configs) (wires_of configs) f)
     ⊎ HoldsApart (ends_of configs) f)
 
--- of each two of which neither hears the other the later one is told
+-- of each two interfaces of which neither hears the other, the later one is reported
 abbrev pub TellsEachUnheard : Type 0
 TellsEachUnheard =
     (configs : List Config) (d e : LinkEnd) → IsUnheard (ends_of configs) (wires_of configs) d e
     → (f : Finding) × Contains (unheard_in (ends_of configs) (wires_of configs)) f × (f.here ≡ e)
 
--- ---- the order in which it is told
+-- ---- the order of the findings
 
 -- the number of a fault, as its name has it
 abbrev pub area_fault_number : AreaFault → ℕ
@@ -121,7 +121,7 @@ IsFindingBefore f g =
     IsAhead f.here g.here
     ⊎ ((f.here ≡ g.here) × (area_fault_number f.fault < area_fault_number g.fault))
 
--- what is told of interfaces is told in order, and so once
+-- the findings about interfaces are in order, and so each is reported once
 abbrev pub TellsInOrder : Type 0
 TellsInOrder = (configs : List Config) → IsRisingBy IsFindingBefore (found_in (ends_of configs))
 
@@ -129,20 +129,20 @@ TellsInOrder = (configs : List Config) → IsRisingBy IsFindingBefore (found_in 
 abbrev pub IsWireFindingBefore : Finding → Finding → Type 0
 IsWireFindingBefore f g = IsAhead f.here g.here ⊎ ((f.here ≡ g.here) × (f ≡ g → ⊥))
 
--- what is told of who sends to whom is told in the order of the interfaces, and once
+-- the findings about who sends to whom are in the order of the interfaces, each once
 abbrev pub TellsWiresInOrder : Type 0
 TellsWiresInOrder =
     (configs : List Config)
     → IsRisingBy IsWireFindingBefore (wire_faults_in (ends_of configs) (wires_of configs))
 
--- what is told of who does not hear whom is told in the order of the interfaces, and so once
+-- the findings about who does not hear whom are in the order of the interfaces, and so each once
 abbrev pub TellsUnheardInOrder : Type 0
 TellsUnheardInOrder =
     (configs : List Config)
     → IsRisingBy (λ (f g : Finding). IsAhead f.here g.here)
     (unheard_in (ends_of configs) (wires_of configs))
 
--- what is told of the parts of the area is told in the order of the files, and so once
+-- the findings about the parts of the area are in the order of the files, and so each once
 abbrev pub TellsPartsInOrder : Type 0
 TellsPartsInOrder =
     (configs : List Config) (reached : ℕ → Bool)
@@ -172,19 +172,19 @@ abbrev pub TakesHellos : LinkEnd → LinkEnd → Type 0
 TakesHellos e d =
     (i j : Iface) → IsIfaceOf e i → IsIfaceOf d j → agrees i (own_hello j) ≡ true
 
--- of two interfaces of which a fault of Hellos is told, each refuses the other's
+-- two interfaces with a reported fault of Hellos refuse each other's Hellos
 abbrev pub ToldRefuse : Type 0
 ToldRefuse =
     (ends : List LinkEnd) (f : Finding) → Contains (found_in ends) f → IsOfHellos f.fault
     → RefusesHellos f.here f.other × RefusesHellos f.other f.here
 
--- no fault of Hellos is told of an interface on the network
+-- no fault of Hellos is reported for an interface on the network
 abbrev pub NoneTold : List LinkEnd → ℕ × ℕ → Type 0
 NoneTold ends q =
     (f : Finding) → Contains (found_in ends) f → IsOfHellos f.fault → network_key f.here.address ≡ q
     → ⊥
 
--- of a network of which none is told, each two interfaces take each other's Hellos
+-- on a network for which none is reported, each two interfaces accept each other's Hellos
 abbrev pub OthersTake : Type 0
 OthersTake =
     (ends : List LinkEnd) (d e : LinkEnd) → Contains ends d → Contains ends e

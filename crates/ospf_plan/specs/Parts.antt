@@ -71,7 +71,7 @@ adjacent_ends ends =
 abbrev pub AreReached : List LinkEnd → (ℕ → Bool) → Type 0
 AreReached ends reached = (q : ℕ) → (reached q ≡ true) ↔ IsWay (adjacent_ends ends) 0 q
 
--- ---- what is told
+-- ---- the findings
 
 -- the first interface of all
 abbrev pub first_of_all : List LinkEnd → Option LinkEnd

@@ -89,7 +89,7 @@ abbrev pub port_text : Option Port → List ℕ
 port_text None = codes "no port"
 port_text (Some port) = codes "port " ++ decimal port.number
 
--- a value of an interface that a fault is about, with the key that it stands at
+-- a value of an interface that a fault is about, with its key
 abbrev pub value_text : AreaFault → LinkEnd → List ℕ
 value_text fault.SameRouter e = codes "router_id " ++ number_text e.router.0
 value_text fault.Partitioned e = codes "router_id " ++ number_text e.router.0
@@ -134,6 +134,6 @@ finding_text f here other =
     (here ++ codes ": " ++ area_fault_text f.fault ++ codes ": ") ++ side_text f.fault f.here
     ++ other_text f.fault f.other other
 
--- what is told of a finding
+-- the text of a finding
 abbrev pub told_text : NamedFinding → List ℕ
 told_text t = finding_text t.finding t.here.now t.other.now

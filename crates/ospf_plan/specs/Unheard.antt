@@ -49,14 +49,14 @@ unheard near wired e =
     (λ d. if is_ahead d e then Some (record { fault = fault.Unheard; other = d; here = e })
     else None) (find (λ d. are_silent wired d e) (near e))
 
--- what is told of the interfaces that have ports of their own, in their order
+-- the findings about the interfaces that have ports of their own, in their order
 abbrev pub unheard_by : (ℕ → Option LinkEnd) → (ℕ × ℕ × ℕ → Bool) → List PeerWire → List LinkEnd
     → List Finding
 unheard_by at_port wired wires ends =
     let some = filter (is_plugged at_port) ends in
     filter_map (unheard (to_hear (is_outward at_port wires) some) wired) some
 
--- what is told of these interfaces, which send to whom these wires lead
+-- the findings about these interfaces, which send along these wires
 abbrev pub unheard_in : List LinkEnd → List PeerWire → List Finding
 unheard_in ends wires = unheard_by (first_at_port ends) (is_wired wires) wires ends
 

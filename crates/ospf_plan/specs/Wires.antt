@@ -22,7 +22,7 @@ abbrev pub wires_at : ℕ × Config → List PeerWire
 wires_at f =
     flat_map (λ i. wires_from (link_end_of f i) i.1) (enumerate_from 0 f.1.interfaces.items)
 
--- what tells wires apart
+-- what distinguishes wires
 abbrev pub wire_key : LinkEnd → ℕ → ℕ × ℕ × ℕ
 wire_key e p = (e.file, e.link, p)
 

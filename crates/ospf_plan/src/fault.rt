@@ -153,7 +153,7 @@ impl Display for AreaFault {
     }
 }
 
-// The faults that are looked for at each interface, in the order in which they are told.
+// The faults that are looked for at each interface, in the order in which they are reported.
 pub(crate) fn every_fault() -> [AreaFault; 15]
     ensures { result ≡ every_fault }
 {

@@ -5,39 +5,39 @@ ghost use Rattle.ospf_plan.specs.Started.{FoundAreaSteps, FoundHelloSteps, Found
 ghost use Rattle.ospf_plan.specs.Further.{EndsTakeNoSecond, FoundMaskDrops, FoundMaskSteps, FoundNobody, SlowIsNotAcknowledged};
 ghost use Rattle.ospf_plan.specs.Laws.{OthersTake, TellsEachUnheard, TellsExactly, TellsInOrder, TellsPartsInOrder, TellsUnheardInOrder, TellsWiresInOrder, ToldRefuse};
 
-/// What `findings` tells is exactly what holds.
+/// `findings` reports exactly what holds.
 pub fn tells_exactly()
     ensures { TellsExactly }
 {}
 
-/// `findings` tells of interfaces in the order of configurations, interfaces and faults, each once.
+/// `findings` reports interfaces in the order of configurations, interfaces and faults, each once.
 pub fn tells_in_order()
     ensures { TellsInOrder }
 {}
 
-/// What `findings` tells of who sends to whom is in the order of the interfaces, each once.
+/// `findings` reports who sends to whom in the order of the interfaces, each once.
 pub fn tells_wires_in_order()
     ensures { TellsWiresInOrder }
 {}
 
-/// `findings` tells the later of two interfaces of which neither hears the other, each once.
+/// `findings` reports the later of two interfaces of which neither hears the other, each once.
 pub fn tells_unheard()
     ensures each { TellsEachUnheard }
     ensures in_order { TellsUnheardInOrder }
 {}
 
-/// `findings` tells the parts of the area in the order of the configurations, each once.
+/// `findings` reports the parts of the area in the order of the configurations, each once.
 pub fn tells_parts_in_order()
     ensures { TellsPartsInOrder }
 {}
 
-/// Of two interfaces of which `A5 Hello` or `A6 Dead` is told, `Iface::agrees` refuses each
-/// Hello of the one at the other.
+/// If `A5 Hello` or `A6 Dead` is reported for two interfaces, `Iface::agrees` refuses each Hello of
+/// one at the other.
 pub fn told_refuse()
     ensures { ToldRefuse }
 {}
 
-/// Where neither is told of a network, `Iface::agrees` takes each Hello of one at each other.
+/// If neither is reported for a network, `Iface::agrees` accepts each Hello of one at each other.
 pub fn others_take()
     ensures { OthersTake }
 {}

@@ -1,4 +1,4 @@
-//! Findings as they are told.
+//! Findings as they are printed.
 
 ghost use Rattle.std.specs.Prelude.{◌≡◌};
 ghost use Rattle.std.specs.Fmt.{WritesOnOk};

@@ -31,7 +31,7 @@ pub(crate) fn wires_of(alloc: Global, configs: &[Config]) -> Result<Vec<PeerWire
     distinct(alloc, &wires)
 }
 
-// What tells wires apart: the interface by its numbers, and the port.
+// What distinguishes wires: the interface by its numbers, and the port.
 pub(crate) type WireKey = (usize, usize, u16);
 
 // Each wire once, where it is first.
@@ -109,7 +109,7 @@ fn add_wire(set: &mut BTreeSet<WireKey>, key: WireKey) -> Result<(), AllocError>
     }
 }
 
-// What tells a wire apart.
+// The key that distinguishes a wire.
 pub(crate) fn key_of(end: &LinkEnd, peer: u16) -> WireKey
     ensures { result ≡ wire_key end.now peer }
 {

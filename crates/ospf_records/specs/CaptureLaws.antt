@@ -17,15 +17,15 @@ ChecksumHolds =
     → destination < 2 ^ 32
     → ones_complement_sum (sum (words (ip_header_bytes size source destination))) ≡ 65535
 
--- what a record and the IP header in it tell of lengths: the bytes kept, the
--- bytes there were, the Total Length
+-- the lengths in a record and in its IP header: the captured bytes, the original bytes, the Total
+-- Length
 pub record TellsLengths (recorded packet : List ℕ) : Type 0 where
   pub behind : drop 16 recorded ≡ packet
   pub kept : number_at 8 4 recorded ≡ length packet
   pub whole : number_at 12 4 recorded ≡ length packet
   pub total : number_at 2 2 packet ≡ length packet
 
--- the law: where a datagram is none too long, the capture tells its lengths
+-- the law: if a datagram is not too long, the capture has its lengths
 abbrev pub LengthsAreTold : Type 0
 LengthsAreTold =
     (at : Moment) (source destination : Addr) (ospf : List ℕ)

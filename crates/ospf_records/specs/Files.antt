@@ -1,4 +1,4 @@
--- What is told of the files that are wanted of a simulation.
+-- What is reported about the output files of a simulation.
 use Rattle.std.specs.Prelude.{ℕ, Bool, true, false, List, [], ◌∷◌, ◌++◌, ◌≡◌, Option, None, Some}
 use Rattle.std.specs.Borrow.{Bor}
 use Rattle.ospf_files.specs.Files.{unwritten}
@@ -9,8 +9,8 @@ abbrev pub names_in : Option (Bor (List ℕ)) → List (List ℕ)
 names_in None = []
 names_in (Some name) = name.now ∷ []
 
--- of the files of these names, in order, each that could not be written is told by its line, or by
--- a beginning of that; and whether there is none such
+-- of the files of these names, in order, each one that could not be written is reported by its
+-- line, or by a beginning of it; and whether all were written
 pub data TellsUnwritten : List (List ℕ) → Bool → Option (List ℕ) → Option (List ℕ) → Type 0 where
   no_file : {err : Option (List ℕ)} → TellsUnwritten [] true err err
   is_written : {name : List ℕ} {names : List (List ℕ)} {all : Bool} {old new : Option (List ℕ)}

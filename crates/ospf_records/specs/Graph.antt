@@ -28,7 +28,7 @@ abbrev pub prefix_under : ℕ → ℕ → List ℕ
 prefix_under address mask =
     number_text (bit_and address mask) ++ codes "/" ++ decimal (count_ones mask)
 
--- ---- what the other end tells
+-- ---- what the other end advertises
 
 -- the router-LSA of a router
 abbrev pub is_lsa_of_router : ℕ → List ℕ → Bool
@@ -52,8 +52,8 @@ abbrev pub routers_in_some : Option (List ℕ) → List RouterId
 routers_in_some None = []
 routers_in_some (Some lsa) = attached_of lsa
 
--- the routers that a network names; none where it has no LSA. Of several LSAs of its Link State ID
--- the last one stands for it, which is the one of the largest Advertising Router
+-- the routers that a network names; none if it has no LSA. If several LSAs have its Link State ID,
+-- the last one is used, which is the one with the largest Advertising Router
 abbrev pub attached_to : List (List ℕ) → ℕ → List RouterId
 attached_to lsas id = routers_in_some (find (is_lsa_of_network id) (reverse lsas))
 
@@ -185,19 +185,19 @@ stopped_line router =
 
 -- ---- lines between boxes
 
--- a link between routers that both tell, with the cost at each end
+-- a link between routers that both advertise, with the cost at each end
 abbrev pub joined_line : ℕ → ℕ → ℕ → ℕ → List ℕ
 joined_line from to cost back =
     codes "  " ++ router_node from ++ codes " -- " ++ router_node to ++ codes " [taillabel="
     ++ decimal cost ++ codes ", headlabel=" ++ decimal back ++ codes "];\n"
 
--- a link that its router alone tells
+-- a link that only its router advertises
 abbrev pub told_line : ℕ → List ℕ → ℕ → List ℕ
 told_line from to cost =
     codes "  " ++ router_node from ++ codes " -- " ++ to ++ codes " [taillabel=" ++ decimal cost
     ++ codes ", dir=forward, style=dashed];\n"
 
--- a router on a network, as both tell, with the cost at the router
+-- a router on a network, as both advertise, with the cost at the router
 abbrev pub member_line : ℕ → ℕ → ℕ → List ℕ
 member_line router id cost =
     codes "  " ++ router_node router ++ codes " -- " ++ network_node id ++ codes " [taillabel="
@@ -209,7 +209,7 @@ named_line id router =
     codes "  " ++ network_node id ++ codes " -- " ++ router_node router
     ++ codes " [dir=forward, style=dashed];\n"
 
--- one line for both ends: it stands at the router of the smaller Router ID
+-- one line for both ends, at the router with the smaller Router ID
 abbrev pub both_line : ℕ → Link → ℕ → List ℕ
 both_line router link back =
     cond (nat_lt link.id router) [] (joined_line router link.id link.metric back)
@@ -235,8 +235,8 @@ abbrev pub transit_line : ℕ → Link → Bool → List ℕ
 transit_line router link true = member_line router link.id link.metric
 transit_line router link false = told_line router (network_node link.id) link.metric
 
--- the line of a link of a router with these links, by its type: stub networks stand in the box, and
--- links of type 4 are not drawn
+-- the line of a link of a router with these links, by its type: stub networks are listed in the
+-- box, and links of type 4 are not drawn
 abbrev pub line_of_kind : List (List ℕ) → ℕ → List Link → Link → LinkKind → List ℕ
 line_of_kind lsas router here link PointToPoint =
     point_line router link (leads_back lsas link.id router) (back_of lsas router here link)
@@ -274,7 +274,7 @@ step_line step =
     codes "  " ++ router_node step.0.0 ++ codes " -- " ++ router_node step.1.0
     ++ codes " [dir=forward, color=red, penwidth=2];\n"
 
--- from each router that it meets to the one behind it
+-- from each router that it meets to the next one
 abbrev pub steps_of : List RouterId → List (RouterId × RouterId)
 steps_of walked = zip walked (drop 1 walked)
 

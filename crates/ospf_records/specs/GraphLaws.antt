@@ -5,7 +5,7 @@ use Rattle.ospf_base.specs.Text.{prefix_text}
 use Rattle.ospf_base.specs.declared.prefix.Prefix.{Prefix}
 use Rattle.ospf_records.specs.Graph.{network_node, prefix_under, router_node}
 
--- what stands for the addresses under a mask is the text of their prefix
+-- the text of the addresses under a mask is the text of their prefix
 abbrev pub PrefixesAreDrawn : Type 0
 PrefixesAreDrawn =
     (address mask : ℕ) (prefix : Prefix) → IsPrefixOf address mask prefix

@@ -4,7 +4,7 @@ use Rattle.std.specs.Prelude.{ℕ, ◌^◌, ◌<◌, ◌≤◌, List, ◌++◌, 
 use Rattle.std.specs.List.{flat_map}
 use Rattle.ospf_base.specs.Bytes.{number_bytes}
 
--- moments are in seconds and microseconds; its first byte tells the byte order
+-- timestamps are in seconds and microseconds; the first byte shows the byte order
 abbrev pub magic : ℕ
 magic = 0xa1b2c3d4
 

@@ -56,11 +56,11 @@ pub record AddsTo (number : ℕ) (ticks : List Ticked) (datagrams : List Datagra
   pub sent : out' ++ records_since number ticks datagrams
       ≡ out ++ records_since before.datagrams ticks datagrams
 
--- what stood in a capture stands there, and some of what was to be added behind it
+-- a capture still begins with its old contents, followed by some of what was added
 abbrev pub StillBegins : List ℕ → List ℕ → Type 0
 StillBegins before after = (more : List ℕ) × (after ≡ before ++ more)
 
--- the law: the capture of logs that go on is what it was, and behind it what was sent since
+-- the law: if logs go on, their capture is the old capture followed by what was sent since
 abbrev pub CapturesGoOn : Type 0
 CapturesGoOn =
     (ticks ticks' : List Ticked) (datagrams datagrams' : List Datagram)

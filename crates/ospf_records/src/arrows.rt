@@ -21,7 +21,7 @@ pub(crate) fn write_walk<W: Write>(f: &mut Formatter<W>, walked: &[RouterId]) ->
     Ok(())
 }
 
-// The arrow from a router to the first of those behind it, if there is one.
+// The arrow from a router to the first of those after it, if there is one.
 fn write_step<W: Write>(f: &mut Formatter<W>, from: RouterId, behind: &[RouterId]) -> fmt::Result
     ensures { WritesOnOk W.Write.write_str_gives f.old result
         (flat_map step_line (zip (from ∷ []) behind.now)) f.new }

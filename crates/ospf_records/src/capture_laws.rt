@@ -9,7 +9,7 @@ pub fn checksum_holds()
     ensures { ChecksumHolds }
 {}
 
-/// The lengths that a record tells, and the IP header in it, are those of the bytes that follow.
+/// The lengths in a record and in its IP header are those of the bytes that follow.
 pub fn lengths_are_told()
     ensures { LengthsAreTold }
 {}
@@ -19,7 +19,7 @@ pub fn has_one_reading()
     ensures { HasOneReading }
 {}
 
-/// The capture of logs that go on is what it was, and behind it what was sent since.
+/// If logs go on, their capture is the old capture followed by what was sent since.
 pub fn captures_go_on()
     ensures { CapturesGoOn }
 {}

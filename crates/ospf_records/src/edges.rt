@@ -107,7 +107,7 @@ fn write_lone<W: Write>(
     }
 }
 
-// The line of a link that both routers tell, once.
+// The line of a link that both routers advertise, once.
 fn write_joined<W: Write>(
     f: &mut Formatter<W>,
     router: RouterId,

@@ -1,4 +1,4 @@
-//! What the LSA at the other end of a link tells.
+//! What the LSA at the other end of a link advertises.
 
 ghost use Rattle.std.specs.List.{list_any};
 ghost use Rattle.std.specs.Prelude.{◌≡◌, ◌==◌, [], IfNone, IfSome, false, find};

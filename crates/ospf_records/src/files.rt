@@ -12,12 +12,12 @@ use ospf_world::{Walk, World};
 use std::io::{self, ErrorKind, Write};
 use std::rt::Runtime;
 
-/// Writes what is wanted of the world that a simulation leaves: into the file `dot` its drawing,
-/// with the walk if there was one, into `pcap` its capture. The answer is whether all was written;
-/// what was not is told, as far as `err` can be written, a line a file, the drawing before the
-/// capture.
+/// Writes the wanted files about the world after a simulation: into the file `dot` its drawing,
+/// with the walk if there was one, into `pcap` its capture. Returns whether all was written. Files
+/// that were not written are reported, as far as `err` can be written, one line per file, the
+/// drawing before the capture.
 ///
-/// The error is want of memory. What was not written of the files before it is told.
+/// The only error is out of memory. Files before it that were not written are reported.
 pub fn write_records<R: Runtime + AllocGlobal, E: Write>(
     rt: &R,
     world: &World,
@@ -30,7 +30,8 @@ pub fn write_records<R: Runtime + AllocGlobal, E: Write>(
     ensures told { IfOk result (λ all. TellsUnwritten (names_in dot.entry ++ names_in pcap.entry)
         all (E.contents err.old) (E.contents err.new)) }
     ensures silent { result ≡ Ok true → E.contents err.new ≡ E.contents err.old }
-    // Want of memory, at one of the files, is the only error. Those before it are told so.
+    // Out of memory, at one of the files, is the only error. The files before it that could not be
+    // written are reported.
     ensures cut { OnErr result (TellsBefore (names_in dot.entry ++ names_in pcap.entry)
         (E.contents err.old) (E.contents err.new)) }
     ensures memory { IfErr result (λ error. error_kind error ≡ ErrorKind.OutOfMemory) }

@@ -2,7 +2,7 @@
 
 ghost use Rattle.ospf_records.specs.GraphLaws.{NamesTellApart, PrefixesAreDrawn};
 
-/// What stands for the addresses under a mask without a hole is the text of their prefix.
+/// The text of the addresses under a mask without a hole is the text of their prefix.
 pub fn prefixes_are_drawn()
     ensures { PrefixesAreDrawn }
 {}

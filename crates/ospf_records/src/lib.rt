@@ -1,13 +1,13 @@
 //! What routers leave in files: a capture of what they sent, a drawing of what one of them lists,
 //! and a journal.
 //!
-//! `capture` makes a file as Wireshark and tcpdump open it: libpcap's classic format, each packet
-//! as an IP packet of protocol 89 (RFC 791 and RFC 2328, appendix A.1). `write_header` begins one,
-//! `write_datagram` adds a packet, and a `Recorder` what a network has sent since it did so last.
-//! `drawing` prints what a router lists: a `Graph` is a listing in the language of Graphviz's `dot`
-//! (`specs/Graph`). `write_records` writes the files that are wanted. What is captured, and when,
-//! stands in `specs/Captures`, how in `specs/Pcap` and `specs/Ip`. A `Journal` writes the lines of
-//! `ospf_journal` to a file (`specs/Journals`).
+//! `capture` makes a file that Wireshark and tcpdump open: libpcap's classic format, each packet as
+//! an IP packet of protocol 89 (RFC 791 and RFC 2328, appendix A.1). `write_header` begins one,
+//! `write_datagram` adds a packet, and a `Recorder` adds what a network has sent since its last
+//! call. `drawing` prints what a router lists: a `Graph` is a listing in the language of Graphviz's
+//! `dot` (`specs/Graph`). `write_records` writes the files that are wanted. `specs/Captures`
+//! defines what is captured, and when; `specs/Pcap` and `specs/Ip` define how. A `Journal` writes
+//! the lines of `ospf_journal` to a file (`specs/Journals`).
 #![tactic(auto)]
 
 mod arrows;

@@ -15,9 +15,8 @@ use ospf_world::{Ticked, World};
 use std::alloc::{AllocError, Global};
 use std::collections::BTreeMap;
 
-/// How far the capture of a world has come. It goes on as the world does: what was sent since is
-/// added behind what stands there, and all of it is the capture of all that was sent
-/// (`captures_go_on`).
+/// How much of a world is in its capture. The capture grows with the world: what was sent since is
+/// appended, and the whole is the capture of all that was sent (`captures_go_on`).
 #[derive(Drop)]
 pub struct Recorder {
     // So many ticks and datagrams of the world's logs are in the capture.
@@ -71,7 +70,7 @@ impl Recorder {
             IsRecorded ticks datagrams self.old →
             GoOn ticks datagrams world.now.ticks world.now.logs.datagrams → OnOk result
             (IsRecorded world.now.ticks world.now.logs.datagrams self.new) }
-        // Whatever comes, what stood in the capture stands there.
+        // In any case the capture still begins with its old contents.
         ensures behind { StillBegins out.old.items out.new.items }
     {
         self.add_all(out, world.ticks(), world.datagrams())

@@ -71,7 +71,7 @@ pub fn write_datagram(
     ensures memory { (result ≡ Err fault.Memory)
         → vec_capacity out.old < vec_len out.old
         + length (datagram_bytes at source destination ospf.now) }
-    // A capture stays one, with this packet behind the others.
+    // A capture stays one, with this packet after the others.
     ensures capture { (packets : List Captured) → out.old.items ≡ capture_bytes packets
         → OnOk result (out.new.items ≡ capture_bytes (packets
         ++ captured at source destination ospf.now ∷ [])) }

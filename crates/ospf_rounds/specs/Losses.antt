@@ -1,4 +1,4 @@
--- Deliveries that are lost by chance, and rounds with losses.
+-- Deliveries that are lost at random, and rounds with losses.
 use Rattle.std.specs.Prelude.{◌≡◌, ◌≢◌, ◌==◌, ◌%◌, ℕ, zero, suc, Bool, true, false, List, [], ◌∷◌, Option, None, Some, Result, Ok, Err, bit_and, nat_lt, slice_get, if◌then◌else◌}
 use Rattle.std.specs.List.{list_any}
 use Rattle.rand_pcg.specs.Lcg.{Lcg, increment_of, started}
@@ -20,7 +20,7 @@ use Rattle.ospf_rounds.specs.declared.losses.Losses.{Losses}
 
 -- ---- which deliveries
 
--- losses of so many in a hundred, by the generator of this number
+-- losses of this percentage, drawn by the generator of this number
 abbrev pub losses_of : (percent number : ℕ) → Option Addr → Losses
 losses_of percent number network =
     record {
@@ -29,16 +29,16 @@ losses_of percent number network =
       network = network;
     }
 
--- a delivery is lost, by the word that is drawn for it
+-- whether a delivery is lost, by the word drawn for it
 abbrev pub is_lost : (percent word : ℕ) → Bool
 is_lost percent word = nat_lt (word % 100) percent
 
--- it is kept
+-- the deliveries with this one, unless it is lost
 abbrev pub kept_offer : (percent word : ℕ) → WorldEvent → List WorldEvent → List WorldEvent
 kept_offer percent word offer offers = if is_lost percent word then offers else offer ∷ offers
 
--- of these deliveries those that are not lost, each by the next word of the generator, and
--- the generator behind the words
+-- the deliveries that are not lost, each by the next word of the generator, and the generator after
+-- these words
 unfoldable pub kept_offers : (percent : ℕ) → List WorldEvent → Lcg → List WorldEvent × Lcg
 kept_offers percent [] g = ([], g)
 kept_offers percent (offer ∷ offers) g = (
@@ -46,13 +46,13 @@ kept_offers percent (offer ∷ offers) g = (
   (kept_offers percent offers (pcg32 g).1).1,
 )
 
--- the network of an interface, which may not be there, holds an address
+-- the network of an interface, which may be missing, contains an address
 abbrev pub is_network_of : Addr → Option InterfaceAddress → Bool
 is_network_of a None = false
 is_network_of a (Some from) = bit_and a.0 (mask_of from.length) == network_part from
 
--- there are losses on the network that an interface sends to: on every one, or
--- on that which holds the address
+-- there are losses on the network that an interface sends to: on any network, or on the one with
+-- the address
 abbrev pub loses_on : Option Addr → Option InterfaceAddress → Bool
 loses_on None from = true
 loses_on (Some a) from = is_network_of a from
@@ -61,29 +61,29 @@ loses_on (Some a) from = is_network_of a from
 abbrev pub loses_at : Option Addr → SlotValue → Bool
 loses_at network s = list_any (λ i. loses_on network (Some i.address)) s.config.interfaces.items
 
--- there are on that of an interface of some router
+-- there are losses on the network of an interface of some router
 abbrev pub lose_somewhere : Option Addr → List SlotValue → Bool
 lose_somewhere network slots = list_any (loses_at network) slots
 
--- of these deliveries what is kept, and the losses from then on
+-- the deliveries that are not lost, and the losses from then on
 unfoldable pub judged : Losses → List WorldEvent → List WorldEvent × Losses
 judged losses offers = (
   (kept_offers losses.percent offers losses.generator).0,
   record losses { generator = (kept_offers losses.percent offers losses.generator).1 },
 )
 
--- what is kept of deliveries of what an interface of this address sent, and the losses from then on
+-- the same for deliveries of what an interface with this address sent
 abbrev pub kept_from : Losses → Option InterfaceAddress → List WorldEvent → List WorldEvent × Losses
 kept_from losses from offers =
     if loses_on losses.network from then judged losses offers else (offers, losses)
 
--- of the offers of datagram d those that are kept, and the losses from then on
+-- the offers of datagram d that are not lost, and the losses from then on
 unfoldable pub offers_kept : List SlotValue → ℕ → Datagram → Losses → List WorldEvent × Losses
 offers_kept slots d g losses = kept_from losses (sending_address slots g) (offers_of slots d g)
 
--- ---- what comes of them
+-- ---- what they do
 
--- the kept offers of the next datagram, if there is one, and the losses from then on
+-- the offers of the next datagram that are not lost, if there is one, and the losses from then on
 pub data AreNextKept (w : WorldValue) (losses : Losses) (next : Option (List WorldEvent))
     (losses' : Losses) : Type 0 where
   NoneNext : slice_get w.logs.datagrams w.offered ≡ None → next ≡ None → losses' ≡ losses
@@ -92,8 +92,8 @@ pub data AreNextKept (w : WorldValue) (losses : Losses) (next : Option (List Wor
       → next ≡ Some (offers_kept w.slots w.offered g losses).0
       → losses' ≡ (offers_kept w.slots w.offered g losses).1 → AreNextKept w losses next losses'
 
--- the next datagram that no round has offered is offered, as without losses, but to those alone
--- that it is not lost for. It counts as offered even where it is lost for all
+-- the next datagram that no round has offered is offered, as without losses, but only to those for
+-- which it is not lost. It counts as offered even if it is lost for all
 pub data LosesNext (losses : Losses) (before : WorldValue) (answer : Result Bool WorldFault)
     (after : WorldValue) (losses' : Losses) : Type 0 where
   NoneLeft : slice_get before.logs.datagrams before.offered ≡ None → answer ≡ Ok false
@@ -109,7 +109,7 @@ pub data LosesNext (losses : Losses) (before : WorldValue) (answer : Result Bool
       after → answer ≡ Err f → losses' ≡ (offers_kept before.slots before.offered g losses).1
       → LosesNext losses before answer after losses'
 
--- it goes on with the rest as long as there is a next one
+-- it continues with the rest as long as there is a next one
 pub data LosesMore (Next : Result Bool WorldFault → WorldValue → Losses → Type 0)
     (Rest : WorldValue → Losses → Result (Unit {0}) WorldFault → WorldValue → Losses → Type 0)
     (result : Result (Unit {0}) WorldFault) (after : WorldValue) (losses' : Losses) : Type 0 where
@@ -119,7 +119,7 @@ pub data LosesMore (Next : Result Bool WorldFault → WorldValue → Losses → 
   Ended : (f : WorldFault) → Next (Err f) after losses' → result ≡ Err f
       → LosesMore Next Rest result after losses'
 
--- so many datagrams at most
+-- at most this many datagrams
 abbrev pub AreOfferedBut : ℕ → WorldValue → Losses → Result (Unit {0}) WorldFault → WorldValue
     → Losses → Type 0
 AreOfferedBut zero before losses result after losses' =
@@ -127,8 +127,8 @@ AreOfferedBut zero before losses result after losses' =
 AreOfferedBut (suc most) before losses result after losses' =
     LosesMore (LosesNext losses before) (AreOfferedBut most) result after losses'
 
--- a round of so many datagrams at most with losses: the ticks, and then the datagrams that no round
--- has offered, to those alone that they are not lost for, with those that arise on the way
+-- a round with losses and at most this many datagrams: the ticks, and then the datagrams that no
+-- round has offered, only to those for which they are not lost, with those that are sent meanwhile
 pub data IsLosingRound (most : ℕ) (losses : Losses) (before : WorldValue)
     (result : Result (Unit {0}) WorldFault) (after : WorldValue) (losses' : Losses) : Type 0 where
   NoRoom : ticks before.slots ≢ [] → result ≡ Err (fault.Memory false) → after ≡ before

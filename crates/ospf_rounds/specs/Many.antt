@@ -1,4 +1,4 @@
--- What comes about at many routers.
+-- Events at many routers.
 use Rattle.std.specs.Prelude.{◌≡◌, ◌≢◌, ◌∷◌, ℕ, Bool, true, false, List, [], Result, Ok, Err, flat_map, if◌then◌else◌, Some}
 use Rattle.std.specs.List.{enumerate_from}
 use Rattle.ospf_base.specs.declared.ids.RouterId.{RouterId}
@@ -24,36 +24,35 @@ link_event many.Down router link = event.LinkDown router link
 link_event (many.Cut network) router link = event.LinkDown router link
 link_event _ router link = event.LinkUp router link
 
--- a link is meant whose interface has this address: each, or one to the
--- network that holds the address
+-- the interface with this address is selected: any, or one to the network with the address
 abbrev pub is_meant : Many → InterfaceAddress → Bool
 is_meant (many.Cut network) address = is_network_of network (Some address)
 is_meant (many.Mend network) address = is_network_of network (Some address)
 is_meant _ address = true
 
--- what comes about at a link, with its number
+-- the events on a link, with its number
 abbrev pub events_on : Many → RouterId → ℕ × Interface → List WorldEvent
 events_on what router link =
     if is_meant what link.1.address then link_event what router link.0 ∷ [] else []
 
--- at a router of this configuration: it starts, with 1 as its first DD sequence number and
--- above no floor; or at its links
+-- the events at a router of this configuration: it starts, with 1 as its first DD sequence number
+-- and no floor; or its links change
 abbrev pub config_events : Many → Config → List WorldEvent
 config_events many.Start config = event.Start config.router_id 1 no_floor ∷ []
 config_events what config =
     flat_map (events_on what config.router_id) (enumerate_from 0 config.interfaces.items)
 
--- and at its place in the world
+-- the events at the router of a slot
 abbrev pub many_of : Many → SlotValue → List WorldEvent
 many_of what s = config_events what s.config
 
--- at all routers, in the order of the configurations
+-- the events at all routers, in the order of the configurations
 abbrev pub many_events : Many → WorldValue → List WorldEvent
 many_events what w = flat_map (many_of what) w.slots
 
--- it comes about at each router, in the order of the configurations: what is refused is passed
--- over, and memory that runs out ends it, that for the list of events before anything is done. It
--- is refused where nothing is meant
+-- the events happen at each router, in the order of the configurations: refusals are passed over.
+-- It ends if memory runs out; for the list of events before anything is done. It is refused if no
+-- event is selected
 pub data ComesAbout (what : Many) (w : WorldValue) (answer : Result (Unit {0}) WorldFault)
     (w' : WorldValue) : Type 0 where
   no_room : answer ≡ Err (fault.Memory false) → w' ≡ w → ComesAbout what w answer w'

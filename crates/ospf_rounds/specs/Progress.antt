@@ -1,13 +1,12 @@
--- What a watch is told while lines of a script are done: of each event, and how far a line has
--- come.
+-- What is reported to a watch while lines of a script run: each event, and how far a line has come.
 use Rattle.ospf_world.specs.Watching.{CameRule, ComesRule, Told, Watched}
 
--- what becomes of a watch of some kind as it is told how far a line has come
+-- how a watch changes when the progress of a line is reported to it
 abbrev pub ProgressRule : Type 0 → Type 1
 ProgressRule V = V → V → Type 0
 
--- events led from the one world to the other, of each of which the watch was told, and between
--- them, or behind them, how far a line had come; and it was told nothing else
+-- events led from one world to the other; each was reported to the watch, and between or after them
+-- how far a line had come; nothing else was reported
 pub data ToldOn {V : Type 0} (Comes : ComesRule V) (Came : CameRule V) (GoesOn : ProgressRule V)
     : Watched V → Watched V → Type 0 where
   EventsAlone : (w w' : Watched V) → Told Comes Came w w' → ToldOn Comes Came GoesOn w w'

@@ -1,4 +1,4 @@
-//! Batches: a tick of each router that runs, and then what waits, router by router.
+//! Batches: a tick of each running router, and then what waits, router by router.
 
 ghost use Rattle.std.specs.Prelude.{◌≡◌, ◌<◌, IfOk, OnErr, length, option_map};
 ghost use Rattle.ospf_headline.specs.Headline.{Headline, IsReached};
@@ -17,24 +17,24 @@ use std::alloc::{AllocError, Global};
 /// How many waves a batch has at most.
 pub const MOST_WAVES: u64 = 10_000;
 
-/// A batch: a tick of each router that runs, in the order of the configurations, and then wave
-/// after wave of the datagrams that no round has offered, as long as there are some, 10,000 waves
-/// at most. In a wave each router, in the order of the configurations, takes all of them that are
-/// offered to it, in the order in which they were sent; what is sent meanwhile waits for the next
-/// wave. They are offered to whom a round offers them, and what is refused is passed over. It is
-/// for areas of many routers: a router that takes all that waits for it at once finds its memory at
-/// hand. A watch is told of each event.
+/// Runs a batch: a tick of each running router, in the order of the configurations, and then wave
+/// after wave of the datagrams that no round has offered, as long as there are some, at most 10,000
+/// waves. In a wave each router, in the order of the configurations, processes all datagrams that
+/// are offered to it, in the order in which they were sent; what is sent meanwhile waits for the
+/// next wave. Datagrams are offered as in a round, and refusals are passed over. Batches are for
+/// areas of many routers: a router that processes all waiting packets at once has its memory at
+/// hand. Each event is reported to a watch.
 ///
-/// `Memory` where memory runs out, which ends it.
+/// `Memory` if memory runs out, which ends the batch.
 pub fn batch<W: EventWatch>(
     world: &mut World,
     watch: &mut W,
     alloc: Global,
 ) -> Result<(), WorldFault>
-    // What happens in a batch, and what the watch is told.
+    // What happens in a batch, and what is reported to the watch.
     ensures batch { IsBatch world.old result world.new }
     ensures told { Told W.comes_gives W.came_gives (world.old, watch.old) (world.new, watch.new) }
-    // What holds of every network holds of this one again, and its log of ticks goes on.
+    // What holds of every network holds of this one again, and its log of ticks continues.
     ensures reached { IsReached is_dropped (world_of world.new) }
     ensures headline { Headline (world_of world.old) (world_of world.new) }
     ensures sound { IsSoundBetween (world_of world.old) (world_of world.new) }
@@ -43,17 +43,17 @@ pub fn batch<W: EventWatch>(
     batch_of(world, MOST_WAVES, watch, alloc)
 }
 
-// A batch of so many waves at most.
+// Runs a batch of at most this many waves.
 fn batch_of<W: EventWatch>(
     world: &mut World,
     most: u64,
     watch: &mut W,
     alloc: Global,
 ) -> Result<(), WorldFault>
-    // What happens in a batch, and what the watch is told.
+    // What happens in a batch, and what is reported to the watch.
     ensures batch { IsBatchOf most world.old result world.new }
     ensures told { Told W.comes_gives W.came_gives (world.old, watch.old) (world.new, watch.new) }
-    // What holds of every network holds of this one again, and its log of ticks goes on.
+    // What holds of every network holds of this one again, and its log of ticks continues.
     ensures reached { IsReached is_dropped (world_of world.new) }
     ensures headline { Headline (world_of world.old) (world_of world.new) }
     ensures sound { IsSoundBetween (world_of world.old) (world_of world.new) }
@@ -73,7 +73,7 @@ fn batch_of<W: EventWatch>(
     }
 }
 
-// So many waves at most.
+// Delivers at most this many waves.
 fn take_waves<W: EventWatch>(
     world: &mut World,
     most: u64,
@@ -94,7 +94,7 @@ fn take_waves<W: EventWatch>(
     Ok(())
 }
 
-// The next wave, if datagrams wait.
+// Delivers the next wave, if datagrams wait.
 fn take_wave<W: EventWatch>(
     world: &mut World,
     watch: &mut W,
@@ -117,7 +117,7 @@ fn take_wave<W: EventWatch>(
     }
 }
 
-// The offers of all datagrams that wait, router by router, if some wait.
+// The offers of all waiting datagrams, router by router, if any wait.
 fn next_wave(world: &World, alloc: Global) -> Result<Option<Vec<WorldEvent>>, AllocError>
     ensures next { IfOk result (λ next. IsNextWave world.now (option_map (λ v. v.items) next)) }
     ensures room { OnErr result (world.now.offered < length world.now.logs.datagrams) }
@@ -130,7 +130,7 @@ fn next_wave(world: &World, alloc: Global) -> Result<Option<Vec<WorldEvent>>, Al
     Ok(Some(wave))
 }
 
-// The offers of all datagrams that wait.
+// The offers of all waiting datagrams.
 fn waiting_offers(world: &World, alloc: Global) -> Result<Vec<WorldEvent>, AllocError>
     ensures { IfOk result (λ events. events.items ≡ waiting_offers world.now) }
 {

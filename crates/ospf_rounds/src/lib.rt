@@ -1,12 +1,12 @@
 //! Many events of a world at once: batches, rounds with losses, and events at many routers.
 //!
-//! `batch` is a tick of each router that runs, and then, wave after wave, what waits, router by
-//! router (`specs/Batches`). A round of `ospf_world` hands datagrams over in the order in which
-//! they were sent, each to another router; here a router takes all that waits for it at once, so
-//! that its memory is at hand. `Losses` draws which deliveries are lost, and `round_losing` is a
-//! round without these (`specs/Losses`). `run_many` has events come about at all routers, or at all
-//! interfaces of a network (`specs/Many`). A `Watch` is told of each event, and how far a line of a
-//! script has come (`specs/Progress`).
+//! `batch` is a tick of each running router, and then, wave after wave, the waiting datagrams,
+//! router by router (`specs/Batches`). A round of `ospf_world` delivers datagrams in the order in
+//! which they were sent, each to another router; here a router processes all waiting datagrams at
+//! once, so that its memory is at hand. `Losses` draws which deliveries are lost, and
+//! `round_losing` is a round without these (`specs/Losses`). `run_many` makes events happen at all
+//! routers, or at all interfaces of a network (`specs/Many`). A `Watch` receives each event, and
+//! how far a line of a script has come (`specs/Progress`).
 #![tactic(auto)]
 
 mod batches;

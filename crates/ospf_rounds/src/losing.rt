@@ -15,10 +15,10 @@ use ospf_headline::{headline, runs_lead_on, soundness};
 use ospf_world::{EventWatch, World, WorldEvent, WorldFault, ticks_of};
 use std::alloc::{AllocError, Global};
 
-/// A round, as `World::round_of` has it, in which deliveries are lost: what is lost is not
-/// delivered, and nothing else changes. A watch is told of each event.
+/// Runs a round, like `World::round_of`, in which deliveries are lost: what is lost is not
+/// delivered, and nothing else changes. Each event is reported to a watch.
 ///
-/// `Memory` where memory runs out, which ends it.
+/// `Memory` if memory runs out, which ends the round.
 pub fn round_losing<W: EventWatch>(
     world: &mut World,
     most: u64,
@@ -26,10 +26,11 @@ pub fn round_losing<W: EventWatch>(
     watch: &mut W,
     alloc: Global,
 ) -> Result<(), WorldFault>
-    // What happens in a round with losses, how far these have come, and what the watch is told.
+    // What happens in a round with losses, how far these have come, and what is reported to the
+    // watch.
     ensures round { IsLosingRound most losses.old world.old result world.new losses.new }
     ensures told { Told W.comes_gives W.came_gives (world.old, watch.old) (world.new, watch.new) }
-    // What holds of every network holds of this one again, and its log of ticks goes on.
+    // What holds of every network holds of this one again, and its log of ticks continues.
     ensures reached { IsReached is_dropped (world_of world.new) }
     ensures headline { Headline (world_of world.old) (world_of world.new) }
     ensures sound { IsSoundBetween (world_of world.old) (world_of world.new) }
@@ -50,7 +51,7 @@ pub fn round_losing<W: EventWatch>(
     }
 }
 
-// Offers so many datagrams at most, but for what is lost.
+// Offers at most this many datagrams, except for what is lost.
 fn offer_but<W: EventWatch>(
     world: &mut World,
     most: u64,
@@ -73,7 +74,7 @@ fn offer_but<W: EventWatch>(
     Ok(())
 }
 
-// Offers the next datagram, if there is one, but for what is lost.
+// Offers the next datagram, if there is one, except for what is lost.
 fn offer_kept<W: EventWatch>(
     world: &mut World,
     losses: &mut Losses,
@@ -98,7 +99,7 @@ fn offer_kept<W: EventWatch>(
     }
 }
 
-// The offers of the next datagram, if there is one, but for what is lost.
+// The offers of the next datagram, if there is one, except for what is lost.
 fn next_kept(
     world: &World,
     losses: &mut Losses,

@@ -1,4 +1,4 @@
-//! Deliveries that are lost by chance.
+//! Deliveries that are lost at random.
 
 ghost use Rattle.std.specs.Prelude.{◌≡◌, ◌++◌, [], IfOk, OnOk};
 ghost use Rattle.ospf_rounds.specs.Losses.{is_lost, is_network_of, kept_offer, kept_offers, lose_somewhere, loses_at, loses_on};
@@ -10,13 +10,14 @@ use rand_core::utils::NextWord;
 use rand_pcg::Lcg64Xsh32;
 use std::alloc::{AllocError, Global};
 
-/// Of a hundred deliveries so many are lost, by chance: on all networks, or on that of an address.
+/// A percentage of deliveries that are lost at random: on all networks, or on the one with an
+/// address.
 #[derive(Drop)]
 pub struct Losses {
     pub percent: u8,
-    /// What draws them.
+    /// The generator of random numbers.
     pub generator: Lcg64Xsh32,
-    /// An address of the network on which they are, if they are on one alone.
+    /// An address of the network with the losses, if only one has them.
     pub network: Option<Addr>,
 }
 
@@ -24,8 +25,9 @@ impl Losses {
     ghost use Rattle.std.specs.Prelude.{◌≡◌, IfOk, OnErr};
     ghost use Rattle.ospf_rounds.specs.Losses.{judged, kept_from, losses_of};
 
-    /// So many in a hundred are lost, all from a hundred on, each by a word of the generator of
-    /// this number. With an address only what is sent on its network is: no other draws a word.
+    /// This percentage is lost, all from a hundred on, each by a word of the generator of this
+    /// number. With an address, only what is sent on its network can be lost: no other delivery
+    /// draws a word.
     pub fn new(percent: u8, number: u64, network: Option<Addr>) -> Losses
         ensures { result ≡ losses_of percent number network }
     {
@@ -36,9 +38,9 @@ impl Losses {
         }
     }
 
-    /// Of deliveries of what an interface of this address sent those that are not lost.
+    /// Returns the deliveries, of what an interface with this address sent, that are not lost.
     ///
-    /// `AllocError` where memory runs out: then no word is drawn.
+    /// `AllocError` if memory runs out: then no word is drawn.
     pub(crate) fn kept_from(
         &mut self,
         from: Option<InterfaceAddress>,
@@ -56,7 +58,7 @@ impl Losses {
         }
     }
 
-    // Of these deliveries those that are not lost.
+    // Returns those of these deliveries that are not lost.
     #[tactic(auto, unfolding(crate::specs::Losses::judged))]
     fn judge(&mut self, offers: &[WorldEvent], alloc: Global) -> Result<Vec<WorldEvent>, AllocError>
         ensures kept { IfOk result (λ kept. (kept.items, self.new) ≡ judged self.old offers.now) }
@@ -76,7 +78,7 @@ pub fn lose_somewhere(network: Option<Addr>, slots: &[Slot]) -> bool
     slots.iter().any(|slot| loses_at(network, slot))
 }
 
-/// Whether the network of an interface, which may not be there, holds an address.
+/// Whether the network of an interface, which may be missing, contains an address.
 pub fn is_network_of(address: Addr, from: Option<InterfaceAddress>) -> bool
     ensures { result ≡ is_network_of address from }
 {
@@ -86,7 +88,7 @@ pub fn is_network_of(address: Addr, from: Option<InterfaceAddress>) -> bool
     }
 }
 
-// Of these deliveries those that are not lost, each by the next word of a generator.
+// Returns those of these deliveries that are not lost, each by the next word of a generator.
 fn kept_offers(
     percent: u8,
     offers: &[WorldEvent],
@@ -119,14 +121,14 @@ fn push_kept(
     Ok(())
 }
 
-// Whether a word loses a delivery.
+// Whether a word means that a delivery is lost.
 fn is_lost(percent: u8, word: u32) -> bool
     ensures { result ≡ is_lost percent word }
 {
     word % 100 < u32::from(percent)
 }
 
-// Whether there may be at an interface of this router.
+// Whether there may be losses at an interface of this router.
 fn loses_at(network: Option<Addr>, slot: &Slot) -> bool
     ensures { result ≡ loses_at network slot.now }
 {

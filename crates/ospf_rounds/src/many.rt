@@ -1,4 +1,4 @@
-//! What comes about at many routers.
+//! Events at many routers.
 
 ghost use Rattle.std.specs.Prelude.{◌≡◌, ◌++◌, IfOk, OnOk, flat_map};
 ghost use Rattle.std.specs.List.{enumerate_from};
@@ -12,13 +12,13 @@ use ospf_script::Many;
 use ospf_world::{EventWatch, Slot, World, WorldEvent, WorldFault};
 use std::alloc::{AllocError, Global};
 
-// The first DD sequence number of each router that starts with all others.
+// The first DD sequence number of each router in `start all`.
 const DD_START: u32 = 1;
 
-/// These events come about at each router, by the order of configurations. What is refused is
-/// passed over. A watch is told of each event.
+/// Makes these events happen at each router, in the order of the configurations. Refusals are
+/// passed over. Each event is reported to a watch.
 ///
-/// `NoLink` where there is no link that is meant, `Memory` where memory runs out, which ends it.
+/// `NoLink` if no link is selected, `Memory` if memory runs out, which ends it.
 pub fn run_many<V: EventWatch>(
     world: &mut World,
     many: Many,
@@ -40,7 +40,7 @@ pub fn run_many<V: EventWatch>(
     }
 }
 
-// Its events.
+// Lists its events.
 fn events_of(many: Many, slots: &[Slot], alloc: Global) -> Result<Vec<WorldEvent>, AllocError>
     ensures { IfOk result (λ events. events.items ≡ flat_map (many_of many) slots.now) }
 {
@@ -51,7 +51,7 @@ fn events_of(many: Many, slots: &[Slot], alloc: Global) -> Result<Vec<WorldEvent
     Ok(events)
 }
 
-// Adds those at a router.
+// Adds the events at a router.
 fn push_events(events: &mut Vec<WorldEvent>, many: Many, config: &Config) -> Result<(), AllocError>
     ensures { OnOk result (events.new.items ≡ events.old.items ++ config_events many config.now) }
 {
@@ -68,7 +68,7 @@ fn push_events(events: &mut Vec<WorldEvent>, many: Many, config: &Config) -> Res
     }
 }
 
-// Adds those at its links.
+// Adds the events at its links.
 fn push_links(events: &mut Vec<WorldEvent>, many: Many, config: &Config) -> Result<(), AllocError>
     ensures { OnOk result (events.new.items ≡ events.old.items
         ++ flat_map (events_on many config.now.router_id) (enumerate_from 0
@@ -80,7 +80,7 @@ fn push_links(events: &mut Vec<WorldEvent>, many: Many, config: &Config) -> Resu
     Ok(())
 }
 
-// Adds that at a link, if it is meant.
+// Adds the event at a link, if it is selected.
 fn push_link(
     events: &mut Vec<WorldEvent>,
     many: Many,
@@ -97,7 +97,7 @@ fn push_link(
     Ok(())
 }
 
-// Whether a link is meant whose interface has this address.
+// Whether the link of an interface with this address is selected.
 fn is_meant(many: Many, address: InterfaceAddress) -> bool
     ensures { result ≡ is_meant many address }
 {

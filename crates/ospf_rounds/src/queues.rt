@@ -8,9 +8,9 @@ ghost use Rattle.ospf_world.specs.Worlds.{place_of};
 use ospf_world::{World, WorldEvent};
 use std::alloc::{AllocError, Global};
 
-/// The events for each router, in the order of the configurations, each router's in their order.
+/// The events for each router, in the order of the configurations, each router's in order.
 ///
-/// `AllocError` where memory runs out.
+/// `AllocError` if memory runs out.
 pub(crate) fn by_router(
     world: &World,
     events: &[WorldEvent],
@@ -26,7 +26,7 @@ pub(crate) fn by_router(
     Ok(sorted)
 }
 
-// The events for each router, in a queue of its own.
+// The events for each router, in its own queue.
 fn queues_of(
     world: &World,
     events: &[WorldEvent],
@@ -45,7 +45,7 @@ fn queues_of(
     Ok(queues)
 }
 
-// Puts an event behind those for its router, if there is that.
+// Puts an event after those for its router, if there is one.
 fn put_in_queue(
     queues: &mut Vec<Vec<WorldEvent>>,
     world: &World,

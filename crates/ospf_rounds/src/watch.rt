@@ -1,20 +1,21 @@
-//! Who is told how far a line of a script has come.
+//! What is reported of a line of a script while it runs.
 
 ghost use Rattle.std.specs.Prelude.{⊤};
 ghost use Rattle.ospf_rounds.specs.Progress.{ProgressRule};
 
 use ospf_world::EventWatch;
 
-/// Is told how far a line of the script has come, and of each event; the simulation learns nothing.
+/// Receives each event and how far a line of the script has come; the simulation learns nothing
+/// back.
 pub trait Watch: EventWatch {
-    // What becomes of it as it is told how far a line has come; it may promise nothing.
+    // What a report does to the watch; it may promise nothing.
     ghost goes_on_gives: { ProgressRule Self } = { λ _ _. ⊤ };
 
-    /// So many of the rounds of a line are done, and one more begins.
+    /// This many rounds of a line are done, and one more begins.
     fn begins_round(&mut self, done: u64, count: u64)
         ensures { goes_on_gives self.old self.new };
 
-    /// So many of the events of a line by chance are drawn, and more are.
+    /// This many random events of a line are drawn, and more follow.
     fn draws_events(&mut self, done: u64, count: u64)
         ensures { goes_on_gives self.old self.new };
 

@@ -1,10 +1,10 @@
--- Ends of which those at a vertex are replaced, and prefixes that are gathered.
+-- Ends of which those at a vertex are replaced, and prefixes that are collected.
 use Rattle.std.specs.Prelude.{◌≡◌, ◌≢◌, ◌↔◌, ◌⊎◌, List, Contains}
 use Rattle.ospf_base.specs.declared.prefix.Prefix.{Prefix}
 use Rattle.ospf_edges.specs.declared.end.End.{End}
 use Rattle.ospf_graph.specs.declared.graph.Vertex.{Vertex}
 
--- the ends at a vertex are others, and all else is as it was
+-- the ends at a vertex are replaced, and nothing else changes
 abbrev pub ReplacesEnds : Vertex → List End → List End → List End → Type 0
 ReplacesEnds v at old new =
     (e : End) → Contains new e ↔ ((Contains old e × (e.vertex ≢ v)) ⊎ Contains at e)
@@ -13,7 +13,7 @@ ReplacesEnds v at old new =
 abbrev pub HoldsEndsAt : Vertex → List End → List End → Type 0
 HoldsEndsAt v were ends = (e : End) → Contains ends e → e.vertex ≡ v → Contains were e
 
--- what is left of ends are all that stand elsewhere, and at a vertex none but some of these
+-- the remaining ends are all those elsewhere, and at a vertex only some of these
 pub record LeavesEnds (v : Vertex) (at old new : List End) : Type 0 where
   pub kept : (e : End) → Contains old e → e.vertex ≢ v → Contains new e
   pub only : (e : End) → Contains new e → Contains old e × ((e.vertex ≢ v) ⊎ Contains at e)

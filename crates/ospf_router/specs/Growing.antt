@@ -24,7 +24,7 @@ pub record GrowingValue : Type 0 where
   pub root : RouterId
   pub listing : List (List ℕ)
 
--- the paths are kept over the edges of the listing, beside its ends, in order
+-- the paths are stored over the edges of the listing, with its ends in order
 pub record IsGrownOver (root : RouterId) (lsas : List (List ℕ)) (paths : KeptTree) (ends : List End)
     : Type 0 where
   pub root_is : paths.root ≡ Router root
@@ -71,7 +71,7 @@ pub data IsUntouched (adverts : List Advertisement) (changed : List Vertex) (set
       → ((v : Vertex) (c : ℕ) → Contains changed v → IsEnd adverts p v c → ⊥)
       → IsUntouched adverts changed settled turn p
 
--- of the edges before, each went or is there still
+-- each of the edges before is gone or still there
 pub record AreGone (before after gone : List Edge) : Type 0 where
   pub within : (e : Edge) → Contains gone e → Contains before e
   pub all : (e : Edge) → Contains before e → Contains gone e ⊎ Contains after e

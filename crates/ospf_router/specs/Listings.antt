@@ -23,6 +23,6 @@ AreListedAt db key lsas =
 abbrev pub StayListed : List Held → List (List ℕ) → List (List ℕ) → Type 0
 StayListed db old new = (key : LsaKey) → AreListedAt db key old → AreListedAt db key new
 
--- what the database has below MaxAge is listed, but at the keys that a step took or issued
+-- what the database has below MaxAge is listed, except at the keys that a step took or issued
 abbrev pub ListsBut : OutputsValue → List Held → List (List ℕ) → Type 0
 ListsBut out db lsas = (key : LsaKey) → TouchesKey out key ⊎ AreListedAt db key lsas

@@ -13,7 +13,7 @@ use Rattle.ospf_step.specs.Fit.{IsFitRouter}
 use Rattle.ospf_neighbour.specs.Lists.{is_listed}
 
 -- a router: how many links it has, the floor of its start, its routing table, and its part of the
--- area, which is `None` of one that has stopped
+-- area, which is `None` if the router has stopped
 pub record RouterValue : Type 0 where
   pub links : ℕ
   pub floor : ℤ
@@ -21,7 +21,7 @@ pub record RouterValue : Type 0 where
   pub area : Option AreaValue
 
 -- what each step needs, and keeps: it can be taken, and the router can
--- answer to others for what it does
+-- account to others for what it does
 pub record IsKept (s : AreaValue) : Type 0 where
   pub fit : IsFitRouter s
   pub sound : IsSoundState s
@@ -38,7 +38,7 @@ abbrev pub IsRouter : ℕ → RoutesValue → Option AreaValue → Type 0
 IsRouter links routes None = routes.table ≡ []
 IsRouter links routes (Some s) = Runs links routes s × (routes.router ≡ s.router)
 
--- ---- what is asked of it
+-- ---- what can be read of it
 
 -- what it lists (14)
 abbrev pub listing_of : Option AreaValue → List (List ℕ)
@@ -50,7 +50,7 @@ abbrev pub neighbours_on : Option AreaValue → ℕ → List NeighbourValue
 neighbours_on None l = []
 neighbours_on (Some s) l = elim (slice_get s.links l) [ None ↦ [] | Some link ↦ link.neighbours ]
 
--- an instance is on the retransmission list of a neighbour that may not be there (13.6)
+-- an instance is on the retransmission list of a neighbour that may not exist (13.6)
 abbrev pub awaits_in : Option AreaValue → ℕ → RouterId → Instance → Bool
 awaits_in None link q i = false
 awaits_in (Some s) link q i = elim (neighbour s link q) [

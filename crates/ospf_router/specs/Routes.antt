@@ -13,7 +13,7 @@ pub record AreRoutes (router : RouterId) (db : List Held) (table : List Route) :
   pub listing : IsListing (listed db)
   pub routes : IsTable (advertisements_of (listed db)) router table
 
--- routes that are kept: whose they are, which, and the LSAs that they were made of
+-- stored routes: of which router, which routes, and the LSAs that they were made from
 pub record RoutesValue : Type 0 where
   pub router : RouterId
   pub table : List Route

@@ -10,9 +10,9 @@ use Rattle.ospf_router.specs.declared.router.Step.{Step}
 pub use Rattle.ospf_step.specs.Drops.{is_dropped}
 pub use Rattle.ospf_step.specs.Events.{happening}
 
--- an event comes to a router: its area drops or takes it, by the exact rules of the event, and then
--- its routing table is that of what the database lists. `table_changed` tells whether this is
--- another one than before
+-- an event happens at a router: its area drops or takes it, by the exact rules of the event, and
+-- then its routing table is that of what the database lists. `table_changed` says whether the table
+-- is different from the one before
 pub record Steps (e : Event) (before : RouterValue) (t : Step) (after : RouterValue) : Type 0 where
   pub area : AreaValue
   pub next : AreaValue

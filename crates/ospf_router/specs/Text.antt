@@ -8,6 +8,6 @@ abbrev pub start_fault_text : StartFault → List ℕ
 start_fault_text fault.Floor = codes "S2 Floor"
 start_fault_text fault.Memory = codes "S3 Memory"
 
--- the same of a router that stands still
+-- the same of a router that has stopped
 abbrev pub stopped_text : List ℕ
 stopped_text = codes "S1 Stopped"

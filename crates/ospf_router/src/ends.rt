@@ -11,8 +11,8 @@ use ospf_graph::{Vertex, is_same};
 use ospf_spf::{ends_to, prefix_order};
 use std::alloc::{AllocError, Global};
 
-/// Ends in order, once those at a vertex, which were among some, are others. An end that stays is
-/// not moved, as long as none goes.
+/// Ends in order, once those at a vertex, which were among some, are replaced. An end that stays is
+/// not moved, as long as none is removed.
 ///
 /// `AllocError` where memory runs out.
 pub(crate) fn replace_ends(

@@ -39,7 +39,7 @@ impl Display for StartFault {
     }
 }
 
-/// The router has met want of memory, and stands still.
+/// The router ran out of memory, and has stopped.
 #[derive(Clone, Copy, Debug, PartialEq, Eq, Error)]
 pub struct Stopped;
 

@@ -14,8 +14,8 @@ use ospf_lsa::{ListingFault, Lsa};
 use ospf_lsdb::{EntryView, Lsdb};
 use std::alloc::{AllocError, Global};
 
-/// A tree that has grown, with the prefixes to which routes may be
-/// others, some perhaps more than once.
+/// A tree that has grown, with the prefixes to which routes may have changed,
+/// some perhaps more than once.
 #[derive(Drop)]
 pub(crate) struct Grown {
     pub(crate) tree: GrowingTree,
@@ -23,7 +23,7 @@ pub(crate) struct Grown {
 }
 
 /// The tree once each LSA that a step took or issued is listed as the database has it, if its
-/// listing is then what the database lists; else nothing.
+/// listing is then what the database lists; otherwise nothing.
 pub(crate) fn followed(
     tree: GrowingTree,
     out: &Outputs,
@@ -31,9 +31,9 @@ pub(crate) fn followed(
     alloc: Global,
 ) -> Result<Option<Grown>, AllocError>
     requires { ListsBut out.now database.now tree.listing }
-    // A tree that comes of it goes on from the given one.
+    // A resulting tree grows from the given one.
     ensures grown { IfOk result (λ o. IfSome o (IsGrownFrom tree [])) }
-    // The database then lists what that tree does, at whatever ages, and stands in order.
+    // The database then lists what that tree does, at whatever ages, and is in order.
     ensures lists { IfOk result (λ o. IfSome o (λ g. ListsAs database.now g.tree.listing)) }
     ensures database { IfOk result (λ o. IfSome o (λ _. IsDatabase database.now)) }
     ensures listing { IfOk result (λ o. IfSome o (λ _. IsListing (listed database.now))) }
@@ -55,7 +55,7 @@ pub(crate) fn followed(
     }
 }
 
-/// Whether as many LSAs are listed as the database has below `MAX_AGE`. No memory is taken.
+/// Whether as many LSAs are listed as the database has below `MAX_AGE`. No memory is allocated.
 pub(crate) fn lists_as_many(database: &Lsdb, tree: &GrowingTree) -> bool
     ensures many { IsTrue result → length (filter (λ h. is_fresh h.entry) database.now)
         ≡ length tree.now.listing }

@@ -27,8 +27,8 @@ use ospf_spf::{Change, RouteTable, ends_in_order, ends_to, route_by, table_of};
 use std::alloc::{AllocError, Global};
 use std::marker::Model;
 
-/// A listing with the shortest paths from a router over its graph, kept so that LSAs can
-/// come (RFC 2328, section 16.1).
+/// A listing with the shortest paths from a router over its graph, stored so that LSAs can
+/// be added (RFC 2328, section 16.1).
 #[derive(Drop)]
 pub(crate) struct GrowingTree {
     root: RouterId,
@@ -113,8 +113,8 @@ impl GrowingTree {
     }
 
     /// The tree once an LSA is put into its listing, in the place of the one of its key if
-    /// one is listed. The paths go on from those that are there, but for what hung on
-    /// edges that went. The prefixes to which routes may be others are put behind
+    /// one is listed. The paths grow from the existing ones, except for what depended on
+    /// edges that are gone. The prefixes to which routes may have changed are appended to
     /// `touched`, some perhaps more than once.
     ///
     /// `MaxAge` where the age of the LSA is `MAX_AGE`, `Memory` where memory
@@ -125,14 +125,14 @@ impl GrowingTree {
         lsa: Lsa,
         touched: &mut Vec<Prefix>,
     ) -> Result<GrowingTree, ListingFault>
-        // The root stays, the LSA is in the listing, and routes are others at
-        // prefixes that are touched alone.
+        // The root is unchanged, the LSA is in the listing, and routes change only at
+        // prefixes that are touched.
         ensures root { IfOk result (λ t. t.root ≡ self.root) }
         ensures listing { IfOk result (λ t. IsPut lsa self.listing t.listing) }
         ensures spares { IfOk result (λ t. SparesBut touched.new.items
             (advertisements_of self.listing) (advertisements_of t.listing) self.root) }
         ensures touched { OnOk result (HoldsPrefixes touched.old.items touched.new.items) }
-        // It fails for want of memory, or for an LSA at the greatest age.
+        // It fails when memory runs out, or for an LSA at the greatest age.
         ensures faults { IfErr result (λ f. (f ≡ fault.MaxAge) ⊎ (f ≡ fault.Memory)) }
         ensures max_age { result ≡ Err fault.MaxAge → (header_of lsa).age ≡ max_age }
     {
@@ -187,7 +187,7 @@ fn vertex_of(lsa: &Lsa) -> Vertex
     }
 }
 
-// What a listing says of a vertex, beside the root.
+// What a listing says of a vertex, and whether it lists the root.
 fn said_of(
     alloc: Global,
     listing: &Listing,
@@ -246,7 +246,7 @@ fn turned(
     })
 }
 
-// Puts the prefixes of ends behind others.
+// Appends the prefixes of ends to others.
 fn touch(ends: &[End], touched: &mut Vec<Prefix>) -> Result<(), AllocError>
     ensures kept { OnOk result (HoldsPrefixes touched.old.items touched.new.items) }
     ensures ends { OnOk result ((p : Prefix) → HasEndOf ends.now p → Contains touched.new.items p) }
@@ -257,7 +257,7 @@ fn touch(ends: &[End], touched: &mut Vec<Prefix>) -> Result<(), AllocError>
     Ok(())
 }
 
-// Puts the prefixes whose ends or vertices are others behind others.
+// Appends the prefixes whose ends or vertices changed to others.
 fn touch_turn(
     alloc: Global,
     listing: &Listing,
@@ -278,7 +278,7 @@ fn touch_turn(
     Ok(())
 }
 
-// Puts the prefixes of the vertex's ends behind others, unless it has the same ends as before.
+// Appends the prefixes of the vertex's ends to others, unless it has the same ends as before.
 fn touch_own(turn: &Turn, touched: &mut Vec<Prefix>) -> Result<(), AllocError>
     ensures kept { OnOk result (HoldsPrefixes touched.old.items touched.new.items) }
     ensures own { OnOk result ((p : Prefix) → (Contains touched.new.items p → ⊥) →
@@ -292,7 +292,7 @@ fn touch_own(turn: &Turn, touched: &mut Vec<Prefix>) -> Result<(), AllocError>
     Ok(())
 }
 
-// Puts the prefixes of the ends at some vertices behind others.
+// Appends the prefixes of the ends at some vertices to others.
 fn touch_changed(
     alloc: Global,
     listing: &Listing,
@@ -310,8 +310,8 @@ fn touch_changed(
     Ok(())
 }
 
-// The edges that do not stand among others in their order: those that go, and
-// perhaps others that stand elsewhere.
+// The edges that are not found among others in their order: those that are gone, and
+// perhaps others that are elsewhere.
 fn gone_of(alloc: Global, before: &[Edge], after: &[Edge]) -> Result<Vec<Edge>, AllocError>
     ensures { IfOk result (λ gone. AreGone before.now after.now gone.items) }
 {
@@ -326,7 +326,7 @@ fn gone_of(alloc: Global, before: &[Edge], after: &[Edge]) -> Result<Vec<Edge>, 
     Ok(gone)
 }
 
-// Where the edge stands, from a place on.
+// Where the edge is, from a place on.
 fn place_from(edges: &[Edge], place: usize, edge: &Edge) -> Option<usize>
     ensures { IfSome result (λ _. Contains edges.now edge.now) }
 {

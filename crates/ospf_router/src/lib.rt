@@ -3,8 +3,8 @@
 //!
 //! `Router::start` starts one from its configuration, and `Router::step` takes an event (sections
 //! 8.2 and 16.1). Its table is a `KeptRoutes`: the routes of what its database lists, with the
-//! listing and the shortest paths that they were made of, which go on where an LSA is listed anew.
-//! What a step does stands in `specs/Steps`, and what routes are in `specs/Routes`.
+//! listing and the shortest paths that they were made from, which grow when a new or changed LSA is
+//! listed. What a step does is in `specs/Steps`, and what routes are in `specs/Routes`.
 #![tactic(auto)]
 
 mod ends;

@@ -13,7 +13,8 @@ use ospf_lsdb::{EntryView, Lsdb};
 // The bytes of the age, the one field in which copies of one LSA differ (RFC 2328, section 12.1.1).
 const AGE_BYTES: usize = 2;
 
-/// Whether the database lists the very LSAs of the listing, at whatever ages. No memory is taken.
+/// Whether the database lists the very LSAs of the listing, at whatever ages. No memory is
+/// allocated.
 pub(crate) fn lists_as(database: &Lsdb, listing: &Listing) -> bool
     ensures same { IsTrue result → ListsAs database.now listing.now }
     ensures database { IsDatabase database.now }

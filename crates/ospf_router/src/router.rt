@@ -32,11 +32,11 @@ use std::marker::Model;
 /// What a step gives.
 #[derive(Drop)]
 pub struct Step {
-    /// What it puts out.
+    /// Its outputs.
     pub out: Outputs,
     /// Why the datagram is dropped, if it is.
     pub dropped: Option<Dropped>,
-    /// Whether the routing table is another one than before.
+    /// Whether the routing table is different from the one before.
     pub table_changed: bool,
 }
 
@@ -142,7 +142,7 @@ impl Router {
     }
 
     /// The routing table (RFC 2328, section 11); one that has stopped
-    /// routes nothing. No memory is taken.
+    /// routes nothing. No memory is allocated.
     pub fn table(&self) -> &RouteTable
         ensures { result.now ≡ self.now.table }
     {
@@ -162,7 +162,7 @@ impl Router {
     }
 
     /// The LSAs that the routing table was last made of, if it was made of any: those that the
-    /// router lists (section 14), each at an age that it had before. No memory is taken.
+    /// router lists (section 14), each at an age that it had before. No memory is allocated.
     pub fn kept_listing(&self) -> Option<&Listing>
         ensures same { IfSome result (λ l. map contents l.now
             ≡ map contents (listing_of self.now.area)) }
@@ -177,7 +177,7 @@ impl Router {
     }
 
     /// Its part of the area: links with their interfaces and neighbours, and the database (RFC
-    /// 2328, sections 9, 10 and 12.2); `None` of one that has stopped. No memory is taken.
+    /// 2328, sections 9, 10 and 12.2); `None` of one that has stopped. No memory is allocated.
     pub fn area(&self) -> Option<&Area>
         ensures some { IfSome result (λ s. self.now.area ≡ Some s.now) }
         ensures none { result ≡ None → self.now.area ≡ None }
@@ -188,14 +188,14 @@ impl Router {
         }
     }
 
-    /// Whether the router has a link of this number. No memory is taken.
+    /// Whether the router has a link of this number. No memory is allocated.
     pub fn has_link(&self, link: usize) -> bool
         ensures { IsTrue result ↔ (link < self.now.links) }
     {
         link < self.links
     }
 
-    /// The neighbours of a link, in rising Router ID (section 10). No memory is taken.
+    /// The neighbours of a link, in rising Router ID (section 10). No memory is allocated.
     pub fn neighbours(&self, link: usize) -> &[Neighbour]
         ensures { result.now ≡ neighbours_on self.now.area link }
     {
@@ -209,7 +209,7 @@ impl Router {
     }
 
     /// Whether an instance is on the retransmission list of a neighbour on a link
-    /// (section 13.6). No memory is taken.
+    /// (section 13.6). No memory is allocated.
     pub fn awaits(&self, link: usize, neighbour: RouterId, instance: &Instance) -> bool
         ensures { result ≡ awaits_in self.now.area link neighbour instance.now }
     {
@@ -226,7 +226,7 @@ impl Router {
     }
 
     /// The greatest of the floor of the start and all numbers of LSAs of the router's own that were
-    /// issued or installed since; for one that has stopped, the floor. No memory is taken.
+    /// issued or installed since; for one that has stopped, the floor. No memory is allocated.
     pub fn floor(&self) -> i32
         ensures { result ≡ greatest_in self.now.floor self.now.area }
     {
@@ -237,7 +237,7 @@ impl Router {
     }
 }
 
-// The area's step, and whether the routing table after it is another one.
+// The area's step, and whether the routing table changed.
 #[derive(Drop)]
 struct Advanced {
     taken: StepResult,
@@ -278,7 +278,8 @@ fn advance(
     })
 }
 
-// The routes after a step: where its datagram is dropped they stay, with no look at the database.
+// The routes after a step: if its datagram is dropped they are unchanged, with no look at the
+// database.
 fn refresh(
     taken: &StepResult,
     area: &Area,
@@ -291,14 +292,14 @@ fn refresh(
         AreRoutes area.now.router area.now.database routes.old.table }
     requires as_listed { IsTrue (is_some taken.now.dropped) →
         ListsAs area.now.database routes.old.listing }
-    // What it lists otherwise was listed before, but at the keys that were taken or issued.
+    // What it lists besides was listed before, except at the keys that were taken or issued.
     requires listed { ListsBut taken.now.out area.now.database routes.old.listing }
-    // Then they are those of what it lists in any case, and a change of the table is told.
+    // Then they are those of what it lists in any case, and the result says whether they changed.
     ensures routes { OnOk result
         (AreRoutes area.now.router area.now.database routes.new.table) }
     ensures listing { OnOk result (ListsAs area.now.database routes.new.listing) }
     ensures changed { IfOk result (λ b. IsTrue b ↔ (routes.new.table ≢ routes.old.table)) }
-    // They stay of this router, and a datagram that is dropped needs no memory.
+    // They remain those of this router, and a datagram that is dropped needs no memory.
     ensures router { routes.new.router ≡ routes.old.router }
     ensures memory { OnErr result (IsTrue (is_some taken.now.dropped) → ⊥) }
 {

@@ -22,10 +22,10 @@ use ospf_spf::RouteTable;
 use std::alloc::{AllocError, Global};
 use std::marker::Model;
 
-/// The routing table of a router over what its database lists (RFC 2328, section 16.1), kept
-/// with the listing that it is of and the shortest paths over it. Where the database lists an
-/// LSA anew, the paths go on from there, and the table is calculated anew only where they or the
-/// ends that they lead to are others.
+/// The routing table of a router over what its database lists (RFC 2328, section 16.1), stored
+/// with its listing and the shortest paths over it. When the database lists a new or changed LSA,
+/// the paths grow from there, and the table is calculated again only if they or the ends that they
+/// lead to changed.
 #[derive(Drop)]
 pub struct KeptRoutes {
     router: RouterId,
@@ -60,15 +60,15 @@ impl KeptRoutes {
         }
     }
 
-    /// The routing table. No memory is taken.
+    /// The routing table. No memory is allocated.
     pub fn table(&self) -> &RouteTable
         ensures { result.now ≡ self.now.table }
     {
         &self.table
     }
 
-    /// The listing that the routes were made of, if any was; its ages are of the time at which each
-    /// LSA was taken into it. No memory is taken.
+    /// The listing that the routes were made from, if there is one; its ages are those at which
+    /// each LSA was put into it. No memory is allocated.
     pub fn listing(&self) -> Option<&Listing>
         ensures some { IfSome result (λ l. l.now ≡ self.now.listing) }
         ensures none { result ≡ None → self.now.listing ≡ [] }
@@ -79,17 +79,17 @@ impl KeptRoutes {
         }
     }
 
-    /// The routing table becomes that of what the database lists; whether it is another one
-    /// than before. Where the database lists the LSAs that it listed the last time, at
-    /// whatever ages, no memory is taken.
+    /// Makes the routing table that of what the database lists, and returns whether it changed. If
+    /// the database lists the LSAs that it listed the last time, at whatever ages, no memory is
+    /// allocated.
     ///
-    /// `AllocError` where memory runs out; then the table and the listing are as they were.
+    /// `AllocError` where memory runs out; then the table and the listing are unchanged.
     pub fn refresh(&mut self, database: &Lsdb, alloc: Global) -> Result<bool, AllocError>
-        // The table is that of what the database lists, and it is told whether it is another one.
+        // The table is that of what the database lists, and the result says whether it changed.
         ensures table { OnOk result (AreRoutes self.old.router database.now self.new.table) }
         ensures listing { OnOk result (ListsAs database.now self.new.listing) }
         ensures changed { IfOk result (λ b. IsTrue b ↔ (self.new.table ≢ self.old.table)) }
-        // The router stays, and where memory runs out all else too.
+        // The router is unchanged, and if memory runs out all else too.
         ensures router { self.new.router ≡ self.old.router }
         ensures kept { OnErr result (self.new ≡ self.old) }
     {
@@ -100,10 +100,10 @@ impl KeptRoutes {
         }
     }
 
-    /// As `refresh`, behind a step that put this out. Of the database only what it has at
-    /// the keys that were taken and issued is looked at, and the paths go on from there,
-    /// as long as no LSA leaves what is listed. Where nothing was taken or issued and
-    /// none leaves, no memory is taken.
+    /// Like `refresh`, after a step with these outputs. It looks up in the database only
+    /// the keys that were taken and issued, and the paths grow from there,
+    /// as long as no LSA leaves what is listed. If nothing was taken or issued and
+    /// none leaves, no memory is allocated.
     ///
     /// `AllocError` where memory runs out; then there are no routes, as at first.
     pub fn follow(
@@ -113,11 +113,11 @@ impl KeptRoutes {
         alloc: Global,
     ) -> Result<bool, AllocError>
         requires { ListsBut out.now database.now self.old.listing }
-        // The table is that of what the database lists, and it is told whether it is another one.
+        // The table is that of what the database lists, and the result says whether it changed.
         ensures table { OnOk result (AreRoutes self.old.router database.now self.new.table) }
         ensures listing { OnOk result (ListsAs database.now self.new.listing) }
         ensures changed { IfOk result (λ b. IsTrue b ↔ (self.new.table ≢ self.old.table)) }
-        // The router stays, and where memory runs out nothing else.
+        // The router is unchanged; if memory runs out, there is no table and no listing.
         ensures router { self.new.router ≡ self.old.router }
         ensures cleared { OnErr result
             (self.new ≡ record self.old { table = []; listing = [] }) }
@@ -126,7 +126,7 @@ impl KeptRoutes {
             return Ok(false);
         }
         let followed = self.go_on(out, database, alloc);
-        // The table may be half turned then, and the tree is gone.
+        // The table may be half changed then, and the tree is gone.
         if followed.is_err() {
             self.clear(alloc);
         }
@@ -141,7 +141,7 @@ impl KeptRoutes {
         self.tree = None;
     }
 
-    // Whether the routes are those of a listing as the database has it. No memory is taken.
+    // Whether the routes are those of a listing as the database has it. No memory is allocated.
     fn is_current(&self, database: &Lsdb) -> bool
         ensures routes { IsTrue result → AreRoutes self.now.router database.now self.now.table }
         ensures listing { IsTrue result → ListsAs database.now self.now.listing }
@@ -153,7 +153,7 @@ impl KeptRoutes {
     }
 
     // Whether nothing was taken or issued, and as many LSAs are listed as the database has below
-    // `MAX_AGE`. No memory is taken.
+    // `MAX_AGE`. No memory is allocated.
     fn is_still(&self, out: &Outputs, database: &Lsdb) -> bool
         requires { ListsBut out.now database.now self.now.listing }
         ensures routes { IsTrue result → AreRoutes self.now.router database.now self.now.table }
@@ -165,15 +165,15 @@ impl KeptRoutes {
         brings_none(out) && lists_as_many(database, tree)
     }
 
-    // Goes on from the tree that is kept, or makes the routes of what the database lists; whether
-    // the table is another one.
+    // Grows the stored tree, or makes the routes of what the database lists; returns whether
+    // the table changed.
     fn go_on(&mut self, out: &Outputs, database: &Lsdb, alloc: Global) -> Result<bool, AllocError>
         requires { ListsBut out.now database.now self.old.listing }
-        // The table is that of what the database lists, and it is told whether it is another one.
+        // The table is that of what the database lists, and the result says whether it changed.
         ensures table { OnOk result (AreRoutes self.old.router database.now self.new.table) }
         ensures listing { OnOk result (ListsAs database.now self.new.listing) }
         ensures changed { IfOk result (λ b. IsTrue b ↔ (self.new.table ≢ self.old.table)) }
-        // The router stays.
+        // The router is unchanged.
         ensures router { self.new.router ≡ self.old.router }
     {
         match self.grow(out, database, alloc)? {
@@ -182,8 +182,8 @@ impl KeptRoutes {
         }
     }
 
-    // Goes on from the tree that is kept, as far as LSAs came: whether the table is another one, or
-    // nothing where that does not lead to what the database lists.
+    // Grows the stored tree by the LSAs that came: whether the table changed, or
+    // nothing if that does not lead to what the database lists.
     fn grow(
         &mut self,
         out: &Outputs,
@@ -191,13 +191,14 @@ impl KeptRoutes {
         alloc: Global,
     ) -> Result<Option<bool>, AllocError>
         requires { ListsBut out.now database.now self.old.listing }
-        // Where it goes on, the table is that of what the database lists; a change is told.
+        // If the tree grows, the table is that of what the database lists, and a change is
+        // reported.
         ensures table { IfOk result (λ o. IfSome o
             (λ _. AreRoutes self.old.router database.now self.new.table)) }
         ensures listing { IfOk result (λ o. IfSome o (λ _. ListsAs database.now self.new.listing)) }
         ensures changed { IfOk result (λ o. IfSome o
             (λ b. IsTrue b ↔ (self.new.table ≢ self.old.table))) }
-        // The router stays, and where it does not go on the table too.
+        // The router is unchanged, and if the tree does not grow the table too.
         ensures router { self.new.router ≡ self.old.router }
         ensures kept { IfOk result (λ o. IfNone o (self.new.table ≡ self.old.table)) }
     {
@@ -211,14 +212,14 @@ impl KeptRoutes {
         Ok(Some(changed))
     }
 
-    // Puts a tree that has grown in place, and makes the table that of
-    // it; whether it is another one.
+    // Stores a tree that has grown, and makes the table that of
+    // it; returns whether the table changed.
     fn turn(&mut self, grown: Grown, alloc: Global) -> Result<bool, AllocError>
         requires root { grown.tree.root ≡ self.old.router }
         requires turned { (A : List Advertisement) × IsTable A self.old.router self.old.table
             × SparesBut grown.touched.items A (advertisements_of grown.tree.listing)
             self.old.router }
-        // The table is that of the tree's listing, which is kept; a change of the table is told.
+        // The table is that of the tree's listing, which is stored, and a change of it is reported.
         ensures table { OnOk result (IsTable (advertisements_of grown.tree.listing) self.old.router
             self.new.table) }
         ensures listing { OnOk result (self.new.listing ≡ grown.tree.listing) }
@@ -237,15 +238,15 @@ impl KeptRoutes {
         Ok(changed)
     }
 
-    // Puts a tree and its routes in place; whether the routes are others than before.
+    // Stores a tree and its routes; returns whether the routes changed.
     fn put(&mut self, tree: GrowingTree, alloc: Global) -> Result<bool, AllocError>
         requires { tree.root ≡ self.old.router }
-        // The table is that of the tree's listing, which is kept; a change of the table is told.
+        // The table is that of the tree's listing, which is stored, and a change of it is reported.
         ensures table { OnOk result (IsTable (advertisements_of tree.listing) self.old.router
             self.new.table) }
         ensures listing { OnOk result (self.new.listing ≡ tree.listing) }
         ensures changed { IfOk result (λ b. IsTrue b ↔ (self.new.table ≢ self.old.table)) }
-        // The router stays, and where memory runs out all else too.
+        // The router is unchanged, and if memory runs out all else too.
         ensures router { self.new.router ≡ self.old.router }
         ensures kept { OnErr result (self.new ≡ self.old) }
     {
@@ -256,13 +257,13 @@ impl KeptRoutes {
         Ok(!same)
     }
 
-    // Makes the routes of what the database lists; whether they are others than before.
+    // Makes the routes of what the database lists; returns whether they changed.
     fn renew(&mut self, database: &Lsdb, alloc: Global) -> Result<bool, AllocError>
-        // The table is that of what the database lists, and it is told whether it is another one.
+        // The table is that of what the database lists, and the result says whether it changed.
         ensures table { OnOk result (AreRoutes self.old.router database.now self.new.table) }
         ensures listing { OnOk result (self.new.listing ≡ listed database.now) }
         ensures changed { IfOk result (λ b. IsTrue b ↔ (self.new.table ≢ self.old.table)) }
-        // The router stays, and where memory runs out all else too.
+        // The router is unchanged, and if memory runs out all else too.
         ensures router { self.new.router ≡ self.old.router }
         ensures kept { OnErr result (self.new ≡ self.old) }
     {
@@ -281,7 +282,7 @@ fn brings_none(out: &Outputs) -> bool
     out.taken.is_empty() && out.issued.is_empty()
 }
 
-// Whether two tables are one.
+// Whether two tables are the same.
 fn is_same(old: &RouteTable, new: &RouteTable, alloc: Global) -> Result<bool, AllocError>
     ensures { IfOk result (λ b. IsTrue b ↔ (new.now ≡ old.now)) }
 {

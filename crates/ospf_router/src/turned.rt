@@ -12,7 +12,7 @@ use ospf_spf::RouteTable;
 use std::alloc::{AllocError, Global};
 
 /// Makes a table that of a tree by its routes to the prefixes at which the two may differ.
-/// Whether it is another one then.
+/// Returns whether the table changed.
 ///
 /// `AllocError` where memory runs out; then some prefixes may be those of the tree.
 pub(crate) fn turn_table(

@@ -1,5 +1,5 @@
--- What stands written where memory runs out, a stream fails or a published table is closed
--- before a run has come to its end.
+-- What was written when memory runs out, a stream fails or a published table is closed before a run
+-- ends.
 use Rattle.std.specs.Prelude.{⊤, ◌≡◌, ◌≢◌, ℕ, ℤ, List, [], Option, Result, Ok, Err, IsSome}
 use Rattle.ospf_base.specs.declared.ids.Addr.{Addr}
 use Rattle.ospf_config.specs.declared.config.Config.{Config}
@@ -22,15 +22,15 @@ use Rattle.ospf_udp.specs.declared.stop.Obstacle.{Obstacle}
 use Rattle.ospf_udp.specs.declared.stop.Stop.{Stop}
 use Rattle.ospf_udp.specs.declared.stop.Stop.TheVariants as stop
 
--- what fails before anything is written: memory ran out; or, where there is a plan of one router or
--- more and an address is to be looked up, a table that a router publishes was closed
+-- what fails before anything is written: memory ran out; or, if there is a plan of at least one
+-- router and an address is looked up, a table that a router publishes was closed
 pub data IsEarly (asked : Asked) (files : List NamedFile) : Failure → Type 0 where
   no_memory : IsEarly asked files failure.Memory
   closed : IsSome asked.lookup → files ≢ [] → HasPlan asked.floor files
       → IsEarly asked files failure.Closed
 
--- a run is cut: before anything is written; or what is told of what keeps the
--- routers from running; or their report
+-- a run is cut: before anything is written; in the report of what keeps the routers from running;
+-- or in the report on the routers
 pub data IsRunCut (rules : Rules) (asked : Asked) (files : List NamedFile) (failed : FailedStreams)
     (old new : Written) (f : Failure) : Type 0 where
   before_all : IsEarly asked files f → new.out ≡ old.out → new.err ≡ old.err
@@ -42,8 +42,7 @@ pub data IsRunCut (rules : Rules) (asked : Asked) (files : List NamedFile) (fail
       → AreExtras asked extras
       → IsReportCut extras outcomes failed old new f → IsRunCut rules asked files failed old new f
 
--- a run was cut by a failure, which was told last, as far as it could
--- be, and of which the status is
+-- a failure cut a run; it was reported last, as far as it could be written, and it gives the status
 pub record IsRunCutShort (rules : Rules) (asked : Asked) (files : List NamedFile)
     (failed : FailedStreams) (status : Status) (old new : Written) : Type 0 where
   pub cause : Failure
@@ -53,14 +52,14 @@ pub record IsRunCutShort (rules : Rules) (asked : Asked) (files : List NamedFile
   pub last : IsTold failed_then failed err_then new.err (failure_line cause)
   pub status_is : status ≡ failure_status cause
 
--- how the program ends: a run comes to its end, or it is cut short
+-- how the program ends: a run reaches its end, or it is cut short
 pub data EndsRun (rules : Rules) (asked : Asked) (files : List NamedFile) (status : Status)
     (old new : Written) : Type 0 where
   comes : ComesOfRun rules asked files status old new → EndsRun rules asked files status old new
   cut_short : (failed : FailedStreams) → IsRunCutShort rules asked files failed status old new
       → EndsRun rules asked files status old new
 
--- what is asked for comes to its end with this status, or this failure cuts it
+-- what is requested reaches its end with this status, or this failure cuts it
 abbrev pub EndsBy : Rules → Settings → List NamedFile → FailedStreams → Written → Written
     → Result Status Failure → Type 0
 EndsBy rules settings files failed old new (Ok status) =
@@ -68,26 +67,26 @@ EndsBy rules settings files failed old new (Ok status) =
 EndsBy rules settings files failed old new (Err failure) =
     IsRunCut rules (asked_of settings) files failed old new failure
 
--- the status that is answered
+-- the status that is returned
 abbrev pub last_status : Result Status Failure → Status
 last_status (Ok status) = status
 last_status (Err failure) = failure_status failure
 
--- ---- on the way
+-- ---- intermediate results
 
 -- why the routers did not run to their end
 abbrev pub IsStop : Asked → List NamedFile → Stop → Type 0
 IsStop asked files (stop.Obstacle obstacle) = Hinders asked.floor files obstacle
 IsStop asked files (stop.Failure f) = IsEarly asked files f
 
--- why the routers of these configurations, where they are the plan of the
--- files, did not run to their end
+-- why the routers of these configurations did not run to their end, if they are the plan of the
+-- files
 abbrev pub IsStopOfPlan : List NamedFile → List Config → Stop → Type 0
 IsStopOfPlan files configs s =
     (asked : Asked) (least : ℤ) → IsPlan asked.floor files configs least → IsStop asked files s
 
--- what failed of a plan before anything was written: memory ran out; or, where an address is to be
--- looked up, a table that a router of one of these files publishes was closed
+-- what failed of a plan before anything was written: memory ran out; or, if an address is looked
+-- up, a table that a router of one of these files publishes was closed
 abbrev pub FailsPlan : Option Addr → List NamedFile → Failure → Type 0
 FailsPlan lookup files failure.Memory = ⊤
 FailsPlan lookup files failure.Closed = IsSome lookup × (files ≢ [])

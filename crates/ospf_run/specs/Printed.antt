@@ -1,4 +1,4 @@
--- What is printed and told of routers whose drivers have ended.
+-- What is printed about routers whose drivers have ended, and what is reported on standard error.
 use Rattle.std.specs.Prelude.{◌≡◌, ◌==◌, if◌then◌else◌, ℕ, Bool, true, false, List, [], ◌++◌, Option, None, Some, Ok, Err, codes, decimal, flat_map, cond}
 use Rattle.std.specs.List.{list_any}
 use Rattle.std.specs.Io.KnownBytes.{Appends}
@@ -28,12 +28,12 @@ use Rattle.ospf_run.specs.declared.outcome.RouterShown.{RouterShown}
 
 -- ---- standard output
 
--- what a lookup found, if one was asked for
+-- what a lookup found, if an address was given
 abbrev pub looked_lines : Option Looked → List ℕ
 looked_lines None = []
 looked_lines (Some looked) = lookup_line looked.address.0 looked.answer
 
--- the greatest of the floor of the start and all numbers of the router's own LSAs since
+-- the floor: the greatest of the start's floor and all numbers of the router's own LSAs since
 abbrev pub floor_line : RouterValue → List ℕ
 floor_line router =
     codes "floor " ++ floor_text (greatest_in router.floor router.area) ++ codes "\n"
@@ -48,11 +48,11 @@ abbrev pub viewed_lines : Bool → View → RouterValue → List ℕ
 viewed_lines false view router = []
 viewed_lines true view router = view_lines view router
 
--- what was dropped, if it is this router that did
+-- what was dropped, if this router dropped it
 abbrev pub drops_of : RouterId → Drops → List ℕ
 drops_of router drops = if drops.router.0 == router.0 then drop_lines drops.links.items else []
 
--- the extras of a router, behind its table and a lookup: its neighbours, what it lists, what it
+-- the extras of a router, after its table and a lookup: its neighbours, its listing, what it
 -- dropped, the floor of its numbers
 abbrev pub extra_lines : Extras → RouterId → RouterValue → List ℕ
 extra_lines extras router x =
@@ -74,12 +74,12 @@ router_lines extras router shown =
     table_lines router shown
     ++ (looked_lines shown.looked ++ extra_lines extras router shown.router)
 
--- what is printed of a router: nothing where its driver did not come to the end
+-- the output for a router: nothing if its driver did not reach the end
 abbrev pub outcome_lines : Extras → Outcome → List ℕ
 outcome_lines extras outcome =
     elim outcome.came [ Ok shown ↦ router_lines extras outcome.router shown | Err f ↦ [] ]
 
--- what is printed of routers, in their order
+-- the output for routers, in their order
 abbrev pub report_lines : Extras → List Outcome → List ℕ
 report_lines extras = flat_map (outcome_lines extras)
 
@@ -96,12 +96,12 @@ at_tick_lines router tick x = at_tick_line router tick ++ routes_text x.table
 
 -- ---- standard error
 
--- the line of a file whose router's driver did not come to the end
+-- the report on a router whose driver did not reach the end, with its file
 abbrev pub outcome_told : Outcome → List ℕ
 outcome_told outcome =
     elim outcome.came [ Ok shown ↦ [] | Err f ↦ line_about outcome.file.now (drive_fault_text f) ]
 
--- what is told of routers, in their order
+-- the reports on routers, in their order
 abbrev pub report_told : List Outcome → List ℕ
 report_told = flat_map outcome_told
 
@@ -119,12 +119,12 @@ is_fault_of_system fault.Publish = false
 abbrev pub is_failed : Outcome → Bool
 is_failed outcome = elim outcome.came [ Ok shown ↦ false | Err f ↦ is_fault_of_system f ]
 
--- the driver did not come to the end
+-- the driver did not reach the end
 abbrev pub is_early : Outcome → Bool
 is_early outcome = elim outcome.came [ Ok shown ↦ false | Err f ↦ true ]
 
--- a wire or a thread failed one of the routers; else one ended early, for want of memory or with a
--- table that is closed; else all is done
+-- the status: a wire or a thread failed one of the routers; else a router ended early, out of
+-- memory or with a closed table; else all is done
 abbrev pub status_for : List Outcome → Status
 status_for outcomes =
     cond (list_any is_failed outcomes) status.Stream
@@ -132,14 +132,14 @@ status_for outcomes =
 
 -- ---- all of it
 
--- what came of routers is printed and told, in their order
+-- the results of routers are printed and their failures reported, in their order
 pub record AreOutcomesReported (extras : Extras) (outcomes : List Outcome) (status : Status)
     (old new : Written) : Type 0 where
   pub status_is : status ≡ status_for outcomes
   pub out : Appends old.out new.out (report_lines extras outcomes)
   pub err : Appends old.err new.err (report_told outcomes)
 
--- their report is cut: what is printed of them; or, where that is whole, what is told of them
+-- the report on routers is cut: in the output; or, if that is whole, on standard error
 pub data IsReportCut (extras : Extras) (outcomes : List Outcome) (failed : FailedStreams)
     (old new : Written) (f : Failure) : Type 0 where
   in_output : IsOutputCut failed f → IsBegun old.out new.out (report_lines extras outcomes)

@@ -1,4 +1,4 @@
--- Routers that run: how they begin, and what comes of them.
+-- Running routers: how they begin, and how they end.
 use Rattle.std.specs.Prelude.{⊤, ◌≡◌, ◌+◌, ℕ, ℤ, Bool, false, List, [], ◌∷◌, Option, None, Some, Result, Ok, Err, is_some, option_map, string_bytes}
 use Rattle.std.specs.Io.KnownBytes.{Appends}
 use Rattle.ospf_base.specs.declared.ids.Addr.{Addr}
@@ -37,22 +37,22 @@ pub record BeginsRun (floor : ℤ) (config : Config) (router : RouterValue) (kno
   pub started : IsStarted config 1 floor router
   pub opened : known.tables ≡ opening
 
--- what routers begin with beside their configurations: when the end comes,
--- and the floor of their numbers
+-- what routers begin with besides their configurations: when they end, and the floor of their
+-- numbers
 pub record Terms : Type 0 where
   pub span : Span
   pub floor : ℤ
 
--- what a lookup in the table that was published last finds, if an address was asked for
+-- what a lookup in the table that was published last finds, if an address was given
 abbrev pub IsLookedUp : Option Addr → List Table → Option Looked → Type 0
 IsLookedUp None tables None = ⊤
 IsLookedUp (Some address) tables (Some looked) =
     (looked.address ≡ address) × IsAnswerOfLast tables address 0 looked.answer
 IsLookedUp _ tables _ = ⊥
 
--- a driver that began there came to an end, by the rules of its machine and with this router, where
--- the span of its wire lets it end after as many ticks as were taken, and the lookup is in the
--- table that it published last
+-- a driver that began there reached an end, by the rules of its machine and with this router; the
+-- span of its wire lets it end after as many ticks as were taken; and the lookup is in the table
+-- that it published last
 pub record ComesToEnd (rules : Rules) (lookup : Option Addr) (a : Moment) (shown : RouterShown)
     : Type 0 where
   pub known : Known
@@ -62,12 +62,12 @@ pub record ComesToEnd (rules : Rules) (lookup : Option Addr) (a : Moment) (shown
       → EndsAfter span (handed + ticks_in drives.drives.goes_on.taken)
   pub looked : IsLookedUp lookup known.tables shown.looked
 
--- what came of a router: its driver began there and came to an end, or it failed
+-- the result of a router: its driver began there and reached an end, or it failed
 abbrev pub Came : Rules → Option Addr → Moment → Result RouterShown DriveFault → Type 0
 Came rules lookup a (Ok shown) = ComesToEnd rules lookup a shown
 Came rules lookup a (Err f) = IsDriven rules a (Err f)
 
--- the router of a configuration begins over a wire with the span, and this came of it
+-- the router of a configuration begins over a wire with the span, and this is its outcome
 pub record IsOutcome (rules : Rules) (lookup : Option Addr) (terms : Terms) (file : NamedFile)
     (config : Config) (outcome : Outcome) : Type 0 where
   pub file_is : outcome.file.now ≡ file
@@ -77,7 +77,7 @@ pub record IsOutcome (rules : Rules) (lookup : Option Addr) (terms : Terms) (fil
   pub counted : a.traffic ≡ Ticks 0 terms.span
   pub came : Came rules lookup a outcome.came
 
--- what came of the routers of files, in their order
+-- the outcomes of the routers of files, in their order
 abbrev pub AreOutcomes : Rules → Option Addr → Terms → List NamedFile → List Config → List Outcome
     → Type 0
 AreOutcomes rules lookup terms [] [] [] = ⊤
@@ -86,10 +86,10 @@ AreOutcomes rules lookup terms (file ∷ files) (config ∷ configs) (outcome �
     × AreOutcomes rules lookup terms files configs outcomes
 AreOutcomes rules lookup terms _ _ _ = ⊥
 
--- ---- what is asked for
+-- ---- what is requested
 
--- what is asked for of a run: an address to look up, when the end comes, the text of a floor, and
--- what is to be printed of each router
+-- what is requested of a run: an address to look up, when it ends, the text of a floor, and what
+-- must be printed of each router
 pub record Asked : Type 0 where
   pub lookup : Option Addr
   pub span : Span
@@ -98,15 +98,15 @@ pub record Asked : Type 0 where
   pub listing : Bool
   pub drops : Bool
 
--- the text of the floor that is asked for
+-- the text of the requested floor
 abbrev pub floor_of : Settings → Option (List ℕ)
 floor_of settings = option_map string_bytes settings.floor
 
--- after so many ticks, if there is a last one, or where that is told
+-- the run ends after this many ticks, if there is a last one, or when it is asked to end
 abbrev pub span_of : Settings → Span
 span_of settings = record { ticks = settings.ticks; may_be_told = is_some settings.ending }
 
--- what the settings ask for
+-- what the settings request
 abbrev pub asked_of : Settings → Asked
 asked_of settings = record {
   lookup = settings.lookup;
@@ -117,36 +117,36 @@ asked_of settings = record {
   drops = settings.drops;
 }
 
--- what is printed beside tables and lookups: neighbours and what is listed, where they are asked
--- for; no drops, where they are not; and a floor, where one is asked for
+-- what is printed besides tables and lookups: neighbours and listing, if requested; no drops, if
+-- they are not requested; and a floor, if one is given
 pub record AreExtras (asked : Asked) (extras : Extras) : Type 0 where
   pub neighbours : extras.neighbours ≡ asked.neighbours
   pub listing : extras.listing ≡ asked.listing
   pub no_drops : asked.drops ≡ false → extras.drops.items ≡ []
   pub floor : extras.floor ≡ is_some asked.floor
 
--- ---- on the way
+-- ---- intermediate results
 
--- what came of the routers of a plan, in their order, where so much is asked for
+-- the outcomes of the routers of a plan, in their order, with these settings
 abbrev pub ComeOf : Rules → Settings → Plan → List NamedFile → List Outcome → Type 0
 ComeOf rules settings plan files outcomes =
     AreOutcomes rules settings.lookup (record { span = span_of settings; floor = plan.floor }) files
     plan.configs.items outcomes
 
--- what the last publish of a driver told: all that its writer has published; nothing
--- where that is the empty table alone
+-- what the last publish of a driver returned: all that its writer has published; nothing if that is
+-- only the empty table
 abbrev pub IsPublishTold : Known → Option Known → Type 0
 IsPublishTold known None = known.tables ≡ opening
 IsPublishTold known (Some told) = told ≡ known
 
--- a driver that began there has ended, and what looks up beside it has
+-- a driver that began there has ended, and so has the thread that looks up from its seat
 pub record Ran (rules : Rules) (a : Moment) (driven : Driven) (router_seat : RouterSeat)
     : Type 0 where
   pub opened : a.known.tables ≡ opening
   pub ended : IsDriven rules a driven
   pub looks : IsFrom a.known router_seat
 
--- the router of a configuration began, and this came of its driver and of what looks up beside it
+-- the router of a configuration began; its driver and its seat ended like this
 pub record RouterRan (rules : Rules) (terms : Terms) (config : Config) (driven : Driven)
     (router_seat : RouterSeat) : Type 0 where
   pub a : Moment
@@ -155,7 +155,7 @@ pub record RouterRan (rules : Rules) (terms : Terms) (config : Config) (driven :
   pub ended : IsDriven rules a driven
   pub looks : IsFrom a.known router_seat
 
--- so did all of them, one for each configuration
+-- the same for all routers, one for each configuration
 abbrev pub RoutersRan : Rules → Terms → List Config → List Driven → List RouterSeat → Type 0
 RoutersRan rules terms [] [] [] = ⊤
 RoutersRan rules terms (config ∷ configs) (driven ∷ drivens) (router_seat ∷ router_seats) =
@@ -165,8 +165,8 @@ RoutersRan rules terms _ _ _ = ⊥
 
 -- ---- runs
 
--- the plan of the files was run, with the span, by machines of these rules, and this came of its
--- routers
+-- machines with these rules ran the plan of the files, with the span, and these are the outcomes of
+-- its routers
 pub record HaveRun (rules : Rules) (asked : Asked) (files : List NamedFile)
     (outcomes : List Outcome) : Type 0 where
   pub configs : List Config
@@ -175,8 +175,8 @@ pub record HaveRun (rules : Rules) (asked : Asked) (files : List NamedFile)
   pub are : AreOutcomes rules asked.lookup (record { span = asked.span; floor = least }) files
       configs outcomes
 
--- what keeps the routers of the files from running is told, with its status,
--- and nothing is written beside it
+-- what keeps the routers of the files from running is reported, with its status, and nothing else
+-- is written
 pub record IsHindered (asked : Asked) (files : List NamedFile) (status : Status) (old new : Written)
     : Type 0 where
   pub obstacle : Obstacle
@@ -185,8 +185,8 @@ pub record IsHindered (asked : Asked) (files : List NamedFile) (status : Status)
   pub told : Appends old.err new.err (obstacle_line obstacle)
   pub unwritten : new.out ≡ old.out
 
--- the plan of the files was run: what came of each router is printed and told,
--- with what is asked for beside it
+-- the plan of the files was run: the outcome of each router is printed or reported, with the extras
+-- that were requested
 pub record IsPlanRun (rules : Rules) (asked : Asked) (files : List NamedFile) (status : Status)
     (old new : Written) : Type 0 where
   pub outcomes : List Outcome
@@ -195,14 +195,14 @@ pub record IsPlanRun (rules : Rules) (asked : Asked) (files : List NamedFile) (s
   pub wanted : AreExtras asked extras
   pub reported : AreOutcomesReported extras outcomes status old new
 
--- how a run comes to its end: something keeps the routers from running, or they have run
+-- how a run ends: something keeps the routers from running, or they have run
 pub data ComesOfRun (rules : Rules) (asked : Asked) (files : List NamedFile) (status : Status)
     (old new : Written) : Type 0 where
   hindered : IsHindered asked files status old new → ComesOfRun rules asked files status old new
   ran : IsPlanRun rules asked files status old new → ComesOfRun rules asked files status old new
 
--- the plan of the files was run as is asked for, and this came of its routers, with
--- what is to be printed beside it
+-- the plan of the files was run as requested, with these outcomes of its routers and these extras
+-- to print
 abbrev pub RunsTo : Rules → Settings → List NamedFile → List Outcome → Extras → Type 0
 RunsTo rules settings files outcomes extras =
     HaveRun rules (asked_of settings) files outcomes × AreExtras (asked_of settings) extras

@@ -3,10 +3,10 @@ use Rattle.std.specs.Prelude.{◌≡◌, ℕ, List, All, length}
 use Rattle.ospf_drive.specs.declared.span.Span.{Span}
 use Rattle.ospf_udp.specs.Wires.{UdpValue}
 
--- a wire that has not failed yet and has handed over no tick, with this span
+-- a wire that has not failed yet and has delivered no tick, with this span
 abbrev pub IsFresh : Span → UdpValue → Type 0
 IsFresh span wire = wire ≡ record { failed = 0; handed = 0; span = span }
 
--- so many such wires
+-- this many such wires
 abbrev pub AreWires : Span → ℕ → List UdpValue → Type 0
 AreWires span count wires = (length wires ≡ count) × All (IsFresh span) wires

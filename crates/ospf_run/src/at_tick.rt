@@ -13,7 +13,7 @@ use std::io::Write;
 
 /// Prints the Router ID of a router, how many ticks it has taken, and its routes, and flushes them.
 ///
-/// `Failure` where memory runs out or the stream fails: then a beginning of it was printed.
+/// `Failure` if memory runs out or the stream fails: then a beginning of it was printed.
 pub fn print_at_tick<O: Write>(
     alloc: Global,
     id: RouterId,
@@ -34,7 +34,7 @@ pub fn print_at_tick<O: Write>(
     streams.flush(out)
 }
 
-// The line of a router that has taken so many ticks.
+// Formats the line of a router that has taken this many ticks.
 fn at_tick_line(alloc: Global, id: RouterId, tick: u64) -> Result<String, AllocError>
     ensures { IfOk result (λ line. string_bytes line ≡ at_tick_line id tick) }
 {

@@ -1,4 +1,4 @@
-//! Routers that start: each with a writer of its table, and a seat there.
+//! Starting routers: each with a writer of its table, and a seat at the table.
 
 ghost use Rattle.std.specs.Prelude.{◌≡◌, ◌≢◌, ◌+◌, ◌<◌, ◌^◌, All, IfOk, length, map};
 ghost use Rattle.std.specs.List.{AllZip};
@@ -18,10 +18,10 @@ use std::sync::Wait;
 // The first DD sequence number of each router (RFC 2328, section 10.3).
 const DD_START: u32 = 1;
 
-/// Starts a machine for each configuration, over the wire at its place. The floor of their
+/// Starts a machine for each configuration, over the wire at the same place. The floor of their
 /// numbers is below the greatest number.
 ///
-/// `AllocError` where memory runs out, or there is no place for a seat.
+/// `AllocError` if memory runs out, or there is no room for a seat.
 pub(crate) fn begin_all<M: Machine + Drop, W: Wire + Drop, R: Wait + Copy + Drop>(
     rt: R,
     alloc: Global,
@@ -32,7 +32,7 @@ pub(crate) fn begin_all<M: Machine + Drop, W: Wire + Drop, R: Wait + Copy + Drop
     requires floor { floor ≢ max_sequence_number }
     requires wires { length wires.items ≡ length configs.now }
     requires fresh { All (λ wire. W.failed wire + 1 < 2 ^ 64) wires.items }
-    // Each configuration has its job and its seat, in their order, over its own wire.
+    // Each configuration has its job and its seat, in order, over its own wire.
     ensures begins { IfOk result (λ begun. AllZip
         (λ config job. BeginsRun floor config (M.value job.0) job.2) configs.now begun.0.items) }
     ensures over { IfOk result (λ begun. map (λ job. job.1) begun.0.items ≡ wires.items) }
@@ -54,7 +54,7 @@ pub(crate) fn begin_all<M: Machine + Drop, W: Wire + Drop, R: Wait + Copy + Drop
     Ok((jobs, seats))
 }
 
-// A machine that starts with a configuration, the writer of its table, and a seat there.
+// Starts a machine with a configuration, the writer of its table, and a seat at the table.
 fn begin<M: Machine + Drop, W: Wire + Drop, R: Wait + Drop>(
     rt: R,
     alloc: Global,
@@ -75,7 +75,7 @@ fn begin<M: Machine + Drop, W: Wire + Drop, R: Wait + Drop>(
     }
 }
 
-// A machine that starts with a configuration.
+// Starts a machine with a configuration.
 fn start_machine<M: Machine>(alloc: Global, config: &Config, floor: i32) -> Result<M, AllocError>
     requires { floor ≢ max_sequence_number }
     ensures { IfOk result (λ m. IsStarted config.now 1 floor (M.value m)) }
@@ -87,7 +87,7 @@ fn start_machine<M: Machine>(alloc: Global, config: &Config, floor: i32) -> Resu
     }
 }
 
-// An empty table that is published, with one seat at it.
+// Opens an empty published table with one seat.
 fn open_table<R: Wait + Drop>(rt: R, alloc: Global) -> Result<(Writer<R>, Seat), OpenRefused>
     ensures tables { IfOk result (λ opened. opened.0.tables ≡ opening) }
     ensures seat { IfOk result (λ opened. opened.1 ≡ opened.0) }

@@ -1,4 +1,4 @@
-//! What is printed of a router beside its table and a lookup.
+//! What is printed of a router besides its table and a lookup.
 
 ghost use Rattle.std.specs.Prelude.{◌≡◌, IfErr, IfOk, OnErr, OnOk, flat_map, string_bytes};
 ghost use Rattle.std.specs.Io.KnownBytes.{Appends};
@@ -15,8 +15,8 @@ use ospf_views::write_view;
 use std::alloc::{AllocError, Global};
 use std::io::Write;
 
-/// Prints the extras of a router: its neighbours, what it lists, what it dropped, and the floor of
-/// its numbers, as far as they are wanted.
+/// Prints the extras of a router that are wanted: its neighbours, its listing, what it dropped, and
+/// the floor of its numbers.
 pub(crate) fn print_extras<O: Write>(
     alloc: Global,
     id: RouterId,
@@ -44,7 +44,7 @@ pub(crate) fn print_extras<O: Write>(
     print_floor(alloc, router, extras.floor, out, streams)
 }
 
-// Prints what is shown of a router, if it is wanted.
+// Prints this view of a router, if it is wanted.
 fn print_viewed<O: Write>(
     alloc: Global,
     is_wanted: bool,
@@ -67,7 +67,7 @@ fn print_viewed<O: Write>(
     write_view(alloc, view, router, out, streams)
 }
 
-// Prints what a router dropped, of the drops of all routers.
+// Prints what a router dropped, out of the drops of all routers.
 fn print_drops<O: Write>(
     alloc: Global,
     router: RouterId,
@@ -87,7 +87,7 @@ fn print_drops<O: Write>(
     Ok(())
 }
 
-// Prints what was dropped, if it is this router that did.
+// Prints what was dropped, if this router dropped it.
 fn print_drop<O: Write>(
     alloc: Global,
     router: RouterId,
@@ -129,7 +129,7 @@ fn print_floor<O: Write>(
     streams.write(out, &line)
 }
 
-// The line of the floor of a router's numbers.
+// Formats the line of the floor of a router's numbers.
 fn floor_line(alloc: Global, router: &Router) -> Result<String, AllocError>
     ensures { IfOk result (λ line. string_bytes line ≡ floor_line router.now) }
 {

@@ -20,7 +20,7 @@ use std::alloc::Global;
 use std::sync::Wait;
 use std::thread::Threads;
 
-/// What came of the routers of files, in their order, which machines were.
+/// Returns the outcomes of the routers of files, in their order.
 pub(crate) fn finish_all<'a, M: Machine, R: Wait + Drop, S: Threads>(
     rt: &S,
     alloc: Global,
@@ -57,7 +57,7 @@ pub(crate) fn finish_all<'a, M: Machine, R: Wait + Drop, S: Threads>(
     Ok(outcomes)
 }
 
-// What came of a router: its driver has ended, and its seat is at rest.
+// Returns the result of a router: its driver has ended, and its seat is at rest.
 fn finish<M: Machine, R: Wait + Drop, S: Threads>(
     rt: &S,
     driven: Driven<R>,
@@ -84,7 +84,7 @@ fn finish<M: Machine, R: Wait + Drop, S: Threads>(
     }
 }
 
-// What the table that was published last answers for the address, if there is one.
+// Looks up the address, if there is one, in the table that was published last.
 fn look_if_asked<R: Wait + Drop>(
     mut writer: Writer<R>,
     seat: Seat,
@@ -94,7 +94,7 @@ fn look_if_asked<R: Wait + Drop>(
     requires fib { seat.fib ≡ writer.fib }
     requires began { IsPrefix opening seat.tables }
     requires told { IsPublishTold writer told }
-    // The answer, if an address is asked for; nothing is closed where none is.
+    // The answer, if an address is given; the table is not closed if there is none.
     ensures looked { IfOk result (IsLookedUp lookup writer.tables) }
     ensures asked { OnErr result (IsSome lookup) }
 {
@@ -105,8 +105,8 @@ fn look_if_asked<R: Wait + Drop>(
     Ok(Some(Looked { address, answer }))
 }
 
-// What the table that was published last answers for an address. Nothing is published
-// meanwhile: the writer is here.
+// Looks up an address in the table that was published last. Nothing is published meanwhile: the
+// writer is here.
 fn look_last<R: Wait + Drop>(
     writer: &mut Writer<R>,
     seat: Seat,
@@ -124,7 +124,7 @@ fn look_last<R: Wait + Drop>(
     Ok(answer)
 }
 
-// The seat, once it has learned what was told.
+// Lets the seat learn the last publish.
 fn learned(mut seat: Seat, told: Option<Told>) -> Seat
     requires { IfSome told (λ t. t.fib ≡ seat.fib) }
     ensures fib { result.fib ≡ seat.fib }
@@ -140,7 +140,7 @@ fn learned(mut seat: Seat, told: Option<Told>) -> Seat
     }
 }
 
-// The outcome of the router of a file.
+// Makes the outcome of the router of a file.
 fn outcome_of<'a>(
     file: &'a NamedFile,
     config: &Config,

@@ -1,12 +1,12 @@
 //! Routers that run in threads of their own, over UDP on this machine.
 //!
-//! `run_routers` is the whole, by the rules of OSPF routers, and `run_text` for any `Machine`: it
-//! reads configurations, opens sockets, drives the routers, looks an address up beside them, prints
-//! their tables, and reports to a `Tap` what goes on meanwhile. What came of each router stands in
-//! `specs/Runs`, and what is written where a failure cuts a run short in `specs/Cut`. What is
-//! refused before a socket is made is found by `prepare` of `ospf_udp`. All that is printed stands
-//! in `specs/Printed`: `print_at_tick` prints a table while routers run, and `report` what came of
-//! them, and answers the status to end with.
+//! `run_routers` does the whole, by the rules of OSPF routers, and `run_text` for any `Machine`: it
+//! reads configurations, opens sockets, drives the routers, looks an address up while they run,
+//! prints their tables, and reports to a `Tap` what happens meanwhile. The outcome of each router
+//! is in `specs/Runs`, and what is written if a failure cuts a run short in `specs/Cut`. `prepare`
+//! of `ospf_udp` finds what is refused before a socket is opened. All output is in `specs/Printed`:
+//! `print_at_tick` prints a table while routers run, and `report` prints their outcomes and returns
+//! the status to end with.
 #![tactic(auto)]
 
 mod at_tick;

@@ -1,4 +1,4 @@
-//! Threads that look an address up beside the drivers.
+//! Threads that look up an address while the drivers run.
 
 ghost use Rattle.std.specs.Prelude.{IfSome};
 ghost use Rattle.ospf_index.specs.Known.{Known};
@@ -18,10 +18,10 @@ use std::time::{Clock, Duration};
 // How long a thread waits between two looks, in milliseconds.
 const BETWEEN_LOOKS: u64 = 10;
 
-/// Whether the drivers are done: what the threads that look up ask from time to time.
+/// Whether the drivers are done: the threads that look up check this from time to time.
 pub(crate) type Done = Arc<AtomicBool, Global>;
 
-/// A thread that looks up. Proofs see what its seat knew at the start.
+/// A thread that looks up an address. Proofs see what its seat knew at the start.
 #[derive(Drop)]
 pub(crate) struct Looking {
     handle: PromisedHandle<Seat, SeatOf>,
@@ -38,7 +38,7 @@ impl Model for Looking {
 /// The seat of a router.
 #[derive(Drop)]
 pub(crate) enum RouterSeat {
-    /// Nothing is looked up there.
+    /// Nothing is looked up from it.
     Idle(Seat),
     Looking(Looking),
     /// The thread did not start.
@@ -46,7 +46,8 @@ pub(crate) enum RouterSeat {
 }
 
 impl RouterSeat {
-    /// The seat, once nothing is looked up there any more. `None` where the thread did not start.
+    /// Returns the seat, once nothing is looked up from it any more; `None` if the thread did not
+    /// start.
     pub(crate) fn into_seat<S: Threads>(self, rt: &S) -> Option<Seat>
         ensures { (k : Known) → IsFrom k self → IfSome result (Follows k) }
     {
@@ -58,8 +59,8 @@ impl RouterSeat {
     }
 }
 
-/// Starts a thread that looks the address up from the seat, until it
-/// is done, if there is an address.
+/// Starts a thread that looks up the address from the seat until `done` is set, if there is an
+/// address.
 pub(crate) fn start_lookup<S: Threads + Wait + Clock + Copy + Send + 'static>(
     rt: S,
     seat: Seat,
@@ -77,7 +78,7 @@ pub(crate) fn start_lookup<S: Threads + Wait + Clock + Copy + Send + 'static>(
     }
 }
 
-// What a thread will give back: its seat, at the same table, which knows no less than before.
+// What a thread will return: its seat, at the same table, which knows no less than before.
 #[derive(Drop)]
 struct SeatOf(Snapshot<Seat>);
 
@@ -85,7 +86,7 @@ impl Promise<Seat> for SeatOf {
     ghost kept_by = { λ p seat. Follows p.0.value seat };
 }
 
-// Starts a thread that looks up.
+// Starts a thread that looks up an address.
 fn start_looking<S: Threads + Wait + Clock + Copy + Send + 'static>(
     rt: S,
     seat: Seat,
@@ -104,7 +105,7 @@ fn start_looking<S: Threads + Wait + Clock + Copy + Send + 'static>(
     }
 }
 
-// Looks the address up from time to time, until the drivers are done.
+// Looks up the address from time to time, until the drivers are done.
 fn look_until<S: Wait + Clock>(rt: &S, seat: Seat, address: Addr, done: &Done) -> Seat
     ensures { Follows seat result }
 {
@@ -119,7 +120,7 @@ fn look_until<S: Wait + Clock>(rt: &S, seat: Seat, address: Addr, done: &Done) -
     unreachable!()
 }
 
-// A seat from which the address was looked up.
+// Looks up the address once and returns the seat.
 fn look_once(mut seat: Seat, address: Addr) -> Seat
     ensures { Follows seat result }
 {

@@ -1,4 +1,4 @@
-//! What came of routers that ran.
+//! The outcomes of routers that ran.
 
 use ospf_base::{Addr, RouterId};
 use ospf_drive::DriveFault;
@@ -14,15 +14,15 @@ pub struct Looked {
     pub answer: Option<Answer>,
 }
 
-/// A router whose driver came to the end, and what a lookup in the table
-/// that was published last found.
+/// A router whose driver reached the end, and what a lookup in the table that was published last
+/// found.
 #[derive(Drop)]
 pub struct RouterShown {
     pub router: Router,
     pub looked: Option<Looked>,
 }
 
-/// What came of the router of a file.
+/// The outcome of the router of a file.
 #[derive(Drop)]
 pub struct Outcome<'a> {
     pub file: &'a NamedFile,
@@ -37,14 +37,14 @@ pub struct Drops {
     pub links: Vec<DropCounts>,
 }
 
-/// What is printed of each router beside its table and a lookup.
+/// What is printed of each router besides its table and a lookup.
 #[derive(Debug, Drop)]
 pub struct Extras {
     /// Its neighbours.
     pub neighbours: bool,
-    /// The LSAs that it lists.
+    /// Its listing.
     pub listing: bool,
-    /// What it dropped, of all routers.
+    /// What all the routers dropped.
     pub drops: Vec<Drops>,
     /// The floor of its numbers.
     pub floor: bool,

@@ -1,4 +1,4 @@
-//! Runs of a plan over wires.
+//! Running a plan over wires.
 
 ghost use Rattle.std.specs.Prelude.{◌≡◌, ◌≢◌, ◌+◌, ◌<◌, ◌≤◌, ◌^◌, [], List, All, IfErr, IfOk, length, vec_capacity, vec_len};
 ghost use Rattle.std.specs.List.{AllZip};
@@ -25,7 +25,8 @@ use std::sync::{Arc, Wait};
 use std::thread::Threads;
 use std::time::Clock;
 
-/// Runs a plan over wires, one for each configuration. What comes of its routers, in their order.
+/// Runs a plan over wires, one for each configuration. Returns the outcomes of its routers, in
+/// order.
 pub(crate) fn run_over<
     'a,
     M: Machine + Send + Drop + 'static,
@@ -44,7 +45,7 @@ pub(crate) fn run_over<
     requires wires { length wires.items ≡ length plan.now.configs.items }
     requires fresh { All (λ wire. W.failed wire + 1 < 2 ^ 64) wires.items }
     requires counted { All (λ wire. W.traffic wire ≡ Ticks 0 (span_of settings.now)) wires.items }
-    // What comes of each router, or what failed before anything was written.
+    // The outcome of each router, or what failed before anything was written.
     ensures outcomes { IfOk result
         (λ all. ComeOf M.rules settings.now plan.now files.now all.items) }
     ensures early { IfErr result (FailsPlan settings.now.lookup files.now) }
@@ -62,7 +63,7 @@ pub(crate) fn run_over<
     )
 }
 
-// Drives the routers, and looks the address up beside them.
+// Drives the routers, and looks up the address while they run.
 fn drive_and_look<
     M: Machine + Send + Drop + 'static,
     W: Wire + Send + Drop + 'static,
@@ -86,13 +87,13 @@ fn drive_and_look<
     let mut router_seats = Vec::with_capacity(alloc, seats.len())?;
     start_lookups(*rt, seats, lookup, &done, &mut router_seats);
     let ended = drive_all(rt, alloc, jobs);
-    // What looks up beside the drivers is told.
+    // Signals the lookup threads to stop.
     done.store(true, Ordering::SeqCst);
     let driven = ended?;
     Ok((driven, router_seats))
 }
 
-// Starts to look the address up from the seats, in order.
+// Starts to look up the address from the seats, in order.
 fn start_lookups<S: Threads + Wait + Clock + Copy + Send + 'static>(
     rt: S,
     seats: Vec<Seat>,

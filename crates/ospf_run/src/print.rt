@@ -17,12 +17,12 @@ use ospf_udp::line_about;
 use std::alloc::{AllocError, Global};
 use std::io::Write;
 
-/// Writes each router whose driver came to the end to `out`, in their order: its Router ID, its
-/// routes, a lookup if there was one, and the extras; and then tells on `err` why the other drivers
-/// ended. The answer is the status to end with.
+/// Writes each router whose driver reached the end to `out`, in their order: its Router ID, its
+/// routes, a lookup if there was one, and the extras; then reports on `err` why the other drivers
+/// ended. Returns the status to end with.
 ///
-/// `Failure` where memory runs out or a stream fails: then a beginning of what is printed stands on
-/// `out`, or all of it, and a beginning of what is told on `err`.
+/// `Failure` if memory runs out or a stream fails: then a beginning of the output is on `out`, or
+/// all of it, and a beginning of the reports on `err`.
 pub fn report<O: Write, E: Write>(
     alloc: Global,
     outcomes: &[Outcome<'_>],
@@ -44,7 +44,7 @@ pub fn report<O: Write, E: Write>(
     Ok(status_of(outcomes))
 }
 
-// Prints what came of routers to standard output, which may keep it until it is flushed.
+// Prints the outcomes of routers to standard output, which may buffer them until it is flushed.
 fn print_outcomes<O: Write>(
     alloc: Global,
     outcomes: &[Outcome<'_>],
@@ -64,7 +64,7 @@ fn print_outcomes<O: Write>(
     Ok(())
 }
 
-// Prints what came of a router to standard output, if its driver came to the end.
+// Prints the outcome of a router to standard output, if its driver reached the end.
 fn print_outcome<O: Write>(
     alloc: Global,
     outcome: &Outcome<'_>,
@@ -84,7 +84,7 @@ fn print_outcome<O: Write>(
     }
 }
 
-// Prints a router: its table, and what was asked for beside it.
+// Prints a router: its table, a lookup if there was one, and the extras.
 fn print_router<O: Write>(
     alloc: Global,
     router: RouterId,
@@ -125,7 +125,7 @@ fn print_table<O: Write>(
     print_routes(alloc, shown.router.table().routes(), out, streams)
 }
 
-// The line of a router.
+// Formats the line of a router.
 fn router_line(alloc: Global, router: RouterId) -> Result<String, AllocError>
     ensures { IfOk result (λ line. string_bytes line ≡ router_id_line router) }
 {
@@ -133,7 +133,7 @@ fn router_line(alloc: Global, router: RouterId) -> Result<String, AllocError>
     Ok(line)
 }
 
-// Prints what a lookup found, if one was asked for.
+// Prints what a lookup found, if an address was given.
 fn print_looked<O: Write>(
     alloc: Global,
     looked: &Option<Looked>,
@@ -152,7 +152,7 @@ fn print_looked<O: Write>(
     }
 }
 
-// Tells why drivers ended.
+// Reports why drivers ended.
 fn tell_outcomes<E: Write>(
     alloc: Global,
     outcomes: &[Outcome<'_>],
@@ -171,7 +171,7 @@ fn tell_outcomes<E: Write>(
     Ok(())
 }
 
-// Tells why the driver of a router ended, if it did not come to the end.
+// Reports why the driver of a router ended, if it did not reach the end.
 fn tell_outcome<E: Write>(
     alloc: Global,
     outcome: &Outcome<'_>,
@@ -190,7 +190,7 @@ fn tell_outcome<E: Write>(
     }
 }
 
-// Tells why a driver ended.
+// Reports why a driver ended.
 fn tell_fault<E: Write>(
     alloc: Global,
     file: &NamedFile,

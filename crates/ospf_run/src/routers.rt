@@ -1,4 +1,4 @@
-//! Runs of OSPF routers.
+//! Running OSPF routers.
 
 ghost use Rattle.std.specs.Prelude.{◌≡◌, ◌≢◌};
 ghost use Rattle.ospf_drive.specs.Machines.{router_rules};
@@ -18,8 +18,8 @@ use std::sync::Wait;
 use std::thread::Threads;
 use std::time::Clock;
 
-/// Runs an OSPF router for each configuration that files hold: `run_text` of routers, each of which
-/// goes by the exact steps of RFC 2328 (`router_rules`) and by no other rules.
+/// Runs an OSPF router for each configuration that files hold: `run_text` with routers, each of
+/// which follows the exact steps of RFC 2328 (`router_rules`) and no other rules.
 ///
 /// What it prints, when it ends and with which status is as for `run_text`.
 pub fn run_routers<
@@ -44,7 +44,7 @@ pub fn run_routers<
         let new = written_on (O.contents out.new) (E.contents err.new) in
         result ≡ Status.Refused →
         IsHindered (asked_of settings.now) files.now Status.Refused old new }
-    // However it ends, the run has come to its end, or a failure has cut it short.
+    // However it ends, the run has reached its end, or a failure has cut it short.
     ensures ended { let old = written_on (O.contents out.old) (E.contents err.old) in
         let new = written_on (O.contents out.new) (E.contents err.new) in
         EndsRun router_rules (asked_of settings.now) files.now result old new }

@@ -1,4 +1,4 @@
-//! Runs.
+//! Running routers, from files to output.
 
 ghost use Rattle.std.specs.Prelude.{◌≡◌, ◌≢◌, [], ℕ, List, Option, IfErr, IfOk, OnOk, false};
 ghost use Rattle.ospf_files.specs.Status.{failure_line};
@@ -26,26 +26,26 @@ use std::time::Clock;
 /// Runs a machine (a `Router`, or what is one by rules of its own) for each configuration that
 /// files hold, in a thread of its own, over UDP on this computer.
 ///
-/// Each starts with DD sequence number 1 and the floor. All sockets are made before any link goes
-/// up. At the end, which comes after the last tick, if there is a last one, or where it is told,
-/// each router whose driver came to the end is written to `out`, in the order of the files:
-/// `router` and its Router ID, its routing table, what a lookup of the address in it found, where
-/// one is asked for, its neighbours, what it lists and what it dropped, where these are, and the
-/// floor of its numbers, where one is given. Why another driver ended is told on `err`. The tap is
-/// told meanwhile what comes of each router, each time from its thread.
+/// Each starts with DD sequence number 1 and the floor. All sockets are opened before any link goes
+/// up. The run ends after the last tick, if there is a last one, or when it is asked to end. Then
+/// each router whose driver reached the end is written to `out`, in the order of the files:
+/// `router` and its Router ID, its routing table, the result of a lookup in it, if an address is
+/// given, its neighbours, its listing and what it dropped, if requested, and the floor of its
+/// numbers, if one is given. Why another driver ended is reported on `err`. Meanwhile the tap
+/// receives what happens to each router, each time from the router's thread.
 ///
-/// These end the run before a socket is made, the first that holds, each told on `err`: a floor
-/// that is none, with status `Refused`; a file that could not be read, with status `Stream`; the
-/// first file that holds no configuration, two configurations of one Router ID, and the first file
-/// with an interface that has no port, with status `Refused`. Status `Stream` says too that a
-/// socket could not be made, that a wire or a thread failed a router, that a table was closed or
-/// that a write failed; `Memory` that memory ran out, for all or for one router.
+/// These end the run before a socket is opened, the first that holds, each with a report on `err`:
+/// a floor that is none, with status `Refused`; a file that could not be read, with status
+/// `Stream`; the first file that holds no configuration, two configurations with one Router ID, and
+/// the first file with an interface that has no port, with status `Refused`. Status `Stream` also
+/// means that a socket could not be opened, that a wire or a thread failed a router, that a table
+/// was closed or that a write failed; `Memory` that memory ran out, for all or for one router.
 ///
-/// What failed for all is told last on `err`, as far as that can be written. Before it nothing
-/// new stands on either, where memory ran out, or a table was closed in which an address is looked
-/// up, before anything was written; or on `err` alone a beginning of the lines that tell what ended
-/// the run before it began; or on `out` a beginning of what is written of the routers and, where
-/// that is whole, on `err` a beginning of what is told of them.
+/// A failure of the whole run is reported last on `err`, as far as that can be written. Before it,
+/// there is nothing new on either stream, if memory ran out, or a table was closed in which an
+/// address is looked up, before anything was written; or only a beginning of the report on what
+/// ended the run before it began, on `err`; or a beginning of the output for the routers on `out`
+/// and, if that is whole, a beginning of the reports on them on `err`.
 pub fn run_text<
     M: Machine + Send + Drop + 'static,
     R: Net + Threads + Wait + Clock + Copy + Send + Drop + 'static,
@@ -69,7 +69,7 @@ pub fn run_text<
         let new = written_on (O.contents out.new) (E.contents err.new) in
         result ≡ Status.Refused →
         IsHindered (asked_of settings.now) files.now Status.Refused old new }
-    // However it ends, the run has come to its end, or a failure has cut it short.
+    // However it ends, the run has reached its end, or a failure has cut it short.
     ensures ended { let old = written_on (O.contents out.old) (E.contents err.old) in
         let new = written_on (O.contents out.new) (E.contents err.new) in
         EndsRun M.rules (asked_of settings.now) files.now result old new }
@@ -81,8 +81,8 @@ pub fn run_text<
     end(said, err, &mut streams)
 }
 
-// Runs routers of the configurations in files, if they can run. What comes of them, in their order,
-// and what is to be printed beside it.
+// Runs routers of the configurations in files, if they can run. Returns their outcomes, in order,
+// and the extras to print.
 fn run<
     'a,
     M: Machine + Send + Drop + 'static,
@@ -104,8 +104,8 @@ fn run<
     Ok((outcomes, settings.extras(drops)))
 }
 
-// Runs a plan over sockets of this computer, and tells a tap of it. What comes
-// of its routers, in their order.
+// Runs a plan over sockets of this computer, and reports to a tap. Returns the outcomes of its
+// routers, in order.
 fn run_plan<
     'a,
     M: Machine + Send + Drop + 'static,
@@ -130,7 +130,7 @@ fn run_plan<
     Ok(outcomes)
 }
 
-// What the routers dropped, if that is asked for.
+// Collects what the routers dropped, if that is requested.
 fn drops_of<T: Tap + Drop>(
     alloc: Global,
     settings: &Settings,
@@ -145,8 +145,8 @@ fn drops_of<T: Tap + Drop>(
     }
 }
 
-// Writes what came of the routers that settings and files ask for, or tells why they did not run to
-// their end. The answer is the status to end with.
+// Writes the outcomes of the routers that settings and files request, or reports why they did not
+// run to their end. Returns the status to end with.
 fn say<M: Machine, O: Write, E: Write>(
     alloc: Global,
     settings: &Settings,
@@ -168,8 +168,8 @@ fn say<M: Machine, O: Write, E: Write>(
     }
 }
 
-// Tells why the routers that settings and files ask for did not run to their end. The
-// answer is the status to end with.
+// Reports why the routers that settings and files request did not run to their end. Returns the
+// status to end with.
 fn tell_stop<M: Machine, E: Write>(
     alloc: Global,
     settings: &Settings,
@@ -192,7 +192,7 @@ fn tell_stop<M: Machine, E: Write>(
     }
 }
 
-// Tells last what failed, if anything did. The answer is the status to end with.
+// Reports last what failed, if anything did. Returns the status to end with.
 fn end<E: Write>(said: Result<Status, Failure>, err: &mut E, streams: &mut FailedStreams) -> Status
     ensures status { result ≡ last_status said }
     ensures quiet { OnOk said (E.contents err.new ≡ E.contents err.old) }

@@ -1,4 +1,4 @@
-//! What a run is asked for, beside its configurations.
+//! What is requested of a run, besides its configurations.
 
 ghost use Rattle.std.specs.Prelude.{◌≡◌, [], false};
 ghost use Rattle.ospf_run.specs.Runs.{AreExtras, asked_of, span_of};
@@ -8,12 +8,12 @@ use ospf_base::Addr;
 use ospf_drive::Span;
 use ospf_udp::Ending;
 
-/// What a run is asked for, beside its configurations.
+/// What is requested of a run, besides its configurations.
 #[derive(Drop)]
 pub struct Settings {
-    /// How many ticks there are, 1 to 1,000,000; `None` where no tick is the last.
+    /// How many ticks there are, 1 to 1,000,000; `None` if no tick is the last.
     pub ticks: Option<u64>,
-    /// What ends the run before the last tick, where it is told.
+    /// What can ask the run to end before the last tick.
     pub ending: Option<Ending>,
     /// The milliseconds of a tick, 1 to 1,000.
     pub milliseconds: u64,
@@ -25,12 +25,12 @@ pub struct Settings {
     pub neighbours: bool,
     /// Whether the LSAs that each router lists are printed.
     pub listing: bool,
-    /// Whether it is printed how many packets each router dropped.
+    /// Whether to print how many packets each router dropped.
     pub drops: bool,
 }
 
 impl Settings {
-    /// When the end comes.
+    /// When the run ends.
     pub(crate) fn span(&self) -> Span
         ensures { result ≡ span_of self.now }
     {
@@ -40,8 +40,7 @@ impl Settings {
         }
     }
 
-    /// What is printed beside tables and lookups. Of drops there are
-    /// none where they are not asked for.
+    /// What is printed besides tables and lookups. There are no drops if they are not requested.
     pub(crate) fn extras(&self, drops: Vec<Drops>) -> Extras
         requires { self.now.drops ≡ false → drops.items ≡ [] }
         ensures { AreExtras (asked_of self.now) result }

@@ -38,14 +38,14 @@ fn has_failed(outcome: &Outcome<'_>) -> bool
     }
 }
 
-// Whether one of the drivers did not come to the end.
+// Whether one of the drivers did not reach the end.
 fn have_ended_early(outcomes: &[Outcome<'_>]) -> bool
     ensures { result ≡ list_any is_early outcomes.now }
 {
     outcomes.iter().any(|outcome| has_ended_early(outcome))
 }
 
-// Whether a driver did not come to the end.
+// Whether a driver did not reach the end.
 fn has_ended_early(outcome: &Outcome<'_>) -> bool
     ensures { result ≡ is_early outcome.now }
 {

@@ -1,4 +1,4 @@
-//! What is told of routers while they run.
+//! What is reported of routers while they run.
 
 ghost use Rattle.std.specs.Prelude.{◌≡◌, IfOk, length};
 ghost use Rattle.std.specs.List.{AllZip};
@@ -12,38 +12,38 @@ use ospf_router::{Router, Sent, Step};
 use ospf_udp::put;
 use std::alloc::{AllocError, Global};
 
-/// What is told of the routers while they run, each in a thread of its own. What a tap makes of it
-/// is its own affair: no router learns of it.
+/// Receives what happens to the routers while they run, for each router in its own thread. What a
+/// tap does with it does not affect any router.
 pub trait Tap {
-    /// The tap of the router of a file, with the configuration that the file holds.
+    /// A tap for the router of a file, with the configuration that the file holds.
     ///
-    /// `AllocError` where memory runs out.
+    /// `AllocError` if memory runs out.
     fn another(&self, file: &NamedFile, config: &Config) -> Result<Self, AllocError>;
 
-    /// A tick of the router has come.
+    /// A tick of the router has happened.
     fn ticks(&mut self);
 
-    /// A packet has come in on a link of the router from this source,
-    /// which the router takes or not.
+    /// A packet has arrived on a link of the router from this source, which the router accepts or
+    /// not.
     fn hears(&mut self, link: usize, source: Addr, packet: &[u8]);
 
-    /// The router is so after a step, which gave this.
+    /// The router after a step, and what the step gave.
     fn sees(&mut self, router: &Router, step: &Step);
 
-    /// The router's datagram went out.
+    /// The router's datagram was sent.
     fn sends(&mut self, sent: &Sent);
 
-    /// The router's wire has come to its end, or failed: its driver ends.
+    /// The router's wire has reached its end, or failed: its driver ends.
     fn ends(&mut self);
 
-    /// How many packets each of the routers dropped, of which this tap's and those made of it were
-    /// told, if they are counted. What is told once is not told again.
+    /// How many packets each router dropped, as far as they were reported to this tap and to those
+    /// made from it, if they are counted. What was returned once is not returned again.
     ///
-    /// `AllocError` where memory runs out.
+    /// `AllocError` if memory runs out.
     fn drops(&self, alloc: Global) -> Result<Vec<Drops>, AllocError>;
 }
 
-/// A wire of which a tap is told.
+/// A wire whose events are reported to a tap.
 #[derive(Drop)]
 pub(crate) struct TappedWire<W: Wire + Drop, T: Tap + Drop> {
     wire: W,
@@ -94,10 +94,10 @@ impl<W: Wire + Drop, T: Tap + Drop> Wire for TappedWire<W, T> {
     }
 }
 
-/// The same wires, in the same order, of each of which a tap of its own is told: that of the file
-/// and the configuration at its place.
+/// The same wires, in the same order, each with its own tap: that of the file and the configuration
+/// at the same place.
 ///
-/// `AllocError` where memory runs out.
+/// `AllocError` if memory runs out.
 pub(crate) fn tap_all<W: Wire + Drop, T: Tap + Drop>(
     alloc: Global,
     files: &[NamedFile],
@@ -120,7 +120,7 @@ pub(crate) fn tap_all<W: Wire + Drop, T: Tap + Drop>(
     Ok(all)
 }
 
-// A wire, and a tap of its own.
+// A wire with its own tap.
 fn tapped<W: Wire + Drop, T: Tap + Drop>(
     wire: W,
     tap: &T,

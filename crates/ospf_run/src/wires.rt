@@ -15,8 +15,8 @@ use std::alloc::{AllocError, Global};
 use std::net::Net;
 use std::time::{Clock, Duration};
 
-/// The wires of routers whose interfaces have ports, or the first file of whose
-/// router a socket could not be made.
+/// Opens the wires of routers whose interfaces have ports; stops at the first file whose router
+/// cannot have a socket.
 pub(crate) fn open_wires<'a, N: Net, C: Clock + Copy + Drop>(
     net: &N,
     clock: C,
@@ -43,7 +43,8 @@ pub(crate) fn open_wires<'a, N: Net, C: Clock + Copy + Drop>(
     Ok(wires)
 }
 
-// The wire of a router whose interfaces have ports, or the socket that could not be made.
+// Opens the wire of a router whose interfaces have ports, or returns the socket that could not be
+// opened.
 fn open_wire<N: Net, C: Clock + Drop>(
     net: &N,
     clock: C,

@@ -34,7 +34,7 @@ abbrev pub IsThree : (Text → Text → Text → Type 0) → List Text → Type 
 IsThree P (a ∷ b ∷ c ∷ []) = P a b c
 IsThree P _ = ⊥
 
--- ---- the words behind a command's name
+-- ---- the words after a command's name
 
 -- a Router ID and no more
 abbrev pub IsRouterAlone : List Text → RouterId → Type 0
@@ -133,7 +133,7 @@ name_of_event (event.LinkUp router link) = name.Up
 name_of_event (event.LinkDown router link) = name.Down
 name_of_event (event.Deliver datagram router link) = name.Deliver
 
--- the words behind the name of an event
+-- the words after the name of an event
 abbrev pub TakesEventWords : WorldEvent → List Text → Type 0
 TakesEventWords (event.Start router dd_start floor) ws = IsStart ws router dd_start floor
 TakesEventWords (event.Stop router) ws = IsRouterAlone ws router
@@ -154,7 +154,7 @@ name_of_many many.Down = name.Down
 name_of_many (many.Cut network) = name.Cut
 name_of_many (many.Mend network) = name.Mend
 
--- the words behind the name of events at many routers
+-- the words after the name of events at many routers
 abbrev pub TakesMany : Many → List Text → Type 0
 TakesMany (many.Cut network) ws = IsAddressAlone ws network
 TakesMany (many.Mend network) ws = IsAddressAlone ws network

@@ -35,7 +35,7 @@ command_name_text name.Loss = codes "loss"
 command_name_text name.Expect = codes "expect"
 command_name_text name.Label = codes "label"
 
--- the word is the name, or stands for it
+-- the word is the name, or another spelling of it
 abbrev pub IsWordOf : Text → Name → Type 0
 IsWordOf word (name.Show view.Neighbours) = (word ≡ codes "neighbours") ⊎ (word ≡ codes "neighbors")
 IsWordOf word n = word ≡ command_name_text n

@@ -31,15 +31,15 @@ hexadecimal width n = replicate (width - length (digits 16 false n)) 48 ++ digit
 abbrev pub floor_text : ℤ → Text
 floor_text floor = hexadecimal 8 (cast_unsigned w32 floor)
 
--- each choice behind a space
+-- each choice after a space
 abbrev pub choices_text : List ℕ → Text
 choices_text choices = flat_map (λ choice. codes " " ++ decimal choice) choices
 
--- each next hop behind a space
+-- each next hop after a space
 abbrev pub spaced_hops_text : List NextHop → Text
 spaced_hops_text hops = flat_map (λ hop. codes " " ++ hop_text hop) hops
 
--- a value, where one is given, behind a space
+-- a value, if one is given, after a space
 abbrev pub given_text : {A : Type 0} → (A → Text) → Option A → Text
 given_text text_of None = []
 given_text text_of (Some value) = codes " " ++ text_of value

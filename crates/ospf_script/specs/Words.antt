@@ -10,7 +10,7 @@ Text = List ℕ
 abbrev pub is_space : ℕ → Bool
 is_space byte = byte == 32
 
--- some text stands there
+-- the text is not empty
 abbrev pub is_word : Text → Bool
 is_word part = not (length part == 0)
 

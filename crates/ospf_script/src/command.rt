@@ -23,16 +23,16 @@ pub enum Command {
         count: u64,
         most: Option<u64>,
     },
-    /// `batch COUNT`: so many batches: rounds in which what waits is handed over router by router.
+    /// `batch COUNT`: this many batches: rounds that deliver what waits, router by router.
     Batch {
         count: u64,
     },
-    /// `random NUMBER COUNT`: so many events, drawn by the number.
+    /// `random NUMBER COUNT`: this many random events, with the number as seed.
     Random {
         number: u64,
         count: u64,
     },
-    /// `settle MAX`: rounds until nothing changes any more, at most so many.
+    /// `settle MAX`: rounds until nothing changes any more, at most this many.
     Settle {
         most: u64,
     },
@@ -74,16 +74,16 @@ pub enum Command {
     Lsas {
         router: RouterId,
     },
-    /// `loss PERCENT NUMBER [ADDRESS]`: of a hundred deliveries so many are lost from here
-    /// on, by chance, by the generator of this number; on the network that holds the
-    /// address alone where one is given.
+    /// `loss PERCENT NUMBER [ADDRESS]`: from here on this many of a hundred deliveries are
+    /// lost at random, by the generator of this number; only on the network that holds the
+    /// address, if one is given.
     Loss {
         percent: u8,
         number: u64,
         network: Option<Addr>,
     },
-    /// `expect WHAT ..`: where it is not as it is expected to be, that is
-    /// printed, with what stands there.
+    /// `expect WHAT ..`: if something is not as expected, that is printed, with what was
+    /// found instead.
     Expect {
         expected: Expected,
     },

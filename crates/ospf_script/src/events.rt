@@ -12,7 +12,7 @@ use crate::words::{is_alone, three_words, two_words};
 use ospf_base::{NO_FLOOR, RouterId};
 use ospf_event::WorldEvent;
 
-// The event of a name, and of the words behind it.
+// The event of a name, and of the words after it.
 pub(crate) fn event_in(name: Name, text: &[u8]) -> Option<WorldEvent>
     ensures { Finds result (IsEventOf name (line_words text.now)) }
 {
@@ -51,7 +51,7 @@ pub(crate) fn event_in(name: Name, text: &[u8]) -> Option<WorldEvent>
     }
 }
 
-// The events at many routers of a name, and of the words behind it.
+// The events at many routers of a name, and of the words after it.
 pub(crate) fn many_in(name: Name, text: &[u8]) -> Option<Many>
     ensures { Finds result (AreEventsOf name (line_words text.now)) }
 {

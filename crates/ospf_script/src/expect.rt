@@ -17,8 +17,8 @@ use ospf_base::{Addr, Prefix, RouterId};
 use ospf_neighbour::NeighbourState;
 use std::alloc::Global;
 
-// What the words of a text expect. Memory is told to be missing only where
-// they spell a route with next hops.
+// What the words of a text expect. `Memory` is returned only if they spell a route with next
+// hops.
 pub(crate) fn expected_in(alloc: Global, text: &[u8]) -> Result<Expected, CommandFault>
     ensures ok { IfOk result (IsExpected (line_words text.now)) }
     ensures not_expected { IfErr result (λ e. e ≡ CommandFault.NotACommand → (expected : Expected) →
@@ -56,7 +56,7 @@ fn plain_in(text: &[u8]) -> Option<Expected>
     }
 }
 
-// What `full` and the words behind it expect.
+// What `full` and the words after it expect.
 fn full_in(text: &[u8]) -> Option<Expected>
     ensures { Finds result (IsExpected (codes "full" ∷ line_words text.now)) }
 {
@@ -67,7 +67,7 @@ fn full_in(text: &[u8]) -> Option<Expected>
     Some(Expected::Router { router, wanted })
 }
 
-// What `neighbour`, in either spelling, and the words behind it expect.
+// What `neighbour`, in either spelling, and the words after it expect.
 fn neighbour_in(text: &[u8]) -> Option<Expected>
     ensures some { IfSome result (λ expected. (word : Text) → IsNeighbour word →
         IsExpected (word ∷ line_words text.now) expected) }
@@ -98,7 +98,7 @@ fn state_of(word: &[u8]) -> Option<NeighbourState>
     Some(state)
 }
 
-// What `dr` and the words behind it expect.
+// What `dr` and the words after it expect.
 fn dr_in(text: &[u8]) -> Option<Expected>
     ensures { Finds result (IsExpected (codes "dr" ∷ line_words text.now)) }
 {
@@ -108,7 +108,7 @@ fn dr_in(text: &[u8]) -> Option<Expected>
     Some(Expected::Router { router, wanted })
 }
 
-// A Router ID and a link, and what stands behind them.
+// A Router ID and a link, and the text after them.
 fn link_in(text: &[u8]) -> Option<(RouterId, usize, &[u8])>
     ensures some { IfSome result (λ found. BeginsLink (line_words text.now) found.0 found.1
         (line_words found.2.now)) }
@@ -132,7 +132,7 @@ fn elected_in(text: &[u8]) -> Option<(Addr, Option<Addr>)>
     Some((dr, Some(address_of(backup)?)))
 }
 
-// What `route` and the words behind it expect.
+// What `route` and the words after it expect.
 fn route_in(alloc: Global, text: &[u8]) -> Result<Expected, CommandFault>
     ensures ok { IfOk result (IsExpected (codes "route" ∷ line_words text.now)) }
     ensures not_expected { IfErr result (λ e. e ≡ CommandFault.NotACommand → (expected : Expected) →
@@ -146,7 +146,7 @@ fn route_in(alloc: Global, text: &[u8]) -> Result<Expected, CommandFault>
     Ok(Expected::Router { router, wanted })
 }
 
-// A Router ID, a prefix and a cost, and what stands behind them.
+// A Router ID, a prefix and a cost, and the text after them.
 fn cost_of_route_in(text: &[u8]) -> Option<(RouterId, Prefix, u64, &[u8])>
     ensures some { IfSome result (λ found. BeginsRoute (line_words text.now) found.0 found.1 found.2
         (line_words found.3.now)) }
@@ -160,7 +160,7 @@ fn cost_of_route_in(text: &[u8]) -> Option<(RouterId, Prefix, u64, &[u8])>
     Some((router, prefix, number_of(cost)?, rest))
 }
 
-// What `no` and the words behind it expect.
+// What `no` and the words after it expect.
 fn absent_in(text: &[u8]) -> Option<Expected>
     ensures { Finds result (IsExpected (codes "no" ∷ line_words text.now)) }
 {
@@ -179,7 +179,7 @@ fn absent_in(text: &[u8]) -> Option<Expected>
     Some(Expected::Router { router, wanted })
 }
 
-// What `walk` and the words behind it expect.
+// What `walk` and the words after it expect.
 fn arrival_in(text: &[u8]) -> Option<Expected>
     ensures { Finds result (IsExpected (codes "walk" ∷ line_words text.now)) }
 {

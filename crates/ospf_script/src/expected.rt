@@ -21,8 +21,8 @@ pub enum Expected {
     },
     /// `agree`: all routers that run list the same.
     Agree,
-    /// `settled`: the last `settle` ended since nothing changed any more,
-    /// and nothing has come about since.
+    /// `settled`: the last `settle` ended because nothing changed any more,
+    /// and nothing has happened since.
     Settled,
 }
 

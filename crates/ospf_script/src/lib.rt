@@ -1,8 +1,8 @@
-//! The lines of a script of the simulator, read.
+//! Reads the lines of a script of the simulator.
 //!
-//! `Command::read` reads a line, and which words spell which command stands in `specs/Commands`.
-//! Words stand between spaces (`specs/Words`); `router_of`, `number_of` and others tell the value
-//! that a word spells (`specs/Values`), and `None` where it spells none.
+//! `Command::read` reads a line; `specs/Commands` defines which words spell which command. Words
+//! are separated by spaces (`specs/Words`); `router_of`, `number_of` and others return the value
+//! that a word spells (`specs/Values`), or `None` if it spells none.
 #![tactic(auto)]
 
 mod command;

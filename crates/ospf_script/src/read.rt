@@ -53,7 +53,7 @@ impl Command {
     }
 }
 
-// The command of a name, and of the words behind it.
+// The command of a name, and of the words after it.
 fn of_words(alloc: Global, name: Name, text: &[u8]) -> Result<Command, CommandFault>
     ensures ok { IfOk result (IsNamedCommand name (line_words text.now)) }
     ensures not_a_command { IfErr result (λ e. e ≡ CommandFault.NotACommand → (command : Command) →
@@ -81,7 +81,7 @@ fn of_words(alloc: Global, name: Name, text: &[u8]) -> Result<Command, CommandFa
     }
 }
 
-// The command of a name that is none of `walk`, `say` and `expect`, and of the words behind it.
+// The command of a name that is none of `walk`, `say` and `expect`, and of the words after it.
 fn of_name(name: Name, text: &[u8]) -> Option<Command>
     ensures some { IfSome result (IsNamedCommand name (line_words text.now)) }
     ensures none { IfNone result (name ≢ names.Walk → name ≢ names.Say → name ≢ names.Expect →
@@ -121,7 +121,7 @@ fn of_name(name: Name, text: &[u8]) -> Option<Command>
     }
 }
 
-// The command of a name with several forms, and of the words behind it.
+// The command of a name with several forms, and of the words after it.
 fn of_forms(name: Name, text: &[u8]) -> Option<Command>
     ensures some { IfSome result (IsNamedCommand name (line_words text.now)) }
     ensures none { IfNone result (HasForms name → (command : Command) →

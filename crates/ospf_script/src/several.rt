@@ -10,8 +10,8 @@ use crate::spelled::Spelled;
 use crate::words::first_word;
 use std::alloc::Global;
 
-// The values that the words of a text spell. Memory is told to be missing
-// only where each word spells one.
+// The values that the words of a text spell. `Memory` is returned only if each word spells
+// one.
 pub(crate) fn values_in<V: Spelled>(alloc: Global, text: &[u8]) -> Result<Vec<V>, CommandFault>
     ensures ok { IfOk result (λ values. AllZip V.is_spelled (line_words text.now)
         values.items) }

@@ -1,4 +1,4 @@
-//! The words behind the names of commands.
+//! The words after the names of commands.
 
 ghost use Rattle.ospf_script.specs.Commands.{AreDatagramWords, AreNumbers, AreRoundWords, IsAddressAlone, IsLossWords, IsRouterAlone, IsRouterAndLink, IsSwitch, IsWhy};
 ghost use Rattle.ospf_script.specs.Words.{Finds, line_words};
@@ -85,7 +85,7 @@ pub(crate) fn loss_in(text: &[u8]) -> Option<(u8, u64, Option<Addr>)>
     Some((percent, number_of(number)?, Some(address_of(network)?)))
 }
 
-// Whether the word `on` or the word `off` stands there alone.
+// Whether the only word is `on`, rather than `off`; `None` if it is neither.
 pub(crate) fn switch_in(text: &[u8]) -> Option<bool>
     ensures { Finds result (IsSwitch (line_words text.now)) }
 {

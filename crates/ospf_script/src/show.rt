@@ -137,7 +137,7 @@ impl Display for WantedShown<'_> {
     }
 }
 
-// A value behind a space, where one is given.
+// A value after a space, if one is given.
 #[derive(Clone, Copy)]
 struct Given<D>(Option<D>);
 
@@ -202,7 +202,7 @@ fn view_of(view: View) -> &'static str
     }
 }
 
-// Next hops, each behind a space.
+// Next hops, each after a space.
 fn write_hops<W: Write>(f: &mut Formatter<W>, hops: &[NextHop]) -> fmt::Result
     ensures { WritesOnOk W.Write.write_str_gives f.old result (spaced_hops_text hops.now) f.new }
 {
@@ -212,7 +212,7 @@ fn write_hops<W: Write>(f: &mut Formatter<W>, hops: &[NextHop]) -> fmt::Result
     Ok(())
 }
 
-// Choices, each behind a space.
+// Choices, each after a space.
 fn write_choices<W: Write>(f: &mut Formatter<W>, choices: &[u32]) -> fmt::Result
     ensures { WritesOnOk W.Write.write_str_gives f.old result (choices_text choices.now) f.new }
 {

@@ -64,7 +64,7 @@ pub fn prefix_of(word: &[u8]) -> Option<Prefix>
     Some(Prefix { address, length })
 }
 
-/// The parts of a word before and behind the first byte of this value; `None` where there is none.
+/// The parts of a word before and after the first byte of this value; `None` if it has none.
 pub fn parts_at(word: &[u8], byte: u8) -> Option<(&[u8], &[u8])>
     ensures some { IfSome result (λ parts. (word.now ≡ parts.0.now ++ byte ∷ parts.1.now)
         × All (λ b. b ≢ byte) parts.0.now) }

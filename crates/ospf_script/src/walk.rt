@@ -31,7 +31,7 @@ pub(crate) fn walk_in(
     Ok((from, address, choices))
 }
 
-// A Router ID and an address, and what stands behind them.
+// A Router ID and an address, and the text after them.
 pub(crate) fn ends_in(text: &[u8]) -> Option<(RouterId, Addr, &[u8])>
     ensures some { IfSome result (λ found. BeginsWalk (line_words text.now) found.0 found.1
         (line_words found.2.now)) }

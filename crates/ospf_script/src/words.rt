@@ -7,7 +7,7 @@ ghost use Rattle.ospf_script.specs.Words.{Text, is_space, line_words};
 
 use ospf_files::place_of;
 
-/// The first word of a text, and what stands behind it; `None` of a blank text.
+/// The first word of a text, and the text after it; `None` if the text is blank.
 pub fn first_word(text: &[u8]) -> Option<(&[u8], &[u8])>
     ensures word { IfSome result (λ found. line_words text.now ≡ found.0.now
         ∷ line_words found.1.now) }

@@ -1,4 +1,4 @@
--- What stands written where memory runs out or a stream fails before a simulation has written all.
+-- What was written when memory runs out, or a stream fails, before a simulation has written all.
 use Rattle.std.specs.Prelude.{◌≡◌, ℕ, List, [], ◌∷◌, ◌++◌, Err, Option}
 use Rattle.std.specs.Io.KnownBytes.{Appends}
 use Rattle.ospf_config.specs.declared.config.Config.{Config}
@@ -25,7 +25,7 @@ use Rattle.ospf_sim.specs.Twins.{SharesRouter}
 
 -- ---- one line
 
--- what a line prints is cut: a beginning of it was written
+-- the output of a line is cut: a beginning of it was written
 pub record IsPrintBegun (line : Text) (w : Simulation) (out_old out_new : Option (List ℕ))
     : Type 0 where
   pub command : Command
@@ -33,8 +33,8 @@ pub record IsPrintBegun (line : Text) (w : Simulation) (out_old out_new : Option
   pub spelled : SpellsCommand (line_words line) command
   pub done : IsDoneBegun command w end out_old out_new
 
--- a text is not told whole: what was printed before it was not flushed, and it is not begun,
--- or a beginning of it was written
+-- a text was not written whole to standard error: what was printed before it was not flushed and
+-- none of the text was written, or a beginning of it was written
 pub data IsTellingCut (text : Text) (failed : FailedStreams) (old new : Written)
     : Failure → Type 0 where
   not_flushed : {f : Failure} → IsOutputCut failed f → Appends old.out new.out []
@@ -44,14 +44,14 @@ pub data IsTellingCut (text : Text) (failed : FailedStreams) (old new : Written)
       → IsBegun old.err new.err text
       → IsTellingCut text failed old new f
 
--- an answer is a refusal, and that is not told whole
+-- an answer is a refusal, and its report was not written whole
 pub record IsEventAnswerCut (number : ℕ) (answer : Answer) (failed : FailedStreams)
     (old new : Written) (f : Failure) : Type 0 where
   pub fault : WorldFault
   pub refused : answer ≡ Err fault
   pub told : IsTellingCut (world_refusal_line number fault) failed old new f
 
--- a line is refused, what it prints was written, and its refusal is not told whole
+-- a line is refused, its output was written, and its refusal was not reported whole
 pub record IsRefusalCut (number : ℕ) (line : Text) (w : Simulation) (failed : FailedStreams)
     (old new : Written) (f : Failure) : Type 0 where
   pub command : Command
@@ -65,8 +65,9 @@ pub record IsRefusalCut (number : ℕ) (line : Text) (w : Simulation) (failed : 
   pub told :
       IsTellingCut (world_refusal_line number fault) failed (record old { out = out_then }) new f
 
--- a line is cut: before it does anything, where there is no room for the choices of a walk or for a
--- text; in what it prints; in its refusal; or where it cannot be read, and that is not told whole
+-- a line is cut: before it does anything, because there is no room for the choices of a walk or for
+-- a text; in its output; in its refusal; or because it cannot be read and the report of that was
+-- not written whole
 pub data IsLineCut (number : ℕ) (line : Text) (w : Simulation) (failed : FailedStreams)
     (old new : Written) : Failure → Type 0 where
   no_room_for : NeedsRoom (line_words line) → new ≡ old
@@ -82,7 +83,7 @@ pub data IsLineCut (number : ℕ) (line : Text) (w : Simulation) (failed : Faile
 
 -- ---- a script
 
--- a line is cut, and those before it have run: what they write was written
+-- a line is cut, and the lines before it have run: their output was written
 pub record IsCutAtLine (lines : List (ℕ × Text)) (w : Simulation) (failed : FailedStreams)
     (old new : Written) (f : Failure) : Type 0 where
   pub before : List (ℕ × Text)
@@ -95,8 +96,8 @@ pub record IsCutAtLine (lines : List (ℕ × Text)) (w : Simulation) (failed : F
   pub run : IsScriptRun before w mid old between
   pub cut : IsLineCut number line mid failed between new f
 
--- a script is cut: before its first line, for want of memory; at a line; or behind its last, where
--- what it printed is not flushed
+-- a script is cut: before its first line, out of memory; at a line; or after its last line, because
+-- its output is not flushed
 pub data IsScriptCut (script : Text) (w : Simulation) (failed : FailedStreams) (old new : Written)
     : Failure → Type 0 where
   no_lines : new ≡ old → IsScriptCut script w failed old new failure.Memory
@@ -108,8 +109,8 @@ pub data IsScriptCut (script : Text) (w : Simulation) (failed : FailedStreams) (
 
 -- ---- a simulation
 
--- a file is cut: nothing is told of it, for want of memory, or a beginning
--- of why it holds no configuration
+-- reading a file is cut: out of memory, with nothing reported, or a beginning was written of the
+-- report why it holds no configuration
 pub data IsFileCut (file : NamedFile) (failed : FailedStreams) (err_old err_new : Option (List ℕ))
     : Failure → Type 0 where
   no_config : err_new ≡ err_old → IsFileCut file failed err_old err_new failure.Memory
@@ -117,8 +118,8 @@ pub data IsFileCut (file : NamedFile) (failed : FailedStreams) (err_old err_new 
       → IsRefusedFor (text_in file) fault
       → IsBegun err_old err_new (refused_line file fault) → IsFileCut file failed err_old err_new f
 
--- configurations open no world: nothing is told, for want of memory, or a beginning of
--- that two of them are of one router
+-- opening the world of configurations is cut: out of memory, with nothing reported, or a beginning
+-- was written of the report that two of them have one Router ID
 pub data IsOpeningCut (files : List NamedFile) (configs : List Config) (failed : FailedStreams)
     (err_old err_new : Option (List ℕ)) : Failure → Type 0 where
   no_room : err_new ≡ err_old → IsOpeningCut files configs failed err_old err_new failure.Memory
@@ -126,8 +127,9 @@ pub data IsOpeningCut (files : List NamedFile) (configs : List Config) (failed :
       → IsBegun err_old err_new text
       → IsOpeningCut files configs failed err_old err_new f
 
--- there is no world of files: nothing is told, for want of memory, or a beginning of why the first
--- that is refused is that, or of that two of them are of one router
+-- making the world of files is cut: out of memory, with nothing reported, or a beginning was
+-- written of the report why the first refused file is refused, or that two configurations have one
+-- Router ID
 pub data IsWorldCut (files : List NamedFile) (failed : FailedStreams)
     (err_old err_new : Option (List ℕ)) : Failure → Type 0 where
   no_world : err_new ≡ err_old → IsWorldCut files failed err_old err_new failure.Memory
@@ -139,8 +141,8 @@ pub data IsWorldCut (files : List NamedFile) (failed : FailedStreams)
       → AreConfigs files configs → SharesRouter files configs text
       → IsBegun err_old err_new text → IsWorldCut files failed err_old err_new f
 
--- a simulation is cut: at the first file that could not be read, before
--- there is a world, or in its script
+-- a simulation is cut: in the report of the first file that could not be read, before there is a
+-- world, or in its script
 pub data IsSimulationCut (script : NamedFile) (files : List NamedFile) (failed : FailedStreams)
     (old new : Written) : Failure → Type 0 where
   in_unread : {f : Failure} (file : NamedFile) → IsErrorCut failed f

@@ -1,4 +1,4 @@
--- What the lines come to that are given at a console, each answered before the next is read.
+-- What the lines given at a console do. Each is answered before the next is read.
 use Rattle.std.specs.Prelude.{◌≡◌, ◌<◌, ℕ, Bool, true, false, List, [], ◌∷◌, ◌++◌, ◌⊎◌, Option, None, Some, IfSome, length, ⊤}
 use Rattle.std.specs.Io.{StopsAt}
 use Rattle.std.specs.Io.BufRead.{ends_with_byte}
@@ -24,16 +24,16 @@ use Rattle.ospf_sim.specs.Simulations.{IsNoWorld, IsWorldOf}
 
 -- ---- lines
 
--- what a line of this number comes to: it is run as in a script, or it cannot be read and is
--- refused: nothing else changes, and standard error says so
+-- what a line of this number does: it runs as in a script, or it cannot be read and is refused:
+-- nothing else changes, and standard error says so
 pub data AnswersLine (number : ℕ) (line : Text) (w w' : Simulation) (out err : Text) : Type 0 where
   is_run : RunsLine number line w w' out err → AnswersLine number line w w' out err
   is_unreadable : IsUnreadable line → w' ≡ with_refusal w → out ≡ []
       → err ≡ unreadable_line number line
       → AnswersLine number line w w' out err
 
--- lines with their numbers, one after another, up to the end: the prompt stands
--- before each, and before the end
+-- the numbered lines run one after another, to the end: the prompt is printed before each line, and
+-- before the end
 pub data AnswersLines (prompt : Text)
     : List (ℕ × Text) → Simulation → Simulation → Text → Text → Type 0 where
   at_end : {w : Simulation} → AnswersLines prompt [] w w prompt []
@@ -42,7 +42,7 @@ pub data AnswersLines (prompt : Text)
       → AnswersLine number line w mid out err → AnswersLines prompt lines mid w' outs errs
       → AnswersLines prompt ((number, line) ∷ lines) w w' (prompt ++ out ++ outs) (err ++ errs)
 
--- what a line comes to is what was written
+-- a line was answered: its output was written
 pub record IsLineAnswered (number : ℕ) (line : Text) (w w' : Simulation) (old new : Written)
     : Type 0 where
   pub out : Text
@@ -51,7 +51,7 @@ pub record IsLineAnswered (number : ℕ) (line : Text) (w w' : Simulation) (old 
   pub out_written : Appends old.out new.out out
   pub err_written : Appends old.err new.err err
 
--- what lines come to is what was written
+-- the lines were answered: their output was written
 pub record AreAnswered (prompt : Text) (lines : List (ℕ × Text)) (w w' : Simulation)
     (old new : Written) : Type 0 where
   pub out : Text
@@ -62,19 +62,19 @@ pub record AreAnswered (prompt : Text) (lines : List (ℕ × Text)) (w w' : Simu
 
 -- ---- an input
 
--- what was read up to a line feed, or to the end of the input; or nothing, at its end
+-- bytes were read, up to and including a line feed or to the end of the input
 pub record IsPieceRead (piece : Text) (old new : Option (List ℕ)) : Type 0 where
   pub some : 0 < length piece
   pub stops : StopsAt piece 10
   pub taken : Consumes old new piece
   pub ends : ends_with_byte 10 piece ≡ false → IfSome old (λ bytes. bytes ≡ piece)
 
--- what came of reading: a piece of the input, or nothing, at its end
+-- the result of a read: a piece of the input, or nothing at its end
 abbrev pub IsPiece : Bool → Text → Option (List ℕ) → Option (List ℕ) → Type 0
 IsPiece true piece old new = IsPieceRead piece old new
 IsPiece false piece old new = IsAtEnd old
 
--- all lines of a text are answered, which is the whole input where that is known
+-- all lines of a text are answered; where the input is known, the text is the whole input
 pub record IsAllAnswered (input : Option (List ℕ)) (prompt : Text) (w w' : Simulation)
     (old new : Written) : Type 0 where
   pub text : Text
@@ -83,7 +83,7 @@ pub record IsAllAnswered (input : Option (List ℕ)) (prompt : Text) (w w' : Sim
 
 -- ---- an input that is cut
 
--- a line is answered, and the prompt behind it is not written whole
+-- a line is answered, and the prompt after it is not written whole
 pub record IsPromptCut (prompt : Text) (number : ℕ) (line : Text) (w : Simulation)
     (failed : FailedStreams) (old new : Written) (f : Failure) : Type 0 where
   pub end : Simulation
@@ -92,7 +92,7 @@ pub record IsPromptCut (prompt : Text) (number : ℕ) (line : Text) (w : Simulat
   pub begun : IsBegun out_then new.out prompt
   pub cut : IsOutputCut failed f
 
--- a line is cut, or the prompt behind it
+-- a line is cut, or the prompt after it
 pub data IsTurnCut (prompt : Text) (number : ℕ) (line : Text) (w : Simulation)
     (failed : FailedStreams) (old new : Written) (f : Failure) : Type 0 where
   in_answer : IsLineCut number line w failed old new f
@@ -100,7 +100,7 @@ pub data IsTurnCut (prompt : Text) (number : ℕ) (line : Text) (w : Simulation)
   in_prompt : IsPromptCut prompt number line w failed old new f
       → IsTurnCut prompt number line w failed old new f
 
--- the last of these lines is cut, and those before it are answered
+-- the last of these lines is cut, and the lines before it are answered
 pub record IsLastCut (prompt : Text) (lines : List (ℕ × Text)) (w : Simulation)
     (failed : FailedStreams) (old new : Written) (f : Failure) : Type 0 where
   pub before : List (ℕ × Text)
@@ -112,16 +112,16 @@ pub record IsLastCut (prompt : Text) (lines : List (ℕ × Text)) (w : Simulatio
   pub answered : AreAnswered prompt before w mid old between
   pub cut : IsTurnCut prompt number line mid failed between new f
 
--- the text is a beginning of the input, where that is known
+-- the text is a beginning of the input, where the input is known
 abbrev pub IsReadOf : Option (List ℕ) → Text → Type 0
 IsReadOf input text = IfSome input (λ bytes. (rest : Text) × (bytes ≡ text ++ rest))
 
--- no more than whole lines: nothing, or a line feed ends it
+-- only whole lines: the text is empty or ends with a line feed
 abbrev pub AreWholeLines : Text → Type 0
 AreWholeLines text = (text ≡ []) ⊎ ((front : Text) × (text ≡ front ++ 10 ∷ []))
 
--- the lines of an input are cut: before the first, in the prompt; where the next, behind whole
--- lines, is not read; or at the last that was read, which a line feed or the input's end ends
+-- the lines of an input are cut: before the first line, in the prompt; where reading fails after
+-- whole lines; or at the last line that was read, which ends with a line feed or with the input
 pub data IsSessionCut (input : Option (List ℕ)) (prompt : Text) (w : Simulation)
     (failed : FailedStreams) (old new : Written) : Failure → Type 0 where
   in_first_prompt : {f : Failure} → IsOutputCut failed f → IsBegun old.out new.out prompt
@@ -147,7 +147,7 @@ pub record IsConsoled (input : Option (List ℕ)) (prompt : Text) (files : List 
   pub left_is : left ≡ Some end
   pub all : IsAllAnswered input prompt (begun_in start) end old new
 
--- no line is answered, since there is no world of the configurations, of which it is told why
+-- no line is answered, because the configurations make no world, and the reason is reported
 pub record IsNoConsole (files : List NamedFile) (left : Option Simulation) (old new : Written)
     : Type 0 where
   pub read : AreFilesRead files
@@ -155,14 +155,14 @@ pub record IsNoConsole (files : List NamedFile) (left : Option Simulation) (old 
   pub none : left ≡ None
   pub same_out : new.out ≡ old.out
 
--- what comes of a console, by its status
+-- the result of a console, by its status
 abbrev pub ConsoleComes : Status → Option (List ℕ) → Text → List NamedFile → Option Simulation
     → Written → Written → Type 0
 ConsoleComes status.Done input prompt files = IsConsoled input prompt files
 ConsoleComes status.Refused input prompt files = IsNoConsole files
 ConsoleComes _ input prompt files = λ left old new. ⊤
 
--- the first file that could not be read is told, and no line is answered
+-- the first file that could not be read is reported, and no line is answered
 pub record IsUnreadOf (files : List NamedFile) (left : Option Simulation) (old new : Written)
     : Type 0 where
   pub file : NamedFile
@@ -171,7 +171,7 @@ pub record IsUnreadOf (files : List NamedFile) (left : Option Simulation) (old n
   pub none : left ≡ None
   pub same_out : new.out ≡ old.out
 
--- a console is cut: at the first file that could not be read, before there is a
+-- a console is cut: in the report of the first file that could not be read, before there is a
 -- world, or in the lines of its input
 pub data IsConsoleCut (input : Option (List ℕ)) (prompt : Text) (files : List NamedFile)
     (failed : FailedStreams) (old new : Written) : Failure → Type 0 where
@@ -185,8 +185,8 @@ pub data IsConsoleCut (input : Option (List ℕ)) (prompt : Text) (files : List 
       → IsSessionCut input prompt (begun_in start) failed old new f
       → IsConsoleCut input prompt files failed old new f
 
--- the console was cut by a failure, which was told last, as far as it could
--- be, and of which the status is
+-- a failure cut the console; it was reported last, as far as it could be written, and it gives the
+-- status
 pub record IsConsoleFailed (input : Option (List ℕ)) (prompt : Text) (files : List NamedFile)
     (failed : FailedStreams) (end : Status) (old new : Written) : Type 0 where
   pub cause : Failure

@@ -1,4 +1,4 @@
--- What the journal of a simulation makes of the events that it is told of.
+-- What the journal of a simulation writes for the events that are reported to it.
 use Rattle.std.specs.Prelude.{◌≡◌, ◌≢◌, ◌+◌, ◌-◌, ◌^◌, ◌&&◌, ℕ, Bool, true, false, List, Option, None, Some, IfSome, IsSome, Result, drop, is_some, length, map, max, min, option_map, slice_get, unwrap_or, if◌then◌else◌}
 use Rattle.std.specs.BTreeMap.{is_at}
 use Rattle.std.specs.Map.{lookup}
@@ -28,24 +28,25 @@ use Rattle.ospf_lsa.specs.Lsa.{instance_of}
 use Rattle.ospf_records.specs.Journals.{JournalValue, entries_text, without_memory}
 use Rattle.ospf_sim.specs.declared.events.Coming.{Coming}
 
--- ---- what is kept
+-- ---- what is stored
 
--- of a router: what was seen of it, and how many ticks it has taken, as far as 64 bits go
+-- of a router: what was last seen of it, and how many ticks it has taken, up to the limit of 64
+-- bits
 pub record FollowedRouter : Type 0 where
   pub seen : SeenValue
   pub ticks : ℕ
 
--- of one that no event has named yet
+-- of a router that no event has named yet
 abbrev pub not_followed : FollowedRouter
 not_followed = record { seen = nothing_seen; ticks = 0 }
 
--- of the router of this Router ID, by what is kept of each
+-- of the router with this Router ID, from the map of all routers
 abbrev pub followed_in : List (RouterId × FollowedRouter) → RouterId → FollowedRouter
 followed_in routers q =
     unwrap_or (lookup (is_at (λ k. nat_cmp q.0 k.0)) routers) not_followed
 
--- of a simulation: the journal, where one is written; what is kept of each router; what was known
--- before the event that comes; and the most ticks that a router has taken
+-- of a simulation: the journal, if one is written; the state stored for each router; what was known
+-- before the current event; and the most ticks that a router has taken
 pub record EventsValue : Type 0 where
   pub journal : Option JournalValue
   pub routers : List (RouterId × FollowedRouter)
@@ -56,20 +57,20 @@ pub record EventsValue : Type 0 where
 abbrev pub nothing_coming : Coming
 nothing_coming = record { dropped = None; issued = 0 }
 
--- of one of its routers
+-- the state stored for one of its routers
 abbrev pub followed_of : EventsValue → RouterId → FollowedRouter
 followed_of e q = followed_in e.routers q
 
 -- ---- before an event
 
--- what a router that runs so, if it does, drops a datagram for that was sent and comes on a link
+-- why a router drops a sent datagram that arrives on a link, if it runs and drops it
 abbrev pub delivery_drop : ℕ → Option Datagram → Option Running → Option DroppedAt
 delivery_drop link None x = None
 delivery_drop link (Some g) x =
     option_map (λ cause. record { link = link; source = g.sent.source; cause = cause })
     (cause_of (delivery link g) (option_map (λ x. x.state) x))
 
--- what the step of an event is dropped for: only a delivery is
+-- why the event's datagram is dropped: only a delivery has one
 abbrev pub drop_coming : WorldValue → WorldEvent → Option DroppedAt
 drop_coming w (Start q dd floor) = None
 drop_coming w (Stop q) = None
@@ -79,11 +80,11 @@ drop_coming w (LinkDown q link) = None
 drop_coming w (Deliver d q link) =
     delivery_drop link (slice_get w.logs.datagrams d) (router_at (world_of w) q)
 
--- what is known before an event: what it is dropped for, and how many LSAs were issued so far
+-- what is known before an event: why it will be dropped, and how many LSAs were issued so far
 abbrev pub known_before : WorldValue → WorldEvent → Coming
 known_before w event = record { dropped = drop_coming w event; issued = length w.logs.issued }
 
--- an event comes: that is looked up, where a journal is written
+-- an event is about to happen: where a journal is written, this is looked up
 abbrev pub LooksAhead : ComesRule EventsValue
 LooksAhead w event before after =
     after
@@ -93,7 +94,7 @@ LooksAhead w event before after =
 
 -- ---- after an event
 
--- what is seen of a router that runs so, if it does
+-- what is seen of a router in this state, or of one that does not run
 abbrev pub seen_running : Option Running → SeenValue
 seen_running None = nothing_seen
 seen_running (Some x) = record {
@@ -110,8 +111,8 @@ seen_in w q = seen_running (router_at (world_of w) q)
 abbrev pub issued_instance : Issued → Instance
 issued_instance i = instance_of i.lsa
 
--- what an event reported, before which this was known: what it was dropped for, and the LSAs that
--- the log of issued LSAs has since. One that was refused reports nothing
+-- what an event reported, given what was known before it: why it was dropped, and the LSAs added to
+-- the log of issued LSAs since. A refused event reports nothing
 abbrev pub report_taken : WorldValue → Result (Unit {0}) WorldFault → Coming → ReportedValue
 report_taken w answer before =
     if is_ok answer then record {
@@ -120,7 +121,7 @@ report_taken w answer before =
     }
     else nothing_reported
 
--- the report on a router of a world: on one that does not run, nothing
+-- the report on a router of a world: nothing if the router does not run
 abbrev pub report_seen : WorldValue → RouterId → ReportedValue → ReportedValue
 report_seen w q reported = if is_some (router_at (world_of w) q) then reported else nothing_reported
 
@@ -138,14 +139,14 @@ is_tick (LinkUp q link) = false
 is_tick (LinkDown q link) = false
 is_tick (Deliver d q link) = false
 
--- how many ticks its router has taken then: one more by a tick that was not refused
+-- how many ticks its router has taken after the event: one more after a tick that was not refused
 abbrev pub ticks_then : WorldEvent → Result (Unit {0}) WorldFault → ℕ → ℕ
 ticks_then event answer ticks =
     if is_tick event && is_ok answer then min (ticks + 1) (2 ^ 64 - 1) else ticks
 
--- the journal goes on by these changes of a router, each with this tick: it has them all, or a
--- beginning of them and a failure, which is that memory ran out or that the file was not written;
--- one that has failed stays
+-- the journal continues with these changes of a router, each with this tick: it has them all, or a
+-- beginning of them and a failure: memory ran out, or the file was not written. A journal that has
+-- failed stays unchanged
 pub record JournalGoesOn (tick : ℕ) (q : RouterId) (changes : List RouterChange)
     (before after : JournalValue) : Type 0 where
   pub settings : after.is_json ≡ before.is_json
@@ -155,9 +156,8 @@ pub record JournalGoesOn (tick : ℕ) (q : RouterId) (changes : List RouterChang
   pub cut : before.failure ≡ None → IfSome after.failure (IsOutputCut after.streams)
   pub ended : IsSome before.failure → after ≡ before
 
--- of the router that an event names, what is seen and its ticks are as they now are; what changed
--- of it, with what the event reported, goes into the journal, with the most ticks that a router has
--- taken
+-- for the router that an event names, the stored state and tick count are updated; what changed,
+-- with what the event reported, goes into the journal, with the most ticks that a router has taken
 pub record IsJournalled (w : WorldValue) (event : WorldEvent)
     (answer : Result (Unit {0}) WorldFault) (before after : EventsValue) (j j' : JournalValue)
     : Type 0 where
@@ -171,12 +171,12 @@ pub record IsJournalled (w : WorldValue) (event : WorldEvent)
       (report_of w (router_in event) answer before.coming) changes
   pub goes_on : JournalGoesOn after.most_ticks (router_in event) changes j j'
 
--- the routers that an event does not name stay
+-- the routers that an event does not name stay unchanged
 abbrev pub OthersStay : WorldEvent → EventsValue → EventsValue → Type 0
 OthersStay event before after =
     (q : RouterId) → q ≢ router_in event → followed_of after q ≡ followed_of before q
 
--- an event has come to this: where no journal is written nothing changes. Where one is, what
+-- the effect of an event on the journal: where none is written nothing changes. Where one is, what
 -- changed goes into it; or memory ran out, and nothing is written from then on
 pub data FollowsEvent (w : WorldValue) (event : WorldEvent) (answer : Result (Unit {0}) WorldFault)
     (before after : EventsValue) : Type 0 where

@@ -1,5 +1,5 @@
--- What is told behind a line that spells no command: where its first word is no name, which there
--- are, and else what belongs behind it.
+-- The hint after a line that spells no command: the list of commands if its first word is not a
+-- command, else the form of the command.
 use Rattle.std.specs.Prelude.{ℕ, ◌||◌, List, [], ◌∷◌, ◌++◌, Option, None, Some, codes, flat_map, nat_lt, if◌then◌else◌}
 use Rattle.ospf_script.specs.Names.{name_in}
 use Rattle.ospf_script.specs.Texts.{hexadecimal}
@@ -8,7 +8,7 @@ use Rattle.ospf_script.specs.declared.command.View.TheVariants as view
 use Rattle.ospf_script.specs.declared.name.Name.{Name}
 use Rattle.ospf_script.specs.declared.name.Name.TheVariants as name
 
--- a byte of a word: itself where it is one that ASCII prints, else as \x1b
+-- a byte of a word: itself if it is a visible ASCII character, else as \x1b
 abbrev pub byte_text : ℕ → Text
 byte_text byte =
     if nat_lt byte 33 || nat_lt 126 byte then codes "\\x" ++ hexadecimal 2 byte else byte ∷ []
@@ -17,7 +17,7 @@ byte_text byte =
 abbrev pub word_text : Text → Text
 word_text word = flat_map byte_text word
 
--- what stands behind a name
+-- the form of each command
 abbrev pub form_text : Name → Text
 form_text name.Start = codes "start R DD [FLOOR], or start all"
 form_text name.Stop = codes "stop R"
@@ -47,7 +47,8 @@ form_text name.Expect =
     "expect full R S, expect neighbour R S STATE, expect no neighbour R LINK, expect dr R LINK ADDRESS [BACKUP], expect route R PREFIX COST [HOP..], expect no route R PREFIX, expect walk R ADDRESS arrived [COST], expect agree, or expect settled"
 form_text name.Label = codes "label on, or label off"
 
--- behind a first word that is no name, which names there are; else the form of the command
+-- the hint for a first word: the list of commands if it is not a command name, else the form of the
+-- command
 abbrev pub hint_of : Text → Option Name → Text
 hint_of word None =
     word_text word
@@ -55,7 +56,7 @@ hint_of word None =
     ": no such command; the commands are start, stop, tick, up, down, deliver, cut, mend, round, batch, random, settle, neighbours, listing, table, walk, floor, say, why, datagrams, drops, lsas, loss, expect, label; each one alone, except say, shows its form"
 hint_of word (Some n) = form_text n
 
--- of the words of a line
+-- the hint for the words of a line
 abbrev pub hint_text : List Text → Text
 hint_text [] = []
 hint_text (word ∷ ws) = hint_of word (name_in word)

@@ -1,4 +1,5 @@
--- What the journal of a simulation has as issued, beside what the steps of the routers put out.
+-- The LSAs that the journal of a simulation reports as issued are those that the steps of the
+-- routers issue.
 use Rattle.std.specs.Prelude.{◌≡◌, List, [], Result, map}
 use Rattle.ospf_base.specs.declared.ids.Instance.{Instance}
 use Rattle.ospf_event.specs.Events.{router_in}
@@ -11,8 +12,8 @@ use Rattle.ospf_world.specs.Does.{Changes, Does}
 use Rattle.ospf_world.specs.Worlds.{WorldValue}
 use Rattle.ospf_sim.specs.Followed.{known_before, report_taken}
 
--- an event issued these instances: those of the LSAs that the exact step of its router put out as
--- issued (12.4); or it stepped no router, no log grew, and there are none
+-- an event issued these instances: those of the LSAs that the exact step of its router issued
+-- (12.4); or it stepped no router, no log grew, and there are none
 pub data IssuedBy (event : WorldEvent) (before after : WorldValue) (issued : List Instance)
     : Type 0 where
   by_step : (s s' : SlotValue) → Changes (router_in event) s s' before.slots after.slots
@@ -20,7 +21,7 @@ pub data IssuedBy (event : WorldEvent) (before after : WorldValue) (issued : Lis
       → issued ≡ map instance_of goes.out.issued → IssuedBy event before after issued
   by_none : after.logs ≡ before.logs → issued ≡ [] → IssuedBy event before after issued
 
--- the law: whatever an event does, what the journal takes as reported of it has those
+-- the law: whatever an event does, the instances that the journal reports as issued by it are these
 abbrev pub JournalsHaveIssues : Type 0
 JournalsHaveIssues =
     (w w' : WorldValue) (event : WorldEvent) (answer : Result (Unit {0}) WorldFault)

@@ -1,4 +1,4 @@
--- What a script does: its lines one after another, up to one that cannot be read.
+-- What a script does: its lines run one after another, up to one that cannot be read.
 use Rattle.std.specs.Prelude.{◌≡◌, ℕ, Bool, true, false, List, [], ◌∷◌, ◌++◌, Ok, Err, codes, decimal}
 use Rattle.std.specs.Io.KnownBytes.{Appends}
 use Rattle.ospf_event.specs.Text.{world_fault_text}
@@ -15,24 +15,24 @@ use Rattle.ospf_commands.specs.Commands.{DoesCommand}
 use Rattle.ospf_commands.specs.Simulations.{Answer}
 use Rattle.ospf_commands.specs.declared.simulation.Simulation.{Simulation}
 
--- a line that is refused, and why
+-- the report that a line is refused, and why
 abbrev pub world_refusal_line : ℕ → WorldFault → Text
 world_refusal_line number fault =
     codes "line " ++ decimal number ++ codes ": " ++ world_fault_text fault ++ codes "\n"
 
--- a line that cannot be read
+-- the report that a line cannot be read
 abbrev pub not_a_command_line : ℕ → Text
 not_a_command_line number = codes "line " ++ decimal number ++ codes ": not a command\n"
 
--- what helps with it
+-- the hint for that line
 abbrev pub hint_line : Text → Text
 hint_line line = codes "  " ++ hint_text (line_words line) ++ codes "\n"
 
--- a line that cannot be read, and behind it what helps with it
+-- the report that a line cannot be read, and the hint after it
 abbrev pub unreadable_line : ℕ → Text → Text
 unreadable_line number line = not_a_command_line number ++ hint_line line
 
--- what is told on standard error of what was answered to a line
+-- what is reported on standard error for the answer to a line
 abbrev pub told_of : ℕ → Answer → Text
 told_of number (Ok done) = []
 told_of number (Err fault) = world_refusal_line number fault
@@ -46,15 +46,15 @@ abbrev pub answered : Answer → Simulation → Simulation
 answered (Ok done) w = w
 answered (Err fault) w = with_refusal w
 
--- what a line of this number comes to: the simulation after it, and what is written on
--- standard output and on standard error
+-- what a line of this number does: the simulation after it, and what is written to standard output
+-- and to standard error
 pub data RunsLine (number : ℕ) (line : Text) (w w' : Simulation) (out err : Text) : Type 0 where
   is_passed_over : IsBlank line → w' ≡ w → out ≡ [] → err ≡ [] → RunsLine number line w w' out err
   is_taken : (c : Command) (answer : Answer) (mid : Simulation) → SpellsCommand (line_words line) c
       → DoesCommand c w answer out mid → w' ≡ answered answer mid → err ≡ told_of number answer
       → RunsLine number line w w' out err
 
--- lines with their numbers, one after another: a refused one ends nothing
+-- the numbered lines run one after another: a refused line does not end the run
 pub data RunsLines : List (ℕ × Text) → Simulation → Simulation → Text → Text → Type 0 where
   no_line : {w : Simulation} → RunsLines [] w w [] []
   one_line : {number : ℕ} {line : Text} {lines : List (ℕ × Text)} {w mid w' : Simulation}
@@ -62,7 +62,7 @@ pub data RunsLines : List (ℕ × Text) → Simulation → Simulation → Text �
       → RunsLine number line w mid out err → RunsLines lines mid w' outs errs
       → RunsLines ((number, line) ∷ lines) w w' (out ++ outs) (err ++ errs)
 
--- what lines write is what was written
+-- lines have run, and their output was written
 pub record IsScriptRun (lines : List (ℕ × Text)) (w w' : Simulation) (old new : Written)
     : Type 0 where
   pub out : Text
@@ -71,7 +71,7 @@ pub record IsScriptRun (lines : List (ℕ × Text)) (w w' : Simulation) (old new
   pub out_written : Appends old.out new.out out
   pub err_written : Appends old.err new.err err
 
--- what a line writes is what was written
+-- a line has run, and its output was written
 pub record IsRunLine (number : ℕ) (line : Text) (w w' : Simulation) (old new : Written)
     : Type 0 where
   pub out : Text
@@ -86,13 +86,13 @@ pub record IsNotRead (line : Text) (w w' : Simulation) (old new : Written) : Typ
   pub same_world : w' ≡ w
   pub same_written : new ≡ old
 
--- what a line comes to, by whether it could be read
+-- the result of a line, by whether it could be read
 abbrev pub LineComes : Bool → Line → Simulation → Simulation → Written → Written → Type 0
 LineComes true line = IsRunLine line.number line.text.now
 LineComes false line = IsNotRead line.text.now
 
--- a script of which a line cannot be read: the lines before it have run, and of the first such line
--- it is told that it is no command
+-- a script with a line that cannot be read: the lines before it have run, and the first such line
+-- is reported as not a command
 pub record EndsEarly (script : Text) (w w' : Simulation) (old new : Written) : Type 0 where
   pub number : ℕ
   pub before : List (ℕ × Text)
@@ -106,7 +106,7 @@ pub record EndsEarly (script : Text) (w w' : Simulation) (old new : Written) : T
   pub out_written : Appends old.out new.out out
   pub err_written : Appends old.err new.err (err ++ unreadable_line number line)
 
--- a whole script, or up to a line that cannot be read
+-- a whole script has run, or up to a line that cannot be read
 abbrev pub ScriptComes : Bool → Text → Simulation → Simulation → Written → Written → Type 0
 ScriptComes true script = IsScriptRun (numbered_from 1 script)
 ScriptComes false script = EndsEarly script

@@ -1,4 +1,4 @@
--- What a simulation comes to: its files, its configurations, and the run of its script.
+-- What a simulation does: its files, its configurations, and the run of its script.
 use Rattle.std.specs.Prelude.{◌≡◌, ◌⊎◌, ℕ, List, ◌∷◌, Option, None, Some, Bool, true, false, ⊤}
 use Rattle.ospf_config.specs.declared.config.Config.{Config}
 use Rattle.ospf_files.specs.Files.{text_in}
@@ -20,8 +20,8 @@ use Rattle.ospf_world.specs.Worlds.{new_world}
 
 -- ---- worlds
 
--- a world of these configurations, no two of one Router ID, in which
--- nothing runs and nothing has happened
+-- a world of these configurations, no two with one Router ID, in which nothing runs and nothing has
+-- happened
 abbrev pub IsNewOf : List Config → WorldValue → Type 0
 IsNewOf configs w = (ShareRouter configs → ⊥) × (w ≡ new_world configs)
 
@@ -31,20 +31,20 @@ pub record IsWorldOf (files : List NamedFile) (w : WorldValue) : Type 0 where
   pub are_configs : AreConfigs files configs
   pub new : IsNewOf configs w
 
--- there is no such world, and it is told why: a file holds no configuration, or
--- two routers have one Router ID
+-- there is no such world, and the reason is reported: a file holds no configuration, or two routers
+-- have one Router ID
 pub data IsNoWorld (files : List NamedFile) (old new : Option (List ℕ)) : Type 0 where
   no_config : IsRefusalTold files old new → IsNoWorld files old new
   same_router : (configs : List Config) → AreConfigs files configs
       → AreTwinsTold files configs old new → IsNoWorld files old new
 
--- a new world of configurations, or it is told that two of them are of one router
+-- a new world of configurations, or the report that two of them have one Router ID
 abbrev pub OpensWorld : List NamedFile → List Config → Option WorldValue → Option (List ℕ)
     → Option (List ℕ) → Type 0
 OpensWorld files configs (Some w) old new = IsNewOf configs w × (new ≡ old)
 OpensWorld files configs None old new = AreTwinsTold files configs old new
 
--- the world of the files, or what is told where they make none
+-- the world of the files, or the report why they make none
 abbrev pub WorldComes : List NamedFile → Option WorldValue → Option (List ℕ) → Option (List ℕ)
     → Type 0
 WorldComes files (Some w) old new = IsWorldOf files w × (new ≡ old)
@@ -52,7 +52,7 @@ WorldComes files None old new = IsNoWorld files old new
 
 -- ---- simulations
 
--- the status of a script whose lines could all be read, or not
+-- the status of a script, by whether all its lines could be read
 abbrev pub status_of_script : Bool → Status
 status_of_script true = status.Done
 status_of_script false = status.Refused
@@ -67,7 +67,7 @@ pub record IsSimulated (script : NamedFile) (files : List NamedFile) (left : Opt
   pub left_is : left ≡ Some end
   pub run : IsScriptRun (numbered_from 1 (text_in script)) (begun_in start) end old new
 
--- the script has run up to a line that cannot be read, of which that is told
+-- the script has run up to a line that cannot be read, and that is reported
 pub record IsScriptCutShort (script : NamedFile) (files : List NamedFile)
     (left : Option Simulation) (old new : Written) : Type 0 where
   pub read : AreFilesRead (script ∷ files)
@@ -77,7 +77,7 @@ pub record IsScriptCutShort (script : NamedFile) (files : List NamedFile)
   pub left_is : left ≡ Some end
   pub early : EndsEarly (text_in script) (begun_in start) end old new
 
--- no line has run, since there is no world of the configurations, of which it is told why
+-- no line has run, because the configurations make no world, and the reason is reported
 pub record IsNotBegun (script : NamedFile) (files : List NamedFile) (left : Option Simulation)
     (old new : Written) : Type 0 where
   pub read : AreFilesRead (script ∷ files)
@@ -91,7 +91,7 @@ abbrev pub IsScriptRefused : NamedFile → List NamedFile → Option Simulation 
 IsScriptRefused script files left old new =
     IsNotBegun script files left old new ⊎ IsScriptCutShort script files left old new
 
--- what comes of a simulation, by its status
+-- the result of a simulation, by its status
 abbrev pub ComesOfScript : Status → NamedFile → List NamedFile → Option Simulation → Written
     → Written → Type 0
 ComesOfScript status.Done = IsSimulated
@@ -100,8 +100,8 @@ ComesOfScript _ = λ script files left old new. ⊤
 
 -- ---- watches
 
--- from a world of the configurations in the files on, a watch was told of all that led to this one:
--- of each event, and how far the lines had come
+-- from a world of the configurations in the files on, all that led to this world was reported to a
+-- watch: each event, and the progress of the lines
 pub record IsToldFrom {V : Type 0} (Comes : ComesRule V) (Came : CameRule V)
     (GoesOn : ProgressRule V) (files : List NamedFile) (before : V) (end : Simulation) (after : V)
     : Type 0 where

@@ -1,4 +1,4 @@
--- How a simulation ends that is neither done nor refused.
+-- How a simulation stops that is neither done nor refused.
 use Rattle.std.specs.Prelude.{◌≡◌, ℕ, List, ◌∷◌, Option, None}
 use Rattle.std.specs.Io.KnownBytes.{Appends}
 use Rattle.ospf_files.specs.Files.{unread_line}
@@ -13,8 +13,8 @@ use Rattle.ospf_files.specs.declared.streams.FailedStreams.{FailedStreams}
 use Rattle.ospf_sim.specs.Begun.{IsSimulationCut}
 use Rattle.ospf_commands.specs.declared.simulation.Simulation.{Simulation}
 
--- the first file that could not be read is told, the script's before the
--- configurations', and no line has run
+-- the first file that could not be read is reported, the script before the configurations, and no
+-- line has run
 pub record IsScriptUnreadTold (script : NamedFile) (files : List NamedFile)
     (left : Option Simulation) (old new : Written) : Type 0 where
   pub file : NamedFile
@@ -23,8 +23,8 @@ pub record IsScriptUnreadTold (script : NamedFile) (files : List NamedFile)
   pub none : left ≡ None
   pub same_out : new.out ≡ old.out
 
--- the simulation was cut by a failure, which was told last, as far as it could
--- be, and of which the status is
+-- a failure cut the simulation; it was reported last, as far as it could be written, and it gives
+-- the status
 pub record IsFailureLast (script : NamedFile) (files : List NamedFile) (failed : FailedStreams)
     (end : Status) (old new : Written) : Type 0 where
   pub cause : Failure

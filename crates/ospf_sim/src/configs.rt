@@ -9,8 +9,8 @@ use ospf_files::{FailedStreams, Failure, NamedFile, config_in, tell_refused};
 use std::alloc::{AllocError, Global};
 use std::io::Write;
 
-// The configurations of files; of the first that is none its fault is told. Where that fails,
-// a beginning of it was written.
+// Reads the configurations of files; the first file that holds none is reported with its fault. If
+// the report fails, a beginning of it was written.
 pub(crate) fn read_configs<E: Write>(
     alloc: Global,
     files: &[NamedFile],
@@ -33,7 +33,7 @@ pub(crate) fn read_configs<E: Write>(
     Ok(Some(configs))
 }
 
-// The configuration of a file; of one that is none its fault is told.
+// Reads the configuration of a file; if the file holds none, its fault is reported.
 fn read_config<E: Write>(
     alloc: Global,
     file: &NamedFile,

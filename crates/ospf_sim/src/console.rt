@@ -1,4 +1,4 @@
-//! Lines that are answered one by one, as they are given.
+//! A console: lines that are answered one by one, as they are given.
 
 ghost use Rattle.std.specs.Prelude.{◌≡◌, ◌≢◌, ◌⊎◌, IfErr, IfOk, IfSome, OnOk};
 ghost use Rattle.std.specs.Io.BufRead.{ends_with_byte};
@@ -19,7 +19,7 @@ use ospf_files::{FailedStreams, Failure, Line, NamedFile, Status, first_unread, 
 use std::alloc::Global;
 use std::io::{BufRead, Write};
 
-/// Where lines are given.
+/// The input and the prompt of a console.
 #[derive(Drop)]
 pub struct Console<'a, R: BufRead + Drop> {
     /// The lines.
@@ -28,21 +28,22 @@ pub struct Console<'a, R: BufRead + Drop> {
     pub prompt: &'a str,
 }
 
-/// Runs the lines of an input, each as soon as it is read, in a world of the
-/// configurations that files hold. Where the simulation is strict, a line that is refused, or that
-/// cannot be read, counts as an expectation that is not met.
+/// Runs the lines of an input, each as soon as it is read, in a world of the configurations that
+/// files hold. In a strict simulation, a line that is refused or cannot be read counts as an
+/// expectation that is not met.
 ///
-/// The prompt is printed before each line is read, and again before the end; by then all that the
-/// lines before print and tell is written and flushed. A line ends with a line feed, which a
-/// carriage return may precede, or with the input. What the printing lines print is written to
-/// `out`. A line that is refused is told on `err`, and so is one that cannot be read; the next is
-/// read after both. Before the first line is read, these end the simulation, each told on `err`: a
-/// file that could not be read, with status `Stream`; the first that holds no configuration, with
-/// status `Refused`; and two configurations of one Router ID, with status `Refused`. Status
-/// `Memory` says that memory ran out, and `Stream` that a write failed, or the input was not read
-/// to its end; which it was is told on `err`, as far as that can be written. What the lines before
-/// print and tell is written then, and of the last a beginning, as of `sim_text`, or all of it and
-/// a beginning of the prompt. The watch is told meanwhile how far the rounds of a line have come.
+/// The prompt is printed before each line is read, and again before the end; by then the output and
+/// the reports of all lines before it are written and flushed. A line ends with a line feed, which
+/// a carriage return may precede, or with the input. Printed output goes to `out`. A line that is
+/// refused or cannot be read is reported on `err`, and the next line is read. Before the first line
+/// is read, these end the simulation, each with a report on `err`: a file that could not be read,
+/// with status `Stream`; the first file that holds no configuration, with status `Refused`; and two
+/// configurations with one Router ID, with status `Refused`. Status `Memory` means that memory ran
+/// out, and `Stream` that a write failed or that the input was not read to its end; a report on
+/// `err` says which, as far as it can be written. In that case the output and the reports of the
+/// earlier lines are written, and a beginning of those of the last line, as in `sim_text`, or all
+/// of them and a beginning of the prompt. Meanwhile the watch is informed how far the rounds of a
+/// line have come.
 pub fn console_text<R: BufRead + Drop, O: Write, E: Write, V: Watch>(
     alloc: Global,
     console: Console<'_, R>,
@@ -52,7 +53,7 @@ pub fn console_text<R: BufRead + Drop, O: Write, E: Write, V: Watch>(
     err: &mut E,
     watch: &mut V,
 ) -> Simulated
-    // All lines of the input are answered; or what is refused is told, and none is.
+    // All lines of the input are answered; or the refusal is reported, and no line is answered.
     ensures done { let old = written_on (O.contents out.old) (E.contents err.old) in
         let new = written_on (O.contents out.new) (E.contents err.new) in
         result.status ≡ Status.Done → IsConsoled (R.remaining console.entry.input)
@@ -60,21 +61,21 @@ pub fn console_text<R: BufRead + Drop, O: Write, E: Write, V: Watch>(
     ensures refused { let old = written_on (O.contents out.old) (E.contents err.old) in
         let new = written_on (O.contents out.new) (E.contents err.new) in
         result.status ≡ Status.Refused → IsNoConsole files.now result.left old new }
-    // Where a file could not be read, that or memory ends it, and nothing is printed.
+    // If a file could not be read, that or memory ends the console, and nothing is printed.
     ensures unread { (file : NamedFile) → IsFirstUnread file files.now →
         (result.status ≡ Status.Stream) ⊎ (result.status ≡ Status.Memory) }
     ensures unwritten { (file : NamedFile) → IsFirstUnread file files.now →
         O.contents out.new ≡ O.contents out.old }
-    // It stops at such a file or at a failure; there is no other end.
+    // The console stops at such a file or at a failure; there is no other end.
     ensures stopped { let old = written_on (O.contents out.old) (E.contents err.old) in
         let new = written_on (O.contents out.new) (E.contents err.new) in
         (result.status ≡ Status.Memory) ⊎ (result.status ≡ Status.Stream) →
         (failed : FailedStreams) × IsConsoleStopped (R.remaining console.entry.input)
         console.entry.prompt.now files.now result.left failed result.status old new }
     ensures not_words { result.status ≢ Status.Words }
-    // The exit status is that, or says that what is left is not as the lines ask.
+    // The exit code follows the status, or says that an expectation of the lines is not met.
     ensures ends { result.end ≡ sim_end_by strict result.status result.left }
-    // Of all that led to what is left the watch was told.
+    // All events and all progress up to the final simulation were reported to the watch.
     ensures told { IfSome result.left (λ end. IsToldFrom V.comes_gives V.came_gives V.goes_on_gives
         files.now watch.old end watch.new) }
 {
@@ -95,14 +96,14 @@ fn converse<R: BufRead + Drop, O: Write, E: Write, V: Watch>(
     watch: &mut V,
     streams: &mut FailedStreams,
 ) -> Result<Simulated, Failure>
-    // All lines are answered, or what is refused is told; no status says that memory ran out.
+    // All lines are answered, or the refusal is reported; no status says that memory ran out.
     ensures comes { let old = written_on (O.contents out.old) (E.contents err.old) in
         let new = written_on (O.contents out.new) (E.contents err.new) in
         IfOk result (λ s. ConsoleComes s.status (R.remaining console.entry.input)
         console.entry.prompt.now files.now s.left old new) }
     ensures not_words { IfOk result (λ s. s.status ≢ Status.Words) }
     ensures not_memory { IfOk result (λ s. s.status ≢ Status.Memory) }
-    // Where a file could not be read, the first such is told, and nothing is printed.
+    // If a file could not be read, the first such file is reported, and nothing is printed.
     ensures stream { let old = written_on (O.contents out.old) (E.contents err.old) in
         let new = written_on (O.contents out.new) (E.contents err.new) in
         IfOk result (λ s. s.status ≡ Status.Stream → IsUnreadOf files.now s.left old new) }
@@ -110,10 +111,10 @@ fn converse<R: BufRead + Drop, O: Write, E: Write, V: Watch>(
         IfOk result (λ s. s.status ≡ Status.Stream) }
     ensures unwritten { (file : NamedFile) → IsFirstUnread file files.now →
         O.contents out.new ≡ O.contents out.old }
-    // Of all that led to what is left the watch was told.
+    // All events and all progress up to the final simulation were reported to the watch.
     ensures told { IfOk result (λ s. IfSome s.left (λ end. IsToldFrom V.comes_gives V.came_gives
         V.goes_on_gives files.now watch.old end watch.new)) }
-    // A failure cuts it, and what is written is a beginning.
+    // A failure cuts it, and a beginning of the output is written.
     ensures cut { let old = written_on (O.contents out.old) (E.contents err.old) in
         let new = written_on (O.contents out.new) (E.contents err.new) in
         IfErr result (IsConsoleCut (R.remaining console.entry.input)
@@ -132,8 +133,8 @@ fn converse<R: BufRead + Drop, O: Write, E: Write, V: Watch>(
     }
 }
 
-// Answers the lines of an input, up to its end. Where it fails at a
-// line, those before it are answered.
+// Answers the lines of an input, up to its end. If it fails at a line, the earlier lines are
+// answered.
 fn answer_lines<R: BufRead + Drop, O: Write, E: Write, V: Watch>(
     simulation: &mut Simulation,
     console: Console<'_, R>,
@@ -175,8 +176,8 @@ fn answer_lines<R: BufRead + Drop, O: Write, E: Write, V: Watch>(
     Err(Failure::Input)
 }
 
-// Reads, in place of what it was, the piece of an input up to a line feed, or to the end. The
-// answer is whether there is one.
+// Reads the next piece of an input, up to a line feed or to the end, and replaces the old one.
+// Returns whether there is one.
 fn read_piece<R: BufRead>(input: &mut R, piece: &mut Vec<u8>) -> Result<bool, Failure>
     ensures read { IfOk result (λ more. IsPiece more piece.new.items (R.remaining input.old)
         (R.remaining input.new)) }
@@ -190,15 +191,15 @@ fn read_piece<R: BufRead>(input: &mut R, piece: &mut Vec<u8>) -> Result<bool, Fa
     }
 }
 
-// Whether a line feed ends it.
+// Whether a piece ends with a line feed.
 fn is_ended(piece: &[u8]) -> bool
     ensures { result ≡ ends_with_byte 10 piece.now }
 {
     matches!(piece, [.., b'\n'])
 }
 
-// Answers a line: it is run, or it is told that it cannot be read. Where that fails, no more than a
-// beginning of what it writes was written.
+// Answers a line: runs it, or reports that it cannot be read. If that fails, at most a beginning of
+// what it writes was written.
 fn answer_line<O: Write, E: Write, V: Watch>(
     simulation: &mut Simulation,
     line: &Line<'_>,

@@ -10,10 +10,10 @@ use std::process::ExitCode;
 /// How a simulation ends.
 #[derive(Clone, Copy, Debug, PartialEq, Eq)]
 pub enum SimStatus {
-    /// As another job does.
+    /// As any other job ends.
     Ended(Status),
-    /// All lines have run, and something was not as a line expected it; or the simulation is
-    /// strict, and a line was refused.
+    /// All lines have run, and an expectation of a line was not met; or the simulation is strict,
+    /// and a line was refused.
     Unmet,
 }
 
@@ -31,7 +31,7 @@ impl SimStatus {
         }
     }
 
-    /// How it ends with the files that were asked for: why the journal is incomplete, if it is, and
+    /// How it ends with the files that were requested: why the journal is incomplete, if it is, and
     /// whether the drawing and the capture are complete.
     pub fn with_files(self, journal: Option<Failure>, is_recorded: bool) -> SimStatus
         ensures { result ≡ end_with_files self journal is_recorded }
@@ -56,7 +56,7 @@ impl From<SimStatus> for ExitCode {
     }
 }
 
-/// How it ends that came so far and left this.
+/// How a simulation ends that reached this status and left this.
 pub(crate) fn end_by(strict: bool, status: Status, left: &Option<Simulation>) -> SimStatus
     ensures { result ≡ sim_end_by strict status left.now }
 {
@@ -68,7 +68,7 @@ pub(crate) fn end_by(strict: bool, status: Status, left: &Option<Simulation>) ->
     }
 }
 
-// How it ends whose lines have all run.
+// How a simulation ends whose lines have all run.
 fn end_of_lines(strict: bool, left: &Option<Simulation>) -> SimStatus
     ensures { result ≡ end_of_lines strict left.now }
 {
@@ -78,7 +78,7 @@ fn end_of_lines(strict: bool, left: &Option<Simulation>) -> SimStatus
     }
 }
 
-// Whether it is not as its script asks.
+// Whether it failed its script.
 fn is_unmet_by(strict: bool, left: &Simulation) -> bool
     ensures { result ≡ is_unmet_by strict left.now }
 {

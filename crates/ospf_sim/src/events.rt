@@ -23,15 +23,15 @@ use std::collections::BTreeMap;
 use std::io::Write;
 use std::marker::Model;
 
-/// Writes a journal of the routers of a simulation, if one is wanted. The tick of a line is
-/// the most that a router has taken by then, so that lines of routers that started at
-/// several times are told apart by it.
+/// Writes a journal of the routers of a simulation, if one is wanted. The tick of a line is the
+/// most that any router has taken so far, so that lines of routers that started at different times
+/// can be distinguished by it.
 #[derive(Drop)]
 pub struct Events<F: Write + Drop> {
     alloc: Global,
     journal: Option<Journal<F>>,
     routers: BTreeMap<RouterId, Followed>,
-    // What was known before the event that comes.
+    // What was known before the current event.
     coming: Coming,
     // The most ticks that a router has taken.
     most_ticks: u64,
@@ -74,7 +74,7 @@ impl<F: Write + Drop> Events<F> {
         }
     }
 
-    /// Why not all could be written to the journal, if that is so (`Journal::failure`).
+    /// Why the journal is incomplete, if it is (`Journal::failure`).
     pub fn failure(&self) -> Option<Failure>
         ensures some { IfSome self.now.journal (λ journal. result ≡ journal.failure) }
         ensures none { IfNone self.now.journal (result ≡ None) }
@@ -110,14 +110,14 @@ impl<F: Write + Drop> EventWatch for Events<F> {
     }
 }
 
-// What was known before an event: what a delivery is dropped for, and how many LSAs were issued.
+// What was known before an event: why a delivery will be dropped, and how many LSAs were issued.
 #[derive(Clone, Copy, Debug, PartialEq, Eq)]
 pub(crate) struct Coming {
     pub(crate) dropped: Option<DroppedAt>,
     pub(crate) issued: usize,
 }
 
-// What is kept of a router.
+// The state stored for a router.
 #[derive(Drop)]
 struct Followed {
     seen: Seen,
@@ -143,7 +143,7 @@ impl Followed {
         }
     }
 
-    // What changed of it by an event there, before which this was known.
+    // Returns what changed of the router by an event there, given what was known before it.
     fn follow(
         &mut self,
         world: &World,
@@ -164,7 +164,7 @@ impl Followed {
     }
 }
 
-// What changed of the router that an event names.
+// Returns what changed of the router that an event names.
 fn follow(
     routers: &mut BTreeMap<RouterId, Followed>,
     world: &World,
@@ -192,7 +192,7 @@ fn follow(
     changes
 }
 
-// Takes out what is kept of a router.
+// Takes the stored state of a router out of the map.
 fn take(routers: &mut BTreeMap<RouterId, Followed>, router: RouterId, alloc: Global) -> Followed
     ensures taken { result ≡ followed_in routers.old.entries router }
     ensures others { (q : RouterId) → q ≢ router →
@@ -204,7 +204,7 @@ fn take(routers: &mut BTreeMap<RouterId, Followed>, router: RouterId, alloc: Glo
     }
 }
 
-// Puts in what is kept of a router.
+// Puts the stored state of a router into the map.
 fn put(
     routers: &mut BTreeMap<RouterId, Followed>,
     router: RouterId,
@@ -230,8 +230,8 @@ fn ticks_of(routers: &BTreeMap<RouterId, Followed>, router: RouterId) -> u64
     }
 }
 
-// What changed of a router in a world since it was seen, by an event that reported this. It is seen
-// as it is from now on.
+// Returns what changed of a router in a world since it was last seen, by an event that reported
+// this. The new state is stored as seen.
 fn go_to(
     seen: &mut Seen,
     world: &World,
@@ -249,7 +249,7 @@ fn go_to(
     }
 }
 
-// How many ticks a router of so many has taken behind an event there.
+// How many ticks a router has taken after an event, given the count before it.
 fn ticks_then(event: &WorldEvent, answer: &Result<(), WorldFault>, ticks: u64) -> u64
     ensures { result ≡ ticks_then event.now answer.now ticks }
 {
@@ -259,7 +259,7 @@ fn ticks_then(event: &WorldEvent, answer: &Result<(), WorldFault>, ticks: u64) -
     }
 }
 
-// What an event reported, before which this was known: nothing where it was refused.
+// What an event reported, given what was known before it: nothing if it was refused.
 fn report_of(
     world: &World,
     answer: &Result<(), WorldFault>,
@@ -277,7 +277,7 @@ fn report_of(
     }
 }
 
-// The LSAs that were issued after the first so many.
+// The LSAs that were issued after the first `first` ones.
 fn since(issued: &[Issued], first: usize) -> &[Issued]
     ensures { result.now ≡ drop first issued.now }
 {
@@ -308,7 +308,7 @@ fn known_before(world: &World, event: &WorldEvent) -> Coming
     }
 }
 
-// What a delivery will be dropped for, if it is.
+// Why a delivery will be dropped, if it will.
 fn drop_coming(world: &World, event: &WorldEvent) -> Option<DroppedAt>
     ensures { result ≡ drop_coming world.now event.now }
 {
@@ -322,7 +322,7 @@ fn drop_coming(world: &World, event: &WorldEvent) -> Option<DroppedAt>
     }
 }
 
-// What a router will drop a datagram for that comes on a link, if it will.
+// Why a router will drop a datagram that arrives on a link, if it will.
 fn delivery_drop(world: &World, datagram: usize, router: RouterId, link: usize) -> Option<DroppedAt>
     ensures { result ≡ drop_coming world.now (Deliver datagram router link) }
 {
@@ -335,7 +335,7 @@ fn delivery_drop(world: &World, datagram: usize, router: RouterId, link: usize) 
     })
 }
 
-// Why it will.
+// The reason, looked up in the world.
 fn cause_of(
     world: &World,
     router: RouterId,
@@ -351,7 +351,7 @@ fn cause_of(
     cause_in(router, link, &datagram.sent)
 }
 
-// Why this router will.
+// The reason, for this router.
 fn cause_in(router: &Router, link: usize, sent: &Sent) -> Option<Dropped>
     ensures { result ≡ cause_of (Datagram link sent.now.source sent.now.destination
         sent.now.bytes) router.now.area }

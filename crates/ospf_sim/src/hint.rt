@@ -1,4 +1,4 @@
-//! What is told behind a line that spells no command.
+//! The hint after a line that spells no command.
 
 ghost use Rattle.std.specs.Prelude.{◌≡◌, None};
 ghost use Rattle.std.specs.Fmt.{WritesOnOk};
@@ -8,8 +8,8 @@ ghost use Rattle.ospf_script.specs.Words.{line_words};
 use ospf_script::{Name, View, first_word};
 use std::fmt::{self, Display, Formatter, Write};
 
-/// What helps with a line that spells no command, by its text: behind a first word that begins
-/// none, which words begin one, else the form of the command that it begins.
+/// A hint for a line that spells no command, by its text: the list of commands if its first word
+/// begins none, else the form of the command that it begins.
 #[derive(Clone, Copy, Debug, PartialEq, Eq)]
 pub struct Hint<'a>(pub &'a [u8]);
 
@@ -26,7 +26,7 @@ impl Display for Hint<'_> {
     }
 }
 
-// The hint of a line.
+// Writes the hint of a line.
 fn write_hint<W: Write>(f: &mut Formatter<W>, line: &[u8]) -> fmt::Result
     ensures { WritesOnOk W.Write.write_str_gives f.old result (hint_text (line_words line.now))
         f.new }
@@ -40,7 +40,7 @@ fn write_hint<W: Write>(f: &mut Formatter<W>, line: &[u8]) -> fmt::Result
     }
 }
 
-// That a word begins no command, and which words do.
+// Writes that a word begins no command, and which words do.
 fn write_names<W: Write>(f: &mut Formatter<W>, word: &[u8]) -> fmt::Result
     ensures { WritesOnOk W.Write.write_str_gives f.old result (hint_of word.now None) f.new }
 {
@@ -50,7 +50,7 @@ fn write_names<W: Write>(f: &mut Formatter<W>, word: &[u8]) -> fmt::Result
     )
 }
 
-// A word, so that it can be read whatever its bytes are.
+// Writes a word so that it can be read whatever its bytes are.
 fn write_word<W: Write>(f: &mut Formatter<W>, word: &[u8]) -> fmt::Result
     ensures { WritesOnOk W.Write.write_str_gives f.old result (word_text word.now) f.new }
 {
@@ -60,7 +60,7 @@ fn write_word<W: Write>(f: &mut Formatter<W>, word: &[u8]) -> fmt::Result
     Ok(())
 }
 
-// A byte of a word.
+// Writes a byte of a word.
 fn write_byte<W: Write>(f: &mut Formatter<W>, byte: u8) -> fmt::Result
     ensures { WritesOnOk W.Write.write_str_gives f.old result (byte_text byte) f.new }
 {

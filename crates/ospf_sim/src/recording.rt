@@ -1,4 +1,4 @@
-//! The capture of a simulation, as it goes.
+//! The capture of a simulation, written while it runs.
 
 use ospf_records::{Recorder, write_header};
 use ospf_world::World;
@@ -7,28 +7,29 @@ use std::fs;
 use std::io::Write;
 use std::rt::Runtime;
 
-// So many bytes are written at once.
+// Blocks of this many bytes are written.
 const BLOCK: usize = 1 << 16;
 
-/// Writes what the routers of a simulation send into the file of a capture while the simulation
-/// goes, so that one that is broken off leaves a file that can be read: with the moments that
-/// `ospf_records::capture` gives, in blocks, and what is left at the end of a line. The file is
-/// made when something is sent first. Where it cannot be written, nothing more is, and nobody is
-/// told: the capture of the whole, which takes its place, is written in the end.
+/// Writes what the routers of a simulation send into a capture file while the simulation runs, so
+/// that an interrupted simulation leaves a readable file. The packets have the times that
+/// `ospf_records::capture` gives. They are written in blocks, and the rest at the end of a line.
+/// The file is created when something is first sent. If it cannot be written, nothing more is
+/// written and no error is reported: the capture of the whole simulation, which replaces it, is
+/// written at the end.
 #[derive(Drop)]
 pub struct Recording<R: Runtime + Drop> {
     rt: R,
     alloc: Global,
-    // None is wanted, or it cannot be written.
+    // No file is wanted, or it cannot be written.
     name: Option<String>,
     file: Option<R::File>,
     block: Vec<u8>,
-    // What is written, or stands in the block.
+    // What is written or in the block.
     recorder: Recorder,
 }
 
 impl<R: Runtime + Drop> Recording<R> {
-    /// Nothing was sent yet. The file will be that of the name, if one is wanted.
+    /// Nothing was sent yet. The file will have this name, if one is given.
     pub fn new(rt: R, alloc: Global, name: Option<String>) -> Recording<R> {
         Recording {
             rt,
@@ -40,7 +41,7 @@ impl<R: Runtime + Drop> Recording<R> {
         }
     }
 
-    /// The world is so after an event.
+    /// An event has happened: this is the world after it.
     pub fn came(&mut self, world: &World) {
         if self.name.is_none() {
             return;
@@ -57,7 +58,7 @@ impl<R: Runtime + Drop> Recording<R> {
         }
     }
 
-    // Adds what was sent since, the first of it behind the head of the file.
+    // Adds what was sent since the last call, and the file header before the first packet.
     fn add_sent(&mut self, world: &World) -> Result<(), AllocError> {
         if self.recorder.datagrams() == 0 && !world.datagrams().is_empty() {
             write_header(&mut self.block)?;
@@ -65,8 +66,8 @@ impl<R: Runtime + Drop> Recording<R> {
         self.recorder.add_sent(&mut self.block, world)
     }
 
-    // Writes the block, into the file that is made first where there is
-    // none; whether that could be done.
+    // Writes the block into the file and creates the file first if needed; returns whether that
+    // succeeded.
     fn write_block(&mut self) -> bool {
         if self.file.is_none() {
             let Some(name) = &self.name else {

@@ -1,4 +1,4 @@
-//! Scripts that are run.
+//! Running scripts.
 
 ghost use Rattle.std.specs.Prelude.{◌≡◌, [], IfErr, IfOk, OnOk, string_bytes};
 ghost use Rattle.std.specs.Io.KnownBytes.{Appends};
@@ -16,8 +16,8 @@ use ospf_world::WorldFault;
 use std::alloc::{AllocError, Global};
 use std::io::Write;
 
-/// Runs the lines of a script, up to the first that cannot be read, and tells of that one. The
-/// answer is whether all could be read. Where it fails at a line, those before it have run.
+/// Runs the lines of a script, up to the first that cannot be read, and reports that one. Returns
+/// whether all could be read. If it fails at a line, the earlier lines have run.
 pub(crate) fn run_script<O: Write, E: Write, V: Watch>(
     simulation: &mut Simulation,
     script: &[u8],
@@ -48,8 +48,8 @@ pub(crate) fn run_script<O: Write, E: Write, V: Watch>(
     Ok(true)
 }
 
-// Runs a line. The answer is whether it can be read. Where that fails, no more than a beginning
-// of what it writes was written.
+// Runs a line and returns whether it can be read. If that fails, at most a beginning of what it
+// writes was written.
 pub(crate) fn run_line<O: Write, E: Write, V: Watch>(
     simulation: &mut Simulation,
     line: &Line<'_>,
@@ -93,7 +93,7 @@ fn note_answer(simulation: &mut Simulation, answer: &Result<(), WorldFault>)
     }
 }
 
-// Tells what was answered to a line, if it is to be told: behind all that was printed before.
+// Reports the answer to a line if it is a refusal, after all output so far.
 fn tell_answer<O: Write, E: Write>(
     alloc: Global,
     number: u64,
@@ -115,7 +115,7 @@ fn tell_answer<O: Write, E: Write>(
     }
 }
 
-// Tells why a line is refused.
+// Reports why a line is refused.
 fn tell_refusal<O: Write, E: Write>(
     alloc: Global,
     number: u64,
@@ -135,7 +135,7 @@ fn tell_refusal<O: Write, E: Write>(
     tell_behind(&line, out, err, streams)
 }
 
-// The line of a refusal.
+// Formats the report of a refusal.
 fn refusal_line(alloc: Global, number: u64, fault: WorldFault) -> Result<String, AllocError>
     ensures { IfOk result (λ line. string_bytes line ≡ world_refusal_line number fault) }
 {
@@ -146,7 +146,7 @@ fn refusal_line(alloc: Global, number: u64, fault: WorldFault) -> Result<String,
     format!(in alloc; "{shown}\n")
 }
 
-// Tells a line, behind all that was printed before.
+// Reports a line, after all output so far.
 fn tell_behind<O: Write, E: Write>(
     line: &str,
     out: &mut O,
@@ -163,7 +163,7 @@ fn tell_behind<O: Write, E: Write>(
     streams.tell(err, line)
 }
 
-// Tells that a line cannot be read, and behind that what helps with it.
+// Reports that a line cannot be read, and a hint after it.
 pub(crate) fn tell_unreadable<O: Write, E: Write>(
     alloc: Global,
     line: &Line<'_>,
@@ -183,7 +183,7 @@ pub(crate) fn tell_unreadable<O: Write, E: Write>(
     tell_behind(&told, out, err, streams)
 }
 
-// The lines of a line that cannot be read.
+// Formats the report on a line that cannot be read.
 fn unreadable_line(alloc: Global, number: u64, text: &[u8]) -> Result<String, AllocError>
     ensures { IfOk result (λ line. string_bytes line ≡ unreadable_line number text.now) }
 {
@@ -193,14 +193,14 @@ fn unreadable_line(alloc: Global, number: u64, text: &[u8]) -> Result<String, Al
     Ok(lines)
 }
 
-// The line of it.
+// Formats its first line.
 fn not_a_command_line(alloc: Global, number: u64) -> Result<String, AllocError>
     ensures { IfOk result (λ line. string_bytes line ≡ not_a_command_line number) }
 {
     format!(in alloc; "line {number}: {}\n", CommandFault::NotACommand)
 }
 
-// What helps with it.
+// Formats the hint for the line.
 fn hint_line(alloc: Global, text: &[u8]) -> Result<String, AllocError>
     ensures { IfOk result (λ line. string_bytes line ≡ hint_line text.now) }
 {

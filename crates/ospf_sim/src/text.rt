@@ -28,15 +28,15 @@ use ospf_world::World;
 use std::alloc::Global;
 use std::io::Write;
 
-/// What came of a simulation.
+/// The result of a simulation.
 #[derive(Drop)]
 pub struct Simulated {
-    /// How far it came: `Done` where all lines have run.
+    /// How far it came: `Done` if all lines have run.
     pub status: Status,
-    /// How it ends: as its status says, or, where all lines have run, whether what they left is as
-    /// they expected.
+    /// How it ends: as its status says, or, if all lines have run, whether their expectations are
+    /// met.
     pub end: SimStatus,
-    /// What the script left, where it has run.
+    /// What the script left, if it has run.
     pub left: Option<Simulation>,
 }
 
@@ -44,7 +44,7 @@ impl Simulated {
     ghost use Rattle.std.specs.Prelude.{◌≡◌, None};
     ghost use Rattle.ospf_sim.specs.Ends.{sim_end_by};
 
-    // No line has run, or it is not known what the lines that have run have left.
+    // No line has run, or it is not known what state the lines left.
     pub(crate) fn without(status: Status) -> Simulated
         ensures status { result.status ≡ status }
         ensures left { result.left ≡ None }
@@ -56,7 +56,7 @@ impl Simulated {
         }
     }
 
-    // How it ends, which may be asked to be strict.
+    // Decides how it ends, strictly or not.
     pub(crate) fn judged(self, strict: bool) -> Simulated
         ensures status { result.status ≡ self.status }
         ensures left { result.left ≡ self.left }
@@ -68,20 +68,21 @@ impl Simulated {
     }
 }
 
-/// Runs the lines of a script, in order, in a world of the configurations that files hold. Where
-/// the simulation is strict, a line that is refused counts as an expectation that is not met.
+/// Runs the lines of a script, in order, in a world of the configurations that files hold. In a
+/// strict simulation, a line that is refused counts as an expectation that is not met.
 ///
-/// What the printing lines print is written to `out`. A line that is refused is told on `err`, and
-/// the script goes on; the first that cannot be read ends it, and is told on `err`, with status
-/// `Refused`. Before the first line runs, these end the simulation, each told on `err`: a file that
-/// could not be read, with status `Stream`; the first that holds no configuration, with status
-/// `Refused`; and two configurations of one Router ID, with status `Refused`. Status `Memory` says
-/// that memory ran out, and `Stream` that a write failed; which it was is told on `err`, as far as
-/// that can be written. Before that, where no line has run, no more is written than a beginning of
-/// what is told of one of the files, or of the Router ID. Else what the lines before one print and
-/// tell is, and of that line a beginning of what it prints, or all of that and a beginning of what
-/// is told of it; or what all lines print and tell, where only the last flush failed. The watch is
-/// told meanwhile how far the rounds of a line have come.
+/// Printed output goes to `out`. A line that is refused is reported on `err`, and the script
+/// continues; the first line that cannot be read is reported on `err` and ends the script, with
+/// status `Refused`. Before the first line runs, these end the simulation, each with a report on
+/// `err`: a file that could not be read, with status `Stream`; the first file that holds no
+/// configuration, with status `Refused`; and two configurations with one Router ID, with status
+/// `Refused`. Status `Memory` means that memory ran out, and `Stream` that a write failed; a report
+/// on `err` says which, as far as it can be written. Before that report, if no line has run, at
+/// most a beginning of the report on one of the files, or on the Router ID, is written. Otherwise
+/// the output and the reports of the lines before one are written, and of that line a beginning of
+/// its output, or all its output and a beginning of its report; or all output and reports of all
+/// lines, if only the last flush failed. Meanwhile the watch is informed how far the rounds of a
+/// line have come.
 pub fn sim_text<O: Write, E: Write, V: Watch>(
     alloc: Global,
     script: &NamedFile,
@@ -91,7 +92,7 @@ pub fn sim_text<O: Write, E: Write, V: Watch>(
     err: &mut E,
     watch: &mut V,
 ) -> Simulated
-    // The whole script has run; or what is refused is told.
+    // The whole script has run; or the refusal is reported.
     ensures done { let old = written_on (O.contents out.old) (E.contents err.old) in
         let new = written_on (O.contents out.new) (E.contents err.new) in
         result.status ≡ Status.Done → IsSimulated script.now files.now result.left old new }
@@ -99,21 +100,21 @@ pub fn sim_text<O: Write, E: Write, V: Watch>(
         let new = written_on (O.contents out.new) (E.contents err.new) in
         result.status ≡ Status.Refused → IsScriptRefused script.now files.now result.left old
         new }
-    // Where a file could not be read, that or memory ends it, and nothing is printed.
+    // If a file could not be read, that or memory ends the simulation, and nothing is printed.
     ensures unread { (file : NamedFile) → IsFirstUnread file (script.now ∷ files.now) →
         (result.status ≡ Status.Stream) ⊎ (result.status ≡ Status.Memory) }
     ensures unwritten { (file : NamedFile) → IsFirstUnread file (script.now ∷ files.now) →
         O.contents out.new ≡ O.contents out.old }
-    // It stops at such a file or at a failure; there is no other end.
+    // The simulation stops at such a file or at a failure; there is no other end.
     ensures stopped { let old = written_on (O.contents out.old) (E.contents err.old) in
         let new = written_on (O.contents out.new) (E.contents err.new) in
         (result.status ≡ Status.Memory) ⊎ (result.status ≡ Status.Stream) →
         (failed : FailedStreams)
         × IsStopped script.now files.now result.left failed result.status old new }
     ensures not_words { result.status ≢ Status.Words }
-    // The exit status is that, or says that what is left is not as the script asks.
+    // The exit code follows the status, or says that an expectation of the script is not met.
     ensures ends { result.end ≡ sim_end_by strict result.status result.left }
-    // Of all that led to what is left the watch was told.
+    // All events and all progress up to the final simulation were reported to the watch.
     ensures told { IfSome result.left (λ end. IsToldFrom V.comes_gives V.came_gives V.goes_on_gives
         files.now watch.old end watch.new) }
 {
@@ -134,13 +135,13 @@ fn simulate<O: Write, E: Write, V: Watch>(
     watch: &mut V,
     streams: &mut FailedStreams,
 ) -> Result<Simulated, Failure>
-    // The whole script has run, or what is refused is told; no status says that memory ran out.
+    // The whole script has run, or the refusal is reported; no status says that memory ran out.
     ensures comes { let old = written_on (O.contents out.old) (E.contents err.old) in
         let new = written_on (O.contents out.new) (E.contents err.new) in
         IfOk result (λ s. ComesOfScript s.status script.now files.now s.left old new) }
     ensures not_words { IfOk result (λ s. s.status ≢ Status.Words) }
     ensures not_memory { IfOk result (λ s. s.status ≢ Status.Memory) }
-    // Where a file could not be read, the first such is told, and nothing is printed.
+    // If a file could not be read, the first such file is reported, and nothing is printed.
     ensures stream { let old = written_on (O.contents out.old) (E.contents err.old) in
         let new = written_on (O.contents out.new) (E.contents err.new) in
         IfOk result (λ s. s.status ≡ Status.Stream →
@@ -149,10 +150,10 @@ fn simulate<O: Write, E: Write, V: Watch>(
         IfOk result (λ s. s.status ≡ Status.Stream) }
     ensures unwritten { (file : NamedFile) → IsFirstUnread file (script.now ∷ files.now) →
         O.contents out.new ≡ O.contents out.old }
-    // Of all that led to what is left the watch was told.
+    // All events and all progress up to the final simulation were reported to the watch.
     ensures told { IfOk result (λ s. IfSome s.left (λ end. IsToldFrom V.comes_gives V.came_gives
         V.goes_on_gives files.now watch.old end watch.new)) }
-    // A failure cuts it, and what is written is a beginning.
+    // A failure cuts it, and a beginning of the output is written.
     ensures cut { let old = written_on (O.contents out.old) (E.contents err.old) in
         let new = written_on (O.contents out.new) (E.contents err.new) in
         IfErr result (IsSimulationCut script.now files.now streams.new old new) }
@@ -170,7 +171,7 @@ fn simulate<O: Write, E: Write, V: Watch>(
     }
 }
 
-// The first file that could not be read, the script's before the configurations'.
+// The first file that could not be read, the script before the configurations.
 fn unread_of<'a>(script: &'a NamedFile, files: &'a [NamedFile]) -> Option<&'a NamedFile>
     ensures some { IfSome result (λ file. IsFirstUnread file.now (script.now ∷ files.now)) }
     ensures none { IfNone result (AreFilesRead (script.now ∷ files.now)) }
@@ -181,19 +182,19 @@ fn unread_of<'a>(script: &'a NamedFile, files: &'a [NamedFile]) -> Option<&'a Na
     first_unread(files)
 }
 
-// Tells that a file could not be read. Where that fails, a beginning of it was written.
+// Reports that a file could not be read. If that fails, a beginning of the report was written.
 pub(crate) fn end_unread<E: Write>(
     alloc: Global,
     file: &NamedFile,
     err: &mut E,
     streams: &mut FailedStreams,
 ) -> Result<Simulated, Failure>
-    // The file is told, nothing is left, and the status is that of a failed stream.
+    // The file is reported, nothing is left, and the status is that of a failed stream.
     ensures status { IfOk result (λ s. s.status ≡ Status.Stream) }
     ensures left { IfOk result (λ s. s.left ≡ None) }
     ensures told { OnOk result (Appends (E.contents err.old) (E.contents err.new)
         (unread_line file.now)) }
-    // Or a beginning of that is written, and it is known why no more is.
+    // Or a beginning of the report is written, and it is known why no more is.
     ensures begun { OnErr result
         (IsBegun (E.contents err.old) (E.contents err.new) (unread_line file.now)) }
     ensures cut { IfErr result (IsErrorCut streams.new) }
@@ -204,8 +205,8 @@ pub(crate) fn end_unread<E: Write>(
     }
 }
 
-// The world of the configurations in files, in which nothing runs;
-// where there is none it is told why.
+// Makes the world of the configurations in files, in which nothing runs; reports why if there is
+// none.
 pub(crate) fn new_world<E: Write>(
     alloc: Global,
     files: &[NamedFile],
@@ -223,7 +224,7 @@ pub(crate) fn new_world<E: Write>(
     }
 }
 
-// The world of configurations, in which nothing runs; where two are of one router it is told.
+// Makes the world of configurations, in which nothing runs; reports if two have one Router ID.
 fn open_world<E: Write>(
     alloc: Global,
     files: &[NamedFile],
@@ -247,7 +248,8 @@ fn open_world<E: Write>(
     }
 }
 
-// Tells that two routers have one Router ID. Where that fails, a beginning of it was written.
+// Reports that two routers have one Router ID. If that fails, a beginning of the report was
+// written.
 fn tell_twins<E: Write>(
     alloc: Global,
     files: &[NamedFile],
@@ -266,7 +268,7 @@ fn tell_twins<E: Write>(
     streams.tell(err, &lines)
 }
 
-// What a simulation has left whose lines could all be read, or not.
+// What a simulation leaves, by whether all its lines could be read.
 pub(crate) fn left_of(simulation: Simulation, whole: bool) -> Simulated
     ensures left { result.left ≡ Some simulation }
     ensures status { result.status ≡ status_of_script whole }
@@ -279,7 +281,7 @@ pub(crate) fn left_of(simulation: Simulation, whole: bool) -> Simulated
     }
 }
 
-// Tells a failure last, as far as that can be written.
+// Reports a failure last, as far as that can be written.
 pub(crate) fn end_failed<E: Write>(
     failure: Failure,
     err: &mut E,

@@ -18,12 +18,12 @@ abbrev pub put_of : Change → List Route
 put_of (Put route) = route ∷ []
 put_of (Gone _) = []
 
--- whether the first prefix stands before the second
+-- whether the first prefix is before the second
 unfoldable pub stands_before : Prefix → Prefix → Bool
 stands_before p q =
     nat_lt p.address.0 q.address.0 || ((p.address.0 == q.address.0) && nat_lt p.length q.length)
 
--- the table after one change: what stands before its prefix, its route, and what stands behind
+-- the table after one change: what is before its prefix, its route, and what is after
 unfoldable pub changed : List Route → Change → List Route
 changed routes change =
     filter (λ r. stands_before r.prefix (prefix_of change)) routes
@@ -46,8 +46,8 @@ PutsHops (Gone _) = ⊤
 abbrev pub Reaches : List Route → Prefix → Type 0
 Reaches routes prefix = (r : Route) × Contains routes r × (r.prefix ≡ prefix)
 
--- the route stands in the new table and not in the old one, which has
--- another one to its prefix or none
+-- the route is in the new table and not in the old one, which has
+-- another route to its prefix or none
 abbrev pub IsNewRoute : List Route → List Route → Route → Type 0
 IsNewRoute old new route = Contains new route × (Contains old route → ⊥)
 
@@ -55,14 +55,14 @@ IsNewRoute old new route = Contains new route × (Contains old route → ⊥)
 abbrev pub IsGone : List Route → List Route → Prefix → Type 0
 IsGone old new prefix = Reaches old prefix × (Reaches new prefix → ⊥)
 
--- which of two prefixes stands first, if they are not the same
+-- which of two prefixes is first, if they are not the same
 abbrev pub StandsFirst : Prefix → Prefix → MergeStep → Type 0
 StandsFirst old new Old = IsPrefixBefore old new
 StandsFirst old new New = IsPrefixBefore new old
 StandsFirst old new Both = old ≡ new
 
--- what is next in two tables, from these places on: a route of one that stands before all that the
--- other has left, or a route of each to one prefix
+-- what is next in two tables, from these places on: a route of one that is before all that the
+-- other has left, or a route of each to the same prefix
 abbrev pub IsMergeStep : List Route → ℕ → List Route → ℕ → MergeStep → Type 0
 IsMergeStep old i new j Old =
     (i < length old)
@@ -81,14 +81,14 @@ pub record PlannedEdit : Type 0 where
   pub changes : List Change
   pub room : ℕ
 
--- the first routes, which stand before the prefix, are moved to the end of those that are made
+-- the first routes, which are before the prefix, are moved to the end of the new table
 pub record IsMoved (prefix : Prefix) (left made left_after made_after : List Route) : Type 0 where
   pub moved : List Route
   pub left_is : left ≡ moved ++ left_after
   pub made_is : made_after ≡ made ++ moved
   pub before : All (λ r. IsPrefixBefore r.prefix prefix) moved
 
--- then the route to the prefix is left out, and all others stand behind
+-- then the route to the prefix is left out, and all others are after it
 pub record IsParted (prefix : Prefix) (left made left_after made_after : List Route) : Type 0 where
   pub moved : List Route
   pub left_out : List Route
@@ -98,7 +98,7 @@ pub record IsParted (prefix : Prefix) (left made left_after made_after : List Ro
   pub same : All (λ r. r.prefix ≡ prefix) left_out
   pub behind : All (λ r. IsPrefixBefore prefix r.prefix) left_after
 
--- the first route that is left stands so to the prefix
+-- the first route that is left relates to the prefix in this way
 abbrev pub FirstIs : (Prefix → Prefix → Type 0) → List Route → Prefix → Type 0
 FirstIs R left prefix =
     (0 < length left) × ((d : Route) → R (slice_index_or left 0 d).prefix prefix)

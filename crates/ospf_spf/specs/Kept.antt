@@ -1,4 +1,4 @@
--- Trees that are kept beside the graph that they were made of.
+-- Trees that are stored with the graph that they were computed from.
 use Rattle.std.specs.Prelude.{◌≡◌, ◌<◌, ◌^◌, ℕ, List, All}
 use Rattle.std.specs.List.Sorted.{IsNonDecreasingBy}
 use Rattle.ospf_base.specs.declared.ids.RouterId.{RouterId}
@@ -13,8 +13,8 @@ use Rattle.ospf_edges.specs.Items.{graph_in, items_of_all}
 use Rattle.ospf_graph.specs.Paths.{AreStartsInOrder}
 use Rattle.ospf_edges.specs.declared.items.GraphItem.{GraphItem}
 
--- what a kept tree is: the LSAs that it was made of, without their links of types 3 and 4, its
--- root, and how often its search looked at a candidate
+-- what is known of a stored tree: the LSAs that it was computed from, without their links of types
+-- 3 and 4, its root, and how often its search looked at a candidate
 pub record KeptSearch : Type 0 where
   pub graph : List Advertisement
   pub root : RouterId
@@ -33,7 +33,7 @@ abbrev pub IsTreeOf : List Advertisement → RouterId → ShortestPaths → Type
 IsTreeOf adverts root paths =
     IsTree (IsEdge adverts) (Router root) (AtIn paths.settled.items) (StartsIn paths.starts.items)
 
--- the shortest paths of the graph that the items tell of
+-- the shortest paths of the graph that the items describe
 pub record IsKeptFor (items : List GraphItem) (root : RouterId) (paths : ShortestPaths)
     : Type 0 where
   pub told : AreWellFormed paths

@@ -118,11 +118,11 @@ pub record IsRouteBy (ends : List End) (settled : List Settled) (starts : List V
 abbrev pub prefix_code : Prefix → ℕ
 prefix_code p = p.address.0 * 64 + p.length
 
--- they stand in the order of their prefixes
+-- they are in the order of their prefixes
 abbrev pub AreReachesInOrder : List Reach → Type 0
 AreReachesInOrder reaches = IsNonDecreasingBy (λ r. prefix_code r.prefix) reaches
 
--- the reaches from place to end have the prefix that stands at place, and the next has another
+-- the reaches from place to end have the prefix of the one at place, and the next has another
 pub record IsGroup (reaches : List Reach) (place end : ℕ) : Type 0 where
   pub more : place < end
   pub within : end ≤ length reaches

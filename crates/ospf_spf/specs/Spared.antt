@@ -15,7 +15,7 @@ use Rattle.ospf_spf.specs.declared.changes.Change.TheVariants.{Put, Gone}
 abbrev pub AreEndsInOrder : List End → Type 0
 AreEndsInOrder ends = IsNonDecreasingBy (λ e. prefix_code e.prefix) ends
 
--- the change tells of the route to its prefix, or that there is no way to it
+-- the change is right: it puts the route to its prefix, or says that no path leads to it
 abbrev pub IsRight : List Advertisement → RouterId → Change → Type 0
 IsRight adverts root (Put route) = IsRoute adverts root route
 IsRight adverts root (Gone prefix) = Way adverts root prefix → ⊥

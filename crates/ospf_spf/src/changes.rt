@@ -48,7 +48,8 @@ impl Change {
     }
 }
 
-/// Which of two tables goes on next: the old one, the new one, or both with routes to one prefix.
+/// Which of two tables comes next: the old one, the new one, or both with routes to the same
+/// prefix.
 #[derive(Clone, Copy, Debug, PartialEq, Eq)]
 pub enum MergeStep {
     Old,
@@ -68,7 +69,7 @@ impl RouteTable {
     ///
     /// `AllocError` where memory runs out.
     pub fn changes(&self, alloc: Global, to: &RouteTable) -> Result<Vec<Change>, AllocError>
-        // The changes, in the order of their prefixes, make the other table of this one.
+        // The changes, in the order of their prefixes, turn this table into the other one.
         ensures applied { IfOk result (λ changes. edited self.now changes.items ≡ to.now) }
         ensures in_order { IfOk result (λ changes. AllPairs IsChangeBefore changes.items) }
         // They put exactly the new routes, each with a hop, and take away what is gone and no more.
@@ -83,7 +84,7 @@ impl RouteTable {
     }
 }
 
-// Whether the first prefix stands before the second.
+// Whether the first prefix is before the second.
 pub(crate) fn is_before(a: Prefix, b: Prefix) -> bool
     ensures { IsTrue result ↔ IsPrefixBefore a b }
 {
@@ -126,7 +127,7 @@ fn changes_of(alloc: Global, old: &[Route], new: &[Route]) -> Result<Vec<Change>
     Ok(changes)
 }
 
-// Which of two tables goes on next, from these places on; `None` at the end of both.
+// Which of two tables comes next, from these places on; `None` at the end of both.
 fn next_step(old: &[Route], i: usize, new: &[Route], j: usize) -> Option<MergeStep>
     requires { (i ≤ length old.now) × (j ≤ length new.now) }
     ensures { MatchOption result ((i ≡ length old.now) × (j ≡ length new.now))
@@ -140,7 +141,7 @@ fn next_step(old: &[Route], i: usize, new: &[Route], j: usize) -> Option<MergeSt
     }
 }
 
-// Which of two prefixes stands first.
+// Which of two prefixes is first.
 fn step_at(old: Prefix, new: Prefix) -> MergeStep
     ensures { StandsFirst old new result }
 {

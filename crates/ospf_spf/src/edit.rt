@@ -108,12 +108,12 @@ impl RouteTable {
 
 // The routes after the changes. There is room for them.
 fn merged(routes: Vec<Route>, changes: Vec<Change>, room: Vec<Route>) -> Vec<Route>
-    // The routes and the changes stand in order, and there is empty room for both.
+    // The routes and the changes are in order, and there is empty room for both.
     requires table { IsInOrder routes.items }
     requires changes { AllPairs IsChangeBefore changes.items × All PutsHops changes.items }
     requires room { (room.items ≡ []) × (length routes.items + length changes.items
         ≤ vec_capacity room) }
-    // The routes are what the changes make of them, and stand in order.
+    // The routes are the result of the changes, and in order.
     ensures edited { result.items ≡ edited routes.items changes.items }
     ensures table { IsInOrder result.items }
 {
@@ -132,7 +132,7 @@ fn merged(routes: Vec<Route>, changes: Vec<Change>, room: Vec<Route>) -> Vec<Rou
 
 // Moves the routes before the prefix, and leaves out the one to it.
 fn part(left: &mut VecDeque<Route>, prefix: Prefix, made: &mut Vec<Route>)
-    // The routes that are left stand in order, and there is room for them.
+    // The routes that are left are in order, and there is room for them.
     requires order { AllPairs IsRouteBefore left.old.items }
     requires room { deque_len left.old + vec_len made.old ≤ vec_capacity made.old }
     // Those before the prefix are moved, the one to it is left out, and there is room for the rest.
@@ -149,7 +149,7 @@ fn part(left: &mut VecDeque<Route>, prefix: Prefix, made: &mut Vec<Route>)
 // Moves the routes before the prefix.
 fn move_before(left: &mut VecDeque<Route>, prefix: Prefix, made: &mut Vec<Route>)
     requires { deque_len left.old + vec_len made.old ≤ vec_capacity made.old }
-    // The routes at the front that stand before the prefix are moved, up to the first other one.
+    // The routes at the front that are before the prefix are moved, up to the first other one.
     ensures moved { IsMoved prefix left.old.items made.old.items left.new.items made.new.items }
     ensures first { FirstIs IsPrefixBefore left.new.items prefix → ⊥ }
     // None is lost, and there is room for the rest.
@@ -164,7 +164,7 @@ fn move_before(left: &mut VecDeque<Route>, prefix: Prefix, made: &mut Vec<Route>
     }
 }
 
-// Whether the first route that is left stands before the prefix.
+// Whether the first route that is left is before the prefix.
 fn is_first_before(left: &VecDeque<Route>, prefix: Prefix) -> bool
     ensures { IsTrue result ↔ FirstIs IsPrefixBefore left.now.items prefix }
 {

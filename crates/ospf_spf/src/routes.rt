@@ -62,7 +62,7 @@ pub fn table_of(
     Ok(routes)
 }
 
-/// The route to a prefix over paths that are kept, of ends that have all of the prefix;
+/// The route to a prefix over stored paths, from ends that have all of the prefix;
 /// nothing where the paths reach none.
 ///
 /// `AllocError` where memory runs out.
@@ -107,7 +107,7 @@ fn reaches_of(alloc: Global, ends: &[End], settled: &[Settled]) -> Result<Vec<Re
     Ok(reaches)
 }
 
-// The ends that kept paths reach.
+// The ends that stored paths reach.
 fn reaches_by<P: Paths>(alloc: Global, ends: &[End], paths: &P) -> Result<Vec<Reach>, AllocError>
     ensures { IfOk result (λ reaches. (r : Reach) →
         Contains reaches.items r ↔ IsReachOf ends.now (P.kept paths.now).settled r) }
@@ -146,7 +146,7 @@ fn routes_of(
     reaches: &[Reach],
     starts: &[VertexStart],
 ) -> Result<Vec<Route>, AllocError>
-    // The reaches stand in order, and so do the starts.
+    // The reaches are in order, and so are the starts.
     requires reaches_in_order { AreReachesInOrder reaches.now }
     requires starts_in_order { AreStartsInOrder starts.now }
     // A route to each prefix that is reached, in order, each at its best cost and with its hops.
@@ -178,7 +178,7 @@ fn is_first(reaches: &[Reach], place: usize) -> bool
     place == 0 || !is_same_prefix(reaches[place - 1].prefix, reaches[place].prefix)
 }
 
-/// Whether two prefixes are one.
+/// Whether two prefixes are the same.
 pub fn is_same_prefix(a: Prefix, b: Prefix) -> bool
     ensures { IsTrue result ↔ (a ≡ b) }
 {
@@ -192,7 +192,7 @@ fn route_at(
     place: usize,
     starts: &[VertexStart],
 ) -> Result<Route, AllocError>
-    // The reaches of a prefix begin at the place, and reaches and starts stand in order.
+    // The reaches of a prefix begin at the place, and reaches and starts are in order.
     requires within { place < length reaches.now }
     requires first { (d : Reach) → 0 < place →
         (slice_index_or reaches.now (place - 1) d).prefix
@@ -209,7 +209,7 @@ fn route_at(
     Ok(route)
 }
 
-// Where the reaches of the prefix that stands at this place end.
+// Where the reaches of the prefix at this place end.
 fn group_end(reaches: &[Reach], place: usize) -> usize
     requires { place < length reaches.now }
     ensures { IsGroup reaches.now place result }
@@ -286,7 +286,7 @@ fn hops_of(
     Ok(Hops::of(hops))
 }
 
-// The hops of a prefix at its least cost, over kept paths.
+// The hops of a prefix at its least cost, over stored paths.
 fn hops_by<P: Paths>(
     alloc: Global,
     prefix: Prefix,
@@ -381,7 +381,7 @@ fn add_hops_at(
     Ok(())
 }
 
-// Gathers the hops of all starts of a vertex, over kept paths.
+// Gathers the hops of all starts of a vertex, over stored paths.
 fn add_hops_by<P: Paths>(
     paths: &P,
     vertex: Vertex,
@@ -407,8 +407,9 @@ fn hop_from(start: Start) -> NextHop
     }
 }
 
-// Leaves each hop once, where there are twice as many as were left the last time, so that doubles
-// never take up more room than the hops themselves. It tells how many are left.
+// Removes duplicate hops when there are twice as many as were left the last time, so that they
+// never take up more room than the hops themselves. Returns how many the last removal left, or
+// `FEW_HOPS` if that is more.
 fn leave_once(hops: &mut Vec<NextHop>, left: usize) -> usize
     ensures { (hop : NextHop) → Contains hops.new.items hop ↔ Contains hops.old.items hop }
 {

@@ -1,4 +1,4 @@
-//! The tree of shortest paths, kept for listings of one graph.
+//! The tree of shortest paths, stored for listings of one graph.
 
 ghost use Rattle.std.specs.Prelude.{◌≡◌, ◌+◌, ◌*◌, ◌≤◌, ◌↔◌, IfOk, IsTrue, map};
 ghost use Rattle.ospf_graph.specs.Routes.{IsTable};

@@ -1,4 +1,4 @@
--- What a part of a step, and a whole step, answers for to other routers.
+-- What a part of a step, and a whole step, accounts for to other routers.
 use Rattle.std.specs.Prelude.{◌≡◌, ◌⊎◌, ◌<ℤ◌, ◌≤ℤ◌, ℕ, List, true, false, Option, None, Some, Contains, AllPairs}
 use Rattle.ospf_base.specs.Constants.{max_age}
 use Rattle.ospf_base.specs.Instances.{Covers}
@@ -58,15 +58,15 @@ pub data HasContents (heard : Option Received) (before : AreaValue) (out : Outpu
   Issued : (lsa : List ℕ) → Contains out.issued lsa → contents lsa ≡ content
       → HasContents heard before out content
 
--- q on link l acknowledged i in the packet heard; or q has told of an instance that covers i: in
--- the packet heard, a DD packet, or earlier, so that the instance stood on q's request list
+-- q on link l acknowledged i in the packet heard; or q named an instance that covers i: in
+-- the packet heard, a DD packet, or earlier, so that the instance was on q's request list
 pub data HasWord (heard : Option Received) (before : AreaValue) (l : ℕ) (q : RouterId)
     (i : Instance) : Type 0 where
   Acknowledged : IsAcknowledged heard l q i → HasWord heard before l q i
   Described : (j : Instance) → IsDescribed heard l q j → Covers j i → HasWord heard before l q i
   Requested : (j : Instance) → Asks before l q j → Covers j i → HasWord heard before l q i
 
--- the new LSA took the old one's place: it was heard in an Update and taken; or it is issued, with
+-- the new LSA replaced the old one: it was heard in an Update and taken; or it is issued, with
 -- a greater number. What is taken while there is a copy of its key is installed
 pub data TakesItsPlace (heard : Option Received) (out : OutputsValue) (old new : List ℕ)
     : Type 0 where
@@ -99,7 +99,7 @@ pub data MayLeave (heard : Option Received) (before : AreaValue) (out : OutputsV
       → MayLeave heard before out after l q i
 
 -- a copy was held before, with the same contents. It has the same age now, unless no packet was
--- heard, as in a tick, or it has come to MaxAge
+-- heard, as in a tick, or it has reached MaxAge
 pub record WasKept (heard : Option Received) (before : AreaValue) (lsa : List ℕ) : Type 0 where
   pub old : List ℕ
   pub copy : HasCopy before old
@@ -135,12 +135,12 @@ pub record Numbers (heard : Option Received) (before : AreaValue) (out : Outputs
   pub again : (key : LsaKey) → among out.ended key ≡ true → kept_number after key ≡ lowest_number
   pub ends : (key : LsaKey) → among out.ended key ≡ true → HasLargest heard before out
 
--- what a router answers for to other routers: it holds of each step, and of each part of one
+-- what a router accounts for to other routers: it holds for each step, and for each part of one
 pub record Accounts (heard : Option Received) (before : AreaValue) (out : OutputsValue)
     (after : AreaValue) : Type 0 where
   pub same_router : after.router ≡ before.router
   pub bears : (p : Meaning) → Sends out p → p.router ≡ before.router
-  -- what is held and sent on was held, heard or issued, unchanged but for its age
+  -- what is held and sent on was held, heard or issued, unchanged except for its age
   pub database : (lsa : List ℕ) → HasCopy after lsa → HasContents heard before out (contents lsa)
   pub updates : (p : Meaning) (lsa : List ℕ) → Sends out p → Contains (lsas_of p.body) lsa
       → HasContents heard before out (contents lsa)

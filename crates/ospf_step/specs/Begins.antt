@@ -1,4 +1,4 @@
--- What an event does at first, in front of the parts of a step that follow (RFC
+-- What an event does at first, before the parts of a step that follow (RFC
 -- 2328, sections 8.2, 9.3 and 14).
 use Rattle.std.specs.Prelude.{◌≡◌, ◌++◌, ℕ, List, Some}
 use Rattle.ospf_base.specs.declared.ids.Addr.{Addr}
@@ -18,8 +18,8 @@ IsArrival e link source p =
     (destination : Addr) × (bytes : List ℕ) × (e ≡ Datagram link source destination bytes)
     × (packet_of bytes ≡ Some p)
 
--- the event's own parts lead from the one state to the other: whatever parts follow, and put out
--- what is read as it was sent, all together are the chain of both
+-- the event's own parts lead from one state to the other: whatever parts follow, if their outputs
+-- are read as they were sent, all together are the chain of both
 abbrev pub BeginsChain : Event → AreaValue → OutputsValue → AreaValue → OutputsValue → Type 0
 BeginsChain e s out t mid_out =
     (rest : List Part) (u : AreaValue) (out' : OutputsValue) → AreReadAsSent out'.sent →

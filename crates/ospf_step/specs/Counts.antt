@@ -32,7 +32,7 @@ drops_for dropped.NoNeighbour c = c.no_neighbour
 drops_for dropped.WrongRouter c = c.wrong_router
 drops_for dropped.State c = c.state
 
--- one more; the greatest number of 64 bits stays
+-- one more; the greatest number of 64 bits is not exceeded
 abbrev pub one_drop_more : ℕ → ℕ
 one_drop_more n = if n == 2 ^ 64 - 1 then n else n + 1
 
@@ -49,7 +49,7 @@ with_drop dropped.WrongRouter c = record c { wrong_router = one_drop_more c.wron
 with_drop dropped.State c = record c { state = one_drop_more c.state }
 
 -- one more that came in on a link was dropped for a cause: on a link that
--- is not there nothing is counted
+-- does not exist nothing is counted
 abbrev pub with_drop_on : ℕ → Dropped → List DropCounts → List DropCounts
 with_drop_on link cause counts =
     if nat_lt link (length counts)

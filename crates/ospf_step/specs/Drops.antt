@@ -10,8 +10,8 @@ use Rattle.ospf_step.specs.declared.dropped.Dropped.{Dropped}
 use Rattle.ospf_step.specs.declared.dropped.Dropped.TheVariants as dropped
 use Rattle.ospf_area.specs.Outboxes.{local_by}
 
--- why an event is dropped, if it is: only datagrams are. One that comes on a link that is not there
--- is, and bytes that are no packet are, as `Packet`
+-- why an event is dropped, if it is: only datagrams are. One that comes in on a link that does not
+-- exist is, and bytes that are no packet are, as `Packet`
 abbrev pub dropped_by : Event → AreaValue → Option Dropped
 dropped_by (Datagram link source destination bytes) s = elim (slice_get s.links link) [
   | None ↦ Some dropped.Packet

@@ -4,8 +4,8 @@ use Rattle.ospf_step.specs.Step as laws
 use Rattle.ospf_step.specs.declared.event.Event.{Event}
 use Rattle.ospf_step.specs.declared.event.Event.TheVariants as given
 
--- the event in the words of `Event` of `ospf_step/Step`: of one that the code has (`given`), a
--- datagram with the bytes that it points to, and all else as it is
+-- the event as `Event` of `ospf_step/Step`: from one that the code has (`given`), a datagram
+-- with the bytes that it points to, and all else unchanged
 abbrev pub happening : Event → laws.Event
 happening (given.Datagram link source destination bytes) =
     laws.Event.Datagram link source destination bytes.now

@@ -7,8 +7,8 @@ use Rattle.ospf_adjacency.specs.Elections.{AreOfLink, elects_in}
 use Rattle.ospf_area.specs.State.{AreaValue, LinkValue}
 use Rattle.ospf_originate.specs.Sound.{IsSound}
 
--- a link of the router: no neighbour is the router itself, and where an
--- election is due, one comes about
+-- a link of the router: no neighbour is the router itself, and an election is
+-- due only in a state of the interface that has elections
 pub record IsFitLink (router : RouterId) (link : LinkValue) : Type 0 where
   pub own : link.iface.settings.router ≡ router
   pub neighbours : AreOfLink link.iface link.neighbours

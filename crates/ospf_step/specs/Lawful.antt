@@ -1,4 +1,4 @@
--- What follows of a step for other routers.
+-- What follows from a step for other routers.
 use Rattle.std.specs.Prelude.{Option}
 use Rattle.ospf_area.specs.Outputs.{OutputsValue}
 use Rattle.ospf_area.specs.State.{AreaValue}
@@ -10,19 +10,19 @@ use Rattle.ospf_step.specs.Steps.{StepsArea}
 use Rattle.ospf_step.specs.Words.{IsSoundState}
 use Rattle.ospf_step.specs.declared.dropped.Dropped.{Dropped}
 
--- its parts in their order, each of a stated kind, and what the router answers for
+-- its parts in their order, each of a stated kind, and what the router accounts for
 pub record IsLawful (e : Event) (s : AreaValue) (out : OutputsValue) (after : AreaValue)
     : Type 0 where
   pub laws : StepLaws is_dropped e s out after
   pub accounts : Accounts (heard_in e) s out after
 
--- each step by the rules is so, from a state that is fit and sound
+-- each step by the rules is lawful, from a state that is fit and sound
 abbrev pub StepsAreLawful : Type 0
 StepsAreLawful =
     (e : Event) (s : AreaValue) (dropped : Option Dropped) (out : OutputsValue) (after : AreaValue)
     → IsFitRouter s → IsSoundState s → StepsArea e s dropped out after → IsLawful e s out after
 
--- and leaves a state that is fit and sound again: so of a whole list of steps each is lawful
+-- and leaves a state that is fit and sound again: so each of a whole list of steps is lawful
 abbrev pub StepsStayKept : Type 0
 StepsStayKept =
     (e : Event) (s : AreaValue) (dropped : Option Dropped) (out : OutputsValue) (after : AreaValue)

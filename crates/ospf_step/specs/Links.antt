@@ -16,7 +16,7 @@ use Rattle.ospf_step.specs.Words.{CanName}
 use Rattle.ospf_step.specs.Accounts.{WasHeld}
 use Rattle.ospf_step.specs.Neighbours.{NeighbourGoes, told_by}
 
--- the area has other links, and all else is as it was but for the next DD number and
+-- the links of the area change, and nothing else does except the next DD number and
 -- the keys sent, which no law reads
 abbrev pub ChangesLinks : AreaValue → AreaValue → Type 0
 ChangesLinks before after =
@@ -31,7 +31,7 @@ pub record OnOneLink (l : ℕ) (link link' : LinkValue) (ds : List SentValue) (b
   pub outputs : out ≡ sends ds
   pub read : AreReadAsSent out.sent
 
--- ---- what each link, and each packet, is to be
+-- ---- what each link, and each packet, must be
 
 -- a packet that names and has only what the router has
 pub record IsKnownPacket (s : AreaValue) (m : Meaning) : Type 0 where
@@ -43,11 +43,11 @@ pub record IsKnownPacket (s : AreaValue) (m : Meaning) : Type 0 where
 abbrev pub AreKnown : AreaValue → List SentValue → Type 0
 AreKnown s ds = (d : SentValue) → Contains ds d → IsKnownPacket s d.packet
 
--- a neighbour that may not be there does not come into Exchange
+-- a neighbour that may not exist does not enter Exchange
 abbrev pub EntersNot : Option NeighbourValue → Option NeighbourValue → Type 0
 EntersNot o o' = is_exchanging (state_in o') ≡ true → is_exchanging (state_in o) ≡ true
 
--- neighbours of a link go on, come and leave, by what is told of them,
+-- the neighbours of a link change, come and leave, by the headers that each described,
 -- and no acknowledgement is delayed
 pub record LinkGoes (s : AreaValue) (told : RouterId → List LsaHeader) (b a : LinkValue)
     : Type 0 where
@@ -55,13 +55,13 @@ pub record LinkGoes (s : AreaValue) (told : RouterId → List LsaHeader) (b a : 
       → NeighbourGoes s (told q) (neighbour_of b.neighbours q) (neighbour_of a.neighbours q)
   pub waiting : (h : LsaHeader) → Contains a.delayed h → Contains b.delayed h
 
--- and none comes into Exchange
+-- and none enters Exchange
 pub record LinkQuiet (s : AreaValue) (b a : LinkValue) : Type 0 where
   pub link : LinkGoes s (λ q. []) b a
   pub enters : (q : RouterId)
       → EntersNot (neighbour_of b.neighbours q) (neighbour_of a.neighbours q)
 
--- a link that may not be there has become another
+-- a link that may not exist has become another
 abbrev pub Each : (LinkValue → LinkValue → Type 0) → Option LinkValue → Option LinkValue → Type 0
 Each P None None = Unit {0}
 Each P None (Some a) = ⊥
@@ -72,7 +72,7 @@ Each P (Some b) (Some a) = P b a
 abbrev pub AllEach : (LinkValue → LinkValue → Type 0) → List LinkValue → List LinkValue → Type 0
 AllEach P bs cs = (l : ℕ) → Each P (slice_get bs l) (slice_get cs l)
 
--- all links go by what is told on them
+-- all links change by the headers that are heard on them
 abbrev pub AllGo : AreaValue → Option Received → List LinkValue → List LinkValue → Type 0
 AllGo s heard bs cs =
     (l : ℕ) → Each (LinkGoes s (told_by heard l)) (slice_get bs l) (slice_get cs l)

@@ -1,4 +1,4 @@
--- What the parts of a step that touch neighbours alone leave as it was
+-- What the parts of a step that touch only neighbours leave unchanged
 -- (RFC 2328, sections 9 and 10).
 use Rattle.std.specs.Prelude.{◌≡◌, ◌⊎◌, ◌==◌, ◌&&◌, ℕ, List, [], false, Option, None, Some, Contains, ⊤, if◌then◌else◌}
 use Rattle.ospf_base.specs.Sums.{contents}
@@ -17,19 +17,19 @@ use Rattle.ospf_step.specs.Packets.{Received, lsas_of, headers_in_body, dd_heade
 use Rattle.ospf_step.specs.Words.{HoldsInstance, CanName, delayed}
 use Rattle.ospf_step.specs.Accounts.{Sends, WasHeld, NoneEntersExchange}
 
--- the headers that the packet heard, a DD packet that came in on link l from q, tells
+-- the headers in the packet heard, if it is a DD packet that came in on link l from q
 abbrev pub told_by : Option Received → ℕ → RouterId → List LsaHeader
 told_by None l q = []
 told_by (Some r) l q =
     if (r.link == l) && (r.packet.router.0 == q.0) then dd_headers_of r.packet.body else []
 
--- a header stands where it stood, or is of a copy of the database
+-- a header was in the list before, or is of a copy of the database
 abbrev pub IsOldOrHeld : AreaValue → List LsaHeader → LsaHeader → Type 0
 IsOldOrHeld s old h = Contains old h ⊎ ((i : Instance) → IsOfInstance h i → HoldsInstance s i)
 
--- a neighbour goes on, through the events of its machine and the exchange alone (10.3, 10.6 to
--- 10.9): new on its lists are copies of the database and, on the request list, what it told; a
--- list is left only below Exchange
+-- a neighbour changes only through the events of its machine and the exchange (10.3, 10.6 to
+-- 10.9): new on its lists are copies of the database and, on the request list, what it described;
+-- an instance leaves the retransmission list only below Exchange
 pub record NeighbourGoesOn (s : AreaValue) (told : List LsaHeader) (n n' : NeighbourValue)
     : Type 0 where
   pub requests : (h : LsaHeader) → Contains n'.requests h → Contains n.requests h ⊎ Contains told h
@@ -46,7 +46,7 @@ pub record IsNewNeighbour (n : NeighbourValue) : Type 0 where
   pub summary : n.summary ≡ []
   pub last_dd : n.last_dd ≡ []
 
--- a neighbour that may not be there goes on, comes or leaves
+-- a neighbour that may not exist changes, comes or leaves
 abbrev pub NeighbourGoes : AreaValue → List LsaHeader → Option NeighbourValue
     → Option NeighbourValue → Type 0
 NeighbourGoes s told None None = ⊤
@@ -54,7 +54,7 @@ NeighbourGoes s told None (Some n') = IsNewNeighbour n'
 NeighbourGoes s told (Some n) None = ⊤
 NeighbourGoes s told (Some n) (Some n') = NeighbourGoesOn s told n n'
 
--- neighbours go on, come and leave, and nothing else changes. The packets sent have copies of the
+-- neighbours change, come and leave, and nothing else changes. The packets sent have copies of the
 -- database, and name what the router can name
 pub record NeighboursGo (heard : Option Received) (before : AreaValue) (out : OutputsValue)
     (after : AreaValue) : Type 0 where
@@ -75,8 +75,8 @@ pub record NeighboursGo (heard : Option Received) (before : AreaValue) (out : Ou
   pub issued : out.issued ≡ []
   pub ended : out.ended ≡ []
 
--- a part in which neighbours go on, come and leave by what is known
--- here, and none comes into Exchange
+-- a part in which neighbours change, come and leave by what is known
+-- here, and none enters Exchange
 pub record Quiet (before : AreaValue) (out : OutputsValue) (after : AreaValue) : Type 0 where
   pub neighbours : NeighboursGo None before out after
   pub none_enters : NoneEntersExchange before after

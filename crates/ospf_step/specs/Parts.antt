@@ -22,17 +22,17 @@ use Rattle.ospf_update.specs.Updates.{PassesOver}
 
 -- ---- Updates and Acknowledgments
 
--- one LSA of an Update meets its rule (13). What is no LSA of LS type 1 or 2 is passed over
+-- one LSA of an Update meets its rule (13). What is no LSA of LS type 1 or 2 is ignored
 pub data LsaPart (f : PacketSource) (lsa : List ℕ) (before : AreaValue) (out : OutputsValue)
     (after : AreaValue) : Type 0 where
   Meets : IsLsa lsa → MeetsLsa f lsa before no_outputs out after → LsaPart f lsa before out after
   PassedOver : (IsLsa lsa → ⊥) → PassesOver before.passes_over f lsa before after → out ≡ no_outputs
       → LsaPart f lsa before out after
 
--- ---- own LSAs, and those that come to MaxAge
+-- ---- own LSAs, and those that reach MaxAge
 
 -- an own LSA is issued (12.4): with the number after the kept one, in place of the old copy, which
--- is off all lists, and it is flooded to all
+-- is removed from all lists, and it is flooded to all
 pub record IssuePart (lsa : List ℕ) (before : AreaValue) (out : OutputsValue) (after : AreaValue)
     : Type 0 where
   pub is_lsa : IsLsa lsa
@@ -56,7 +56,7 @@ pub record IssuePart (lsa : List ℕ) (before : AreaValue) (out : OutputsValue) 
 abbrev pub at_max_age : Entry → Entry
 at_max_age copy = record copy { age = max_age }
 
--- a copy is brought to MaxAge, or has come there, and is flooded to all (14, 14.1)
+-- a copy is brought to MaxAge, or has reached it, and is flooded to all (14, 14.1)
 pub record ExpiryPart (key : LsaKey) (copy : Entry) (before : AreaValue) (out : OutputsValue)
     (after : AreaValue) : Type 0 where
   pub at : database_entry before key ≡ Some copy
@@ -86,7 +86,7 @@ abbrev pub leaves_if : AreaValue → Option Entry → Bool
 leaves_if s None = false
 leaves_if s (Some e) = not (some_link_loading s.links) && is_leaving s.links e
 
--- the last of a step. With the LSA of an own key that has used up its numbers
+-- the last part of a step. With the LSA of an own key that has used up its numbers
 -- goes its numbering run (12.1.6)
 pub record RemovalPart (before : AreaValue) (out : OutputsValue) (after : AreaValue) : Type 0 where
   pub database : (key : LsaKey)

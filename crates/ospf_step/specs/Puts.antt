@@ -1,4 +1,4 @@
--- Parts whose outputs are put behind those of earlier parts.
+-- Parts whose outputs are appended to those of earlier parts.
 use Rattle.std.specs.Prelude.{◌≡◌, List, fold}
 use Rattle.ospf_lsa.specs.declared.header.LsaHeader.{LsaHeader}
 use Rattle.ospf_area.specs.Outputs.{OutputsValue, then_outputs}
@@ -6,7 +6,7 @@ use Rattle.ospf_area.specs.State.{AreaValue}
 use Rattle.ospf_area.specs.declared.flooding.PacketSource.{PacketSource}
 use Rattle.ospf_update.specs.Meets.{header_met}
 
--- from the outputs so far to those after it, a part put out its own
+-- from the outputs so far to those after it, a part added its own
 pub record PutsOut (R : OutputsValue → Type 0) (out out' : OutputsValue) : Type 0 where
   pub own : OutputsValue
   pub is : R own

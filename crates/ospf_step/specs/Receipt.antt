@@ -48,7 +48,7 @@ drop_of_hello i ns q None =
     else Some dropped.State
 drop_of_hello i ns q (Some n) = if n.router.0 == q.0 then None else Some dropped.WrongRouter
 
--- a Database Description, which its neighbour takes or drops (10.6)
+-- a Database Description, which its neighbour accepts or drops (10.6)
 abbrev pub drop_of_description : Local → RouterId → Description → List LsaHeader
     → Option NeighbourValue → Option Dropped
 drop_of_description local q d headers None = Some dropped.NoNeighbour
@@ -57,7 +57,7 @@ drop_of_description local q d headers (Some n) =
     else if dd_dropped local q d headers n then Some dropped.State
     else None
 
--- another packet, which is taken in Exchange and above (10.7, 13 and 13.7)
+-- another packet, which is accepted in Exchange and above (10.7, 13 and 13.7)
 abbrev pub drop_below_exchange : RouterId → Option NeighbourValue → Option Dropped
 drop_below_exchange q None = Some dropped.NoNeighbour
 drop_below_exchange q (Some n) =

@@ -62,7 +62,7 @@ pub record Then (First : OutputsValue → AreaValue → Type 0)
   pub next : Next mid next_out after
   pub both : out ≡ then_outputs first_out next_out
 
--- so many of one kind, one after another
+-- this many of one kind, one after another
 abbrev pub Times : ℕ → (AreaValue → OutputsValue → AreaValue → Type 0) → AreaValue → OutputsValue
     → AreaValue → Type 0
 Times zero R before out after = Becomes before no_outputs out after
@@ -79,7 +79,7 @@ pub data OwnStep (before : AreaValue) (out : OutputsValue) (after : AreaValue) :
   Flush : (key : LsaKey) (copy : Entry) → AndRequests (ExpiryPart key copy) before out after
       → OwnStep before out after
 
--- a copy has come to MaxAge (14)
+-- a copy has reached MaxAge (14)
 pub record ExpiryStep (before : AreaValue) (out : OutputsValue) (after : AreaValue) : Type 0 where
   pub key : LsaKey
   pub copy : Entry
@@ -88,7 +88,7 @@ pub record ExpiryStep (before : AreaValue) (out : OutputsValue) (after : AreaVal
 -- what a part of a step is
 abbrev pub IsPart : Part → AreaValue → OutputsValue → AreaValue → Type 0
 IsPart (HelloComes f p) before out after = Quiet before out after
--- here alone a neighbour may come into Exchange, and here alone requests are noted
+-- only here may a neighbour enter Exchange, and only here are requests noted
 IsPart (DdComes f p) before out after =
     NeighboursGo (Some (record { link = f.link; packet = p })) before out after
 IsPart (RequestComes f p) before out after = Quiet before out after
@@ -144,7 +144,7 @@ first_parts (LinkDown link) = LinkChanges link false ∷ []
 abbrev pub last_parts : List Part
 last_parts = Elections ∷ OwnLsas ∷ Removals ∷ []
 
--- a step of a router that drops these events: they change nothing, and any other is taken in
+-- a step of a router that drops these events: they change nothing, and any other is processed in
 -- parts. The bytes of what is sent are read as what was meant
 pub data StepLaws (is_dropped : Event → AreaValue → Bool) (event : Event) (before : AreaValue)
     (out : OutputsValue) (after : AreaValue) : Type 0 where

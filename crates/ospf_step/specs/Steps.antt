@@ -1,4 +1,4 @@
--- A step of a router's area: an event that is not dropped is taken, and then the step ends.
+-- A step of a router's area: an event that is not dropped is processed, and then the step ends.
 use Rattle.std.specs.Prelude.{◌≡◌, ◌≢◌, Option, None}
 use Rattle.ospf_area.specs.Outputs.{OutputsValue, no_outputs}
 use Rattle.ospf_area.specs.State.{AreaValue}
@@ -9,7 +9,7 @@ use Rattle.ospf_step.specs.Ends.{EndsStep}
 use Rattle.ospf_step.specs.Ready.{IsReadyFor}
 use Rattle.ospf_step.specs.Takes.{TakesEvent}
 
--- the event is taken, and then the step ends
+-- the event is processed, and then the step ends
 pub record Takes (e : Event) (s : AreaValue) (out : OutputsValue) (after : AreaValue) : Type 0 where
   -- the database is one, and nothing waits for the sender of a packet below Exchange (10.1)
   pub ready : IsReadyFor e s
@@ -18,8 +18,8 @@ pub record Takes (e : Event) (s : AreaValue) (out : OutputsValue) (after : AreaV
   pub event : TakesEvent e s no_outputs mid_out mid
   pub end : EndsStep mid mid_out out after
 
--- an event that is dropped, for the first cause that applies, changes nothing and puts
--- nothing out, and any other is taken
+-- an event that is dropped, for the first cause that applies, changes nothing and has
+-- no output, and any other is processed
 pub record StepsArea (e : Event) (s : AreaValue) (dropped : Option Dropped) (out : OutputsValue)
     (after : AreaValue) : Type 0 where
   pub cause : dropped ≡ dropped_by e s

@@ -21,7 +21,7 @@ use Rattle.ospf_update.specs.Updates.{TakesUpdate}
 
 -- ---- packets (8.2)
 
--- what a packet of this origin says is taken
+-- what a packet of this origin says is processed
 abbrev pub TakesBody : BodyMeaning → PacketSource → AreaValue → OutputsValue → OutputsValue
     → AreaValue
     → Type 0

@@ -27,7 +27,7 @@ RepeatsAll s out out' after =
 
 -- a tick: ages, timers, Hellos, acknowledgements and repeats, in this order
 pub record TakesTick (s : AreaValue) (out out' : OutputsValue) (after : AreaValue) : Type 0 where
-  -- all ages below MaxAge rise, and the copies that come to it go to all (14)
+  -- all ages below MaxAge rise, and the copies that reach it are sent to all (14)
   pub aged : AreaValue
   pub aged_out : OutputsValue
   pub ages : TickAges s out aged_out aged
@@ -39,7 +39,7 @@ pub record TakesTick (s : AreaValue) (out out' : OutputsValue) (after : AreaValu
   pub helloed_out : OutputsValue
   pub hellos : OnEachLink (λ link. record link { iface = hello_ticked link.iface })
       (hello_out (context_of timed)) timed aged_out helloed_out helloed
-  -- the delayed acknowledgements, of which none waits any more (13.5)
+  -- the delayed acknowledgements, none of which is delayed any longer (13.5)
   pub acknowledged : AreaValue
   pub acknowledged_out : OutputsValue
   pub acknowledgements : OnEachLink (λ link. record link { delayed = [] })

@@ -26,8 +26,8 @@ Asks s l q i = Lists (elim (neighbour s l q) [ None ↦ [] | Some n ↦ n.reques
 abbrev pub delayed : AreaValue → ℕ → List LsaHeader
 delayed s l = elim (slice_get s.links l) [ None ↦ [] | Some link ↦ link.delayed ]
 
--- the instances that a router can name to others: in a packet sent from now on there is no other,
--- but for those that it takes or issues first. The summary list has what is still to be
+-- the instances that a router can name to others: a packet sent from now on names no other,
+-- except those that it takes or issues first. The summary list has what is still to be
 -- described to q (10); the last DD packet sent to q may be sent again (10.8)
 pub data CanName (s : AreaValue) (i : Instance) : Type 0 where
   InDatabase : HoldsInstance s i → CanName s i
@@ -43,7 +43,7 @@ pub data CanName (s : AreaValue) (i : Instance) : Type 0 where
 abbrev pub ListsAreHeld : AreaValue → Type 0
 ListsAreHeld s = (l : ℕ) (q : RouterId) (i : Instance) → Awaits s l q i → HoldsInstance s i
 
--- what holds of each state that a router comes to, beside what its types say: each copy
+-- what holds for each state that a router reaches, besides what its types say: each copy
 -- is an LSA, no number kept for an own key is below that of its copy, and what waits
 -- for an acknowledgement is held
 pub record IsSoundState (s : AreaValue) : Type 0 where
@@ -52,7 +52,7 @@ pub record IsSoundState (s : AreaValue) : Type 0 where
       → (instance_of lsa).number ≤ℤ kept_number s (key_of lsa)
   pub lists : ListsAreHeld s
 
--- ---- what it puts out
+-- ---- its outputs
 
 -- the outputs take or issue this instance
 pub data Brings (out : OutputsValue) (i : Instance) : Type 0 where

@@ -17,21 +17,21 @@ use ospf_adjacency::{
 };
 use ospf_originate::{area_stays_sound, own_stay_sound};
 
-/// What one part answers for and then the next, the two answer for together.
+/// What one part accounts for, and then the next, the two account for together.
 pub fn accounts_add_up()
     ensures { (heard : Option Received) (s t u : AreaValue) (a b : OutputsValue) →
         Accounts heard s a t → Accounts heard t b u → NoneEntersExchange t u → a.ended ≡ [] →
         Accounts heard s (then_outputs a b) u }
 {}
 
-/// A part that touches neighbours alone answers for all.
+/// A part that touches only neighbours accounts for all.
 pub fn quiet_parts_account()
     ensures { (heard : Option Received) (before : AreaValue) (out : OutputsValue)
         (after : AreaValue) →
         NeighboursGo heard before out after → Accounts heard before out after }
 {}
 
-/// A step answers for all, and leaves a state as sound as it found.
+/// A step accounts for all, and leaves a state as sound as it found.
 pub fn steps_account()
     ensures accounts { (is_dropped : Event → AreaValue → Bool) (event : Event) (before : AreaValue)
         (out : OutputsValue) (after : AreaValue) →
@@ -43,7 +43,7 @@ pub fn steps_account()
 {}
 
 /// A step by the rules, from a state that is fit and sound, is the chain of its parts, each of a
-/// stated kind, and the router answers to others for all that it does.
+/// stated kind, and the router accounts to others for all that it does.
 pub fn steps_are_lawful()
     ensures { StepsAreLawful }
 {

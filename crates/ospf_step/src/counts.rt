@@ -55,7 +55,7 @@ impl DropCounts {
         }
     }
 
-    /// Counts one more that is dropped for a cause. The greatest number stays.
+    /// Counts one more that is dropped for a cause. The greatest number is not exceeded.
     pub fn count(&mut self, cause: Dropped)
         ensures { self.new ≡ with_drop cause self.old }
     {
@@ -73,7 +73,7 @@ impl DropCounts {
     }
 }
 
-/// The counts of links on which nothing was dropped yet, as many as there are of these.
+/// The counts of as many links as there are of these, on which nothing was dropped yet.
 ///
 /// `AllocError` where memory runs out.
 pub fn none_dropped_on<T>(links: &[T], alloc: Global) -> Result<Vec<DropCounts>, AllocError>
@@ -87,7 +87,7 @@ pub fn none_dropped_on<T>(links: &[T], alloc: Global) -> Result<Vec<DropCounts>,
 }
 
 /// Counts what came in on a link and was dropped, if anything did and was, in the counts of all
-/// links. On a link that is not there nothing is counted.
+/// links. On a link that does not exist nothing is counted.
 pub fn count_dropped(counts: &mut [DropCounts], link: Option<usize>, dropped: Option<Dropped>)
     ensures { counts.new ≡ with_dropped_on link dropped counts.old }
 {

@@ -1,4 +1,4 @@
-//! Datagrams that come.
+//! Datagrams that come in.
 
 ghost use Rattle.std.specs.Prelude.{◌≡◌, ◌≢◌, None, Some, IfErr, IfOk, OnErr, OnOk};
 ghost use Rattle.ospf_area.specs.Sending.{context_of};
@@ -27,7 +27,7 @@ use ospf_packet::{Body, Headers, Packet};
 use ospf_update::{on_header, on_update};
 use std::alloc::{AllocError, Global};
 
-/// Takes a datagram that comes on a link. Answers why it is dropped, if
+/// Takes a datagram that comes in on a link. Returns why it is dropped, if
 /// it is; then nothing has changed.
 pub(crate) fn take_datagram(
     area: &mut Area,
@@ -39,17 +39,17 @@ pub(crate) fn take_datagram(
     alloc: Global,
 ) -> Result<Option<Dropped>, AllocError>
     requires { IsFitRouter area.old }
-    // It is dropped for the cause that applies, if one does, or else taken by the rules.
+    // It is dropped for the cause that applies, if one does, or else processed by the rules.
     ensures dropped { IfOk result (λ d. d
         ≡ dropped_by (Datagram link source destination bytes.now) area.old) }
     ensures sender { IfOk result (λ d. d ≡ None →
         IsReadyFor (Event.Datagram link source destination bytes.now) area.old) }
     ensures takes { IfOk result (λ d. d ≡ None →
         TakesDatagram link source (packet_of bytes.now) area.old out.old out.new area.new) }
-    // One that is dropped changes nothing, and puts nothing out.
+    // A datagram that is dropped changes nothing, and has no output.
     ensures unchanged { IfOk result (λ d. d ≢ None → area.new ≡ area.old) }
     ensures silent { IfOk result (λ d. d ≢ None → out.new ≡ out.old) }
-    // One that is dropped needs no memory, and the area is fit for what follows.
+    // A datagram that is dropped needs no memory, and the area is fit for what follows.
     ensures memory { OnErr result
         (dropped_by (Datagram link source destination bytes.now) area.old ≡ None) }
     ensures fit { OnOk result (IsFitRouter area.new) }
@@ -107,7 +107,7 @@ fn receive_on<'a>(
     )
 }
 
-// What a packet says is taken.
+// Processes what a packet says.
 fn take_body(
     area: &mut Area,
     from: PacketSource,

@@ -6,11 +6,11 @@ use thiserror::Error;
 /// Why a datagram was dropped. It changes nothing.
 #[derive(Clone, Copy, Debug, PartialEq, Eq, Error)]
 pub enum Dropped {
-    /// It is no packet, or the link is Down or not there.
+    /// It is no packet, or the link is Down or does not exist.
     Packet,
-    /// It bears another Area ID.
+    /// It carries another Area ID.
     Area,
-    /// It bears the router's own Router ID.
+    /// It carries the router's own Router ID.
     OwnPacket,
     /// It is for other routers.
     Destination,
@@ -22,8 +22,8 @@ pub enum Dropped {
     NoNeighbour,
     /// Its Router ID and its source are not those of one neighbour.
     WrongRouter,
-    /// It is not taken in the state of the neighbour; a Database Description with too large an MTU,
-    /// or a Hello of one neighbour more than a link may have.
+    /// It is not accepted in the state of the neighbour; a Database Description with too large an
+    /// MTU, or a Hello of one neighbour more than a link may have.
     State,
 }
 

@@ -20,7 +20,7 @@ use ospf_packet::{Body, Description, Headers, Packet};
 
 /// The packet that a datagram is, which came from `source` on a link and is for `destination`, or
 /// the first cause that it is dropped for (RFC 2328, sections 8.2, 10.5 to 10.7, 13 and 13.7).
-/// Nothing changes, and no memory is taken.
+/// Nothing changes, and no memory is allocated.
 pub fn receive<'a>(
     bytes: &'a [u8],
     source: Addr,
@@ -228,7 +228,7 @@ fn drop_of_description(
     }
 }
 
-// Why a packet is dropped that is taken in Exchange and above.
+// Why a packet is dropped that is accepted in Exchange and above.
 fn drop_below_exchange(router: RouterId, sender: Option<&Neighbour>) -> Option<Dropped>
     ensures { result ≡ drop_below_exchange router (option_copied sender.entry) }
 {

@@ -17,7 +17,7 @@ pub fn links_go()
         AllGo s heard s.links after.links → AreKnown s ds → NeighboursGo heard s out after }
 {}
 
-/// Where one link alone does something, what it does by what is known, and by the packet heard.
+/// Where only one link does something, what it does by what is known, and by the packet heard.
 pub fn one_link_goes()
     ensures quiet { (l : ℕ) (link link' : LinkValue) (ds : List SentValue) (s : AreaValue)
         (out : OutputsValue) (after : AreaValue) →

@@ -1,4 +1,4 @@
-//! Laws: what ends a step is the chain of its last parts, put behind the outputs so far.
+//! Laws: what ends a step is the chain of its last parts, appended to the outputs so far.
 
 ghost use Rattle.std.specs.Prelude.{length};
 ghost use Rattle.ospf_lsdb.specs.Database.{IsDatabase};
@@ -25,7 +25,7 @@ pub fn own_lsas_put_out()
         PutsOut (λ o. IsPart Part.OwnLsas s o t) out out' }
 {}
 
-/// The elections, then own LSAs, then removals. Elections leave the database as it was.
+/// The elections, then own LSAs, then removals. Elections leave the database unchanged.
 pub fn ends_are_chains()
     ensures { (s elected owned t : AreaValue) (out elected_out owned_out out' : OutputsValue) →
         IsDatabase s.database → IsDatabase owned.database → AreReadAsSent out'.sent →

@@ -5,7 +5,7 @@ use ospf_base::Addr;
 /// What a router is stepped with. Links are named by their numbers.
 #[derive(Clone, Copy, Debug)]
 pub enum Event<'a> {
-    /// A datagram comes on a link.
+    /// A datagram comes in on a link.
     Datagram {
         link: usize,
         source: Addr,
@@ -29,7 +29,7 @@ impl Event<'_> {
     ghost use Rattle.ospf_step.specs.Counts.{comes_on};
     ghost use Rattle.ospf_step.specs.Events.{happening};
 
-    /// The link that a datagram comes on; nothing where the event is none.
+    /// The link that a datagram comes in on; nothing if the event is none.
     pub fn comes_on(self) -> Option<usize>
         ensures { result ≡ comes_on (happening self.entry) }
     {

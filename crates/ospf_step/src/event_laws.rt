@@ -1,5 +1,5 @@
-//! Laws: what an event does, in front of what follows, is the chain of its parts. What is put out
-//! in the end is read, and so what was put out before.
+//! Laws: what an event does, before what follows, is the chain of its parts. What is in the outputs
+//! in the end is read, and so what was in them before.
 
 ghost use Rattle.std.specs.Prelude.{◌≡◌, ◌++◌, Bool, List, slice_get, ℕ};
 ghost use Rattle.ospf_base.specs.declared.ids.Addr.{Addr};

@@ -2,12 +2,12 @@
 //! does, from the bytes of a datagram to the bytes that go out.
 //!
 //! `step` takes an event. A datagram that is dropped, for the first cause that `receive` finds,
-//! does nothing; behind any other event come the elections that are due, the router's own LSAs, and
-//! the LSAs that leave the database. The causes stand in `specs/Receipt`, what an event does in
+//! does nothing; after any other event come the elections that are due, the router's own LSAs, and
+//! the LSAs that leave the database. The causes are in `specs/Receipt`, what an event does in
 //! `specs/Takes`, and how a step ends in `specs/Ends`.
 //!
 //! The laws say that this is the chain of a step's parts (`datagrams_are_chains`,
-//! `link_changes_are_chains`, `ticks_are_chains`, `ends_are_chains`), what each part answers
+//! `link_changes_are_chains`, `ticks_are_chains`, `ends_are_chains`), what each part accounts
 //! for to other routers (`specs/Accounts`), and that it adds up over a step
 //! (`accounts_add_up`, `steps_account`, `steps_are_lawful`).
 #![tactic(auto)]

@@ -1,5 +1,5 @@
 //! Laws: what a packet does on a link, or a link that goes up or down, is a part
-//! put behind the outputs so far.
+//! appended to the outputs so far.
 
 ghost use Rattle.std.specs.Prelude.{◌≡◌, Bool, List, false, slice_get, true, ℕ};
 ghost use Rattle.ospf_base.specs.declared.ids.LsaKey.{LsaKey};
@@ -20,7 +20,7 @@ ghost use Rattle.ospf_step.specs.Puts.{PutsOut};
 ghost use Rattle.ospf_step.specs.Step.{IsPart, Part};
 ghost use Rattle.ospf_step.specs.Invariants.{NoneWaitsBelow};
 
-/// A Hello that comes, on a link that may not be there.
+/// A Hello that comes in, on a link that may not exist.
 pub fn hellos_put_out()
     ensures { (f : PacketSource) (p : Meaning) (h : Hello) (named : Bool) (s t : AreaValue)
         (out out' : OutputsValue) →
@@ -29,7 +29,7 @@ pub fn hellos_put_out()
         PutsOut (λ o. IsPart (Part.HelloComes f p) s o t) out out' }
 {}
 
-/// A Database Description that comes, of a neighbour that may not be there.
+/// A Database Description that comes in, of a neighbour that may not exist.
 pub fn descriptions_put_out()
     ensures { (f : PacketSource) (p : Meaning) (d : Description) (headers : List LsaHeader)
         (s t : AreaValue) (out out' : OutputsValue) →
@@ -40,7 +40,7 @@ pub fn descriptions_put_out()
         PutsOut (λ o. IsPart (Part.DdComes f p) s o t) out out' }
 {}
 
-/// A Request that comes, of a neighbour that may not be there. The keys
+/// A Request that comes in, of a neighbour that may not exist. The keys
 /// whose copies go out are marked.
 pub fn requests_put_out()
     ensures { (f : PacketSource) (p : Meaning) (entries : List RequestEntry) (marks : List LsaKey)
@@ -51,7 +51,7 @@ pub fn requests_put_out()
         PutsOut (λ o. IsPart (Part.RequestComes f p) s o t) out out' }
 {}
 
-/// A link that goes up, or is not there.
+/// A link that goes up, or does not exist.
 pub fn links_up_put_out()
     ensures { (l : ℕ) (s t : AreaValue) (out out' : OutputsValue) →
         AreReadAsSent out'.sent → t ≡ link_changed link_up l s → out'
@@ -59,7 +59,7 @@ pub fn links_up_put_out()
         PutsOut (λ o. IsPart (Part.LinkChanges l true) s o t) out out' }
 {}
 
-/// A link that goes down, or is not there.
+/// A link that goes down, or does not exist.
 pub fn links_down_put_out()
     ensures { (l : ℕ) (s t : AreaValue) (out : OutputsValue) →
         t ≡ link_changed link_down l s → PutsOut (λ o. IsPart (Part.LinkChanges l false) s o t) out

@@ -1,4 +1,4 @@
-//! What the types of a router's state tell, as the laws of its parts ask for it.
+//! What the types of a router's state guarantee, as the laws of its parts need it.
 
 ghost use Rattle.std.specs.Prelude.{◌≡◌, Some, option_copied};
 ghost use Rattle.ospf_lsdb.specs.Database.{IsDatabase};

@@ -1,5 +1,5 @@
 //! Laws: what the contracts of the calls below say of the outputs so far and of those
-//! after, is a part put behind them.
+//! after, is a part appended to them.
 
 ghost use Rattle.std.specs.Prelude.{◌≡◌, ◌++◌, ◌∷◌, [], Bool, false, List, Some, map, suc, ℕ};
 ghost use Rattle.ospf_update.specs.Acks.{delayed_out_on};
@@ -19,7 +19,7 @@ ghost use Rattle.ospf_step.specs.Parts.{ExpiryPart, RemovalPart};
 ghost use Rattle.ospf_step.specs.Puts.{PutsOut, headers_met};
 ghost use Rattle.ospf_step.specs.Step.{AndRequests, Chain, Event, IsPart, OwnStep, Part, StepLaws, Times, first_parts, last_parts, lsa_parts};
 
-/// No part, and a part in front of others.
+/// No part, and a part before others.
 pub fn chains_put_out()
     ensures none { (s t : AreaValue) (out out' : OutputsValue) → t ≡ s → out' ≡ out →
         PutsOut (λ o. Chain [] s o t) out out' }
@@ -81,7 +81,7 @@ pub fn acknowledgements_put_out()
         PutsOut (λ o. Quiet s o t) out out' }
 {}
 
-/// A flush is a part, with the Requests that come of it.
+/// A flush is a part, with the Requests that follow from it.
 pub fn flushes_put_out()
     ensures { (key : LsaKey) (copy : Entry) (s t : AreaValue) (out out' : OutputsValue) →
         IsDatabase s.database → database_entry s key ≡ Some copy → AreReadAsSent out'.sent →
@@ -90,7 +90,7 @@ pub fn flushes_put_out()
 {}
 
 /// Own LSAs that are issued or flushed, one after the other, are a part once what
-/// was to be answered is forgotten.
+/// had to be answered is forgotten.
 pub fn own_steps_put_out()
     ensures none { (s : AreaValue) (out : OutputsValue) →
         PutsOut (λ o. Times 0 OwnStep s o s) out out }

@@ -10,7 +10,7 @@ pub fn senders_are_neighbours()
 {}
 
 /// A packet that is not dropped has what it needs: room for a new neighbour, or the
-/// neighbour in the state that takes it.
+/// neighbour in the state that accepts it.
 pub fn not_dropped_is_taken()
     ensures { NotDroppedIsTaken }
 {}

@@ -26,7 +26,7 @@ use ospf_area::{Area, Outputs};
 use ospf_originate::area_stays_sound;
 use std::alloc::{AllocError, Global};
 
-/// What a step gives: what it puts out, and why its datagram is dropped, if it is.
+/// What a step gives: its outputs, and why its datagram is dropped, if it is.
 #[derive(Drop)]
 pub struct StepResult {
     pub out: Outputs,
@@ -34,11 +34,11 @@ pub struct StepResult {
 }
 
 /// Takes an event. A datagram that is dropped, for the first cause that applies, changes nothing
-/// and puts nothing out; what any other event does is followed by the elections that are due, the
-/// router's own LSAs, and the LSAs that leave the database. Each step keeps the laws of a step, and
-/// from a sound state it answers to other routers for all that it does.
+/// and has no output; after any other event come the elections that are due, the router's own LSAs,
+/// and the LSAs that leave the database. Each step keeps the laws of a step, and from a sound state
+/// it accounts to other routers for all that it does.
 ///
-/// `AllocError` where memory runs out; then the router is to be stopped.
+/// `AllocError` where memory runs out; then the router must be stopped.
 pub fn step(area: &mut Area, event: Event<'_>, alloc: Global) -> Result<StepResult, AllocError>
     requires { IsFitRouter area.old }
     // What the step does by the exact rules, and the laws of a step, which it keeps.
@@ -46,7 +46,7 @@ pub fn step(area: &mut Area, event: Event<'_>, alloc: Global) -> Result<StepResu
         area.new) }
     ensures laws { IfOk result (λ t. StepLaws is_dropped (happening event.entry) area.old t.out
         area.new) }
-    // From a sound state it answers to other routers for what it does, and stays sound.
+    // From a sound state it accounts to other routers for what it does, and stays sound.
     ensures accounts { IsSoundState area.old →
         IfOk result (λ t. Accounts (heard_in (happening event.entry)) area.old t.out area.new) }
     ensures sound { IsSoundState area.old → OnOk result (IsSoundState area.new) }
@@ -77,15 +77,15 @@ fn take(
     alloc: Global,
 ) -> Result<Option<Dropped>, AllocError>
     requires { IsFitRouter area.old }
-    // The event is dropped for the cause that applies, if one does, or else taken by the rules.
+    // The event is dropped for the cause that applies, if one does, or else processed by the rules.
     ensures dropped { IfOk result (λ d. d ≡ dropped_by (happening event.entry) area.old) }
     ensures sender { IfOk result (λ d. d ≡ None → IsReadyFor (happening event.entry) area.old) }
     ensures takes { IfOk result (λ d. d ≡ None →
         TakesEvent (happening event.entry) area.old out.old out.new area.new) }
-    // One that is dropped changes nothing, and puts nothing out.
+    // An event that is dropped changes nothing, and has no output.
     ensures unchanged { IfOk result (λ d. d ≢ None → area.new ≡ area.old) }
     ensures silent { IfOk result (λ d. d ≢ None → out.new ≡ out.old) }
-    // One that is dropped needs no memory, and the area is fit for what follows.
+    // An event that is dropped needs no memory, and the area is fit for what follows.
     ensures memory { OnErr result (dropped_by (happening event.entry) area.old ≡ None) }
     ensures fit { OnOk result (IsFitRouter area.new) }
 {

@@ -1,4 +1,4 @@
-//! Laws: what a tick does on all links is a part put behind the outputs so far, and the whole
+//! Laws: what a tick does on all links is a part appended to the outputs so far, and the whole
 //! tick is the chain of its parts.
 
 ghost use Rattle.std.specs.Prelude.{◌≡◌, List, map};
@@ -49,7 +49,7 @@ pub fn ticks_are_chains()
         BeginsChain Event.Tick s out t mid_out }
 {}
 
-/// What is read once a part was put out, was read before.
+/// What is read once a part is in the outputs, was read before.
 pub fn outputs_before_are_read()
     ensures { (rest : List Part) (s t : AreaValue) (out out' : OutputsValue) →
         PutsOut (λ o. Chain rest s o t) out out' → AreReadAsSent out'.sent →

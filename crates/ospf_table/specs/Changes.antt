@@ -35,12 +35,12 @@ change_line failure change = area_failure_text failure ++ loss_line change.befor
 
 -- ---- how many
 
--- the prefix is reached no more, though somebody tells it
+-- the prefix is no longer reached, though it is still advertised
 abbrev pub is_cut : Loss → Bool
 is_cut Cut = true
 is_cut _ = false
 
--- the prefix is reached no more, and nobody tells it
+-- the prefix is no longer reached, and no longer advertised
 abbrev pub is_gone : Loss → Bool
 is_gone Gone = true
 is_gone _ = false
@@ -82,7 +82,7 @@ totals_line failure t = area_failure_text failure ++ codes " " ++ totals_text t 
 
 -- ---- all of a failure
 
--- a line for each change where that is wanted, and behind them the totals
+-- a line for each change if that is wanted, and the totals after them
 abbrev pub failure_lines : Bool → AreaFailure → List RouteChange → List ℕ
 failure_lines each failure changes =
     (if each then flat_map (change_line failure) changes else [])

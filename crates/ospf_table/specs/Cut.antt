@@ -57,11 +57,11 @@ IsOutputBefore table addresses old new =
     × AreLookupsBefore table addresses between new
 
 -- why the output is not whole: memory ran out, standard output is noted as failed, or the
--- published table was closed where an address was to be looked up, behind this
+-- published table was closed when an address was to be looked up, after this
 abbrev pub IsLookupCut : FailedStreams → Type 0 → Failure → Type 0
 IsLookupCut failed Before f = IsOutputCut failed f ⊎ ((f ≡ failure.Closed) × Before)
 
--- a line of the input is refused, and a beginning of what is told of it was written
+-- a line of the input is refused, and a beginning of the report about it was written
 pub record IsLineRefusalBegun (input old new : Option (List ℕ)) : Type 0 where
   pub number : ℕ
   pub fault : EntryFault
@@ -82,9 +82,9 @@ pub record IsWarned (listing : List (List ℕ)) (root : RouterId) (table : List 
   pub warned : IsTableWarning listing root table addresses warning
   pub written : Appends old new warning
 
--- the table of a listing is cut: for want of memory, before anything is written; in its warning; in
--- the output; or, the published table being closed, where an address was to be looked up, behind
--- the routes and the lookups before it
+-- the table of a listing is cut short: memory ran out before anything was written; or in its
+-- warning; or in the output; or the published table was closed when an address was to be looked
+-- up, after the routes and the lookups before it
 pub data IsTableCut (listing : List (List ℕ)) (root : RouterId) (addresses : List Addr)
     (failed : FailedStreams) (old new : Written) : Failure → Type 0 where
   no_table : new.err ≡ old.err → new.out ≡ old.out
@@ -105,8 +105,8 @@ pub data IsTableCut (listing : List (List ℕ)) (root : RouterId) (addresses : L
       → AreLookupsBefore table addresses between new.out
       → IsTableCut listing root addresses failed old new failure.Closed
 
--- the answer is cut: the input was not read, or what is told of a line that is refused, or the
--- table
+-- the answer is cut short: the input was not read, or the report about a refused line is cut, or
+-- the table
 pub data IsTableAnswerCut (input : Option (List ℕ)) (root : RouterId) (addresses : List Addr)
     (failed : FailedStreams) (old new : Written) (f : Failure) : Type 0 where
   in_input : IsOfInput f → new.out ≡ old.out → new.err ≡ old.err
@@ -117,8 +117,8 @@ pub data IsTableAnswerCut (input : Option (List ℕ)) (root : RouterId) (address
       → IsTableCut listing root addresses failed old new f
       → IsTableAnswerCut input root addresses failed old new f
 
--- the answer was cut by a failure, which was told last, as far as it could
--- be, and of which the status is
+-- the answer was cut short by a failure, which was reported last, as far as
+-- possible, and which determines the status
 pub record IsTableCutShort (input : Option (List ℕ)) (root : RouterId) (addresses : List Addr)
     (failed : FailedStreams) (old new : Written) (status : Status) : Type 0 where
   pub cause : Failure

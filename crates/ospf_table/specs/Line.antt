@@ -107,7 +107,7 @@ pub data LeavesOut : List ℕ → ℕ → Type 0 where
   no_more : {input : List ℕ} {n : ℕ} → input ≢ [] → (IsLeftOut (first_text input) → ⊥)
       → LeavesOut (drop_through 10 input) n → LeavesOut input n
 
--- what is said of them
+-- the text about them; empty if there are none
 abbrev pub left_out_text : ℕ → List ℕ
 left_out_text n =
     if n == 0 then [] else codes "LSAs left out at MaxAge: " ++ decimal n ++ codes "\n"

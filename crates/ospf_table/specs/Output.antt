@@ -51,7 +51,7 @@ pub record IsOutput (table : List Route) (addresses : List Addr) (text : List �
   pub are_lookups : AreLookups table addresses lookups
   pub text_is : text ≡ routes_text table ++ lookups
 
--- what is said of a root without a router-LSA
+-- the line about a root without a router-LSA
 abbrev pub unlisted_line : RouterId → List ℕ
 unlisted_line root = number_text root.0 ++ codes ": no router-LSA of this router\n"
 
@@ -84,7 +84,7 @@ pub record IsTableAnswer (input : List ℕ) (root : RouterId) (addresses : List 
   pub warned : IsTableWarning listing root table addresses warning
   pub output : IsOutput table addresses text
 
--- the answer for an input stands on standard output, and its warning on standard error
+-- the answer for an input is on standard output, and its warning on standard error
 pub record IsTableAnswered (input : List ℕ) (root : RouterId) (addresses : List Addr)
     (old new : Written) : Type 0 where
   pub text : List ℕ

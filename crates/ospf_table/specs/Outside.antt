@@ -1,4 +1,4 @@
--- Routers at the border of an area, and what is said of routes outside it, which are not computed.
+-- Routers at the border of an area, and the text about routes outside it, which are not computed.
 use Rattle.std.specs.Prelude.{◌≡◌, ◌⊎◌, ◌==◌, ◌&&◌, ◌++◌, not, ℕ, Bool, false, List, [], Option, None, Some, Any, Contains, bit_and, codes, find, if◌then◌else◌, is_none, option_map, slice_index}
 use Rattle.ospf_base.specs.Prefixes.{Holds}
 use Rattle.ospf_base.specs.Text.{number_text}
@@ -43,7 +43,7 @@ outside_of listing =
 abbrev pub is_nowhere : Outside → Bool
 is_nowhere o = is_none o.boundary && is_none o.border
 
--- ---- what is said of them
+-- ---- the text about them
 
 -- that routes to other areas, or through them, are not computed (section 16.2)
 abbrev pub border_words : Option RouterId → List ℕ

@@ -15,8 +15,8 @@ use std::alloc::{AllocError, Global};
 use std::collections::BTreeMap;
 use std::marker::Model;
 
-// LSAs below age `MAX_AGE` that came in any order, at most one a key. A listing moves all that
-// stands behind an LSA that is put in; a map does not.
+// LSAs below age `MAX_AGE` that came in any order, at most one a key. A listing moves all LSAs
+// after one that is inserted; a map does not.
 #[derive(Drop)]
 pub(crate) struct LineEntries {
     lsas: BTreeMap<LsaKey, Lsa>,

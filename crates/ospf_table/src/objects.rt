@@ -24,7 +24,7 @@ pub fn objects_line(alloc: Global, objects: Vec<Value>) -> Result<String, AllocE
     Ok(line)
 }
 
-/// The members of an object that tells of a failure: its name as `failure`, its `kind`, and
+/// The members of an object about a failure: its name as `failure`, its `kind`, and
 /// how many routes it changes, as `cut`, `gone`, `cost` and `hops`. A number of more than 64
 /// bits is a string of its digits.
 ///

@@ -11,9 +11,9 @@ use std::fmt::{self, Display, Formatter, Write};
 /// How many pairs of a router and a prefix a failure changes, and how; and of how many routers.
 #[derive(Clone, Copy, Debug, PartialEq, Eq)]
 pub struct Sums {
-    /// Reached no more, and still told.
+    /// No longer reached, but still advertised.
     pub cut: u128,
-    /// Reached no more, and told no more.
+    /// No longer reached, and no longer advertised.
     pub gone: u128,
     /// Reached at a higher cost.
     pub cost: u128,

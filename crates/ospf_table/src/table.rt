@@ -176,18 +176,18 @@ pub fn left_out_text(alloc: Global, left_out: u64) -> Result<String, AllocError>
     }
 }
 
-/// Reads LSAs, a line of hexadecimal each, and writes a router's table and the lookups in it.
+/// Reads LSAs, each a line of hexadecimal, and writes a router's table and the lookups in it.
 ///
-/// A line ends in a line feed, which a carriage return may precede, or at the end of the input. One
-/// of spaces alone is skipped. An LSA at `MAX_AGE` is checked, and left out of the table; the bit
-/// DoNotAge of an age (RFC 1793) does not count. Once all is read the table is published, by `rt`,
-/// and written, and the addresses are looked up from a seat that learned it. `err` says where LSAs
-/// are listed and the root's router-LSA is not among them, and where the table has no route for an
-/// address and the LSAs show why (`warning_text`). The first line that is refused is told on `err`,
-/// with status `Refused`. Status `Memory` says that memory ran out, or there was no place for the
-/// seat, and `Stream` that a read or a write failed, or the published table was closed; what it was
-/// is told on `err`, as far as that can be written. Then no more than a beginning of the table and
-/// the lookups is written, and nothing where the input was not read.
+/// A line ends in a line feed, which a carriage return may precede, or at the end of the input. A
+/// line of only spaces is skipped. An LSA at `MAX_AGE` is checked, and left out of the table; the
+/// bit DoNotAge of an age (RFC 1793) does not count. Once all is read the table is published, by
+/// `rt`, and written, and the addresses are looked up from a seat that learned it. `err` says if
+/// LSAs are listed but not the root's router-LSA, and if the table has no route for an address and
+/// the LSAs show why (`warning_text`). The first refused line is reported on `err`,
+/// with status `Refused`. Status `Memory` means that memory ran out, or that there was no place for
+/// the seat, and `Stream` that a read or a write failed, or that the published table was closed;
+/// the cause is reported on `err`, as far as that can be written. Then at most a beginning of the
+/// table and the lookups is written, and nothing if the input was not read.
 pub fn table_text<W: Wait + Drop, R: BufRead + Drop, O: Write, E: Write>(
     alloc: Global,
     rt: W,
@@ -196,7 +196,7 @@ pub fn table_text<W: Wait + Drop, R: BufRead + Drop, O: Write, E: Write>(
     out: &mut O,
     err: &mut E,
 ) -> Status
-    // All is printed; or the line that is refused is told, and nothing is printed.
+    // All is printed; or the refused line is reported, and nothing is printed.
     ensures done { let old = written_on (O.contents out.old) (E.contents err.old) in
         let new = written_on (O.contents out.new) (E.contents err.new) in
         result ≡ Status.Done → IfSome (R.remaining input)
@@ -205,7 +205,7 @@ pub fn table_text<W: Wait + Drop, R: BufRead + Drop, O: Write, E: Write>(
         IfSome (R.remaining input)
         (λ bytes. IsLineRefusalTold bytes (E.contents err.old) (E.contents err.new)) }
     ensures unwritten { result ≡ Status.Refused → O.contents out.new ≡ O.contents out.old }
-    // Or a failure cuts it short, and is told last, as far as it can be; there is no other end.
+    // Or a failure cuts it short, and is reported last, as far as possible; there is no other end.
     ensures cut { let old = written_on (O.contents out.old) (E.contents err.old) in
         let new = written_on (O.contents out.new) (E.contents err.new) in
         (result ≡ Status.Memory) ⊎ (result ≡ Status.Stream) →
@@ -281,7 +281,7 @@ fn table_noted<W: Wait + Drop, R: BufRead + Drop, O: Write, E: Write>(
     err: &mut E,
     streams: &mut FailedStreams,
 ) -> Status
-    // All is printed; or the line that is refused is told, and nothing is printed.
+    // All is printed; or the refused line is reported, and nothing is printed.
     ensures done { let old = written_on (O.contents out.old) (E.contents err.old) in
         let new = written_on (O.contents out.new) (E.contents err.new) in
         result ≡ Status.Done → IfSome (R.remaining input)
@@ -290,7 +290,7 @@ fn table_noted<W: Wait + Drop, R: BufRead + Drop, O: Write, E: Write>(
         IfSome (R.remaining input)
         (λ bytes. IsLineRefusalTold bytes (E.contents err.old) (E.contents err.new)) }
     ensures unwritten { result ≡ Status.Refused → O.contents out.new ≡ O.contents out.old }
-    // Or a failure cuts it short, and is told last, as far as it can be; there is no other end.
+    // Or a failure cuts it short, and is reported last, as far as possible; there is no other end.
     ensures cut { let old = written_on (O.contents out.old) (E.contents err.old) in
         let new = written_on (O.contents out.new) (E.contents err.new) in
         (result ≡ Status.Memory) ⊎ (result ≡ Status.Stream) → IsTableCutShort
@@ -303,7 +303,7 @@ fn table_noted<W: Wait + Drop, R: BufRead + Drop, O: Write, E: Write>(
     }
 }
 
-// Prints the answer, or tells which line is refused. The answer is the status to end with.
+// Prints the answer, or reports which line is refused. Returns the status to end with.
 fn answer_or_refuse<W: Wait + Drop, R: BufRead + Drop, O: Write, E: Write>(
     alloc: Global,
     rt: W,
@@ -313,7 +313,7 @@ fn answer_or_refuse<W: Wait + Drop, R: BufRead + Drop, O: Write, E: Write>(
     err: &mut E,
     streams: &mut FailedStreams,
 ) -> Result<Status, Failure>
-    // All is printed; or the line that is refused is told, and nothing is printed.
+    // All is printed; or the refused line is reported, and nothing is printed.
     ensures done { let old = written_on (O.contents out.old) (E.contents err.old) in
         let new = written_on (O.contents out.new) (E.contents err.new) in
         result ≡ Ok Status.Done → IfSome (R.remaining input)
@@ -322,7 +322,7 @@ fn answer_or_refuse<W: Wait + Drop, R: BufRead + Drop, O: Write, E: Write>(
         IfSome (R.remaining input)
         (λ bytes. IsLineRefusalTold bytes (E.contents err.old) (E.contents err.new)) }
     ensures unwritten { result ≡ Ok Status.Refused → O.contents out.new ≡ O.contents out.old }
-    // There is no other status, and a failure cuts short what is printed or told.
+    // There is no other status, and a failure cuts short what is printed or reported.
     ensures ended { IfOk result (λ status. (status ≡ Status.Done) ⊎ (status ≡ Status.Refused)) }
     ensures cut { IfErr result (IsTableAnswerCut (R.remaining input) job.now.root
         job.now.addresses.items streams.new (written_on (O.contents out.old) (E.contents err.old))
@@ -348,7 +348,7 @@ fn answer<W: Wait + Drop, R: BufRead + Drop, O: Write, E: Write>(
     err: &mut E,
     streams: &mut FailedStreams,
 ) -> Result<(), TableFault>
-    // All is printed; or it is known which line is refused, and nothing is printed or told.
+    // All is printed; or it is known which line is refused, and nothing is printed or reported.
     ensures answer { let old = written_on (O.contents out.old) (E.contents err.old) in
         let new = written_on (O.contents out.new) (E.contents err.new) in
         OnOk result (IfSome (R.remaining input)
@@ -359,7 +359,7 @@ fn answer<W: Wait + Drop, R: BufRead + Drop, O: Write, E: Write>(
         O.contents out.new ≡ O.contents out.old }
     ensures untold { (n : ℕ) (f : EntryFault) → result ≡ Err (TableFault.Entry n f) →
         E.contents err.new ≡ E.contents err.old }
-    // Or a failure cuts short what is printed or told.
+    // Or a failure cuts short what is printed or reported.
     ensures cut { (f : Failure) → result ≡ Err (TableFault.Failure f) →
         IsTableAnswerCut (R.remaining input) job.now.root job.now.addresses.items streams.new
         (written_on (O.contents out.old) (E.contents err.old))
@@ -370,7 +370,7 @@ fn answer<W: Wait + Drop, R: BufRead + Drop, O: Write, E: Write>(
     Ok(())
 }
 
-// Prints the table of a listing and what it says of the addresses, behind the warning.
+// Prints the table of a listing and the lookups of the addresses, after the warning.
 fn answer_of<W: Wait + Drop, O: Write, E: Write>(
     alloc: Global,
     rt: W,
@@ -395,11 +395,11 @@ fn answer_of<W: Wait + Drop, O: Write, E: Write>(
     print_answer(alloc, rt, &table, addresses, out, streams)
 }
 
-/// What is said of a router's table on standard error: that the router-LSA of the router is not
-/// listed, where others are; and where the table has no route for one of these addresses, why it
+/// The warning about a router's table on standard error: that the router-LSA of the router is not
+/// listed, though others are; and if the table has no route for one of these addresses, why it
 /// may have none (`reasons_text`).
 ///
-/// `AllocError` where memory runs out.
+/// `AllocError` if memory runs out.
 pub fn warning_text(
     alloc: Global,
     listing: &Listing,
@@ -416,9 +416,9 @@ pub fn warning_text(
     Ok(text)
 }
 
-/// What is said of a router: that its router-LSA is not listed, where others are.
+/// The warning about a router: that its router-LSA is not listed, though others are.
 ///
-/// `AllocError` where memory runs out.
+/// `AllocError` if memory runs out.
 pub fn unlisted_text(alloc: Global, listing: &Listing, root: RouterId) -> Result<String, AllocError>
     ensures { IfOk result (λ text. IsWarning listing.now root (string_bytes text)) }
 {
@@ -477,7 +477,7 @@ fn print_table<W: Wait + Drop, O: Write>(
     out: &mut O,
     streams: &mut FailedStreams,
 ) -> Result<(), Failure>
-    // The table is published behind the opening one, and the seat has learned it.
+    // The table is published after the opening one, and the seat has learned it.
     requires seat { seat.old ≡ writer.old }
     requires published { writer.old.tables ≡ opening ++ table.now ∷ [] }
     // All is printed; or a beginning of it, and it is known why no more is.
@@ -493,7 +493,7 @@ fn print_table<W: Wait + Drop, O: Write>(
     streams.flush(out)
 }
 
-// Tells the number of a line that is refused, and its fault.
+// Reports the number of a refused line, and its fault.
 fn tell_refusal<E: Write>(
     alloc: Global,
     number: u64,

@@ -10,9 +10,9 @@ use std::fmt::{self, Display, Formatter, Write};
 /// How many prefixes of a table a failure changes, and how.
 #[derive(Clone, Copy, Debug, PartialEq, Eq)]
 pub struct Totals {
-    /// Reached no more, and still told.
+    /// No longer reached, but still advertised.
     pub cut: usize,
-    /// Reached no more, and told no more.
+    /// No longer reached, and no longer advertised.
     pub gone: usize,
     /// Reached at a higher cost.
     pub cost: usize,

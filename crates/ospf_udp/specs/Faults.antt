@@ -8,7 +8,7 @@ use Rattle.ospf_udp.specs.declared.fault.OpenFault.TheVariants as fault
 use Rattle.ospf_udp.specs.declared.fault.SocketCause.{SocketCause}
 use Rattle.ospf_udp.specs.declared.fault.SocketCause.TheVariants as cause
 
--- what stands behind the port
+-- the text after the port
 abbrev pub cause_text : SocketCause → List ℕ
 cause_text cause.InUse = codes " is in use"
 cause_text cause.NotPermitted = codes ": permission denied"

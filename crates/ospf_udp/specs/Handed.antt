@@ -1,4 +1,4 @@
--- What is handed over, and how many ticks that is.
+-- What is delivered, and how many ticks that is.
 use Rattle.std.specs.Prelude.{⊤, ◌<◌, ℕ, Option, None, Some}
 use Rattle.ospf_drive.specs.declared.wire.Arrival.{Arrival}
 use Rattle.ospf_drive.specs.declared.wire.Arrival.TheVariants as arrival

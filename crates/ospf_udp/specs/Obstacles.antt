@@ -1,4 +1,4 @@
--- What keeps the routers of files from running, and what is told of it.
+-- What keeps the routers of files from running, and what is printed about it.
 use Rattle.std.specs.Prelude.{◌≡◌, ◌++◌, ℕ, ℤ, List, Option, Some, Result, Ok, Err, codes, decimal, slice_get, string_bytes}
 use Rattle.ospf_config.specs.declared.config.Config.{Config}
 use Rattle.ospf_config.specs.declared.fault.ConfigFault.{ConfigFault}
@@ -61,7 +61,7 @@ Hinders floor files (obstacle.NoSocket file no_socket) =
     (configs : List Config) × (least : ℤ) × IsPlan floor files configs least
     × IsSocketless file.now files configs no_socket
 
--- the line that tells something of a file
+-- the line that says this about a file
 abbrev pub line_about : NamedFile → List ℕ → List ℕ
 line_about file text = string_bytes file.name ++ codes ": " ++ text ++ codes "\n"
 

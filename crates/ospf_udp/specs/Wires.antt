@@ -2,7 +2,7 @@
 use Rattle.std.specs.Prelude.{ℕ}
 use Rattle.ospf_drive.specs.declared.span.Span.{Span}
 
--- how often it has failed, how many ticks it has handed over, and when the end comes
+-- how often it has failed, how many ticks it has delivered, and when the end comes
 pub record UdpValue : Type 0 where
   pub failed : ℕ
   pub handed : ℕ

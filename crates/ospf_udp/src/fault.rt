@@ -52,7 +52,7 @@ impl SocketCause {
     ghost use Rattle.std.specs.Prelude.{◌≡◌};
     ghost use Rattle.ospf_udp.specs.Faults.{cause_text};
 
-    /// What stands behind the port where it is printed.
+    /// The text after the port where it is printed.
     pub fn text(self) -> &'static str
         ensures { result.now ≡ cause_text self }
     {
@@ -65,7 +65,7 @@ impl SocketCause {
         }
     }
 
-    // The cause that an error of the system stands for.
+    // The cause that an error of the system means.
     pub(crate) fn of(error: &io::Error) -> SocketCause {
         match (error.kind(), error.raw_os_error()) {
             (ErrorKind::AddrInUse, _) => SocketCause::InUse,

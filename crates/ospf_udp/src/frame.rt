@@ -22,8 +22,8 @@ pub(crate) struct Frame {
     pub length: usize,
 }
 
-/// Reads the datagram of so many bytes that stands at the front of the buffer, and moves its packet
-/// there. `None` where it is passed over.
+/// Reads the datagram of `count` bytes at the front of the buffer, and moves its packet to the
+/// front. `None` if the datagram is ignored.
 pub(crate) fn read_frame(buffer: &mut [u8; LONGEST], count: usize) -> Option<Frame>
     requires { count ≤ 16393 }
     ensures frame { IfSome result (λ f. IsFrameOf (take count buffer.old) f.source f.destination

@@ -1,10 +1,10 @@
-//! A wire of UDP sockets on 127.0.0.1, which stands for the links of one router, with ticks of a
-//! steady clock; and what is found of routers that are to run, before any socket is made.
+//! A wire of UDP sockets on 127.0.0.1, which takes the place of the links of one router, with ticks
+//! of a steady clock; and what is found out about the routers to run, before any socket is made.
 //!
-//! `prepare` reads the floor and the configurations in files, and answers the plan of what is to
-//! run, or the first thing that keeps it from running: an `Obstacle`, which says what is told of
-//! it and which status it ends with. What is refused, and in which order, stands in
-//! `specs/Plans` and `specs/Obstacles`.
+//! `prepare` reads the floor and the configurations in files, and returns the plan of what will
+//! run, or the first thing that prevents it: an `Obstacle`, which says what is printed about it and
+//! with which status the program ends. `specs/Plans` and `specs/Obstacles` define what is refused,
+//! and in which order.
 #![tactic(auto)]
 
 mod ending;

@@ -4,9 +4,9 @@ ghost use Rattle.std.specs.Prelude.{◌≡◌, ◌++◌, ◌∷◌, [], OnErr, O
 
 use std::alloc::AllocError;
 
-/// Puts a value behind the others.
+/// Appends a value to a list.
 ///
-/// `AllocError` where memory runs out: then the list is as it was.
+/// `AllocError` if memory runs out: then the list is unchanged.
 pub fn put<T: Drop>(list: &mut Vec<T>, value: T) -> Result<(), AllocError>
     ensures ok { OnOk result (list.new.items ≡ list.old.items ++ value ∷ []) }
     ensures err { OnErr result (list.new.items ≡ list.old.items) }

@@ -117,7 +117,7 @@ fn read_config(alloc: Global, file: &NamedFile) -> Result<Result<Config, ConfigF
     }
 }
 
-// The plan of configurations, if they can run beside each other.
+// The plan of configurations, if they can run together.
 fn plan_of<'a>(
     floor: &Option<String>,
     least: i32,

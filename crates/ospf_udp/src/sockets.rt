@@ -69,13 +69,13 @@ impl<C: Clock + Drop> Sockets<C> {
     }
 
     /// Waits for what comes next: first the links come up, then come ticks and datagrams, and the
-    /// end after the last tick, or where the ending was told.
+    /// end after the last tick, or once the end is signalled.
     pub(crate) fn next_arrival(&mut self, buffer: &mut [u8; LONGEST]) -> io::Result<Arrival>
         ensures handed { IfOk result (λ arrival. self.new.ticks.taken
             ≡ self.old.ticks.taken + arrival_ticks arrival) }
         ensures over { IfOk result (λ arrival. arrival ≡ arrivals.End →
             MayEndAfter self.new.ticks.most (is_some self.new.ticks.ending) self.new.ticks.taken) }
-        // How many ticks there are at most, and whether the end was told, stays as it was.
+        // The limit of ticks and the ending, if there is one, stay as they were.
         ensures most { self.new.ticks.most ≡ self.old.ticks.most }
         ensures ending { self.new.ticks.ending ≡ self.old.ticks.ending }
         ensures none { OnErr result (self.new.ticks.taken ≡ self.old.ticks.taken) }
@@ -125,13 +125,13 @@ impl<C: Clock + Drop> Sockets<C> {
         }
     }
 
-    // The next tick, or what the sockets have; `None` where all is to be looked at again.
+    // The next tick, or what the sockets have; `None` if all must be checked again.
     fn try_next(&mut self, buffer: &mut [u8; LONGEST]) -> io::Result<Option<Arrival>>
         ensures handed { IfOk result (λ next. self.new.ticks.taken
             ≡ self.old.ticks.taken + tick_next next) }
         ensures over { IfOk result (λ next. next ≡ Some arrivals.End →
             MayEndAfter self.new.ticks.most (is_some self.new.ticks.ending) self.new.ticks.taken) }
-        // How many ticks there are at most, and whether the end was told, stays as it was.
+        // The limit of ticks and the ending, if there is one, stay as they were.
         ensures most { self.new.ticks.most ≡ self.old.ticks.most }
         ensures ending { self.new.ticks.ending ≡ self.old.ticks.ending }
         ensures none { OnErr result (self.new.ticks.taken ≡ self.old.ticks.taken) }

@@ -34,7 +34,7 @@ pub enum Obstacle<'a> {
 /// Why the routers did not run to their end.
 #[derive(Clone, Copy)]
 pub enum Stop<'a> {
-    /// This is to be told.
+    /// This must be printed.
     Obstacle(Obstacle<'a>),
     /// What the program cannot go on without.
     Failure(Failure),
@@ -87,9 +87,9 @@ pub fn status_of(obstacle: Obstacle<'_>) -> Status
     }
 }
 
-/// Tells of an obstacle on standard error.
+/// Reports an obstacle on standard error.
 ///
-/// `Failure` where memory runs out or the stream fails: then a beginning of it stands there.
+/// `Failure` if memory runs out or the stream fails: then a beginning of the lines was written.
 pub fn tell_obstacle<E: Write>(
     alloc: Global,
     obstacle: Obstacle<'_>,
@@ -100,7 +100,7 @@ pub fn tell_obstacle<E: Write>(
     ensures same { OnOk result (streams.new ≡ streams.old) }
     ensures told { OnOk result
         (Appends (E.contents err.old) (E.contents err.new) (obstacle_line obstacle.entry)) }
-    // Else a beginning of them stands there, and standard error has failed, or memory ran out.
+    // Else a beginning of them was written, and standard error has failed, or memory ran out.
     ensures begun { OnErr result
         (IsBegun (E.contents err.old) (E.contents err.new) (obstacle_line obstacle.entry)) }
     ensures failed { OnErr result ((streams.new ≡ streams.old)
@@ -111,7 +111,7 @@ pub fn tell_obstacle<E: Write>(
     streams.tell(err, &line)
 }
 
-// The lines that tell of an obstacle.
+// The lines that report an obstacle.
 fn line_of(alloc: Global, obstacle: Obstacle<'_>) -> Result<String, AllocError>
     ensures { IfOk result (λ line. string_bytes line ≡ obstacle_line obstacle.entry) }
 {

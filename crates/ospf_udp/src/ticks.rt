@@ -22,7 +22,7 @@ pub(crate) struct Ticks<C: Clock + Drop> {
     pub(crate) taken: u64,
     // How many there are in all, if there is a last one.
     pub(crate) most: Option<u64>,
-    // What tells that no more come, if it can be told.
+    // The signal that no more come, if there is one.
     pub(crate) ending: Option<Ending>,
     ghost within: { IfSome most (λ ticks. taken ≤ ticks) } by { Prim.hlevel props },
 }
@@ -49,7 +49,7 @@ impl<C: Clock + Drop> Ticks<C> {
         }
     }
 
-    /// Whether a tick is due. None is any more where all were taken, or the ending was told.
+    /// Whether a tick is due. None is due any more once all were taken, or the end was signalled.
     pub(crate) fn beat(&mut self) -> io::Result<Beat>
         ensures taken { self.new.taken ≡ self.old.taken }
         ensures most { self.new.most ≡ self.old.most }
@@ -103,7 +103,7 @@ impl<C: Clock + Drop> Ticks<C> {
         }
     }
 
-    // Whether the ending was told.
+    // Whether the end was signalled.
     fn is_told(&self) -> bool
         ensures { IsTrue result → is_some self.now.ending ≡ true }
     {

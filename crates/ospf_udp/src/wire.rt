@@ -16,11 +16,11 @@ use std::time::{Clock, Duration};
 
 /// A wire with one socket for each link, on 127.0.0.1. A datagram is the source address, the
 /// destination address and the packet; one that is shorter than the addresses, or longer than any
-/// packet, is passed over. First the links come up; a tick comes each period, and none is lost
-/// where a step was slow; the end comes after the last tick, or within a tick of when it is told.
+/// packet, is ignored. First the links come up; a tick comes each period, and none is lost
+/// if a step was slow; the end comes after the last tick, or within a tick after it is signalled.
 ///
-/// It waits by the system, and takes no processor while nothing comes. It tells how many
-/// ticks it has handed over, and when the end comes, and nothing else of its traffic: nobody
+/// It waits in the system, and uses no processor time while nothing comes. It reports how many
+/// ticks it has delivered, and when the end comes, and nothing else about its traffic: nobody
 /// can say what a socket carries.
 #[derive(Drop)]
 pub struct UdpWire<C: Clock + Drop> {
@@ -43,9 +43,9 @@ impl<C: Clock + Drop> Model for UdpWire<C> {
 }
 
 impl<C: Clock + Drop> UdpWire<C> {
-    /// Makes a socket for each interface of a configuration: so many ticks, one a period, will
-    /// come, or ticks without a last one where there is no number; and the end before that, where
-    /// it is told by the ending, if there is one.
+    /// Makes a socket for each interface of a configuration. `ticks` ticks will come, one a period,
+    /// or ticks without a last one if it is `None`; the end comes earlier if it is signalled by
+    /// `ending`, if there is one.
     ///
     /// `Socket` without a port where the system cannot watch sockets; else, of the interfaces in
     /// their order, the first that has no port (`NoPort`), or for whose port no socket was made

@@ -13,7 +13,7 @@ use Rattle.ospf_update.specs.Acks.{acks_out, header_precedes, in_order}
 
 -- ---- in order of key
 
--- the same headers, none behind one that it precedes; those of one key stand as they came
+-- the same headers, none after one that it precedes; those of one key stay in the order they came
 pub record IsOrdered (headers ordered : List LsaHeader) : Type 0 where
   pub same : IsPermutation headers ordered
   pub rising : IsSortedBy header_precedes ordered

@@ -24,22 +24,22 @@ header_precedes a b =
     || ((a.kind == b.kind)
     && (nat_lt a.id b.id || ((a.id == b.id) && nat_lt a.router.0 b.router.0)))
 
--- a header behind those that it does not precede
+-- a header after those that it does not precede
 abbrev pub put_in_order : LsaHeader → List LsaHeader → List LsaHeader
 put_in_order h [] = h ∷ []
 put_in_order h (x ∷ xs) = if header_precedes h x then h ∷ x ∷ xs else x ∷ put_in_order h xs
 
--- headers in order, each put behind those that it does not precede
+-- headers in order, each put after those that it does not precede
 abbrev pub in_order : List LsaHeader → List LsaHeader
 in_order hs = fold (λ sorted h. put_in_order h sorted) [] hs
 
 -- ---- as many in a packet as fit
 
--- how many headers an Acknowledgment has room for, behind an IP header and a packet header
+-- how many headers an Acknowledgment has room for, after an IP header and a packet header
 abbrev pub ack_room : ℕ → ℕ
 ack_room mtu = (mtu - (ip_header + packet_header)) / lsa_header
 
--- so many at once, at most `n` times
+-- this many at once, at most `n` times
 unfoldable pub cut : ℕ → ℕ → List LsaHeader → List (List LsaHeader)
 cut zero room hs = []
 cut (suc n) room [] = []
@@ -53,13 +53,13 @@ acks_out own way mtu hs =
     flat_map (λ chunk. datagrams way (packet_from own (meaning.acknowledgment chunk)))
     (cut (length (in_order hs)) (ack_room mtu) (in_order hs))
 
--- ---- as they are put to go out
+-- ---- as they are queued to be sent
 
 -- an Acknowledgment of these headers to this address
 abbrev pub ack_packet : Addr → List LsaHeader → PendingPacket
 ack_packet destination hs = record { destination = destination; body = meaning.acknowledgment hs }
 
--- so many headers in each
+-- this many headers in each
 abbrev pub packed_packets : Addr → ℕ → List LsaHeader → List PendingPacket
 packed_packets destination room hs = map (ack_packet destination) (cut (length hs) room hs)
 

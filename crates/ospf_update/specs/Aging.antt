@@ -15,7 +15,7 @@ use Rattle.ospf_area.specs.Outputs.{OutputsValue, SentValue}
 use Rattle.ospf_area.specs.Sending.{and_sends, context_of}
 use Rattle.ospf_area.specs.State.{AreaValue, database_entry}
 
--- ---- what comes of each flood
+-- ---- what follows each flood
 
 -- LoadingDone and the next Requests of all neighbours
 abbrev pub turned_area : AreaValue → AreaValue
@@ -53,8 +53,8 @@ SendsCopy key before out out' after =
 
 -- ---- a tick (14)
 
--- all ages rise, and a tick begins in which nothing was sent; then the copies that come to MaxAge
--- go to all, in order of key
+-- all ages rise, and a tick begins in which nothing was sent; then the copies that reach MaxAge
+-- are flooded to all, in order of key
 pub record TickAges (before : AreaValue) (out out' : OutputsValue) (after : AreaValue)
     : Type 0 where
   pub mid : AreaValue

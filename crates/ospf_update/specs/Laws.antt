@@ -57,7 +57,7 @@ StoredEntry =
     then Some (entry_from lsa before.tick (is_some from))
     else database_entry before key)
 
--- of the router's own keys the greatest number is kept (12.1.6)
+-- for the router's own keys the greatest number is recorded (12.1.6)
 abbrev pub StoredNumbers : Type 0
 StoredNumbers =
     (lsa : List ℕ) (from : Option PacketSource) (before after : AreaValue)
@@ -70,7 +70,7 @@ StoredNumbers =
 
 -- ---- what waits for an acknowledgement
 
--- an instance that waits goes on waiting, but for those of the key (13, step 5c; 13.3)
+-- an instance that waits keeps waiting, except for those of the key (13, step 5c; 13.3)
 abbrev pub StoredStays : Type 0
 StoredStays =
     (lsa : List ℕ) (from : Option PacketSource) (before after : AreaValue)
@@ -101,8 +101,8 @@ RemovedEntries =
 
 -- ---- copies that go to all
 
--- a flush takes instances of its key alone off the lists, a tick those of the keys that
--- come to MaxAge in it (14, 14.1)
+-- a flush takes only instances of its key off the lists, a tick those of the keys that
+-- reach MaxAge in it (14, 14.1)
 pub record CopiesStay : Type 0 where
   pub flushed : (key : LsaKey) (before : AreaValue) (out out' : OutputsValue) (after : AreaValue)
       → Flushes key before out out' after → (l : ℕ) (q : RouterId) (j : Instance)
@@ -112,7 +112,7 @@ pub record CopiesStay : Type 0 where
       → Awaits before l q j
       → Awaits after l q j ⊎ (among (reached_at max_age after.database) j.key ≡ true)
 
--- each neighbour in Exchange or above waits for what is flushed, and for what comes to
+-- each neighbour in Exchange or above waits for what is flushed, and for what reaches
 -- MaxAge, or is spared (13.3, step 1)
 pub record CopiesReach : Type 0 where
   pub flushed : (key : LsaKey) (before : AreaValue) (out out' : OutputsValue) (after : AreaValue)
@@ -128,7 +128,7 @@ pub record CopiesReach : Type 0 where
       → is_exchanging n.state ≡ true
       → Awaits after l q (instance_with key (header_at copy)) ⊎ IsSpared key (header_at copy) None n
 
--- ---- kept numbers
+-- ---- recorded numbers
 
 -- the LSA was installed (13, step 5)
 abbrev pub is_installed : Option LsaRule → Bool
@@ -140,7 +140,7 @@ is_installed (Some BadRequest) = false
 is_installed (Some Duplicate) = false
 is_installed (Some Stale) = false
 
--- of the router's own keys the greatest number that was installed is kept, until the copy with
+-- for the router's own keys the greatest number that was installed is recorded, until the copy with
 -- the last number leaves (12.1.6)
 pub record NumbersAreKept : Type 0 where
   pub met : (f : PacketSource) (lsa : List ℕ) (before : AreaValue) (out out' : OutputsValue)

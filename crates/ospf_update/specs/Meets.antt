@@ -79,7 +79,7 @@ rule_met s f lsa =
     then Some (lsa_rule (header_of lsa) copy (some_link_loading s.links) requested s.tick)
     else None
 
--- a self-originated LSA is to be answered at the end of the step (13.4)
+-- a self-originated LSA must be answered at the end of the step (13.4)
 abbrev pub heard_by : LsaKey → AreaValue → AreaValue
 heard_by key s =
     if is_self_originated s.router s.links key then record s { heard = s.heard ++ key ∷ [] } else s

@@ -53,8 +53,8 @@ reset key ns =
 
 -- ---- they leave
 
--- the copy of a key leaves the database (14), and where its run ends, that is told, and the numbers
--- begin again
+-- the copy of a key leaves the database (14), and where its run ends, that is reported, and the
+-- numbers begin again
 pub record RemovesOne (key : LsaKey) (before : AreaValue) (out out' : OutputsValue)
     (after : AreaValue) : Type 0 where
   pub database : Puts key (removed (held_of before.database key)) before.database after.database

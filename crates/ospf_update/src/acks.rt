@@ -19,9 +19,9 @@ use ospf_packet::BodyValue;
 use std::alloc::{AllocError, Global};
 use std::cmp::Ordering;
 
-/// Acknowledgments of headers go out, in order of key, as many in each as fit.
+/// Sends Acknowledgments of headers, in order of key, as many in each as fit.
 ///
-/// `AllocError` where memory runs out; then the router is to be stopped.
+/// `AllocError` when memory runs out; then the router must be stopped.
 pub fn send_acks(
     headers: &[LsaHeader],
     settings: LinkSettings,
@@ -37,7 +37,7 @@ pub fn send_acks(
 
 /// Sends the direct acknowledgements of an Update to its sender (RFC 2328, section 13.5).
 ///
-/// `AllocError` where memory runs out; then the router is to be stopped.
+/// `AllocError` when memory runs out; then the router must be stopped.
 pub fn send_direct(
     area: &mut Area,
     from: PacketSource,
@@ -55,7 +55,7 @@ pub fn send_direct(
 
 /// Sends the delayed acknowledgements of all links (section 13.5).
 ///
-/// `AllocError` where memory runs out; then the router is to be stopped.
+/// `AllocError` when memory runs out; then the router must be stopped.
 pub fn send_delayed(
     links: &mut [AreaLink],
     own: RouterContext,
@@ -90,7 +90,7 @@ fn by_key(a: &LsaHeader, b: &LsaHeader) -> Ordering
     (a.kind, a.id, a.router).cmp(&(b.kind, b.id, b.router))
 }
 
-// Headers go out, so many in a packet.
+// Sends headers, this many in a packet.
 fn send_packed(
     headers: &[LsaHeader],
     room: usize,

@@ -20,7 +20,7 @@ use std::alloc::{AllocError, Global};
 /// LoadingDone and the next Requests of all neighbours, where they are due (RFC 2328, sections
 /// 10.3 and 10.9): after each flood.
 ///
-/// `AllocError` where memory runs out; then the router is to be stopped.
+/// `AllocError` when memory runs out; then the router must be stopped.
 pub fn turn_in(area: &mut Area, out: &mut Outputs, alloc: Global) -> Result<(), AllocError>
     ensures after { OnOk result (area.new ≡ turned_area area.old) }
     ensures sent { OnOk result (out.new ≡ and_sends out.old (turn_out area.old)) }
@@ -29,9 +29,9 @@ pub fn turn_in(area: &mut Area, out: &mut Outputs, alloc: Global) -> Result<(), 
     turn_requests(&mut area.links, own, out, alloc)
 }
 
-/// Floods the copy of a key to all, and sends the Requests that come of it.
+/// Floods the copy of a key to all, and sends the Requests that follow from it.
 ///
-/// `AllocError` where memory runs out; then the router is to be stopped.
+/// `AllocError` when memory runs out; then the router must be stopped.
 pub fn send_copy(
     area: &mut Area,
     key: LsaKey,
@@ -44,16 +44,16 @@ pub fn send_copy(
     turn_in(area, out, alloc)
 }
 
-/// A tick passes (section 14): all ages rise, and the copies that come to `MAX_AGE` are
+/// A tick passes (section 14): all ages rise, and the copies that reach `MAX_AGE` are
 /// flooded to all, in order of key.
 ///
-/// `AllocError` where memory runs out; then the router is to be stopped.
+/// `AllocError` when memory runs out; then the router must be stopped.
 #[tactic(auto, using(crate::proofs::AgeLemmas::none_expire))]
 pub fn age(area: &mut Area, out: &mut Outputs, alloc: Global) -> Result<(), AllocError>
     ensures { OnOk result (TickAges area.old out.old out.new area.new) }
 {
     let expired = rise(area);
-    // Mostly none comes to `MAX_AGE`: then the ordered set of moments is not asked.
+    // Mostly none reaches `MAX_AGE`: then the ordered set of moments is not searched.
     if expired == 0 {
         return Ok(());
     }
@@ -63,7 +63,7 @@ pub fn age(area: &mut Area, out: &mut Outputs, alloc: Global) -> Result<(), Allo
 
 /// Flushes the copy of a key (section 14.1): its age becomes `MAX_AGE`, and it is flooded to all.
 ///
-/// `AllocError` where memory runs out; then the router is to be stopped.
+/// `AllocError` when memory runs out; then the router must be stopped.
 pub fn flush(
     area: &mut Area,
     key: LsaKey,
@@ -97,7 +97,7 @@ fn flood_copy(
     note(area, key, went)
 }
 
-// Floods an LSA to all neighbours. Answers whether it went out.
+// Floods an LSA to all neighbours. Returns whether it was sent.
 fn flood_to_all(
     area: &mut Area,
     lsa: &LsaView,
@@ -141,7 +141,7 @@ fn note(area: &mut Area, key: LsaKey, went: bool) -> Result<(), AllocError>
     Ok(())
 }
 
-// Answers how many copies come to `MAX_AGE`.
+// Returns how many copies reach `MAX_AGE`.
 fn rise(area: &mut Area) -> u64
     ensures database { Ages area.old.database area.new.database }
     ensures rest { area.new ≡ record area.old {

@@ -13,7 +13,7 @@ pub fn stored_entry()
     ensures { StoredEntry }
 {}
 
-/// What it does to the kept numbers.
+/// What it does to the recorded numbers.
 pub fn stored_numbers()
     ensures { StoredNumbers }
 {}
@@ -23,7 +23,7 @@ pub fn stored_stays()
     ensures { StoredStays }
 {}
 
-/// Whom an LSA that is stored reaches.
+/// Which neighbours a stored LSA reaches.
 pub fn stored_reaches()
     ensures { StoredReaches }
 {}
@@ -38,12 +38,12 @@ pub fn copies_stay()
     ensures { CopiesStay }
 {}
 
-/// Whom a copy reaches that is flushed, or that comes to `MAX_AGE`.
+/// Which neighbours a copy reaches that is flushed, or that reaches `MAX_AGE`.
 pub fn copies_reach()
     ensures { CopiesReach }
 {}
 
-/// What each call does to the kept numbers.
+/// What each call does to the recorded numbers.
 pub fn numbers_are_kept()
     ensures { NumbersAreKept }
 {}
@@ -58,7 +58,7 @@ pub fn area_stays_short()
     ensures { AreaStaysShort }
 {}
 
-/// Headers are acknowledged in order of key, those of one key as they came.
+/// Headers are acknowledged in order of key, those of one key in the order they came.
 pub fn acknowledgements_are_ordered()
     ensures { AcknowledgementsAreOrdered }
 {}

@@ -46,10 +46,10 @@ pub fn on_header(area: &mut Area, from: PacketSource, header: &LsaHeader)
 }
 
 /// Stores an LSA and floods it (section 13, step 5): its old copy leaves all retransmission lists,
-/// then it is flooded, then it takes the old copy's place. `from` tells where it came from;
+/// then it is flooded, then it takes the old copy's place. `from` says where it came from;
 /// without it, it is the router's own.
 ///
-/// `AllocError` where memory runs out; then the router is to be stopped.
+/// `AllocError` when memory runs out; then the router must be stopped.
 pub fn store(
     area: &mut Area,
     lsa: Lsa,
@@ -93,10 +93,10 @@ pub fn rule_met(area: &Area, from: PacketSource, lsa: &LsaView) -> Option<LsaRul
     Some(lsa_rule(&header, copy, loading, requested, area.tick))
 }
 
-/// BadLSReq of the neighbour of the origin, which is in Exchange or above: the adjacency with it
-/// begins anew (RFC 2328, section 13, step 6, and section 10.3).
+/// BadLSReq of the neighbour that sent the Update, which is in Exchange or above: the adjacency
+/// with it restarts (RFC 2328, section 13, step 6, and section 10.3).
 ///
-/// `AllocError` where memory runs out; then the router is to be stopped.
+/// `AllocError` when memory runs out; then the router must be stopped.
 pub(crate) fn restart(
     area: &mut Area,
     from: PacketSource,
@@ -120,9 +120,9 @@ pub(crate) fn restart(
     Ok(())
 }
 
-/// Takes an LSA of an Update from the neighbour of the origin (section 13).
+/// Processes an LSA of an Update from the neighbour that sent it (section 13).
 ///
-/// `AllocError` where memory runs out; then the router is to be stopped.
+/// `AllocError` when memory runs out; then the router must be stopped.
 pub fn on_lsa(
     area: &mut Area,
     from: PacketSource,
@@ -136,9 +136,9 @@ pub fn on_lsa(
     follow(rule, area, from, lsa, out, alloc)
 }
 
-/// Does what a rule says to an LSA of an Update from the neighbour of the origin (section 13).
+/// Applies a rule to an LSA of an Update from the neighbour that sent it (section 13).
 ///
-/// `AllocError` where memory runs out; then the router is to be stopped.
+/// `AllocError` when memory runs out; then the router must be stopped.
 pub(crate) fn follow(
     rule: Option<LsaRule>,
     area: &mut Area,
@@ -203,7 +203,7 @@ fn mark_in(area: &mut Area, key: LsaKey, went: bool) -> Result<(), AllocError>
     mark(&mut area.sent, key, went)
 }
 
-// Whether the rule of an LSA hangs on who loads: the neighbours are looked at for no other.
+// Whether the rule of an LSA depends on who loads: the neighbours are looked at for no other.
 fn asks_who_loads(header: &LsaHeader) -> bool
     ensures { result ≡ (header.now.age == max_age) }
 {

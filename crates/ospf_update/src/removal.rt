@@ -27,11 +27,11 @@ pub fn some_awaits(instance: &Instance, links: &[AreaLink]) -> bool
     links.iter().any(|link| some_awaits_on(instance, link))
 }
 
-/// Takes the LSAs out of the database that are at `MAX_AGE` and on no retransmission list, while no
+/// Removes the LSAs from the database that are at `MAX_AGE` and on no retransmission list, while no
 /// neighbour is in Exchange or Loading (section 14): at the end of a step. With the last number of
 /// a key of the router's own its numbering run ends.
 ///
-/// `AllocError` where memory runs out; then the router is to be stopped.
+/// `AllocError` when memory runs out; then the router must be stopped.
 pub fn remove(area: &mut Area, out: &mut Outputs, alloc: Global) -> Result<(), AllocError>
     ensures { OnOk result (InTurn RemovesOne (leaving area.old) area.old out.old out.new
         area.new) }
@@ -61,7 +61,7 @@ fn leaving(area: &Area, alloc: Global) -> Result<Vec<LsaKey>, AllocError>
     leaving_of(&area.links, &area.database, alloc)
 }
 
-// Only the keys at `MAX_AGE` are gone through: each step ends with this, and a walk over
+// Only the keys at `MAX_AGE` are visited: each step ends with this, and a walk over
 // all entries would take too long.
 fn leaving_of(links: &[AreaLink], database: &Lsdb, alloc: Global) -> Result<Vec<LsaKey>, AllocError>
     ensures { IfOk result (λ keys. keys.items

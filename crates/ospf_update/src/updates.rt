@@ -17,12 +17,12 @@ use ospf_lsa::{LENGTH_AT, LsaHeader, LsaView, TYPE_AT};
 use ospf_packet::Lsas;
 use std::alloc::{AllocError, Global};
 
-/// Takes an Update from the neighbour of the origin, which is in Exchange or above (RFC 2328,
-/// section 13): each LSA in its turn, with the Requests that come of it, and then the direct
+/// Processes an Update from the neighbour that sent it, which is in Exchange or above (RFC 2328,
+/// section 13): each LSA in turn, with the Requests that follow from it, and then the direct
 /// acknowledgements. The neighbours are visited for these Requests after the first LSA, and again
 /// only where a flood, a restart or a Request came before.
 ///
-/// `AllocError` where memory runs out; then the router is to be stopped.
+/// `AllocError` when memory runs out; then the router must be stopped.
 pub fn on_update(
     area: &mut Area,
     from: PacketSource,
@@ -39,8 +39,9 @@ pub fn on_update(
     send_direct(area, from, out, alloc)
 }
 
-// An LSA, and then LoadingDone and the Requests that come of it. No neighbour is visited for these
-// where none waited for a turn before, and the rule leaves it so. Answers whether none waits now.
+// An LSA, and then LoadingDone and the Requests that follow from it. No neighbour is visited for
+// these where none waited for a turn before, and the rule keeps it that way. Returns whether none
+// waits now.
 fn take_lsa(
     area: &mut Area,
     from: PacketSource,
@@ -77,7 +78,7 @@ fn leaves_turned(rule: Option<LsaRule>) -> bool
     !matches!(rule, Some(LsaRule::Installs | LsaRule::BadRequest))
 }
 
-// Turns all neighbours, and tells whether nothing was sent: then none waits for another turn.
+// Turns all neighbours, and returns whether nothing was sent: then none waits for another turn.
 fn turn_and_tell(area: &mut Area, out: &mut Outputs, alloc: Global) -> Result<bool, AllocError>
     ensures after { OnOk result (area.new ≡ turned_area area.old) }
     ensures sent { OnOk result (out.new ≡ and_sends out.old (turn_out area.old)) }

@@ -35,7 +35,7 @@ abbrev pub cause_words : Option Dropped → Text
 cause_words None = codes "\n"
 cause_words (Some cause) = codes ", would be dropped: " ++ dropped_text cause ++ codes "\n"
 
--- the line of a script that delivers a datagram, and behind a # what it is, and of whom
+-- the line of a script that delivers a datagram, and after a # what the datagram is, and of whom
 abbrev pub offer_text : ℕ → RouterId → ℕ → Text → RouterId → Option Dropped → Text
 offer_text number router link kind from cause =
     codes "deliver " ++ decimal number ++ codes " " ++ number_text router.0 ++ codes " "
@@ -47,7 +47,7 @@ abbrev pub is_offer_to : RouterId → WorldEvent → Bool
 is_offer_to r (event.Deliver d q l) = q.0 == r.0
 is_offer_to r _ = false
 
--- a delivery, told by the datagram and by what the router would do with it
+-- a delivery, shown by the datagram and by what the router would do with it
 abbrev pub delivery_line : Option AreaValue → Datagram → WorldEvent → Text
 delivery_line area g (event.Deliver d q l) =
     offer_text d q l (kind_words (slice_get g.sent.bytes 1)) g.router

@@ -55,7 +55,7 @@ abbrev pub detail_on : Option AreaValue → ℕ → Option Meaning → Option De
 detail_on None link m = None
 detail_on (Some s) link m = link_detail s.area (slice_get s.links link) m
 
--- the field, and what stands there and here
+-- the field, and its values in the datagram (there) and at this router (here)
 abbrev pub detail_text : Detail → List ℕ
 detail_text (detail.Area there here) =
     codes "area " ++ number_text there.0 ++ codes " there, " ++ number_text here.0 ++ codes " here"

@@ -1,4 +1,4 @@
--- Why a router drops what comes to it (RFC 2328, section 8.2), as it is told.
+-- Why a router drops what it receives (RFC 2328, section 8.2), as it is printed.
 use Rattle.std.specs.Prelude.{ℕ, List, [], ◌++◌, Option, None, Some, codes}
 use Rattle.ospf_area.specs.Outputs.{SentValue}
 use Rattle.ospf_area.specs.State.{AreaValue}

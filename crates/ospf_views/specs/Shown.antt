@@ -57,7 +57,7 @@ view_lines view.Listing = listing_lines
 view_lines view.Table = table_view_lines
 view_lines view.Floor = floor_alone_line
 
--- the line above it: what it is, of which router, and what stands in a line
+-- the line above it: what it is, of which router, and what a line contains
 abbrev pub heading : View → RouterId → Text
 heading view.Neighbours r =
     codes "neighbours of " ++ number_text r.0 ++ codes ": link, Router ID, state\n"

@@ -1,4 +1,4 @@
-//! Why a router drops what comes to it.
+//! Why a router drops what it receives.
 
 ghost use Rattle.std.specs.Fmt.{WritesOnOk};
 ghost use Rattle.std.specs.Prelude.{◌≡◌, IfOk, string_bytes};

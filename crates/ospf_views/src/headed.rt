@@ -1,4 +1,4 @@
-//! What is shown of a router, below a line that tells what it is.
+//! What is shown of a router, below a line that says what it is.
 
 ghost use Rattle.std.specs.Prelude.{IfErr, OnErr, OnOk};
 ghost use Rattle.std.specs.Io.KnownBytes.{Appends};

@@ -59,7 +59,7 @@ pub fn add_view(
     }
 }
 
-/// The line above what is shown of a router: what it is, of whom, and what stands in a line.
+/// The line above what is shown of a router: what it is, of which router, and what a line contains.
 ///
 /// `AllocError` where memory runs out.
 pub fn heading(alloc: Global, view: View, router: RouterId) -> Result<String, AllocError>

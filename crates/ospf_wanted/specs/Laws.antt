@@ -20,7 +20,7 @@ WantedAreOwn =
     (stub_router : Bool) (router : RouterId) (links : List LinkValue)
     → AllByRecursion (λ w. (wanted_key w).router ≡ router) (wanted_lsas stub_router router links)
 
--- what a router of links that are set up wants can be made: only want of memory is in the way
+-- a router can make the LSAs that it wants if its links are set up: only lack of memory prevents it
 abbrev pub WantedCanBeMade : Type 0
 WantedCanBeMade =
     (stub_router : Bool) (router : RouterId) (links : List LinkValue) → AreSetUp links

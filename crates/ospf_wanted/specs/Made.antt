@@ -15,12 +15,12 @@ abbrev pub lsa_value : ℤ → WantedValue → LsaValue
 lsa_value number (RouterLsa router links) = router_value router number links
 lsa_value number (NetworkLsa id router mask routers) = network_value id router number mask routers
 
--- what it needs to be made, by the fault that is told otherwise
+-- what is needed to make it, by the fault that is reported otherwise
 abbrev pub Needs : ℤ → WantedValue → LsaFault → Type 0
 Needs number (RouterLsa router links) f = RouterNeeds number links f
 Needs number (NetworkLsa id router mask routers) f = NetworkNeeds number mask routers f
 
--- it can be made with each number that is used: only want of memory is in the way
+-- it can be made with each number that is used: only lack of memory prevents it
 abbrev pub CanBeMade : WantedValue → Type 0
 CanBeMade w = (number : ℤ) → number ≢ unused_number → HasAll (Needs number w)
 
@@ -35,8 +35,8 @@ abbrev pub IsUnmadeIf : Option WantedValue → LsaFault → Type 0
 IsUnmadeIf None f = ⊥
 IsUnmadeIf (Some w) f = IsUnmade (Needs first_number w) f
 
--- whether an LSA of these contents is the wanted one, number and checksum aside: these are the six
--- bytes behind the first ten (12.4)
+-- whether an LSA of these contents is the wanted one, apart from number and checksum: these are the
+-- six bytes after the first ten (12.4)
 unfoldable pub says : List ℕ → WantedValue → Bool
 says contents w =
     let made = contents_bytes (lsa_value (pos 0) w) in

@@ -1,4 +1,4 @@
--- LSAs compared as they stand, piece by piece (RFC 2328, section 12.4).
+-- LSAs compared as bytes, piece by piece (RFC 2328, section 12.4).
 use Rattle.std.specs.Prelude.{ℕ, Bool, true, false, List, [], ◌∷◌, ◌&&◌, Option, None, Some, length, take, drop, nat_lt, if◌then◌else◌}
 use Rattle.std.specs.List.{flat_map}
 use Rattle.std.specs.Str.{bytes_eq}
@@ -9,13 +9,13 @@ use Rattle.ospf_lsa.specs.Link.{link_bytes}
 use Rattle.ospf_neighbour.specs.Neighbour.{NeighbourValue}
 use Rattle.ospf_wanted.specs.Wanted.{is_full, links_of_link, router_link}
 
--- what stands behind these bytes, where others begin with them
+-- what follows these bytes, if the others begin with them
 unfoldable pub behind : List ℕ → Option (List ℕ) → Option (List ℕ)
 behind front None = None
 behind front (Some bytes) =
     if bytes_eq (take (length front) bytes) front then Some (drop (length front) bytes) else None
 
--- nothing stands behind them
+-- nothing follows them
 unfoldable pub is_end : Option (List ℕ) → Bool
 is_end None = false
 is_end (Some []) = true

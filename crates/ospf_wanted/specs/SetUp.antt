@@ -1,4 +1,4 @@
--- Links of which own LSAs can be made and told apart (RFC 2328, section 12.4).
+-- Links for which own LSAs can be made and distinguished (RFC 2328, section 12.4).
 use Rattle.std.specs.Prelude.{◌≡◌, ◌≢◌, ◌≤◌, ℕ, List, [], ◌∷◌, length}
 use Rattle.std.specs.List.{AllByRecursion}
 use Rattle.ospf_base.specs.Masks.{IsMask}

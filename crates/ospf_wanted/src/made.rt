@@ -15,7 +15,7 @@ use std::alloc::Global;
 impl OwnLsa {
     /// The LSA with a number, at age 0.
     ///
-    /// A fault tells the first that it needs and that is missing; `Memory` where nothing else is.
+    /// A fault is the first need that is not met; `Memory` where all others are met.
     pub fn make(&self, number: i32, alloc: Global) -> Result<Lsa, LsaFault>
         ensures ok { IfOk result (λ lsa. IsMade (lsa_value number (wanted_value self.now)) lsa) }
         ensures needs { OnOk result (HasAll (Needs number (wanted_value self.now))) }
@@ -32,7 +32,7 @@ impl OwnLsa {
         }
     }
 
-    /// Whether an LSA is the wanted one, number and checksum aside (RFC 2328, section 12.4).
+    /// Whether an LSA is the wanted one, apart from number and checksum (RFC 2328, section 12.4).
     ///
     /// A fault is that of the wanted LSA, if it cannot be made.
     pub fn is_said_by(&self, copy: &LsaView<'_>, alloc: Global) -> Result<bool, LsaFault>

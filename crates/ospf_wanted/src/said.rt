@@ -1,4 +1,4 @@
-//! Whether a copy says what is wanted, compared where it stands: nothing is built for it.
+//! Whether a copy says what is wanted, compared in place: nothing is built for it.
 
 ghost use Rattle.std.specs.Prelude.{◌≡◌, ◌≤◌, ◌/◌, ◌-◌, ◌&&◌, pos, List, [], Some, length, take, drop, option_copied};
 ghost use Rattle.std.specs.List.{flat_map};
@@ -53,7 +53,7 @@ pub fn says_network(copy: &LsaView<'_>, router: RouterId, link: &AreaLink) -> bo
     is_network_lsa(copy, settings.address.0, router, settings.mask, rest)
 }
 
-// What stands behind the links of the router-LSA.
+// What follows the links of the router-LSA.
 #[tactic(auto, using(crate::proofs::SaidLemmas::behind_more, crate::proofs::SaidLemmas::behind_none))]
 fn behind_own_links<'a>(
     bytes: Option<&'a [u8]>,
@@ -71,7 +71,7 @@ fn behind_own_links<'a>(
     rest
 }
 
-// What stands behind the links of a link.
+// What follows the links of a link.
 fn behind_links_at<'a>(
     bytes: Option<&'a [u8]>,
     stub_router: bool,
@@ -92,7 +92,7 @@ fn behind_links_at<'a>(
     }
 }
 
-// What stands behind the links to the fully adjacent neighbours of a link.
+// What follows the links to the fully adjacent neighbours of a link.
 #[tactic(auto, using(crate::proofs::SaidLemmas::behind_more, crate::proofs::SaidLemmas::behind_none))]
 fn behind_neighbours<'a>(
     bytes: Option<&'a [u8]>,
@@ -111,7 +111,7 @@ fn behind_neighbours<'a>(
     rest
 }
 
-// What stands behind the link to a neighbour, if it is fully adjacent.
+// What follows the link to a neighbour, if it is fully adjacent.
 #[tactic(auto, using(crate::proofs::SaidLemmas::behind_none), unfolding(crate::specs::Said::router_link_bytes))]
 fn behind_neighbour<'a>(
     bytes: Option<&'a [u8]>,
@@ -129,14 +129,14 @@ fn behind_neighbour<'a>(
     }
 }
 
-// What stands behind a link.
+// What follows a link.
 fn behind_link<'a>(bytes: Option<&'a [u8]>, link: &Link) -> Option<&'a [u8]>
     ensures { option_copied result ≡ behind (link_bytes link.now) (option_copied bytes.entry) }
 {
     behind(bytes, &link_bytes(link))
 }
 
-// What stands behind some bytes, where others begin with them.
+// What follows some bytes, if the others begin with them.
 #[tactic(auto, unfolding(crate::specs::Said::behind))]
 fn behind<'a>(bytes: Option<&'a [u8]>, front: &[u8]) -> Option<&'a [u8]>
     ensures { option_copied result ≡ behind front.now (option_copied bytes.entry) }
@@ -164,8 +164,8 @@ fn link_bytes(link: &Link) -> [u8; 12]
     [a, b, c, d, e, f, g, h, link.kind.byte(), 0, i, j]
 }
 
-// Whether an LSA is the router-LSA of links, number and checksum aside, where
-// these bytes stand behind them.
+// Whether an LSA is the router-LSA of links, apart from number and checksum, if
+// these bytes follow them.
 fn is_router_lsa(lsa: &LsaView<'_>, router: RouterId, rest: Option<&[u8]>) -> bool
     ensures { (links : List Link) → option_copied rest.entry
         ≡ behind (flat_map link_bytes links) (Some (drop 24 lsa.now)) →
@@ -219,7 +219,7 @@ fn has_front(lsa: &[u8], header: &LsaHeader, body: &[u8]) -> bool
     front == wanted_front && size == wanted_size && start == body
 }
 
-// Whether nothing stands behind.
+// Whether nothing follows.
 #[tactic(auto, unfolding(crate::specs::Said::is_end))]
 fn is_end(bytes: Option<&[u8]>) -> bool
     ensures { result ≡ is_end (option_copied bytes.entry) }
@@ -227,7 +227,7 @@ fn is_end(bytes: Option<&[u8]>) -> bool
     matches!(bytes, Some([]))
 }
 
-// What stands behind the routers attached to a network.
+// What follows the routers attached to a network.
 fn behind_attached<'a>(
     bytes: Option<&'a [u8]>,
     router: RouterId,
@@ -257,7 +257,7 @@ fn past_all_lower<'a>(
     rest
 }
 
-// What stands behind the ID of a neighbour, if it is fully adjacent and of a lower Router ID.
+// What follows the ID of a neighbour, if it is fully adjacent and has a lower Router ID.
 #[tactic(auto, using(crate::proofs::SaidLemmas::behind_none), unfolding(crate::specs::Said::lower_bytes))]
 fn past_lower<'a>(
     bytes: Option<&'a [u8]>,
@@ -274,7 +274,7 @@ fn past_lower<'a>(
     }
 }
 
-// What stands behind a router's ID.
+// What follows a router's ID.
 fn behind_router<'a>(bytes: Option<&'a [u8]>, router: RouterId) -> Option<&'a [u8]>
     ensures { option_copied result ≡ behind (router_bytes router) (option_copied bytes.entry) }
 {
@@ -297,7 +297,7 @@ fn past_all_higher<'a>(
     rest
 }
 
-// What stands behind the ID of a neighbour, if it is fully adjacent and of a higher Router ID.
+// What follows the ID of a neighbour, if it is fully adjacent and has a higher Router ID.
 #[tactic(auto, using(crate::proofs::SaidLemmas::behind_none), unfolding(crate::specs::Said::higher_bytes))]
 fn past_higher<'a>(
     bytes: Option<&'a [u8]>,
@@ -314,8 +314,8 @@ fn past_higher<'a>(
     }
 }
 
-// Whether an LSA is the network-LSA of routers, number and checksum aside, where
-// these bytes stand behind them.
+// Whether an LSA is the network-LSA of routers, apart from number and checksum, if
+// these bytes follow them.
 fn is_network_lsa(
     lsa: &LsaView<'_>,
     id: u32,

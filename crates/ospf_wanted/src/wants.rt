@@ -226,7 +226,7 @@ fn attached_routers(
     Ok(routers)
 }
 
-// The fully adjacent neighbours whose IDs stand before a router's.
+// The fully adjacent neighbours whose IDs come before a router's.
 fn full_before(
     router: RouterId,
     neighbours: &[Neighbour],

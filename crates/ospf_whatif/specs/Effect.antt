@@ -12,8 +12,8 @@ use Rattle.ospf_whatif.specs.declared.effect.Loss.TheVariants.{Cut, Dearer, Gone
 use Rattle.ospf_whatif.specs.declared.effect.RouteChange.{RouteChange}
 use Rattle.ospf_whatif.specs.declared.failure.AreaFailure.{AreaFailure}
 
--- what becomes of a route where the area is left as `left`, and the table as `after`:
--- no route to its prefix, which nobody tells or somebody does; or one that costs more,
+-- what happens to a route if the area is left as `left`, and the table as `after`: there is no
+-- route to its prefix, which is no longer advertised, or still is; or there is one that costs more,
 -- or the same over other next hops
 abbrev pub IsLoss : List Advertisement → List Route → Route → Loss → Type 0
 IsLoss left after route Gone =

@@ -1,4 +1,4 @@
--- What an area comes to after a failure (RFC 2328, sections 12.4.1 and 16.1).
+-- What an area becomes after a failure (RFC 2328, sections 12.4.1 and 16.1).
 use Rattle.std.specs.Prelude.{◌≡◌, ◌≢◌, ◌⊎◌, ◌==◌, ◌&&◌, ◌||◌, ◌<◌, ◌∷◌, [], ℕ, Bool, false, not, Contains, List, length, map, filter, bit_and}
 use Rattle.std.specs.List.{fold, list_any}
 use Rattle.ospf_base.specs.Masks.{mask_of}
@@ -62,9 +62,9 @@ inner_of (fails.End router other subnet) adverts =
     inner_between subnet router other (links_by router adverts) (links_by other adverts)
 inner_of _ adverts = []
 
--- the links that the router-LSA of a router has lost once its routers have told of the failure:
--- an interface that is down makes no link, and one that is up makes none to a router that it
--- hears no more (section 12.4.1)
+-- the links that the router-LSA of a router has lost once the routers have advertised the failure:
+-- an interface that is down makes no link, and one that is up makes none to a router that it no
+-- longer hears (section 12.4.1)
 abbrev pub takes : List Link → failure.AreaFailure → RouterId → Link → Bool
 takes inner (fails.Link a b subnet) router l =
     ((router.0 == a.0) && is_wire_end inner l b subnet)
@@ -112,9 +112,9 @@ kept_after adverts [] router links = links
 kept_after adverts (f ∷ more) router links =
     kept_after (without f adverts) more router (kept_links (inner_of f adverts) f router links)
 
--- an LSA before and after, where each router keeps so much of its links: a network-LSA, and a
--- router-LSA that keeps all, stay byte for byte; another router-LSA is made anew of the links that
--- it keeps, with its number and age 0 (section 12.4.1)
+-- an LSA before and after, if each router keeps these of its links: a network-LSA, and a router-LSA
+-- that keeps all its links, stay the same byte for byte; any other router-LSA is rebuilt with the
+-- links that it keeps, with its number and age 0 (section 12.4.1)
 abbrev pub IsLeftBy : (RouterId → List Link → List Link) → List ℕ → List ℕ → Type 0
 IsLeftBy keep before after =
     let router = (key_of before).router in
@@ -128,9 +128,9 @@ abbrev pub IsLeftLsa
     : List Advertisement → List failure.AreaFailure → List ℕ → List ℕ → Type 0
 IsLeftLsa adverts failures before after = IsLeftBy (kept_after adverts failures) before after
 
--- ---- what cannot be made anew
+-- ---- what cannot be rebuilt
 
--- more links than a router-LSA of the largest size has that is made (appendix A.4.2)
+-- more links than fit into the largest router-LSA that is made (appendix A.4.2)
 abbrev pub IsLarge : Advertisement → Type 0
 IsLarge (router_lsa router links) = 1361 < length links
 IsLarge (network_lsa n router mask attached) = ⊥
@@ -139,7 +139,7 @@ IsLarge (network_lsa n router mask attached) = ⊥
 abbrev pub HasLarge : List Advertisement → Type 0
 HasLarge adverts = (advert : Advertisement) × Contains adverts advert × IsLarge advert
 
--- after the failure it is made anew, and would be too large
+-- after the failure it is rebuilt, and would be too large
 abbrev pub IsLeftLarge : List Link → failure.AreaFailure → Advertisement → Type 0
 IsLeftLarge inner f (router_lsa router links) =
     (kept_links inner f router links ≢ links) × (1361 < length (kept_links inner f router links))

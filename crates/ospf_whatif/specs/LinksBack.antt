@@ -13,7 +13,7 @@ use Rattle.ospf_graph.specs.declared.route.Route.{Route}
 abbrev pub IsLinked : List Advertisement → ℕ → Type 0
 IsLinked adverts n = (router : RouterId) × HasLinkTo adverts router Transit n
 
--- the LSA that stands for the network has this mask
+-- the LSA that counts for the network has this mask
 abbrev pub IsNetworkMask : List Advertisement → ℕ → ℕ → Type 0
 IsNetworkMask adverts n mask = (attached : List RouterId) × IsNetwork adverts n mask attached
 

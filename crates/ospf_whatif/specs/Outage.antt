@@ -51,7 +51,7 @@ AreMissing before after missing = AreLost (Contains before) (Contains after) mis
 abbrev pub left_of_area : List Advertisement → Outage → List Advertisement
 left_of_area adverts outage = without_all outage.failures.items adverts
 
--- the end stands in the area
+-- the end is in the area
 abbrev pub StandsIn : List Advertisement → End → Type 0
 StandsIn adverts e = IsEnd adverts e.prefix e.vertex e.cost
 
@@ -85,8 +85,9 @@ MayChange adverts gone changed prefix =
     ((e : End) × Contains gone e × (e.prefix ≡ prefix))
     ⊎ ((v : Vertex) × (cost : ℕ) × Contains changed v × IsEnd adverts prefix v cost)
 
--- what becomes of a route where the area is left so: no way to its prefix, which nobody tells or
--- somebody does; or a route that costs more, or the same over other next hops
+-- what happens to a route if this is left of the area: there is no path to its prefix, which is no
+-- longer advertised, or still is; or there is a route that costs more, or the same over other next
+-- hops
 abbrev pub IsLostAs : List Advertisement → RouterId → Route → Loss → Type 0
 IsLostAs left root route Gone =
     (Way left root route.prefix → ⊥) × (IsAdvertised left route.prefix → ⊥)

@@ -53,7 +53,7 @@ IsOwner adverts n router =
 abbrev pub IsNetworkNamed : List Advertisement → ℕ → Type 0
 IsNetworkNamed adverts n = IsLinked adverts n ⊎ ((router : RouterId) × IsOwner adverts n router)
 
--- new names that tell the networks of the area apart, and order them, as the old ones do
+-- new names that distinguish the networks of the area, and order them, as the old ones do
 pub record AreNames (name : ℕ → ℕ) (owner : ℕ → RouterId → RouterId) (adverts : List Advertisement)
     : Type 0 where
   -- no two networks get one name

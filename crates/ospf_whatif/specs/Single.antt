@@ -20,8 +20,8 @@ use Rattle.ospf_whatif.specs.declared.failure.AreaFailure.TheVariants as fails
 abbrev pub IsInterfaceIndex : ℕ → Type 0
 IsInterfaceIndex link_data = link_data < 0x1000000
 
--- a prefix that both routers tell by a type 3 link, which holds this address of the first and an
--- address out of which an edge leads back
+-- a prefix that both routers advertise by a type 3 link, and that holds this address of the first
+-- router and the address of an edge back from the other
 pub record IsShared (adverts : List Advertisement) (a b : RouterId) (address : ℕ) (prefix : Prefix)
     : Type 0 where
   pub numbered : IsInterfaceIndex address → ⊥
@@ -46,7 +46,7 @@ pub record IsWire (adverts : List Advertisement) (a b : RouterId) (subnet : Pref
   pub shared : IsShared adverts a b address subnet
   pub longest : (other : Prefix) → IsShared adverts a b address other → other.length ≤ subnet.length
 
--- the prefix is 0.0.0.0/8, by which such links are told
+-- the prefix is 0.0.0.0/8, by which such links are named
 pub record IsOfIndices (prefix : Prefix) : Type 0 where
   pub from_zero : prefix.address.0 ≡ 0
   pub of_eight : prefix.length ≡ 8
@@ -174,8 +174,8 @@ IsPairOf f pair =
     (a b : RouterId) × (subnet : Prefix) × (f ≡ fails.Link a b subnet)
     × (pair ≡ pair_code a.0 b.0)
 
--- the failure is that of all links between two routers whose pair is not there, so that no subnet
--- tells the links apart
+-- the failure is that of all links between two routers whose pair is not listed, so that no subnet
+-- distinguishes the links
 abbrev pub LinksGiven : List ℕ → Edge → failure.AreaFailure → Type 0
 LinksGiven wired edge f =
     (a b : RouterId) × (edge.from ≡ vertex.Router a) × (edge.to ≡ vertex.Router b) × (a.0 < b.0)

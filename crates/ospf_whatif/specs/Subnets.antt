@@ -63,7 +63,7 @@ is_inside subnet stub =
     nat_lt (mask_of subnet.length) stub.link_data
     && (bit_and stub.id (mask_of subnet.length) == subnet.address.0)
 
--- 0.0.0.0/8 stands for the links without addresses
+-- 0.0.0.0/8 represents the links without addresses
 abbrev pub indices : Link
 indices = record { id = 0; link_data = 0xFF000000; kind = kind.Stub; metric = 0 }
 

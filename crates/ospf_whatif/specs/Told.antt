@@ -1,4 +1,4 @@
--- Prefixes that somebody tells, reached or not.
+-- Prefixes that are advertised, reached or not.
 use Rattle.std.specs.Prelude.{◌≡◌, ⊤, ℕ, List}
 use Rattle.ospf_base.specs.declared.prefix.Prefix.{Prefix}
 use Rattle.ospf_graph.specs.declared.graph.Edge.{Edge}
@@ -13,7 +13,7 @@ abbrev pub IsLive : List Advertisement → Vertex → Type 0
 IsLive adverts (Router r) = ⊤
 IsLive adverts (Network n) = (e : Edge) × IsEdge adverts e × (e.from ≡ Network n)
 
--- the prefix stands at one of those
+-- the prefix is advertised at one of those
 abbrev pub IsAdvertised : List Advertisement → Prefix → Type 0
 IsAdvertised adverts prefix =
     (v : Vertex) × (cost : ℕ) × IsEnd adverts prefix v cost × IsLive adverts v

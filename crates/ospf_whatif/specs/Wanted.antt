@@ -55,7 +55,7 @@ LinksGoDown =
     → AreSpared inner (fails.Link router other subnet) router stub_router back →
     IsLeft inner (fails.Link router other subnet) router stub_router front before after back
 
--- behind a switch the interface goes down, and that at the other end stays up
+-- the link runs through a switch: the interface goes down, and the one at the other end stays up
 abbrev pub EndsGoDown : Type 0
 EndsGoDown =
     (inner : List Link) (router other : RouterId) (subnet : Prefix) (stub_router : Bool)
@@ -96,8 +96,8 @@ RoutersStop =
     → AreSpared inner (fails.Router gone) router stub_router back →
     IsLeft inner (fails.Router gone) router stub_router front before after back
 
--- behind a switch the interface stays up, and the router at the other end, whose interface went
--- down, is heard no more
+-- the link runs through a switch: the interface stays up, and no longer hears the router at the
+-- other end, whose interface went down
 abbrev pub FarEndsStayUp : Type 0
 FarEndsStayUp =
     (inner : List Link) (router gone : RouterId) (subnet : Prefix) (stub_router : Bool)

@@ -50,12 +50,12 @@ impl From<LsaFault> for WithoutFault {
     }
 }
 
-/// The LSAs of an area after a failure, once its routers have told of it: those of the same keys,
-/// without the links that the failure takes. What it does not touch stays byte for byte; a changed
-/// router-LSA is made anew, with its number and age 0.
+/// The LSAs of an area after a failure, once its routers have advertised it: those of the same
+/// keys, without the links that the failure takes. An LSA that it does not touch stays the same
+/// byte for byte; a changed router-LSA is rebuilt, with its number and age 0.
 ///
-/// `Links` where a changed router-LSA keeps more links than can be told in one of `LARGEST_LSA`
-/// bytes, which are 1,361; else `Memory`.
+/// `Links` if a changed router-LSA keeps more than the 1,361 links that fit into `LARGEST_LSA`
+/// bytes; else `Memory`.
 pub fn without(
     alloc: Global,
     listing: &Listing,
@@ -65,7 +65,7 @@ pub fn without(
         ≡ without failure.now (advertisements_of listing.now)) }
     ensures bytes { IfOk result (AllZip
         (IsLeftLsa (advertisements_of listing.now) (failure.now ∷ [])) listing.now) }
-    // Too many links are told only where an LSA would have them, and then there is no listing.
+    // `Links` is returned only if an LSA would have too many, and then there is no listing.
     ensures large { result ≡ Err WithoutFault.Links →
         HasLeftLarge failure.now (advertisements_of listing.now) }
     ensures small { OnOk result
@@ -170,7 +170,7 @@ fn lsa_without(
     ensures bytes { IfOk result (IsLeftBy (kept_links inner.now failure.now) lsa.now) }
     ensures key { IfOk result (λ left. key_of left ≡ key_of lsa.now) }
     ensures young { IfOk result (λ left. (header_of left).age < max_age) }
-    // It is too long exactly where it is made anew of more links than one of the largest size has.
+    // It is too long exactly if it is rebuilt with more links than one of the largest size has.
     ensures large { result ≡ Err LsaFault.Length →
         IsLeftLarge inner.now failure.now (advertisement_of lsa.now) }
     ensures small { OnOk result
@@ -197,7 +197,7 @@ fn router_without(
     ensures bytes { IfOk result (IsLeftBy (kept_links inner.now failure.now) lsa.now) }
     ensures key { IfOk result (λ left. key_of left ≡ key_of lsa.now) }
     ensures young { IfOk result (λ left. (header_of left).age < max_age) }
-    // It is too long exactly where it is made anew of more links than one of the largest size has.
+    // It is too long exactly if it is rebuilt with more links than one of the largest size has.
     ensures large { result ≡ Err LsaFault.Length →
         IsLeftLarge inner.now failure.now (advertisement_of lsa.now) }
     ensures small { OnOk result

@@ -11,10 +11,10 @@ use ospf_graph::Route;
 /// What becomes of a route.
 #[derive(Debug, Drop)]
 pub enum Loss {
-    /// Its prefix is reached no more, and nobody in the area tells it any more.
+    /// Its prefix is no longer reached, and no longer advertised in the area.
     Gone,
-    /// Its prefix is reached no more, though somebody in the area
-    /// tells it: the area has come apart.
+    /// Its prefix is no longer reached, though it is still advertised
+    /// in the area: the area is partitioned.
     Cut,
     /// Its prefix costs more, by this route.
     Dearer(Route),

@@ -17,14 +17,14 @@ use ospf_lsa::{Link, LinkKind};
 pub enum AreaFailure {
     /// A point-to-point link: that of two routers in one subnet, the
     /// longest that holds its addresses. The interfaces at both ends
-    /// go down. Links without addresses are told by 0.0.0.0/8, in
-    /// which their Link Data lies.
+    /// go down. Links without addresses are named by 0.0.0.0/8, which
+    /// holds their Link Data.
     Link {
         a: RouterId,
         b: RouterId,
         subnet: Prefix,
     },
-    /// One end of a point-to-point link, behind a switch: the interface of the first router goes
+    /// One end of a point-to-point link through a switch: the interface of the first router goes
     /// down, that of the other stays up, and their adjacency ends.
     End {
         router: RouterId,

@@ -27,10 +27,11 @@ const BITS_BEFORE_INDEX: u8 = 8;
 const INDICES: u32 = 1 << (32 - BITS_BEFORE_INDEX);
 
 /// What may fail in an area, each once, in the order of `AreaFailure`: links with a subnet, other
-/// links, attachments, networks and routers, each by its routers, its subnet or its network. Where
-/// two routers have links in subnets, those between them without addresses are told by 0.0.0.0/8.
+/// links, attachments, networks and routers, each named by its routers, its subnet or its network.
+/// If two routers have links in subnets, the links between them without addresses are named by
+/// 0.0.0.0/8.
 ///
-/// `AllocError` where memory runs out.
+/// `AllocError` if memory runs out.
 pub fn single_failures(alloc: Global, listing: &Listing) -> Result<Vec<AreaFailure>, AllocError>
     ensures all { IfOk result (λ all. AreFailures (advertisements_of listing.now) all.items) }
     ensures in_order { IfOk result (λ all. AllPairs IsFailureBefore all.items) }
@@ -45,7 +46,7 @@ pub fn single_failures(alloc: Global, listing: &Listing) -> Result<Vec<AreaFailu
     Ok(failures)
 }
 
-// The links between two routers in subnets that both tell.
+// The links between two routers in subnets that both advertise.
 fn wires_of(
     alloc: Global,
     listing: &Listing,
@@ -263,7 +264,7 @@ fn push_pair(failure: &AreaFailure, pairs: &mut Vec<u64>) -> Result<(), AllocErr
     }
 }
 
-// Adds what edges give beside links in subnets.
+// Adds what edges give, apart from links in subnets.
 fn add_edges(
     wired: &Pairs,
     edges: &[Edge],
@@ -278,7 +279,7 @@ fn add_edges(
     Ok(())
 }
 
-// Adds what an edge gives beside links in subnets.
+// Adds what an edge gives, apart from links in subnets.
 fn add_edge(wired: &Pairs, edge: &Edge, failures: &mut Vec<AreaFailure>) -> Result<(), AllocError>
     ensures { OnOk result (Adds (EdgeGiven wired.now edge.now) failures.old.items
         failures.new.items) }

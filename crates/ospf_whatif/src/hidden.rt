@@ -66,7 +66,7 @@ fn add_hidden(
     }
 }
 
-// Adds what the edges at a network give beside a stub router there.
+// Adds a cost for each other router on the stub router's network, if there are only these two.
 fn add_others(
     near: &[Edge],
     router: RouterId,

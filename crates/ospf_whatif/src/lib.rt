@@ -1,14 +1,14 @@
-//! What an area comes to without a link, an attachment, a network or a router of it: the LSAs
-//! that its routers would have after the failure, and what changes in a routing table (RFC
-//! 2328, sections 12.4.1 and 16.1).
+//! An area without one of its links, attachments, networks or routers: the LSAs that its routers
+//! would have after the failure, and what changes in a routing table (RFC 2328, sections 12.4.1
+//! and 16.1).
 //!
 //! What fails together depends on what carries the links (`Carrier`).
 //!
-//! That what routers then want to list is what is left here is a law (`links_go_down`,
-//! `interfaces_go_down`, `routers_stop`; behind switches `ends_go_down`, `far_ends_stay_up`; of
-//! failures that come together `failures_come_together`). Those on a network with another DR list
-//! it under another name (`designated_routers_change`), which changes no routing table
-//! (`networks_are_but_names`, `only_links_back_count`).
+//! It is a law that the links left here are those that the routers then want to advertise
+//! (`links_go_down`, `interfaces_go_down`, `routers_stop`; through switches `ends_go_down`,
+//! `far_ends_stay_up`; for failures that happen together `failures_come_together`). Routers on a
+//! network with another DR list it under another name (`designated_routers_change`), which changes
+//! no routing table (`networks_are_but_names`, `only_links_back_count`).
 #![tactic(auto)]
 
 mod area;

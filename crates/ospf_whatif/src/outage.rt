@@ -82,10 +82,10 @@ impl Outage {
     }
 
     /// What failures that happen together take from the graph of the area of a listing, as
-    /// `without_all` leaves that. Where there is more than one it compares the graphs of before and
-    /// after, and their router-LSAs must be small enough to be made anew.
+    /// `without_all` leaves it. For more than one failure it compares the graphs before and after,
+    /// and the router-LSAs of the listing must be small enough to be rebuilt.
     ///
-    /// `AllocError` where memory runs out.
+    /// `AllocError` if memory runs out.
     pub fn of_all(
         alloc: Global,
         listing: &Listing,
@@ -195,7 +195,7 @@ fn has_end_in_order(ends: &[End], end: End) -> bool
     ends_to(ends, end.prefix).contains(&end)
 }
 
-// A failure, and others behind it.
+// A failure, followed by others.
 fn alone_with(
     alloc: Global,
     first: AreaFailure,
@@ -310,7 +310,7 @@ fn stays(failure: &AreaFailure, inner: &[Link], edge: &Edge, near: &[Edge]) -> b
     }
 }
 
-// Whether an edge stays beside a link of two routers in a subnet that fails, or an end of it.
+// Whether an edge stays when a link of two routers in a subnet fails, or an end of it.
 fn stays_beside(
     edge: &Edge,
     inner: &[Link],

@@ -56,15 +56,15 @@ impl KeptRoot {
         Ok(KeptRoot { root, paths })
     }
 
-    /// What becomes of the routes of the router's table where failures take this from the area of
-    /// a listing: each route that the table of the area after the failure does not have, once, in
-    /// the order of prefixes. No other prefix is reached after a failure, and none at a lower cost
-    /// (`failures_take_away`). Where no least path goes over an edge that they take there
-    /// is no search, and only routes are looked at whose prefix loses an end. Else what one reached
-    /// over it is found anew, beside copies of the root and of the vertices next to what goes; and
-    /// all is searched anew where going on from these takes too long.
+    /// What happens to the routes of the router's table when failures take this from the area of a
+    /// listing: each route that the table of the area after the failure does not have, once, in
+    /// the order of prefixes. A failure makes no other prefix reachable, and none at a lower cost
+    /// (`failures_take_away`). If no shortest path uses an edge that the failures take, there is no
+    /// search, and only routes whose prefix loses an end are checked. Otherwise what was reached
+    /// over such an edge is computed again, with copies of the root and of the vertices next to
+    /// what is taken; if it takes too long to continue from these, all is computed from scratch.
     ///
-    /// `AllocError` where memory runs out.
+    /// `AllocError` if memory runs out.
     pub fn effect(
         &self,
         alloc: Global,
@@ -296,7 +296,7 @@ fn loss_by(before: &Route, after: Route) -> Option<Loss>
     }
 }
 
-// Whether somebody tells a prefix, of whose ends these are left.
+// Whether a prefix, of which these ends are left, is still advertised.
 fn is_told(area: &AreaGraph, outage: &Outage, ends: &[End], prefix: Prefix) -> bool
     requires { AreEdgesInOrder area.now.edges.items }
     ensures { (adverts : List Advertisement) → IsAreaGraph adverts area.now →

@@ -8,7 +8,7 @@ pub fn links_go_down()
     ensures { LinksGoDown }
 {}
 
-/// Where the interface at one end of a link behind a switch goes down, the router wants exactly the
+/// If the interface at one end of a link through a switch goes down, the router wants exactly the
 /// links that `AreaFailure::End` leaves.
 pub fn ends_go_down()
     ensures { EndsGoDown }

@@ -76,7 +76,7 @@ fn inner_among(
     Ok(inner)
 }
 
-// Adds what stands for links without addresses, if the subnet holds it and is shorter.
+// Adds the link that represents links without addresses, if the subnet holds it and is shorter.
 fn push_indices(subnet: Prefix, inner: &mut Vec<Link>) -> Result<(), AllocError>
     ensures { OnOk result (inner.new.items
         ≡ inner.old.items ++ filter (is_inside subnet) (indices ∷ [])) }
@@ -88,7 +88,7 @@ fn push_indices(subnet: Prefix, inner: &mut Vec<Link>) -> Result<(), AllocError>
     Ok(())
 }
 
-// 0.0.0.0/8, which stands for links without addresses.
+// 0.0.0.0/8, which represents links without addresses.
 fn indices() -> Link
     ensures { result ≡ indices }
 {
@@ -140,7 +140,7 @@ fn is_shared(a: RouterId, b: RouterId, mine: &[Link], theirs: &[Link], stub: Lin
     is_stub_link(stub) && is_end_in(stub, a, theirs) && is_end_in(stub, b, mine)
 }
 
-// Whether a router of these links tells the subnet, and has a link in it to another router.
+// Whether a router with these links advertises the subnet, and has a link in it to another router.
 fn is_end_in(stub: Link, other: RouterId, links: &[Link]) -> bool
     ensures { result ≡ is_end_in stub other links.now }
 {

@@ -22,17 +22,16 @@ abbrev pub IsHelp : JobFault → Type 0
 IsHelp (fault.Words e) = (kind_of e ≡ DisplayHelp) ⊎ (kind_of e ≡ DisplayVersion)
 IsHelp _ = ⊥
 
--- what is told of a word that is no address
+-- the line about a word that is no address
 abbrev pub address_line : List ℕ → List ℕ
 address_line word = word ++ codes ": not an address\n"
 
--- what is told on standard error of words that are refused, but for the texts of `clap`
+-- what is printed on standard error for words that are refused, except for the texts of `clap`
 abbrev pub IsToldOf : JobFault → Option (List ℕ) → Option (List ℕ) → Type 0
 IsToldOf (fault.Address word) old new = Appends old new (address_line (string_bytes word))
 IsToldOf _ old new = ⊤
 
--- the fault of words that are to be values: this holds of the word that
--- it names, unless memory ran out
+-- the fault of words that must be values: P holds for the word that it names, unless memory ran out
 abbrev pub IsFaultOfValue : (List ℕ → Type 0) → JobFault → Type 0
 IsFaultOfValue P (fault.Words e) = ⊥
 IsFaultOfValue P (fault.Address word) = P (string_bytes word)
@@ -43,7 +42,7 @@ abbrev pub IsFaultOfNoValue : JobFault → Type 0
 IsFaultOfNoValue (fault.Address word) = ⊥
 IsFaultOfNoValue _ = ⊤
 
--- what becomes of an error of `clap`: want of memory is told as that
+-- what an error of `clap` becomes: out of memory is reported as that
 abbrev pub IsFaultOfWords : Error → JobFault → Type 0
 IsFaultOfWords e f =
     ((kind_of e ≡ OutOfMemory) × (f ≡ fault.Memory))

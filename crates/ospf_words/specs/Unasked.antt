@@ -49,14 +49,14 @@ pub record IsWrongInPath (entered : Option (Text × List Row)) (word : Text) : T
   pub has_address : first_of (codes "address") rows ≡ Some address
   pub first : IsFirstWrong (from ∷ address ∷ []) word
 
--- what is to be looked up in a run spells no address
+-- the lookup of a run is not an address
 pub record IsWrongInRun (entered : Option (Text × List Row)) (word : Text) : Type 0 where
   pub rows : List Row
   pub run : entered ≡ Some (codes "run", rows)
   pub has_lookup : first_of (codes "lookup") rows ≡ Some word
   pub wrong : IsNoAddress word
 
--- the first word that is to be an address, and spells none
+-- the first word that must be an address and is not one
 abbrev pub IsWrongValue : Option (Text × List Row) → Text → Type 0
 IsWrongValue entered word =
     IsWrongInTable entered word ⊎ IsWrongInFailures entered word ⊎ IsWrongInPath entered word
@@ -78,12 +78,12 @@ LacksInPath rows =
     (first_of (codes "from") rows ≡ None) ⊎ (first_of (codes "address") rows ≡ None)
     ⊎ HasNoChoice (unwrap_or (all_of (codes "choices") rows) [])
 
--- the lines of a journal are to be JSON, and there is no journal
+-- the lines of a journal are wanted as JSON, and there is no journal
 abbrev pub IsJsonAlone : List Row → Type 0
 IsJsonAlone rows =
     IsFlag (one_of (codes "json") rows) true × (first_of (codes "log") rows ≡ None)
 
--- what `run` lacks beside its ticks: the number of milliseconds, files, or a journal for its JSON
+-- what `run` lacks besides its ticks: the number of milliseconds, files, or a journal for its JSON
 abbrev pub LacksInRun : List Row → Type 0
 LacksInRun rows =
     IsNoNumber (one_of (codes "tick") rows) ⊎ (all_of (codes "files") rows ≡ None)
@@ -95,21 +95,21 @@ LacksInSim rows =
     (first_of (codes "script") rows ≡ None) ⊎ (all_of (codes "files") rows ≡ None)
     ⊎ IsJsonAlone rows
 
--- something is to be looked up in a table or left out
+-- a table is wanted with lookups or with parts left out
 abbrev pub IsMoreInTable : List Row → Type 0
 IsMoreInTable rows =
     (unwrap_or (all_of (codes "addresses") rows) [] ≢ [])
     ⊎ (unwrap_or (all_of (codes "without") rows) [] ≢ [])
 
--- a table is to be printed as JSON, and more
+-- a table is wanted as JSON, and also lookups or parts left out
 abbrev pub IsMoreInJson : List Row → Type 0
 IsMoreInJson rows = IsFlag (one_of (codes "json") rows) true × IsMoreInTable rows
 
--- all tables are to be printed, and more
+-- all tables are wanted, and also lookups or parts left out
 abbrev pub IsMoreOfAll : List Row → Type 0
 IsMoreOfAll rows = (first_of (codes "root") rows ≡ Some (codes "all")) × IsMoreInTable rows
 
--- all faults are to be told, and as JSON
+-- all faults are wanted, and as JSON
 abbrev pub IsAllInJson : List Row → Type 0
 IsAllInJson rows =
     IsFlag (one_of (codes "all") rows) true × IsFlag (one_of (codes "json") rows) true
@@ -164,9 +164,9 @@ pub record IsUnendingRun (entered : Option (Text × List Row)) : Type 0 where
   pub ticks : HasTicks rows None
   pub lacks : LacksInRun rows
 
--- the words are refused for this, where any word may stand in place of the ticks: `forever` is
--- among them and `clap` refuses them by an error of this kind, or it refuses nothing, and a run
--- without a last tick lacks something, or has a value that is no address
+-- the words are refused for this, with any word allowed in place of the ticks: `forever` is among
+-- them and `clap` refuses them with an error of this kind, or it refuses nothing, and a run without
+-- a last tick lacks something, or has a value that is no address
 abbrev pub IsUnending : List Text → JobFault → Type 0
 IsUnending words (fault.Words e) =
     (HasForever words × IsAmong (kind_of e) (fault_of endless_app words))

@@ -121,8 +121,7 @@ path_app =
 abbrev pub option_rule : Text → Rule
 option_rule name = record (new_rule name) { long = Some name; value_names = 1 }
 
--- the command `sim`: a script, files, the options of what is to be written, and whether refused
--- lines count
+-- the command `sim`: a script, files, the options of what to write, and whether refused lines count
 abbrev pub sim_app : App
 sim_app =
     with_rule (with_rule (with_rule (with_rule (with_rule (with_rule (with_rule
@@ -196,7 +195,7 @@ app_with ticks =
 abbrev pub command_app : App
 command_app = app_with ticks_rule
 
--- and where any word may stand in their place
+-- and with any word allowed in their place
 abbrev pub endless_app : App
 endless_app = app_with (one_rule (codes "ticks"))
 
@@ -212,7 +211,7 @@ pub record IsFlag (text : Option Text) (given : Bool) : Type 0 where
   pub set : text ≡ Some (codes "true") → given ≡ true
   pub unset : text ≡ Some (codes "false") → given ≡ false
 
--- the root and the addresses that `clap` reads after `table`, where nothing is to be left out
+-- the root and the addresses that `clap` reads after `table`, if nothing is left out
 pub record IsTableJob (rows : List Row) (t : TableJob) : Type 0 where
   pub text : Text
   pub has_root : first_of (codes "root") rows ≡ Some text
@@ -221,8 +220,7 @@ pub record IsTableJob (rows : List Row) (t : TableJob) : Type 0 where
   pub whole : unwrap_or (all_of (codes "without") rows) [] ≡ []
   pub plain : IsFlag (one_of (codes "json") rows) false
 
--- the root and the addresses that `clap` reads after `table`, and the
--- names of what is to be left out
+-- the root and the addresses that `clap` reads after `table`, and the names of what is left out
 pub record IsWithoutJob (rows : List Row) (root : RouterId) (names : List (String Global))
     (addresses : List Addr) : Type 0 where
   pub text : Text
@@ -233,8 +231,8 @@ pub record IsWithoutJob (rows : List Row) (root : RouterId) (names : List (Strin
   pub some : names ≢ []
   pub plain : IsFlag (one_of (codes "json") rows) false
 
--- the root that `clap` reads after `table`, where it is to be printed as JSON: nothing
--- is to be looked up or left out
+-- the root that `clap` reads after `table`, if the table is printed as JSON: without lookups, and
+-- with nothing left out
 pub record IsTableInJson (rows : List Row) (root : RouterId) : Type 0 where
   pub text : Text
   pub has_root : first_of (codes "root") rows ≡ Some text
@@ -243,7 +241,7 @@ pub record IsTableInJson (rows : List Row) (root : RouterId) : Type 0 where
   pub whole : unwrap_or (all_of (codes "without") rows) [] ≡ []
   pub json : IsFlag (one_of (codes "json") rows) true
 
--- in which form it is to be printed
+-- the form in which it is printed
 abbrev pub IsForm : Option Text → Form → Type 0
 IsForm text form.Text = IsFlag text false
 IsForm text form.Json = IsFlag text true
@@ -310,9 +308,9 @@ pub record IsPathJob (rows : List Row) (from : RouterId) (address : Addr) (choic
   pub address_is : ReadsAddress address_text (Ok address)
   pub choices_are : AreChoices (unwrap_or (all_of (codes "choices") rows) []) choices
 
--- what is to be printed of LSAs: by `lsas` each in words, or with its flags as a drawing or as
--- JSON, by `table` with `all` as its root, no addresses and nothing left out, all tables, or with
--- its flag the table of a router as JSON, and by `path` a way
+-- what is printed about LSAs: by `lsas` each in words, or with its flags as a drawing or as JSON;
+-- by `table` with `all` as its root, no addresses and nothing left out, all tables, or with its
+-- flag the table of a router as JSON; and by `path` a path
 abbrev pub IsInspectJob : Option (Text × List Row) → InspectJob → Type 0
 IsInspectJob entered (Lsas f) =
     (rows : List Row) × (entered ≡ Some (codes "lsas", rows))
@@ -338,7 +336,7 @@ lsas_asked true false = Some Drawing
 lsas_asked false true = Some (Lsas form.Json)
 lsas_asked false false = Some (Lsas form.Text)
 
--- how much is to be told of files: of all faults with `--all`, of the first with `--explain` alone
+-- how much is printed about files: all faults with `--all`, the first with `--explain` only
 abbrev pub telling_of : Bool → Bool → Telling
 telling_of explain true = telling.AllExplained
 telling_of true false = telling.Explained
@@ -350,7 +348,7 @@ IsTelling explain all telling.AllExplained = IsFlag all true
 IsTelling explain all telling.Explained = IsFlag all false × IsFlag explain true
 IsTelling explain all telling.Verdict = IsFlag all false × IsFlag explain false
 
--- the files that `clap` reads after `check`, and the flags; all faults are not told as JSON
+-- the files that `clap` reads after `check`, and the flags; all faults cannot be printed as JSON
 pub record IsCheckJob (rows : List Row) (c : CheckJob) : Type 0 where
   pub texts : List Text
   pub has_files : all_of (codes "files") rows ≡ Some texts
@@ -387,8 +385,7 @@ IsNumberIfAny (Some text) None = (number : ℕ) → IsNumber text number → num
 IsNumberIfAny None None = ⊤
 IsNumberIfAny None (Some number) = ⊥
 
--- how many ticks a run has: those that a text is read as; without a last one where
--- `forever` stands in their place
+-- how many ticks a run has: the number in the text; without a last one if the text is `forever`
 abbrev pub HasTicks : List Row → Option ℕ → Type 0
 HasTicks rows (Some ticks) =
     (text : Text) × (one_of (codes "ticks") rows ≡ Some text) × IsNumber text ticks
@@ -443,13 +440,13 @@ abbrev pub IsEndlessIn : Option (Text × List Row) → Job → Type 0
 IsEndlessIn entered j =
     (rows : List Row) × (entered ≡ Some (codes "run", rows)) × IsEndlessJob rows j
 
--- the job is that of such a run, as `clap` reads the words where any
--- word stands in place of the ticks
+-- the job is that of such a run, as `clap` reads the words with any word allowed in place of the
+-- ticks
 abbrev pub IsEndless : List Text → Job → Type 0
 IsEndless words = IsEndlessIn (subcommand_of endless_app words)
 
--- `clap` refuses nothing of the words and reads the job in them, where the ticks of a run are a
--- number, or where any word may stand in their place, and the job is a run without a last one
+-- `clap` refuses nothing of the words and reads the job in them. Either the ticks of a run are a
+-- number; or any word is allowed in their place, and the job is a run without a last tick
 abbrev pub IsAsked : List Text → Job → Type 0
 IsAsked words j =
     ((fault_of command_app words ≡ []) × IsJobOf (subcommand_of command_app words) j)

@@ -126,7 +126,7 @@ fn with_failures<'a>(program: Command<'a>, alloc: Global) -> Result<Command<'a>,
     program.subcommand(failures)
 }
 
-// Whether each route that changes is told.
+// Whether each route that changes is printed.
 fn each_arg<'a>(alloc: Global) -> Arg<'a>
     ensures rule { rule_of result ≡ flag_rule (codes "each") }
     ensures local { result.global ≡ false }
@@ -245,7 +245,7 @@ fn explain_arg<'a>(alloc: Global) -> Arg<'a>
         .help("Says which key of a refused file is wrong, and what belongs there")
 }
 
-// Whether that is said of all faults.
+// Whether that is printed for all faults.
 fn all_arg<'a>(alloc: Global) -> Arg<'a>
     ensures rule { rule_of result ≡ flag_rule (codes "all") }
     ensures local { result.global ≡ false }

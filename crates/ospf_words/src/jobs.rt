@@ -19,7 +19,7 @@ use thiserror::Error;
 pub enum Job {
     /// Computes the routing table of a router over the LSAs on standard input.
     Table(TableJob),
-    /// Tells what failures do to the area of the LSAs on standard input.
+    /// Prints what failures do to the area of the LSAs on standard input.
     Failures(FailuresJob),
     /// Prints what the LSAs on standard input say.
     Inspect(InspectJob),
@@ -31,12 +31,12 @@ pub enum Job {
     Run(RunJob),
 }
 
-/// Configurations that are to be checked.
+/// Configurations to check.
 #[derive(Debug, Drop)]
 pub struct CheckJob {
     /// The names of their files.
     pub files: Vec<String>,
-    /// How much is told of each.
+    /// How much is printed about each.
     pub how: Telling,
     /// Whether they are of one area, and are judged together.
     pub area: bool,
@@ -100,7 +100,7 @@ pub enum JobFault {
     /// The words fit no command, or ask for help or for the version.
     #[error("{0}")]
     Words(clap::Error),
-    /// A word that stands for an address or a Router ID is none.
+    /// A word that must be an address or a Router ID is not one.
     #[error("{0}: not an address")]
     Address(String),
     /// Memory ran out.

@@ -19,10 +19,10 @@ use ospf_table::TableJob;
 use std::alloc::{AllocError, Global};
 use std::str::FromStr;
 
-// The word that stands for all roots.
+// The word that means all roots.
 const ALL: &str = "all";
 
-// The word that stands in place of the ticks of a run without a last one.
+// The word in place of the ticks of a run without a last one.
 const FOREVER: &str = "forever";
 
 /// The fault of words of which one is not UTF-8: `Words`, or `Memory` where memory ran out.
@@ -40,11 +40,11 @@ pub fn not_text(alloc: Global) -> JobFault
     }
 }
 
-/// Reads the program's words, without its own name. The word `forever` may stand
-/// in place of the ticks of a run.
+/// Reads the program's words, without its own name. The ticks of a run are a number or the word
+/// `forever`.
 ///
-/// The error is `Words` where they fit no command, or ask for help or the version, `Address` with
-/// the first word that is to be an address and is none, and `Memory` where memory ran out.
+/// The error is `Words` if they fit no command, or ask for help or the version, `Address` with the
+/// first word that must be an address and is not one, and `Memory` if memory ran out.
 pub fn job(alloc: Global, words: &[&str]) -> Result<Job, JobFault>
     ensures ok { IfOk result (IsAsked (map (λ w. w.now) words.now)) }
     ensures fault { IfErr result (IsUnasked (map (λ w. w.now) words.now)) }
@@ -74,9 +74,9 @@ fn counted_job(alloc: Global, words: &[&str]) -> Result<Job, JobFault>
     }
 }
 
-// Reads words where the ticks of a run are any word: the job is that of a run without a
-// last tick, if they ask for one. Words that are refused here too are told of only where
-// `forever` is among them.
+// Reads words with any word allowed as the ticks of a run. The job is that of a run without a last
+// tick, if they ask for one. If the words are refused here too, this is reported only if `forever`
+// is among them.
 fn endless_job(alloc: Global, words: &[&str]) -> Result<Option<Job>, JobFault>
     ensures ok { IfOk result (λ found. IfSome found (IsEndless (map (λ w. w.now) words.now))) }
     ensures accepted { IfOk result (λ found. IfSome found

@@ -1,4 +1,4 @@
--- What a world event does in code: what it names happens to the router that it names.
+-- What a world event does in code, at the router that it names.
 use Rattle.std.specs.Prelude.{◌≡◌, ◌++◌, ℕ, List, None, Some, Result, Err, length, slice_get, slice_set}
 use Rattle.ospf_base.specs.declared.ids.RouterId.{RouterId}
 use Rattle.ospf_event.specs.declared.event.WorldEvent.{WorldEvent}
@@ -16,10 +16,10 @@ pub record Changes (r : RouterId) (s s' : SlotValue) (before after : List SlotVa
   pub was : slice_get before place ≡ Some s
   pub is : after ≡ slice_set before place s'
 
--- what the event names happens to the router that it names, by the rules of its slot: it is
--- refused, or the router starts exactly as it is configured, stops, or takes the exact step of what
--- the event feeds it. The log of ticks grows by those that are taken, and what the rounds have
--- offered stays. A router that the world does not have is refused
+-- the event is applied to the router that it names, by the rules of its slot: it is refused, or the
+-- router starts exactly as it is configured, stops, or takes the exact step of what the event feeds
+-- it. The log of ticks grows by the ticks that are taken, and what the rounds have offered is
+-- unchanged. An event for a router that the world does not have is refused
 pub data Does (event : WorldEvent) (before : WorldValue) (result : Result (Unit {0}) WorldFault)
     (after : WorldValue) : Type 0 where
   NoRouter : place_of before.slots (router_in event).0 ≡ None → result ≡ Err fault.NoRouter

@@ -1,4 +1,4 @@
--- What chance draws in a world.
+-- What is drawn at random in a world.
 use Rattle.std.specs.Prelude.{◌==◌, ◌%◌, ℕ, zero, suc, Bool, Option, None, Some, length, slice_get, is_some, nat_lt, option_map, option_and_then, if◌then◌else◌}
 use Rattle.rand_pcg.specs.Lcg.{Lcg}
 use Rattle.rand_pcg.specs.Pcg.{pcg32}
@@ -18,12 +18,12 @@ words_from g =
     let fourth = pcg32 third.1 in
     (record { kind = first.0; router = second.0; link = third.0; number = fourth.0 }, fourth.1)
 
--- a generator behind the words of so many events
+-- a generator after the words of this many events
 abbrev pub drawn_past : ℕ → Lcg → Lcg
 drawn_past zero g = g
 drawn_past (suc count) g = drawn_past count (words_from g).1
 
--- which of so many things a word chooses; of none, none
+-- which of this many things a word chooses; none where there are none
 unfoldable pub chosen_of : (word count : ℕ) → Option ℕ
 chosen_of word count = if count == 0 then None else Some (word % count)
 
@@ -45,8 +45,8 @@ drawn_link_down words r links = option_map (λ l. LinkDown r l) (chosen_of words
 abbrev pub drawn_turn : Words → RouterId → Bool → WorldEvent
 drawn_turn words r is_running = if is_running then Stop r else Start r words.number lowest_number
 
--- what is drawn at a router that has so many links and runs or does not,
--- where so many datagrams were sent
+-- what is drawn at a router that has this many links and runs or does not,
+-- where this many datagrams were sent
 unfoldable pub drawn_for : Words → RouterId → (links : ℕ) → Bool → (datagrams : ℕ)
     → Option WorldEvent
 drawn_for words r links is_running datagrams =

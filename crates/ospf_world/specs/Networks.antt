@@ -20,7 +20,7 @@ links_from network place link (i ∷ interfaces) =
 abbrev pub router_links : (network place : ℕ) → Config → List LinkPlace
 router_links network place config = links_from network place 0 config.interfaces.items
 
--- the interfaces on the network of routers that stand from this place on
+-- the interfaces on the network of routers that are listed from this place on
 abbrev pub links_on : (network place : ℕ) → List Config → List LinkPlace
 links_on network place [] = []
 links_on network place (config ∷ configs) =

@@ -1,4 +1,4 @@
--- What chance does to a world.
+-- What random events do to a world.
 use Rattle.std.specs.Prelude.{◌≡◌, ℕ, zero, suc, true, false, Option, None, Some, Result, Ok, Err}
 use Rattle.ospf_world.specs.Draws.{drawn, words_from}
 use Rattle.ospf_event.specs.declared.event.WorldEvent.{WorldEvent}
@@ -8,8 +8,8 @@ use Rattle.ospf_world.specs.Does.{Does}
 use Rattle.ospf_world.specs.Worlds.{WorldValue, world_of}
 use Rattle.rand_pcg.specs.Lcg.{Lcg}
 
--- an event, where there is one, is taken, or refused and passed over; or memory
--- runs out, and that is answered
+-- an event, if there is one, is accepted, or refused and skipped; or memory
+-- runs out, and that is returned
 pub data Meets (event : Option WorldEvent) (before : WorldValue)
     (answer : Result (Unit {0}) WorldFault) (after : WorldValue) : Type 0 where
   Nothing : event ≡ None → answer ≡ Ok tt → after ≡ before → Meets event before answer after
@@ -20,7 +20,7 @@ pub data Meets (event : Option WorldEvent) (before : WorldValue)
   Ends : (e : WorldEvent) (f : WorldFault) → event ≡ Some e → Does e before (Err f) after
       → is_memory f ≡ true → answer ≡ Err f → Meets event before answer after
 
--- what comes of a part, and where that was not refused of the rest
+-- the result of a part, and if that was not refused, of the rest
 pub data GoesOnWith (Part : Result (Unit {0}) WorldFault → WorldValue → Type 0)
     (Rest : WorldValue → Result (Unit {0}) WorldFault → WorldValue → Type 0)
     (result : Result (Unit {0}) WorldFault) (after : WorldValue) : Type 0 where
@@ -28,7 +28,7 @@ pub data GoesOnWith (Part : Result (Unit {0}) WorldFault → WorldValue → Type
       → GoesOnWith Part Rest result after
   Ended : (f : WorldFault) → Part (Err f) after → result ≡ Err f → GoesOnWith Part Rest result after
 
--- so many events, each drawn by four words of the generator, which goes on behind them
+-- this many events, each drawn by four words of the generator, which continues after them
 abbrev pub IsRandom : ℕ → Lcg → WorldValue → Result (Unit {0}) WorldFault → WorldValue → Type 0
 IsRandom zero g before result after = (after ≡ before) × (result ≡ Ok tt)
 IsRandom (suc count) g before result after =

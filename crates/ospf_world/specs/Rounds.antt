@@ -85,8 +85,8 @@ pub data AreNextOffers (w : WorldValue) (next : Option (List WorldEvent)) : Type
 abbrev pub passed : WorldValue → WorldValue
 passed w = record { slots = w.slots; logs = w.logs; ticks = w.ticks; offered = w.offered + 1 }
 
--- the next datagram that no round has offered is offered, if there is one: refusals are passed
--- over, and memory that runs out ends it. The datagram then counts as offered, but where there was
+-- the next datagram that no round has offered is offered, if there is one: refusals are skipped,
+-- and memory that runs out ends it. The datagram then counts as offered, except where there was
 -- no memory for the list of its offers
 pub data OffersNext (before : WorldValue) (answer : Result Bool WorldFault) (after : WorldValue)
     : Type 0 where
@@ -101,7 +101,7 @@ pub data OffersNext (before : WorldValue) (answer : Result Bool WorldFault) (aft
       → IsRun Does (offers_of before.slots before.offered g) (passed before) (Err f) after
       → answer ≡ Err f → OffersNext before answer after
 
--- it goes on with the rest as long as there is a next one
+-- it continues with the rest as long as there is a next one
 pub data OffersMore (Next : Result Bool WorldFault → WorldValue → Type 0)
     (Rest : WorldValue → Result (Unit {0}) WorldFault → WorldValue → Type 0)
     (result : Result (Unit {0}) WorldFault) (after : WorldValue) : Type 0 where
@@ -110,14 +110,14 @@ pub data OffersMore (Next : Result Bool WorldFault → WorldValue → Type 0)
       → OffersMore Next Rest result after
   Ended : (f : WorldFault) → Next (Err f) after → result ≡ Err f → OffersMore Next Rest result after
 
--- so many datagrams at most
+-- at most this many datagrams
 abbrev pub AreOffered : ℕ → WorldValue → Result (Unit {0}) WorldFault → WorldValue → Type 0
 AreOffered zero before result after = (after ≡ before) × (result ≡ Ok tt)
 AreOffered (suc most) before result after =
     OffersMore (OffersNext before) (AreOffered most) result after
 
--- a round of so many datagrams at most: the ticks, and then the datagrams that no round has
--- offered, with those that arise on the way. Refusals are passed over, and memory that runs out
+-- a round of at most this many datagrams: the ticks, and then the datagrams that no round has
+-- offered, with those that are sent meanwhile. Refusals are skipped, and memory that runs out
 -- ends it, that for the list of ticks, where there are some, before anything is done
 pub data IsRoundOf (most : ℕ) (before : WorldValue) (result : Result (Unit {0}) WorldFault)
     (after : WorldValue) : Type 0 where

@@ -5,7 +5,7 @@ use Rattle.ospf_headline.specs.World.{Happens, RunsEvents, World}
 use Rattle.ospf_event.specs.declared.event.WorldEvent.{WorldEvent}
 use Rattle.ospf_router.specs.Steps.{is_dropped}
 
--- some events lead from the one to the other, and whatever events do,
+-- some events lead from one to the other, and whatever events do,
 -- acknowledgement is sound at each of them
 pub record IsSoundBetween (before after : World) : Type 0 where
   pub leads : (events : List WorldEvent) × RunsEvents is_dropped events before after

@@ -14,7 +14,7 @@ ticked_if (Ok done) tick = tick ∷ []
 ticked_if (Err fault) tick = []
 
 -- what the log of ticks grows by: a tick that its router took, where
--- so many datagrams had been sent
+-- this many datagrams had been sent
 abbrev pub ticked_by : WorldEvent → Result (Unit {0}) WorldFault → ℕ → List Ticked
 ticked_by (Start r dd floor) result sent = []
 ticked_by (Stop r) result sent = []
@@ -23,7 +23,7 @@ ticked_by (LinkUp r l) result sent = []
 ticked_by (LinkDown r l) result sent = []
 ticked_by (Deliver d r l) result sent = []
 
--- these events led from the one world to the other, and the log of ticks grew by theirs
+-- these events led from one world to the other, and the log of ticks grew by theirs
 abbrev pub TicksBy : List WorldEvent → World → List Ticked → World → List Ticked → Type 0
 TicksBy [] w ticks w' ticks' = (w' ≡ w) × (ticks' ≡ ticks)
 TicksBy (event ∷ events) w ticks w' ticks' =
@@ -34,6 +34,6 @@ TicksBy (event ∷ events) w ticks w' ticks' =
 abbrev pub TicksOn : World → List Ticked → World → List Ticked → Type 0
 TicksOn w ticks w' ticks' = (events : List WorldEvent) × TicksBy events w ticks w' ticks'
 
--- so it is of two worlds in code
+-- the same for two worlds in code
 abbrev pub TicksGoOn : WorldValue → WorldValue → Type 0
 TicksGoOn w w' = TicksOn (world_of w) w.ticks (world_of w') w'.ticks

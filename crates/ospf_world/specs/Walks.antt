@@ -15,7 +15,7 @@ use Rattle.ospf_world.specs.declared.walk.Leg.{Leg}
 use Rattle.ospf_world.specs.declared.walk.Leg.TheVariants.{Ends, Goes}
 use Rattle.ospf_world.specs.declared.walk.Walk.{Walk}
 
--- what a hop does, at the cost of its route: it arrives, or goes on at its router, over its link
+-- what a hop does, at the cost of its route: it arrives, or continues at its router, over its link
 pub data LegsOver (A : List Advertisement) (at : RouterId) (hop : NextHop) (cost : ℕ) (leg : Leg)
     : Type 0 where
   Here : hop ≡ hops.Attached → leg ≡ Ends cost ends.Arrived → LegsOver A at hop cost leg

@@ -1,15 +1,15 @@
--- What a watch is told: of each event, before it and after it, with the world as it then is.
+-- What a watch sees: each event, before it and after it, with the world at that time.
 use Rattle.std.specs.Prelude.{ℕ, Result}
 use Rattle.ospf_event.specs.declared.event.WorldEvent.{WorldEvent}
 use Rattle.ospf_event.specs.declared.event.WorldFault.{WorldFault}
 use Rattle.ospf_world.specs.Does.{Does}
 use Rattle.ospf_world.specs.Worlds.{WorldValue}
 
--- what becomes of a watch of some kind as it is told which event comes, in the world before it
+-- how a watch changes when it is notified which event comes next, in the world before the event
 abbrev pub ComesRule : Type 0 → Type 1
 ComesRule V = WorldValue → WorldEvent → V → V → Type 0
 
--- what becomes of it as it is told what that event has come to, in the world after it
+-- how it changes when it is notified of the result of that event, in the world after the event
 abbrev pub CameRule : Type 0 → Type 1
 CameRule V = WorldValue → WorldEvent → Result (Unit {0}) WorldFault → V → V → Type 0
 
@@ -17,8 +17,8 @@ CameRule V = WorldValue → WorldEvent → Result (Unit {0}) WorldFault → V �
 abbrev pub Watched : Type 0 → Type 0
 Watched V = WorldValue × V
 
--- what an event does in a world, where the watch is told that it comes, with the world before it,
--- and then what it has come to, with the world after it, and nothing else
+-- what an event does in a world, if the watch is notified that it comes next, with the world before
+-- it, and then of its result, with the world after it, and of nothing else
 pub record DoesTold {V : Type 0} (Comes : ComesRule V) (Came : CameRule V) (event : WorldEvent)
     (before : Watched V) (result : Result (Unit {0}) WorldFault) (after : Watched V) : Type 0 where
   pub does : Does event before.0 result after.0
@@ -26,12 +26,12 @@ pub record DoesTold {V : Type 0} (Comes : ComesRule V) (Came : CameRule V) (even
   pub comes : Comes before.0 event before.1 between
   pub came : Came after.0 event result between after.1
 
--- so many datagrams count as offered
+-- this many datagrams count as offered
 abbrev pub counting : {V : Type 0} → ℕ → Watched V → Watched V
 counting offered w = (record w.0 { offered = offered }, w.1)
 
--- events led from the one world to the other, of each of which the watch was told so, and of
--- nothing else. But for how many datagrams count as offered, all that changed they did
+-- events led from one world to the other, and the watch was notified of each of them, and of
+-- nothing else. Except for how many datagrams count as offered, these events made all changes
 pub data Told {V : Type 0} (Comes : ComesRule V) (Came : CameRule V) : Watched V → Watched V
     → Type 0 where
   Nothing : (w : Watched V) → Told Comes Came w w

@@ -23,7 +23,7 @@ pub record WorldValue : Type 0 where
   pub ticks : List Ticked
   pub offered : ℕ
 
--- what the laws of worlds speak of
+-- what the laws of worlds are about
 abbrev pub world_of : WorldValue → World
 world_of w =
     record {
@@ -41,7 +41,7 @@ config_of s = s.config
 abbrev pub configs_of : WorldValue → List Config
 configs_of w = map config_of w.slots
 
--- what an event leaves: the configurations, and what the rounds have offered
+-- what an event does not change: the configurations, and what the rounds have offered
 pub record SameSettings (before after : WorldValue) : Type 0 where
   pub configs : configs_of after ≡ configs_of before
   pub offered : after.offered ≡ before.offered
@@ -52,7 +52,7 @@ pub record SameSettings (before after : WorldValue) : Type 0 where
 abbrev pub is_slot_of : ℕ → SlotValue → Bool
 is_slot_of r s = s.config.router_id.0 == r
 
--- where the router of a Router ID stands
+-- where the router of a Router ID is
 abbrev pub place_from : ℕ → ℕ → List SlotValue → Option ℕ
 place_from r k [] = None
 place_from r k (s ∷ slots) = cond (is_slot_of r s) (Some k) (place_from r (k + 1) slots)
@@ -84,7 +84,7 @@ abbrev pub new_world : List Config → WorldValue
 new_world configs =
     record { slots = map stopped_slot configs; logs = no_logs; ticks = []; offered = 0 }
 
--- what comes of these configurations: a new world of them, where no two share a Router ID; none,
+-- what these configurations make: a new world of them, where no two share a Router ID; none,
 -- where two do; or memory ran out
 pub data Opens (configs : List Config) (result : Result WorldValue WorldFault) : Type 0 where
   Begins : (ShareRouter configs → ⊥) → result ≡ Ok (new_world configs) → Opens configs result
@@ -109,7 +109,7 @@ pub data AddsConfig (config : Config) (slots : List SlotValue) (places : tree.BT
 
 -- ---- the router of a Router ID
 
--- it is lent where it runs, and else refused: the world has none, or it does not run
+-- it is lent if it runs, and otherwise refused: the world has none, or it does not run
 pub data Lends (w : World) (r : RouterId) (result : Result (Bor RouterValue) WorldFault)
     : Type 0 where
   Runs : (m : Member) (x : Bor RouterValue) → member w r ≡ Some m → result ≡ Ok x

@@ -1,4 +1,4 @@
-//! What chance draws.
+//! What is drawn at random.
 
 ghost use Rattle.std.specs.Prelude.{◌≡◌, ◌<◌, ◌==◌, IfSome};
 ghost use Rattle.ospf_world.specs.Draws.{chosen_of, drawn_delivery, drawn_for, drawn_link_down, drawn_link_up, drawn_turn, words_from};
@@ -8,7 +8,7 @@ use ospf_event::WorldEvent;
 use rand_core::utils::NextWord;
 use rand_pcg::Lcg64Xsh32;
 
-/// The words of which an event is drawn.
+/// The words that an event is drawn from.
 #[derive(Clone, Copy, Debug, PartialEq, Eq)]
 pub struct Words {
     /// What happens.
@@ -38,7 +38,7 @@ pub fn draw(generator: &mut Lcg64Xsh32) -> Words
     }
 }
 
-/// Which of so many things a word chooses; of none, none.
+/// Which of this many things a word chooses; none where there are none.
 #[tactic(auto, unfolding(crate::specs::Draws::chosen_of))]
 pub fn chosen(word: u32, count: usize) -> Option<usize>
     ensures chosen { result ≡ chosen_of word count }

@@ -1,14 +1,14 @@
 //! Worlds: many routers, started, stopped and stepped by events, the logs of all that they sent,
 //! issued and held, and the ticks that they took.
 //!
-//! `World::step` takes an event, `World::run` a list of them. `World::round` is a tick of each
+//! `World::step` applies an event, `World::run` a list of them. `World::round` is a tick of each
 //! router that runs, and then offers what was sent (RFC 2328, section 8.1), `World::random` draws
-//! events by chance, and `World::walk` goes along next hops. An `EventWatch` is told of each event.
-//! What an event does stands in `specs/Does`, whom a datagram is offered to in `specs/Offers`, what
-//! a watch is told in `specs/Watching`, and what chance draws in `specs/Draws`.
+//! random events, and `World::walk` follows next hops. An `EventWatch` is notified of each event.
+//! What an event does is in `specs/Does`, whom a datagram is offered to in `specs/Offers`, what a
+//! watch sees in `specs/Watching`, and what is drawn at random in `specs/Draws`.
 //!
-//! A law stands here that needs whole routers: that there are networks of which the laws speak
-//! (`some_router_works`), of which one is shown event by event.
+//! One law is here because it needs whole routers: that there are networks to which the laws apply
+//! (`some_router_works`); one of them is shown event by event.
 #![tactic(auto)]
 
 mod chance;

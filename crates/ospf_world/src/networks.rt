@@ -11,7 +11,7 @@ use ospf_headline::Slot;
 use std::alloc::{AllocError, Global};
 use std::collections::BTreeMap;
 
-/// Where an interface of a world stands: the place of its router's slot,
+/// Where an interface of a world is: the place of its router's slot,
 /// and the number of its link there.
 #[derive(Clone, Copy)]
 pub(crate) struct LinkPlace {
@@ -20,7 +20,7 @@ pub(crate) struct LinkPlace {
 }
 
 /// The interfaces on each network, by the number of the network, in the order of the
-/// configurations. Networks of one number and of prefixes of several lengths stand together.
+/// configurations. Networks of one number and of prefixes of several lengths are in one list.
 pub(crate) type Networks = BTreeMap<u32, Vec<LinkPlace>>;
 
 /// The interfaces of these routers.
@@ -36,7 +36,7 @@ pub(crate) fn networks_of(slots: &[Slot], alloc: Global) -> Result<Networks, All
     Ok(networks)
 }
 
-/// Where the interfaces on a network stand.
+/// Where the interfaces on a network are.
 pub(crate) fn links_at(networks: &Networks, network: u32) -> &[LinkPlace]
     ensures { result.now ≡ places_on_network networks.now network }
 {

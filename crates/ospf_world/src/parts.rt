@@ -1,4 +1,4 @@
-//! Many routers and their logs, before anything is said of what led there.
+//! Many routers and their logs, without a claim about the events that led there.
 
 ghost use Rattle.std.specs.Prelude.{◌≡◌, ◌<◌, ◌+◌, IfOk, IfSome, None, Some, find, length};
 ghost use Rattle.ospf_world.specs.Does.{Does};
@@ -21,9 +21,9 @@ use std::marker::Model;
 #[derive(Drop)]
 pub(crate) struct Parts {
     pub(crate) slots: Vec<Slot>,
-    // Where the router of a Router ID stands among the slots.
+    // Where the router of a Router ID is among the slots.
     places: BTreeMap<u32, usize>,
-    // Where the interfaces on each network stand.
+    // Where the interfaces on each network are.
     networks: Networks,
     pub(crate) logs: Logs,
     pub(crate) ticks: Vec<Ticked>,
@@ -50,7 +50,7 @@ impl Model for Parts {
 }
 
 impl Parts {
-    /// Routers so configured, of which none runs.
+    /// Routers with these configurations, of which none runs.
     ///
     /// `WorldFault::SameRouter` where two share a Router ID;
     /// `WorldFault::Memory` where memory runs out.
@@ -96,7 +96,7 @@ impl Parts {
         }
     }
 
-    /// What an event comes to.
+    /// Applies an event.
     pub(crate) fn step(&mut self, event: &WorldEvent, alloc: Global) -> Result<(), WorldFault>
         ensures { Does event.now self.old result self.new }
     {
@@ -109,7 +109,7 @@ impl Parts {
         }
     }
 
-    /// The offers of a datagram, which stands at this place of the log: to the interfaces on
+    /// The offers of a datagram, which is at this place of the log: to the interfaces on
     /// the network that it went out to.
     ///
     /// `AllocError` where memory runs out.
@@ -138,7 +138,7 @@ impl Parts {
         address_of(self.slots[place].config(), sent.sent.link)
     }
 
-    /// Where the router of a Router ID stands.
+    /// Where the router of a Router ID is.
     pub(crate) fn place(&self, router: RouterId) -> Option<usize>
         ensures { result ≡ place_of self.now.slots router.0 }
     {
@@ -184,7 +184,7 @@ fn add(
     Ok(())
 }
 
-// Where the router stands.
+// Where the router is.
 fn place(places: &BTreeMap<u32, usize>, router: RouterId) -> Option<usize>
     ensures { result ≡ place_in places.now router.0 }
 {

@@ -1,4 +1,4 @@
-//! What chance does to a world.
+//! What random events do to a world.
 
 ghost use Rattle.std.specs.Prelude.{◌≡◌, ◌≤◌, ℕ, OnErr, OnOk, Some};
 ghost use Rattle.ospf_world.specs.Draws.{drawn, drawn_past};
@@ -21,24 +21,24 @@ use rand_pcg::Lcg64Xsh32;
 use std::alloc::Global;
 
 impl World {
-    /// So many events by chance, one after another: four words of the generator draw each, in the
-    /// world as it then is. One that is refused is passed over.
+    /// Applies this many random events, one after another: each is drawn by four words of the
+    /// generator, in the world as it then is. An event that is refused is skipped.
     ///
-    /// `Memory` where memory runs out, which ends it: the generator has then come past the words of
-    /// the events so far.
+    /// `Memory` where memory runs out, which ends it: the generator is then past the words of the
+    /// events so far.
     pub fn draw_events(
         &mut self,
         generator: &mut Lcg64Xsh32,
         count: u64,
         alloc: Global,
     ) -> Result<(), WorldFault>
-        // What happens by chance, how far the generator has come, and what stays.
+        // Which random events happen, how far the generator is, and what is unchanged.
         ensures random { IsRandom count generator.old self.old result self.new }
         ensures drawn { OnOk result (generator.new ≡ drawn_past count generator.old) }
         ensures stopped { OnErr result ((n : ℕ) × (n ≤ count)
             × (generator.new ≡ drawn_past n generator.old)) }
         ensures same { SameSettings self.old self.new }
-        // What holds of every network holds of this one again, and its log of ticks goes on.
+        // What holds for every network still holds for this one, and its log of ticks continues.
         ensures reached { IsReached is_dropped (world_of self.new) }
         ensures headline { Headline (world_of self.old) (world_of self.new) }
         ensures sound { IsSoundBetween (world_of self.old) (world_of self.new) }
@@ -47,7 +47,7 @@ impl World {
         self.draw_events_watched(generator, count, &mut Unwatched, alloc)
     }
 
-    /// So many events by chance, as `draw_events` has them. A watch is told of each.
+    /// Applies this many random events, like `draw_events`. A watch is notified of each.
     ///
     /// `Memory` where memory runs out, which ends it.
     pub fn draw_events_watched<W: EventWatch>(
@@ -57,14 +57,14 @@ impl World {
         watch: &mut W,
         alloc: Global,
     ) -> Result<(), WorldFault>
-        // What happens, what the watch is told, how far the generator has come, and what stays.
+        // What happens, what the watch sees, how far the generator is, and what is unchanged.
         ensures random { IsRandom count generator.old self.old result self.new }
         ensures told { Told W.comes_gives W.came_gives (self.old, watch.old) (self.new, watch.new) }
         ensures drawn { OnOk result (generator.new ≡ drawn_past count generator.old) }
         ensures stopped { OnErr result ((n : ℕ) × (n ≤ count)
             × (generator.new ≡ drawn_past n generator.old)) }
         ensures same { SameSettings self.old self.new }
-        // What holds of every network holds of this one again, and its log of ticks goes on.
+        // What holds for every network still holds for this one, and its log of ticks continues.
         ensures reached { IsReached is_dropped (world_of self.new) }
         ensures headline { Headline (world_of self.old) (world_of self.new) }
         ensures sound { IsSoundBetween (world_of self.old) (world_of self.new) }
@@ -85,15 +85,15 @@ impl World {
         Ok(())
     }
 
-    /// So many events by chance, as `draw_events` has them, drawn by the generator of this number.
+    /// Applies this many random events, like `draw_events`, drawn by the generator of this number.
     ///
     /// `Memory` where memory runs out, which ends it.
     pub fn random(&mut self, number: u64, count: u64, alloc: Global) -> Result<(), WorldFault>
-        // What happens by chance, and what stays.
+        // Which random events happen, and what is unchanged.
         ensures random { IsRandom count (started 64 multiplier_64 number (increment_of 64 0))
             self.old result self.new }
         ensures same { SameSettings self.old self.new }
-        // What holds of every network holds of this one again, and its log of ticks goes on.
+        // What holds for every network still holds for this one, and its log of ticks continues.
         ensures reached { IsReached is_dropped (world_of self.new) }
         ensures headline { Headline (world_of self.old) (world_of self.new) }
         ensures sound { IsSoundBetween (world_of self.old) (world_of self.new) }
@@ -120,7 +120,7 @@ impl World {
         )
     }
 
-    // Meets an event, where there is one: passes over a refusal, unless memory ran out.
+    // Meets an event, if there is one: skips a refused event, unless memory ran out.
     fn meet<W: EventWatch>(
         &mut self,
         event: Option<WorldEvent>,

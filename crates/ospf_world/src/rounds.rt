@@ -21,15 +21,15 @@ pub const MOST_OFFERS: u64 = 10_000;
 impl World {
     /// A round: a tick of each router that runs, in the order of the configurations, and then, in
     /// the order in which they were sent, the datagrams that no round has offered, with those that
-    /// arise on the way, 10,000 at most. One is offered to each interface of the other routers that
-    /// run whose prefix is the sending interface's and that listens to the destination: it is
-    /// 224.0.0.5, 224.0.0.6 or its own address. What is refused is passed over.
+    /// are sent meanwhile, 10,000 at most. One is offered to each interface of the other routers
+    /// that run whose prefix is the sending interface's and that listens to the destination: it is
+    /// 224.0.0.5, 224.0.0.6 or its own address. An offer that is refused is skipped.
     ///
     /// `Memory` where memory runs out, which ends it.
     pub fn round(&mut self, alloc: Global) -> Result<(), WorldFault>
         // What happens in a round.
         ensures round { IsRound self.old result self.new }
-        // What holds of every network holds of this one again, and its log of ticks goes on.
+        // What holds for every network still holds for this one, and its log of ticks continues.
         ensures reached { IsReached is_dropped (world_of self.new) }
         ensures headline { Headline (world_of self.old) (world_of self.new) }
         ensures sound { IsSoundBetween (world_of self.old) (world_of self.new) }
@@ -38,15 +38,15 @@ impl World {
         self.round_of(MOST_OFFERS, alloc)
     }
 
-    /// A round, as `round` has it, that offers so many datagrams at most. Where a round offers
-    /// fewer than routers send in it, those that wait grow more and more, and what is repeated
-    /// meanwhile adds to them: then an area may never agree.
+    /// A round, like `round`, that offers at most this many datagrams. If a round offers fewer than
+    /// routers send in it, more and more datagrams wait, and what is repeated meanwhile adds to
+    /// them: then an area may never agree.
     ///
     /// `Memory` where memory runs out, which ends it.
     pub fn round_of(&mut self, most: u64, alloc: Global) -> Result<(), WorldFault>
         // What happens in a round.
         ensures round { IsRoundOf most self.old result self.new }
-        // What holds of every network holds of this one again, and its log of ticks goes on.
+        // What holds for every network still holds for this one, and its log of ticks continues.
         ensures reached { IsReached is_dropped (world_of self.new) }
         ensures headline { Headline (world_of self.old) (world_of self.new) }
         ensures sound { IsSoundBetween (world_of self.old) (world_of self.new) }
@@ -55,7 +55,7 @@ impl World {
         self.round_watched(most, &mut Unwatched, alloc)
     }
 
-    /// A round, as `round_of` has it. A watch is told of each event.
+    /// A round, like `round_of`. A watch is notified of each event.
     ///
     /// `Memory` where memory runs out, which ends it.
     pub fn round_watched<W: EventWatch>(
@@ -64,10 +64,10 @@ impl World {
         watch: &mut W,
         alloc: Global,
     ) -> Result<(), WorldFault>
-        // What happens in a round, and what the watch is told.
+        // What happens in a round, and what the watch sees.
         ensures round { IsRoundOf most self.old result self.new }
         ensures told { Told W.comes_gives W.came_gives (self.old, watch.old) (self.new, watch.new) }
-        // What holds of every network holds of this one again, and its log of ticks goes on.
+        // What holds for every network still holds for this one, and its log of ticks continues.
         ensures reached { IsReached is_dropped (world_of self.new) }
         ensures headline { Headline (world_of self.old) (world_of self.new) }
         ensures sound { IsSoundBetween (world_of self.old) (world_of self.new) }
@@ -87,7 +87,7 @@ impl World {
         }
     }
 
-    // Offers so many datagrams at most.
+    // Offers at most this many datagrams.
     fn offer<W: EventWatch>(
         &mut self,
         most: u64,

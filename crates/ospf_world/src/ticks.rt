@@ -18,7 +18,7 @@ pub struct Ticked {
     pub sent: usize,
 }
 
-/// What an event comes to at a slot. A tick that its router takes is logged.
+/// What an event does at a slot. A tick that its router takes is logged.
 pub(crate) fn step_slot(
     slot: &mut Slot,
     event: &WorldEvent,

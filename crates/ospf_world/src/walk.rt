@@ -34,16 +34,16 @@ pub struct Walk {
 pub(crate) enum Leg {
     /// It ends, at this cost.
     Ends { cost: u64, end: WalkEnd },
-    /// It goes on at the next router, over a link of this cost.
+    /// It continues at the next router, over a link of this cost.
     Goes { next: RouterId, cost: u16 },
 }
 
 impl World {
-    /// The walk to an address from a router: at each router the hop at the choice modulo the number
-    /// of hops of the best route is taken, the first where choices are missing, and its link's cost
-    /// is paid; where the network is the router's own the route's cost is paid, and the walk has
-    /// arrived. It may have as many hops as the world has routers. Nothing is changed, and memory
-    /// is taken for the list of routers alone.
+    /// The walk to an address from a router: at each router it takes the hop at the choice modulo
+    /// the number of hops of the best route, the first where choices are missing, and pays its
+    /// link's cost; where the network is the router's own it pays the route's cost, and the walk
+    /// has arrived. It may have as many hops as the world has routers. Nothing is changed, and only
+    /// the list of routers takes memory.
     ///
     /// `NoRouter` where the world has no such router, `Memory` where memory runs out.
     pub fn walk(

@@ -1,4 +1,4 @@
-//! Who is told of each event.
+//! Who is notified of each event.
 
 ghost use Rattle.std.specs.Prelude.{⊤};
 ghost use Rattle.ospf_world.specs.Watching.{CameRule, ComesRule};
@@ -6,25 +6,25 @@ ghost use Rattle.ospf_world.specs.Watching.{CameRule, ComesRule};
 use crate::world::World;
 use ospf_event::{WorldEvent, WorldFault};
 
-/// Is told of each event of a run, a round or a draw. What it makes of it is its own affair: the
-/// world learns nothing of it.
+/// Is notified of each event of a run, a round or a draw. What it does then is its own affair:
+/// it returns nothing to the world.
 pub trait EventWatch {
-    // What becomes of it as it is told which event comes; it may promise nothing.
+    // How it changes when it is notified which event comes next; it may promise nothing.
     ghost comes_gives: { ComesRule Self } = { λ _ _ _ _. ⊤ };
 
-    // What becomes of it as it is told what that event has come to.
+    // How it changes when it is notified of the result of that event.
     ghost came_gives: { CameRule Self } = { λ _ _ _ _ _. ⊤ };
 
-    /// This event comes next. The world is so before it.
+    /// This event comes next. This is the world before it.
     fn comes(&mut self, world: &World, event: &WorldEvent)
         ensures { comes_gives world.now event.now self.old self.new };
 
-    /// That event has come to this. The world is so after it.
+    /// That event had this result. This is the world after it.
     fn came(&mut self, world: &World, event: &WorldEvent, answer: &Result<(), WorldFault>)
         ensures { came_gives world.now event.now answer.now self.old self.new };
 }
 
-/// Nobody is told.
+/// Nobody is notified.
 #[derive(Clone, Copy, Debug, PartialEq, Eq)]
 pub struct Unwatched;
 

@@ -19,8 +19,8 @@ use ospf_headline::{headline, runs_lead_on, soundness};
 use std::alloc::Global;
 
 impl World {
-    /// What an event names happens to the router that it names, as by `step`. A watch is told of it
-    /// before and after it.
+    /// Applies an event to the router that it names, like `step`. A watch is notified before and
+    /// after it.
     ///
     /// The faults are those of `step`.
     pub fn step_watched<W: EventWatch>(
@@ -29,13 +29,13 @@ impl World {
         watch: &mut W,
         alloc: Global,
     ) -> Result<(), WorldFault>
-        // What happens, what the watch is told, and what stays.
+        // What happens, what the watch sees, and what is unchanged.
         ensures does { Does event self.old result self.new }
         ensures told { DoesTold W.comes_gives W.came_gives event (self.old, watch.old) result
             (self.new, watch.new) }
         ensures comes { Comes is_dropped event (world_of self.old) result (world_of self.new) }
         ensures same { SameSettings self.old self.new }
-        // What holds of every network holds of this one again, and its log of ticks goes on.
+        // What holds for every network still holds for this one, and its log of ticks continues.
         ensures reached { IsReached is_dropped (world_of self.new) }
         ensures headline { Headline (world_of self.old) (world_of self.new) }
         ensures sound { IsSoundAcknowledgement event (world_of self.old) (world_of self.new) }
@@ -48,7 +48,7 @@ impl World {
         result
     }
 
-    /// The events in their order, as `run` takes them. A watch is told of each.
+    /// Applies the events in their order, like `run`. A watch is notified of each.
     ///
     /// `WorldFault::Memory` where memory runs out for one: that is the last.
     pub fn run_watched<W: EventWatch>(
@@ -57,12 +57,12 @@ impl World {
         watch: &mut W,
         alloc: Global,
     ) -> Result<usize, WorldFault>
-        // What happens, what the watch is told, and what stays.
+        // What happens, what the watch sees, and what is unchanged.
         ensures run { IsRun Does events.now self.old result self.new }
         ensures told { IsRun (DoesTold W.comes_gives W.came_gives) events.now
             (self.old, watch.old) result (self.new, watch.new) }
         ensures same { SameSettings self.old self.new }
-        // What holds of every network holds of this one again, and its log of ticks goes on.
+        // What holds for every network still holds for this one, and its log of ticks continues.
         ensures reached { IsReached is_dropped (world_of self.new) }
         ensures headline { Headline (world_of self.old) (world_of self.new) }
         ensures sound { IsSoundBetween (world_of self.old) (world_of self.new) }

@@ -26,7 +26,7 @@ use std::marker::Model;
 /// Many routers, started, stopped and stepped by events, and the logs of all
 /// that they sent, issued and held.
 ///
-/// Every world has come from one in which nothing ran and nothing had
+/// Every world results from one in which nothing ran and nothing had
 /// happened, by some list of events.
 #[derive(Drop)]
 pub struct World {
@@ -46,7 +46,7 @@ impl Model for World {
 }
 
 impl World {
-    /// A world of routers so configured. Nothing runs.
+    /// A world of routers with these configurations. None of them runs.
     ///
     /// `WorldFault::SameRouter` where two share a Router ID;
     /// `WorldFault::Memory` where memory runs out.
@@ -57,20 +57,20 @@ impl World {
         Ok(World { parts })
     }
 
-    /// What an event names happens to the router that it names.
+    /// Applies an event to the router that it names.
     ///
     /// The first fault that holds: `NoRouter`, `NoLink`, `NoDatagram`, `Running` for the start
     /// of a running router, `NotRunning` for any other event of one that does not run, and
     /// `Floor` for a start where no number is above the floor; then nothing is changed.
     /// `Memory` where memory runs out: before a start or a tick, and nothing is changed; or else,
-    /// where `stopped`, at an event that the router does not drop, and it is stopped and no log has
+    /// if `stopped`, at an event that the router does not drop: then it is stopped and no log has
     /// grown.
     pub fn step(&mut self, event: WorldEvent, alloc: Global) -> Result<(), WorldFault>
-        // What happens, and what stays.
+        // What happens, and what is unchanged.
         ensures does { Does event self.old result self.new }
         ensures comes { Comes is_dropped event (world_of self.old) result (world_of self.new) }
         ensures same { SameSettings self.old self.new }
-        // What holds of every network holds of this one again, and its log of ticks goes on.
+        // What holds for every network still holds for this one, and its log of ticks continues.
         ensures reached { IsReached is_dropped (world_of self.new) }
         ensures headline { Headline (world_of self.old) (world_of self.new) }
         ensures sound { IsSoundAcknowledgement event (world_of self.old) (world_of self.new) }
@@ -83,15 +83,15 @@ impl World {
         self.parts.step(&event, alloc)
     }
 
-    /// The events in their order, each as by `step`: it goes on after a refused one, and
-    /// answers how many were refused.
+    /// Applies the events in their order, each like `step`: it continues after a refused one, and
+    /// returns how many were refused.
     ///
     /// `WorldFault::Memory` where memory runs out for one: that is the last.
     pub fn run(&mut self, events: &[WorldEvent], alloc: Global) -> Result<usize, WorldFault>
-        // What happens, and what stays.
+        // What happens, and what is unchanged.
         ensures run { IsRun Does events.now self.old result self.new }
         ensures same { SameSettings self.old self.new }
-        // What holds of every network holds of this one again, and its log of ticks goes on.
+        // What holds for every network still holds for this one, and its log of ticks continues.
         ensures reached { IsReached is_dropped (world_of self.new) }
         ensures headline { Headline (world_of self.old) (world_of self.new) }
         ensures sound { IsSoundBetween (world_of self.old) (world_of self.new) }
@@ -100,7 +100,7 @@ impl World {
         self.run_watched(events, &mut Unwatched, alloc)
     }
 
-    /// The router, where it runs. No memory is taken.
+    /// The router, where it runs. No memory is allocated.
     ///
     /// `WorldFault::NoRouter` where there is none of the Router ID,
     /// `WorldFault::NotRunning` where it does not run.
@@ -110,7 +110,7 @@ impl World {
         self.parts.router(router)
     }
 
-    /// The router of a Router ID, running or not, if there is one. No memory is taken.
+    /// The router of a Router ID, running or not, if there is one. No memory is allocated.
     pub fn slot(&self, router: RouterId) -> Option<&Slot>
         ensures some { IfSome result (λ s. find (is_slot_of router.0) self.now.slots ≡ Some s.now) }
         ensures none { result ≡ None → find (is_slot_of router.0) self.now.slots ≡ None }
@@ -118,42 +118,42 @@ impl World {
         self.parts.slot(router)
     }
 
-    /// The routers, running or not, in the order of their configurations. No memory is taken.
+    /// The routers, running or not, in the order of their configurations. No memory is allocated.
     pub fn slots(&self) -> &[Slot]
         ensures { result.now ≡ self.now.slots }
     {
         &self.parts.slots
     }
 
-    /// All datagrams ever sent, in their order. No memory is taken.
+    /// All datagrams ever sent, in their order. No memory is allocated.
     pub fn datagrams(&self) -> &[Datagram]
         ensures { result.now ≡ self.now.logs.datagrams }
     {
         self.parts.logs.datagrams()
     }
 
-    /// All LSAs ever issued, in their order. No memory is taken.
+    /// All LSAs ever issued, in their order. No memory is allocated.
     pub fn issued(&self) -> &[Issued]
         ensures { result.now ≡ self.now.logs.issued }
     {
         self.parts.logs.issued()
     }
 
-    /// Who ever installed, issued or acknowledged which instance. No memory is taken.
+    /// Who ever installed, issued or acknowledged which instance. No memory is allocated.
     pub fn held(&self) -> &[Holding]
         ensures { result.now ≡ self.now.logs.held }
     {
         self.parts.logs.held()
     }
 
-    /// All ticks that routers took, in their order. No memory is taken.
+    /// All ticks that routers took, in their order. No memory is allocated.
     pub fn ticks(&self) -> &[Ticked]
         ensures { result.now ≡ self.now.ticks }
     {
         &self.parts.ticks
     }
 
-    /// What the type tells: some list of events led here.
+    /// What the type guarantees: some list of events led here.
     pub fn reached(&self)
         ensures { IsReached is_dropped (world_of self.now) }
     {
@@ -167,7 +167,7 @@ impl World {
         self.parts.offered
     }
 
-    /// The offers of a datagram, which stands at this place of the log, in
+    /// The offers of a datagram, which is at this place of the log, in
     /// the order of the configurations.
     ///
     /// `AllocError` where memory runs out.
@@ -189,7 +189,7 @@ impl World {
         self.parts.source_of(sent)
     }
 
-    /// Where the router of a Router ID stands among the slots, if there is one. No memory is taken.
+    /// Where the router of a Router ID is among the slots, if there is one. No memory is allocated.
     pub fn place(&self, router: RouterId) -> Option<usize>
         ensures { result ≡ place_of self.now.slots router.0 }
     {

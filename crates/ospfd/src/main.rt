@@ -52,9 +52,9 @@ fn failure_of(error: &io::Error) -> Failure {
     }
 }
 
-// Does what the program's words say, and tells by the line how far it has come, if standard error
-// is a terminal. The console is standard output, for what is printed while something runs, and
-// standard input, for what is waited for then. Where it fails, memory ran out, or no thread waits
+// Does what the program's words ask for, and shows the progress on the line, if standard error is a
+// terminal. The console is standard output, for what is printed during a run, and standard input,
+// for what a run waits for. It fails if memory ran out, or if no thread could be started to wait
 // for the end of input.
 fn run<
     R: Runtime + AllocGlobal + Net + Threads + Wait + Clock + Copy + Send + Sync + Drop + 'static,

@@ -2,8 +2,8 @@
 
 use std::io::Write;
 
-/// Whether a file that is to be written has the name of one that is read, or of another one that is
-/// to be written: that is told, before anything in it is lost.
+/// Whether an output file has the name of a file that is read, or of another output file. This is
+/// reported before anything in the file is lost.
 pub(crate) fn tell_overwritten<E: Write>(
     script: Option<&str>,
     files: &[String],
@@ -27,7 +27,7 @@ fn is_among(files: &[String], name: &str) -> bool {
     files.iter().any(|file| file.as_str() == name)
 }
 
-// Whether two that are to be written have this name.
+// Whether two output files have this name.
 fn is_twice(written: &[Option<&str>], name: &str) -> bool {
     written.iter().filter(|it| **it == Some(name)).count() > 1
 }

@@ -1,4 +1,4 @@
-//! The files that are written beside standard output.
+//! The files that are written besides standard output.
 
 use ospf_files::tell_unwritten;
 use ospf_records::Journal;
@@ -28,8 +28,8 @@ pub(crate) struct OutputFiles<F: Write + Drop> {
     pub(crate) journal: Option<Journal<F>>,
 }
 
-/// The files of these names, emptied; where one cannot be written that
-/// is told, and there is no answer.
+/// The files of these names, emptied. If one cannot be written, this is reported, and the result is
+/// `None`.
 pub(crate) fn open_written<R: Runtime, E: Write>(
     rt: &R,
     written: Written<'_>,
@@ -49,8 +49,8 @@ pub(crate) fn open_written<R: Runtime, E: Write>(
     }
 }
 
-/// A journal in the file of this name, emptied, if one is wanted; where it cannot be written that
-/// is told, and there is no answer.
+/// A journal in the file of this name, emptied, if one is wanted. If it cannot be written, this is
+/// reported, and the result is `None`.
 pub(crate) fn open_journal<R: Runtime, E: Write>(
     rt: &R,
     name: Option<&str>,
@@ -66,7 +66,7 @@ pub(crate) fn open_journal<R: Runtime, E: Write>(
     }
 }
 
-// A file of this name, emptied. Where it cannot be written that is told, and there is none.
+// A file of this name, emptied. If it cannot be written, this is reported, and there is none.
 fn create_file<R: Runtime, E: Write>(
     rt: &R,
     name: &str,

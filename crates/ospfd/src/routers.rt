@@ -107,7 +107,7 @@ fn run_noted<
     Ok(status_after(status, notes.failure(), err))
 }
 
-// How a run ends whose notes met this failure, which is told unless something else was told before.
+// The status of a run whose notes met this failure, which is reported if the run ended with `Done`.
 fn status_after<E: Write>(status: Status, failure: Option<Failure>, err: &mut E) -> Status {
     match failure {
         Some(failure) => {
@@ -121,7 +121,7 @@ fn status_after<E: Write>(status: Status, failure: Option<Failure>, err: &mut E)
     }
 }
 
-// Tells the ending where the input ends, or cannot be read any more.
+// Signals the ending when the input ends, or cannot be read any more.
 fn await_end<I: Read + Drop>(mut input: I, ending: &Ending) {
     let mut buffer = [0; READ_AT_ONCE];
     for _ in 0..u64::MAX {
@@ -135,9 +135,9 @@ fn await_end<I: Read + Drop>(mut input: I, ending: &Ending) {
     ending.tell();
 }
 
-// What ends a run where the input ends, which a thread waits for. No one waits for the thread:
-// where the run ends first, it ends with the program. An error of another kind than want of memory
-// is that there is no thread.
+// The ending that a thread signals at the end of input. No one waits for the thread: if the run
+// ends first, the thread ends with the program. An error other than out of memory means that there
+// is no thread.
 fn end_of_input<R: Threads, I: Read + Send + Drop + 'static>(
     rt: &R,
     alloc: Global,

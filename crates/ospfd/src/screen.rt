@@ -8,8 +8,8 @@ use std::io::Write;
 use std::rt::Runtime;
 use std::time::Clock;
 
-/// Tells on a terminal how far the rounds, or the events by chance, of a simulation have come, and
-/// writes its journal and its capture.
+/// Shows on a terminal the progress of a simulation's rounds, or of its random events, and writes
+/// its journal and its capture.
 #[derive(Drop)]
 pub(crate) struct Screen<R: Runtime + Clock + Drop, T: Write + Drop, F: Write + Drop> {
     rt: R,
@@ -19,7 +19,7 @@ pub(crate) struct Screen<R: Runtime + Clock + Drop, T: Write + Drop, F: Write + 
 }
 
 impl<R: Runtime + Clock + Drop, T: Write + Drop, F: Write + Drop> Screen<R, T, F> {
-    /// Tells nothing where the line is on no terminal.
+    /// Shows nothing if the line is not on a terminal.
     pub(crate) fn new(
         rt: R,
         line: StatusLine<T>,
@@ -43,7 +43,7 @@ impl<R: Runtime + Clock + Drop, T: Write + Drop, F: Write + Drop> Screen<R, T, F
 impl<R: Runtime + Clock + Drop, T: Write + Drop, F: Write + Drop> EventWatch for Screen<R, T, F> {
     ghost use Rattle.ospf_sim.specs.Followed.{FollowsEvent, LooksAhead};
 
-    // The journal is told of it, as it promises to be.
+    // The journal receives the event, as it promises.
     ghost comes_gives = { λ w event old new. LooksAhead w event old.events new.events };
 
     ghost came_gives = { λ w event answer old new. FollowsEvent w event answer old.events
@@ -83,7 +83,7 @@ impl<R: Runtime + Clock + Drop, T: Write + Drop, F: Write + Drop> Watch for Scre
     }
 }
 
-/// Tells on a terminal how far the failures of an area have come.
+/// Shows on a terminal how many failures of an area are done.
 #[derive(Drop)]
 pub(crate) struct FailuresLine<R: Clock + Drop, T: Write + Drop> {
     rt: R,
@@ -91,7 +91,7 @@ pub(crate) struct FailuresLine<R: Clock + Drop, T: Write + Drop> {
 }
 
 impl<R: Clock + Drop, T: Write + Drop> FailuresLine<R, T> {
-    /// Tells nothing where the line is on no terminal.
+    /// Shows nothing if the line is not on a terminal.
     pub(crate) fn new(rt: R, line: StatusLine<T>) -> FailuresLine<R, T> {
         FailuresLine { rt, line }
     }

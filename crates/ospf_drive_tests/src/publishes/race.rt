@@ -1,4 +1,4 @@
-//! Three threads: a seat that is told of a publish, one that is told nothing, and a writer.
+//! Three threads: a seat that gets the message of a publish, one that gets none, and a writer.
 
 ghost use Rattle.std.specs.Prelude.{◌≡◌};
 ghost use Rattle.logbook.specs.Pages.{Book};
@@ -102,7 +102,7 @@ fn wait_to_learn<J: Room, R: Wait>(
     false
 }
 
-// Finds nothing, is told of a publish, and finds its answer.
+// Finds nothing, gets the message of a publish, and finds its answer.
 fn told_seat<J: Room, R: Wait>(
     rt: &R,
     mut seat: Seat,
@@ -119,7 +119,7 @@ fn told_seat<J: Room, R: Wait>(
     before && learned && after
 }
 
-// Is told nothing, and finds the first publish at some time, and each later one in its next lookup.
+// Gets no message, and finds the first publish at some time, and each later one in its next lookup.
 fn untold_seat(mut seat: Seat, signs: &Signs) -> bool {
     let mut right = false;
     for _ in 0..TURNS {
@@ -138,7 +138,7 @@ fn untold_seat(mut seat: Seat, signs: &Signs) -> bool {
     right
 }
 
-// Publishes the first table and passes on what that tells, then each other one once the last was
+// Publishes the first table and passes on its message, then each other table once the last was
 // checked. It keeps the writer until all is checked.
 fn publishes<J: Room, R: Wait + Drop, S: Wait>(
     mut writer: Writer<R>,
