@@ -5,11 +5,11 @@ use Rattle.std.proofs.lemmas.List.{append_assoc, append-nil, take_more, length-t
 use Rattle.std.proofs.lemmas.List.Kept.{AllPairs-cons}
 use Rattle.std.proofs.lemmas.List.Elements.{All-from_recursion}
 use Rattle.ospf_base.specs.declared.ids.RouterId.{RouterId}
-use Rattle.ospf_iface.specs.declared.candidate.Candidate.{Candidate}
-use Rattle.ospf_iface.specs.Election.{AreDistinct, IsElected}
-use Rattle.ospf_iface.specs.declared.machine.Iface.{Iface}
-use Rattle.ospf_iface.specs.declared.machine.IfaceChange.{IfaceChange}
-use Rattle.ospf_iface.specs.Machine.{Elects, is_changed, own_candidate}
+use Rattle.ospf_neighbour.specs.declared.iface.candidate.Candidate.{Candidate}
+use Rattle.ospf_neighbour.specs.Interface.Election.{AreDistinct, IsElected}
+use Rattle.ospf_neighbour.specs.declared.iface.machine.Iface.{Iface}
+use Rattle.ospf_neighbour.specs.declared.iface.machine.IfaceChange.{IfaceChange}
+use Rattle.ospf_neighbour.specs.Interface.Machine.{Elects, is_changed, own_candidate}
 use Rattle.ospf_neighbour.specs.declared.machine.NbrEvent.{NbrEvent}
 use Rattle.ospf_neighbour.specs.Machine.{is_two_way}
 use Rattle.ospf_neighbour.specs.Neighbour.{NeighbourValue}

@@ -5,7 +5,7 @@ use Rattle.std.proofs.lemmas.Grind.{common_steps}
 use Rattle.std.proofs.lemmas.Bool.Decides.{eqb_tells, nat_tests}
 use Rattle.ospf_base.specs.declared.ids.Addr.{Addr}
 use Rattle.ospf_base.specs.declared.ids.RouterId.{RouterId}
-use Rattle.ospf_iface.specs.declared.machine.Iface.{Iface}
+use Rattle.ospf_neighbour.specs.declared.iface.machine.Iface.{Iface}
 use Rattle.ospf_neighbour.specs.Machine.{is_exchanging}
 use Rattle.ospf_neighbour.specs.Neighbour.{NeighbourValue, new_neighbour}
 use Rattle.ospf_neighbour.specs.Neighbours.{neighbour_of}
@@ -14,7 +14,7 @@ use Rattle.ospf_exchange.specs.declared.rule.Local.{Local}
 use Rattle.ospf_adjacency.specs.Adjacency.{event_taken, number_by}
 use Rattle.ospf_area.specs.Turns.{Turn}
 use Rattle.ospf_adjacency.specs.Laws.{KeepsLists, NoLists, NeverEnters}
-use Rattle.ospf_adjacency.specs.Heard.{Neighbourhood, turn_of, hello_turn, put}
+use Rattle.ospf_adjacency.specs.Heard.{Neighbourhood, turn_of, hello_effect, put}
 use Rattle.ospf_adjacency.specs.HelloLaws.{KeepsOrLosesLists, PutsOne, HelloGoes, TimersGo, AdjOkGoes}
 use Rattle.ospf_adjacency.specs.Links.{timed}
 use Rattle.ospf_adjacency.proofs.Words.{adj_ok_for, is_inactive, sender_of}
@@ -30,10 +30,10 @@ puts_one n (m ∷ ms) q = grind (arith, nat_tests, puts_one n ms q)
 
 -- ---- one neighbour
 
-hello_keeps : (i : Iface) (local : Local) (h : Hello) (named : Bool) (t : Turn) → KeepsLists t.neighbour (hello_turn i local h named t).neighbour
+hello_keeps : (i : Iface) (local : Local) (h : Hello) (named : Bool) (t : Turn) → KeepsLists t.neighbour (hello_effect i local h named t).neighbour
 hello_keeps i local h named t = first_of (search rules, grind (arith, common_steps))
 
-hello_enters : (i : Iface) (local : Local) (h : Hello) (named : Bool) (t : Turn) → NeverEnters t.neighbour (hello_turn i local h named t).neighbour
+hello_enters : (i : Iface) (local : Local) (h : Hello) (named : Bool) (t : Turn) → NeverEnters t.neighbour (hello_effect i local h named t).neighbour
 hello_enters i local h named t = first_of (search rules, grind (arith, common_steps))
 
 adj_ok_keeps : (i : Iface) (tick next : ℕ) (n : NeighbourValue) → KeepsLists n (event_taken (adj_ok_for i n) i.settings.dead next tick n)
@@ -75,14 +75,14 @@ sender_router : (q : RouterId) (source : Addr) (o : Option NeighbourValue) → (
 sender_router q source None f = refl
 sender_router q source (Some m) f = f m refl
 
-pub heard_router : (i : Iface) (local : Local) (q : RouterId) (source : Addr) (h : Hello) (named : Bool) (x : Neighbourhood) → (hello_turn i local h named (turn_of (sender_of x.neighbours q source) x)).neighbour.router.0 ≡ q.0
+pub heard_router : (i : Iface) (local : Local) (q : RouterId) (source : Addr) (h : Hello) (named : Bool) (x : Neighbourhood) → (hello_effect i local h named (turn_of (sender_of x.neighbours q source) x)).neighbour.router.0 ≡ q.0
 heard_router i local q source h named x =
     ap (λ (r : RouterId). r.0) (same_router i local h named (turn_of (sender_of x.neighbours q source) x)) ∙ sender_router q source (neighbour_of x.neighbours q) (found_router x.neighbours q)
 
 pub hello_goes : HelloGoes
 hello_goes i local q source h named x p =
     let t = turn_of (sender_of x.neighbours q source) x in
-    let m = (hello_turn i local h named t).neighbour in
+    let m = (hello_effect i local h named t).neighbour in
     let is_q : m.router.0 ≡ q.0 = heard_router i local q source h named x in
     elim (eqb_tells m.router.0 p.0) [
       | inl w ↦

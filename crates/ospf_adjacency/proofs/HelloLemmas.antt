@@ -3,40 +3,40 @@ use Rattle.std.proofs.Common.{◌≡◌, ◌≢◌, ℕ, Bool, false, List, Some
 use Rattle.std.proofs.lemmas.Grind.{common_steps}
 use Rattle.ospf_base.specs.declared.ids.Addr.{Addr}
 use Rattle.ospf_base.specs.declared.ids.RouterId.{RouterId}
-use Rattle.ospf_iface.specs.declared.machine.Iface.{Iface}
+use Rattle.ospf_neighbour.specs.declared.iface.machine.Iface.{Iface}
 use Rattle.ospf_neighbour.specs.Neighbour.{NeighbourValue, new_neighbour}
 use Rattle.ospf_neighbour.specs.Neighbours.{AreNeighboursRising, place_for}
 use Rattle.ospf_packet.specs.declared.body.Hello.{Hello}
 use Rattle.ospf_exchange.specs.declared.rule.Local.{Local}
 use Rattle.ospf_area.specs.Turns.{Turn, turn}
 use Rattle.ospf_area.specs.Outboxes.{OutboxValue}
-use Rattle.ospf_adjacency.specs.Heard.{Neighbourhood, neighbourhood, turn_of, put_back, hello_on, hello_turn, elects_by_hello, put}
+use Rattle.ospf_adjacency.specs.Heard.{Neighbourhood, neighbourhood, turn_of, put_back, receive_hello, hello_effect, elects_by_hello, put}
 use Rattle.ospf_adjacency.proofs.Words.{sender_of}
 use Rattle.ospf_adjacency.proofs.PutLemmas.{found, not_found, put_found, put_new}
 
 -- a Hello makes no other neighbour of one
-pub same_router : (i : Iface) (local : Local) (h : Hello) (named : Bool) (t : Turn) → (hello_turn i local h named t).neighbour.router ≡ t.neighbour.router
+pub same_router : (i : Iface) (local : Local) (h : Hello) (named : Bool) (t : Turn) → (hello_effect i local h named t).neighbour.router ≡ t.neighbour.router
 same_router i local h named t = first_of (search rules, grind (arith, common_steps))
 
 -- a Hello of this neighbour
 abbrev hello_by : Iface → Local → Hello → Bool → NeighbourValue → Neighbourhood → Neighbourhood
-hello_by i local h named n x = put_back (elects_by_hello i.state n (hello_turn i local h named (turn_of n x)).neighbour) (hello_turn i local h named (turn_of n x)) x
+hello_by i local h named n x = put_back (elects_by_hello i.state n (hello_effect i local h named (turn_of n x)).neighbour) (hello_effect i local h named (turn_of n x)) x
 
 -- the neighbours after its turn
 by_turn : (i : Iface) (local : Local) (h : Hello) (named : Bool) (x : Neighbourhood) (e : NeighbourValue) (t : Turn) (elects : Bool)
-    → t ≡ hello_turn i local h named (turn_of e x) → elects ≡ elects_by_hello i.state e t.neighbour
+    → t ≡ hello_effect i local h named (turn_of e x) → elects ≡ elects_by_hello i.state e t.neighbour
     → put_back elects t x ≡ hello_by i local h named e x
 by_turn i local h named x e t elects is due =
     ap (λ b. put_back b t x) due ∙ ap (λ (u : Turn). put_back (elects_by_hello i.state e u.neighbour) u x) is
 
 router_of : (i : Iface) (local : Local) (h : Hello) (named : Bool) (x : Neighbourhood) (e : NeighbourValue) (t : Turn) (q : RouterId)
-    → t ≡ hello_turn i local h named (turn_of e x) → e.router ≡ q → t.neighbour.router ≡ q
+    → t ≡ hello_effect i local h named (turn_of e x) → e.router ≡ q → t.neighbour.router ≡ q
 router_of i local h named x e t q is e_is = ap (λ (u : Turn). u.neighbour.router) is ∙ same_router i local h named (turn_of e x) ∙ e_is
 
 pub hello_found : (i : Iface) (local : Local) (q : RouterId) (source : Addr) (h : Hello) (named : Bool) (ns : List NeighbourValue) (p p' : OutboxValue) (k : ℕ) (e m : NeighbourValue) (elects : Bool)
     → k ≡ place_for ns q.0 → slice_get ns k ≡ Some e → e.router ≡ q
-    → turn m p' ≡ hello_turn i local h named (turn e p) → elects ≡ elects_by_hello i.state e m
-    → neighbourhood (set ns k m) elects p' ≡ hello_on i local q source h named (neighbourhood ns false p)
+    → turn m p' ≡ hello_effect i local h named (turn e p) → elects ≡ elects_by_hello i.state e m
+    → neighbourhood (set ns k m) elects p' ≡ receive_hello i local q source h named (neighbourhood ns false p)
 hello_found i local q source h named ns p p' k e m elects at there e_is is due =
     let x = neighbourhood ns false p in
     let t = turn m p' in
@@ -51,8 +51,8 @@ hello_found i local q source h named ns p p' k e m elects at there e_is is due =
 
 pub hello_new : (i : Iface) (local : Local) (q : RouterId) (source : Addr) (h : Hello) (named : Bool) (ns : List NeighbourValue) (p p' : OutboxValue) (k : ℕ) (e m : NeighbourValue) (elects : Bool)
     → AreNeighboursRising ns → k ≡ place_for ns q.0 → ((o : NeighbourValue) → slice_get ns k ≡ Some o → o.router ≢ q) → e ≡ new_neighbour q source
-    → turn m p' ≡ hello_turn i local h named (turn e p) → elects ≡ elects_by_hello i.state e m
-    → neighbourhood (insert ns k m) elects p' ≡ hello_on i local q source h named (neighbourhood ns false p)
+    → turn m p' ≡ hello_effect i local h named (turn e p) → elects ≡ elects_by_hello i.state e m
+    → neighbourhood (insert ns k m) elects p' ≡ receive_hello i local q source h named (neighbourhood ns false p)
 hello_new i local q source h named ns p p' k e m elects rises at other e_is is due =
     let x = neighbourhood ns false p in
     let t = turn m p' in

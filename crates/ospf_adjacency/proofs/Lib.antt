@@ -16,3 +16,4 @@ pub mod SayLemmas
 pub mod SameLemmas
 pub mod FillLemmas
 pub mod Words
+pub mod LinkSteps

@@ -5,7 +5,7 @@ use Rattle.ospf_base.specs.declared.ids.LsaKey.{LsaKey}
 use Rattle.ospf_area.specs.Turns.{Turn}
 use Rattle.ospf_area.specs.Packets.{PendingPacket}
 use Rattle.ospf_exchange.specs.declared.rule.Local.{Local}
-use Rattle.ospf_iface.specs.declared.machine.Iface.{Iface}
+use Rattle.ospf_neighbour.specs.declared.iface.machine.Iface.{Iface}
 use Rattle.ospf_lsdb.specs.Database.{Held}
 use Rattle.ospf_adjacency.specs.Answers.{copies_turn}
 

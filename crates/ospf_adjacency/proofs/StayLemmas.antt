@@ -3,12 +3,12 @@ use Rattle.std.proofs.Common.{◌≡◌, ◌≢◌, ◌<◌, suc, inl, inr, ℕ,
 use Rattle.std.specs.List.{AllByRecursion}
 use Rattle.std.proofs.lemmas.Bool.Decides.{leb_tells, eqb_tells}
 use Rattle.ospf_base.specs.declared.ids.RouterId.{RouterId}
-use Rattle.ospf_iface.specs.declared.machine.Iface.{Iface}
+use Rattle.ospf_neighbour.specs.declared.iface.machine.Iface.{Iface}
 use Rattle.ospf_neighbour.specs.Neighbour.{NeighbourValue}
 use Rattle.ospf_neighbour.specs.Neighbours.{AreNeighboursRising}
 use Rattle.ospf_adjacency.specs.Adjacency.{event_taken, number_by}
 use Rattle.ospf_adjacency.specs.Elections.{AreOfLink, adjusted}
-use Rattle.ospf_adjacency.specs.Heard.{put, hello_turn, turn_of}
+use Rattle.ospf_adjacency.specs.Heard.{put, hello_effect, turn_of}
 use Rattle.ospf_adjacency.specs.HelloLaws.{NeighboursStayOfLink}
 use Rattle.ospf_adjacency.specs.Links.{timed}
 use Rattle.ospf_adjacency.proofs.Words.{adj_ok_for, is_inactive, sender_of}
@@ -63,7 +63,7 @@ adjusted_rises i tick next (n ∷ ns) rises =
 pub stay : NeighboursStayOfLink
 stay i ns are = record {
   hello = λ local q source h named other x is.
-      let m = (hello_turn i local h named (turn_of (sender_of x.neighbours q source) x)).neighbour in
+      let m = (hello_effect i local h named (turn_of (sender_of x.neighbours q source) x)).neighbour in
       let there : AreOfLink i x.neighbours = subst (λ (l : List NeighbourValue). AreOfLink i l) (sym is) are in
       let is_q : m.router.0 ≡ q.0 = heard_router i local q source h named x in
       record {

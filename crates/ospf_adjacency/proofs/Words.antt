@@ -12,11 +12,11 @@ use Rattle.ospf_neighbour.specs.declared.machine.NbrEvent.TheVariants.{AdjOk, He
 use Rattle.ospf_packet.specs.Meaning.{update}
 use Rattle.ospf_area.specs.Packets.{PendingPacket}
 use Rattle.ospf_area.specs.Sending.{sent_lsa}
-use Rattle.ospf_iface.specs.declared.candidate.Candidate.{Candidate}
+use Rattle.ospf_neighbour.specs.declared.iface.candidate.Candidate.{Candidate}
 use Rattle.ospf_neighbour.specs.Machine.{is_two_way}
-use Rattle.ospf_iface.specs.Election.{differs}
-use Rattle.ospf_iface.specs.declared.machine.Iface.{Iface}
-use Rattle.ospf_iface.specs.declared.machine.IfaceState.{IfaceState}
+use Rattle.ospf_neighbour.specs.Interface.Election.{differs}
+use Rattle.ospf_neighbour.specs.declared.iface.machine.Iface.{Iface}
+use Rattle.ospf_neighbour.specs.declared.iface.machine.IfaceState.{IfaceState}
 use Rattle.ospf_lsa.specs.declared.header.LsaHeader.{LsaHeader}
 use Rattle.ospf_packet.specs.declared.body.Description.{Description}
 use Rattle.ospf_packet.specs.declared.body.Hello.{Hello}

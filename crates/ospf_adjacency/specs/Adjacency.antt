@@ -3,7 +3,7 @@
 use Rattle.std.specs.Prelude.{◌==◌, ◌||◌, ◌+◌, ◌%◌, ◌^◌, ℕ, Bool, true, false, if◌then◌else◌}
 use Rattle.ospf_base.specs.declared.ids.Addr.{Addr}
 use Rattle.ospf_base.specs.declared.interface.InterfaceKind.TheVariants.{PointToPoint, Broadcast}
-use Rattle.ospf_iface.specs.declared.machine.Iface.{Iface}
+use Rattle.ospf_neighbour.specs.declared.iface.machine.Iface.{Iface}
 use Rattle.ospf_neighbour.specs.declared.machine.Effect.TheVariants.{AdjacencyBegins}
 use Rattle.ospf_neighbour.specs.declared.machine.NbrEvent.{NbrEvent}
 use Rattle.ospf_neighbour.specs.Machine.{transition}

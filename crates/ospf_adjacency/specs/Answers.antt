@@ -2,7 +2,7 @@
 -- 2328, sections 10.7 and 13.6).
 use Rattle.std.specs.Prelude.{◌++◌, ℕ, List, [], filter, fold, map, if◌then◌else◌, None, Some}
 use Rattle.ospf_base.specs.declared.ids.LsaKey.{LsaKey}
-use Rattle.ospf_iface.specs.declared.machine.Iface.{Iface}
+use Rattle.ospf_neighbour.specs.declared.iface.machine.Iface.{Iface}
 use Rattle.ospf_lsdb.specs.Database.{Held, entry_of, instance_at, key_at}
 use Rattle.ospf_neighbour.specs.Lists.{resent}
 use Rattle.ospf_neighbour.specs.Neighbour.{NeighbourValue}

@@ -1,13 +1,13 @@
 -- The election that ends a step on a link, with AdjOK? (RFC 2328, section 9.4).
 use Rattle.std.specs.Prelude.{◌≡◌, ◌≢◌, ◌++◌, ℕ, Bool, true, false, List, [], ◌∷◌, map, filter, if◌then◌else◌}
 use Rattle.std.specs.List.{AllByRecursion}
-use Rattle.ospf_iface.specs.declared.candidate.Candidate.{Candidate}
-use Rattle.ospf_iface.specs.declared.candidate.Elected.{Elected}
-use Rattle.ospf_iface.specs.Election.{IsElected}
-use Rattle.ospf_iface.specs.declared.machine.Iface.{Iface}
-use Rattle.ospf_iface.specs.declared.machine.IfaceState.{IfaceState}
-use Rattle.ospf_iface.specs.declared.machine.IfaceState.TheVariants as iface
-use Rattle.ospf_iface.specs.Machine.{elected, is_changed, own_candidate}
+use Rattle.ospf_neighbour.specs.declared.iface.candidate.Candidate.{Candidate}
+use Rattle.ospf_neighbour.specs.declared.iface.candidate.Elected.{Elected}
+use Rattle.ospf_neighbour.specs.Interface.Election.{IsElected}
+use Rattle.ospf_neighbour.specs.declared.iface.machine.Iface.{Iface}
+use Rattle.ospf_neighbour.specs.declared.iface.machine.IfaceState.{IfaceState}
+use Rattle.ospf_neighbour.specs.declared.iface.machine.IfaceState.TheVariants as iface
+use Rattle.ospf_neighbour.specs.Interface.Machine.{elected, is_changed, own_candidate}
 use Rattle.ospf_neighbour.specs.declared.machine.NbrEvent.TheVariants.{AdjOk}
 use Rattle.ospf_neighbour.specs.Machine.{is_two_way}
 use Rattle.ospf_neighbour.specs.Neighbour.{NeighbourValue}

@@ -5,10 +5,10 @@ use Rattle.std.specs.List.{list_any}
 use Rattle.ospf_base.specs.Addresses.{nowhere}
 use Rattle.ospf_base.specs.declared.ids.Addr.{Addr}
 use Rattle.ospf_base.specs.declared.ids.RouterId.{RouterId}
-use Rattle.ospf_iface.specs.Election.{differs}
-use Rattle.ospf_iface.specs.declared.machine.Iface.{Iface}
-use Rattle.ospf_iface.specs.declared.machine.IfaceState.{IfaceState}
-use Rattle.ospf_iface.specs.declared.machine.IfaceState.TheVariants as iface
+use Rattle.ospf_neighbour.specs.Interface.Election.{differs}
+use Rattle.ospf_neighbour.specs.declared.iface.machine.Iface.{Iface}
+use Rattle.ospf_neighbour.specs.declared.iface.machine.IfaceState.{IfaceState}
+use Rattle.ospf_neighbour.specs.declared.iface.machine.IfaceState.TheVariants as iface
 use Rattle.ospf_neighbour.specs.declared.machine.NbrEvent.TheVariants.{HelloReceived, TwoWayReceived, OneWayReceived}
 use Rattle.ospf_neighbour.specs.Machine.{is_two_way}
 use Rattle.ospf_neighbour.specs.Neighbour.{NeighbourValue, new_neighbour}
@@ -31,8 +31,8 @@ names rs q = list_any (λ r. r.0 == q.0) rs
 
 -- a Hello of the neighbour: HelloReceived, and on broadcast links what it declares is stored; then
 -- 2-WayReceived where it names the router, else 1-WayReceived (10.5)
-abbrev pub hello_turn : Iface → Local → Hello → Bool → Turn → Turn
-hello_turn i local h named t =
+abbrev pub hello_effect : Iface → Local → Hello → Bool → Turn → Turn
+hello_effect i local h named t =
     let n = t.neighbour in
     let m = after_event HelloReceived i.settings.dead n in
     event_turn i local
@@ -128,8 +128,9 @@ put_back elects t x =
     }
 
 -- a Hello of router q from this address: q is a neighbour, or becomes a new one (10.5)
-abbrev pub hello_on : Iface → Local → RouterId → Addr → Hello → Bool → Neighbourhood → Neighbourhood
-hello_on i local q source h named x =
+abbrev pub receive_hello
+    : Iface → Local → RouterId → Addr → Hello → Bool → Neighbourhood → Neighbourhood
+receive_hello i local q source h named x =
     let n = unwrap_or (neighbour_of x.neighbours q) (new_neighbour q source) in
-    let t = hello_turn i local h named (turn_of n x) in
+    let t = hello_effect i local h named (turn_of n x) in
     put_back (elects_by_hello i.state n t.neighbour) t x

@@ -2,8 +2,8 @@
 use Rattle.std.specs.Prelude.{⊤, true, ◌&&◌, ◌≡◌, ◌≢◌, ℕ, List, false, Option, None, Some, Bool, if◌then◌else◌, ◌==◌}
 use Rattle.ospf_base.specs.declared.ids.Addr.{Addr}
 use Rattle.ospf_base.specs.declared.ids.RouterId.{RouterId}
-use Rattle.ospf_iface.specs.Election.{differs}
-use Rattle.ospf_iface.specs.declared.machine.Iface.{Iface}
+use Rattle.ospf_neighbour.specs.Interface.Election.{differs}
+use Rattle.ospf_neighbour.specs.declared.iface.machine.Iface.{Iface}
 use Rattle.ospf_neighbour.specs.Machine.{is_exchanging, is_two_way}
 use Rattle.ospf_neighbour.specs.Neighbour.{NeighbourValue}
 use Rattle.ospf_neighbour.specs.Neighbours.{AreNeighboursRising, neighbour_of}
@@ -11,7 +11,7 @@ use Rattle.ospf_packet.specs.declared.body.Hello.{Hello}
 use Rattle.ospf_exchange.specs.declared.rule.Local.{Local}
 use Rattle.ospf_adjacency.specs.Elections.{AreOfLink, adjusted, elects_in}
 use Rattle.ospf_adjacency.specs.Laws.{KeepsLists, NoLists, NeverEnters}
-use Rattle.ospf_adjacency.specs.Heard.{Neighbourhood, hello_on, is_settled, put, elects_by_hello}
+use Rattle.ospf_adjacency.specs.Heard.{Neighbourhood, receive_hello, is_settled, put, elects_by_hello}
 use Rattle.ospf_adjacency.specs.Links.{timed, elects_by_timers}
 
 -- a neighbour keeps its lists or loses them, and does not enter Exchange; a new one
@@ -34,7 +34,7 @@ HelloGoes =
     (i : Iface) (local : Local) (q : RouterId) (source : Addr) (h : Hello) (named : Bool)
     (x : Neighbourhood) (p : RouterId)
     → KeepsOrLosesLists (neighbour_of x.neighbours p)
-    (neighbour_of (hello_on i local q source h named x).neighbours p)
+    (neighbour_of (receive_hello i local q source h named x).neighbours p)
 
 -- by the timers
 abbrev pub TimersGo : Type 0
@@ -52,7 +52,7 @@ AdjOkGoes =
 pub record StayOfLink (i : Iface) (ns : List NeighbourValue) : Type 0 where
   pub hello : (local : Local) (q : RouterId) (source : Addr) (h : Hello) (named : Bool)
       → q.0 ≢ i.settings.router.0 → (x : Neighbourhood) → x.neighbours ≡ ns
-      → AreOfLink i (hello_on i local q source h named x).neighbours
+      → AreOfLink i (receive_hello i local q source h named x).neighbours
   pub timers : AreOfLink i (timed ns)
   pub adj_ok : (j : Iface) (tick next : ℕ) → AreOfLink i (adjusted j tick next ns)
 

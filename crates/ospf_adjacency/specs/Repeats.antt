@@ -3,7 +3,7 @@ use Rattle.std.specs.Prelude.{◌&&◌, ◌++◌, ◌∷◌, [], ℕ, List, filt
 use Rattle.std.specs.List.{list_any}
 use Rattle.ospf_base.specs.Keys.{same_key}
 use Rattle.ospf_base.specs.declared.ids.LsaKey.{LsaKey}
-use Rattle.ospf_iface.specs.declared.machine.Iface.{Iface}
+use Rattle.ospf_neighbour.specs.declared.iface.machine.Iface.{Iface}
 use Rattle.ospf_lsdb.specs.Database.{Held, key_at}
 use Rattle.ospf_neighbour.specs.Neighbour.{NeighbourValue}
 use Rattle.ospf_neighbour.specs.declared.neighbour.Listed.{Listed}

@@ -8,7 +8,7 @@ ghost use Rattle.ospf_area.specs.Turns.{turn};
 use ospf_area::{LinkContext, Outbox, send_dd};
 use ospf_base::{Addr, InterfaceKind};
 use ospf_exchange::begin;
-use ospf_iface::Iface;
+use ospf_neighbour::iface::Iface;
 use ospf_neighbour::{Effect, NbrEvent, Neighbour};
 use std::alloc::AllocError;
 

@@ -1,17 +1,17 @@
 //! The election that ends a step on a link.
 
 ghost use Rattle.std.specs.Prelude.{◌≡◌, ◌++◌, List, Contains, true, IfOk, OnOk};
-ghost use Rattle.ospf_iface.specs.Election.{AreDistinct};
-ghost use Rattle.ospf_iface.specs.declared.candidate.Candidate.{Candidate};
-ghost use Rattle.ospf_iface.specs.declared.machine.IfaceChange.{IfaceChange};
-ghost use Rattle.ospf_iface.specs.Machine.{own_candidate, Elects};
+ghost use Rattle.ospf_neighbour.specs.Interface.Election.{AreDistinct};
+ghost use Rattle.ospf_neighbour.specs.declared.iface.candidate.Candidate.{Candidate};
+ghost use Rattle.ospf_neighbour.specs.declared.iface.machine.IfaceChange.{IfaceChange};
+ghost use Rattle.ospf_neighbour.specs.Interface.Machine.{own_candidate, Elects};
 ghost use Rattle.ospf_adjacency.specs.Elections.{AreOfLink, ElectsOn, elects_in, candidates_of, adjusted, number_after, first_dds};
 ghost use Rattle.ospf_area.specs.Packets.{PendingPacket};
 
 use crate::adjacency::{take_event, wants_adjacency};
 use ospf_area::{LinkContext, Outbox};
 use ospf_exchange::Local;
-use ospf_iface::{Candidate, Iface, IfaceEvent, IfaceState};
+use ospf_neighbour::iface::{Candidate, Iface, IfaceEvent, IfaceState};
 use ospf_neighbour::{NbrEvent, Neighbour};
 use std::alloc::{AllocError, Global};
 

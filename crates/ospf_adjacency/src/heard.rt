@@ -7,12 +7,12 @@ ghost use Rattle.ospf_area.specs.Turns.{turn};
 ghost use Rattle.std.specs.Prelude.{if◌then◌else◌};
 ghost use Rattle.ospf_area.specs.Changes.{after_event};
 ghost use Rattle.ospf_adjacency.specs.Adjacency.{is_broadcast, wants_adjacency};
-ghost use Rattle.ospf_adjacency.specs.Heard.{names, hello_turn, election_view, is_neighbor_change, is_backup_seen, is_settled, is_waiting, elects_by_hello, neighbourhood, hello_on};
+ghost use Rattle.ospf_adjacency.specs.Heard.{names, hello_effect, election_view, is_neighbor_change, is_backup_seen, is_settled, is_waiting, elects_by_hello, neighbourhood, receive_hello};
 
 use crate::adjacency::{is_broadcast, take_event, wants_adjacency};
 use ospf_area::{LinkContext, Outbox};
 use ospf_base::{Addr, RouterId};
-use ospf_iface::{Iface, IfaceState};
+use ospf_neighbour::iface::{Iface, IfaceState};
 use ospf_neighbour::{Declared, NbrEvent, Neighbour, place_for};
 use ospf_packet::{Hello, Neighbours};
 use std::alloc::AllocError;
@@ -65,7 +65,7 @@ pub fn is_at(all: &[Neighbour], at: usize, router: RouterId) -> bool
 /// the link's neighbours, or is a new one. Returns whether it makes an election of the link due.
 ///
 /// `AllocError` when memory runs out; then the router must be stopped.
-pub fn hello_on(
+pub fn receive_hello(
     neighbours: &mut Vec<Neighbour>,
     sender: RouterId,
     source: Addr,
@@ -78,7 +78,7 @@ pub fn hello_on(
     ensures { IfOk result
         (λ elects.
         neighbourhood neighbours.new.items elects outbox.new
-        ≡ hello_on at.now.iface at.now.local sender source hello.now named
+        ≡ receive_hello at.now.iface at.now.local sender source hello.now named
         (neighbourhood neighbours.old.items false outbox.old)) }
 {
     let place = place_for(neighbours, sender);
@@ -110,7 +110,7 @@ fn hello_of(
 ) -> Result<bool, AllocError>
     ensures turn { OnOk result
         (turn neighbour.new outbox.new
-        ≡ hello_turn at.now.iface at.now.local hello.now named (turn neighbour.old outbox.old)) }
+        ≡ hello_effect at.now.iface at.now.local hello.now named (turn neighbour.old outbox.old)) }
     ensures elects { IfOk result
         (λ elects. elects ≡ elects_by_hello at.now.iface.state neighbour.old neighbour.new) }
 {
@@ -148,7 +148,7 @@ fn take_hello(
 ) -> Result<(), AllocError>
     ensures { OnOk result
         (turn neighbour.new outbox.new
-        ≡ hello_turn at.now.iface at.now.local hello.now named (turn neighbour.old outbox.old)) }
+        ≡ hello_effect at.now.iface at.now.local hello.now named (turn neighbour.old outbox.old)) }
 {
     let event = naming_event(&at.iface, named, neighbour.address());
     hear(neighbour, &at.iface, hello);

@@ -2,11 +2,13 @@
 //! Hellos and timers, adjacencies, Database Descriptions, Requests and their answers,
 //! repeats, and the link's election.
 //!
-//! `hello_on` takes a Hello, `go_up` and `go_down` bring the link up and down, `tick_timers` counts
-//! its timers, and `send_due_hello` sends its Hello. `take_event` takes an event of the neighbour
-//! machine, `take_description` a Database Description, and `take_request` a Request; `repeat` sends
-//! again what is due in a tick. `elect_on` ends a step on the link with its election and AdjOK?.
-//! What goes out is put into a `Outbox`, and sent at the end of a part.
+//! `receive_hello` takes a Hello, `go_up` and `go_down` bring the link up and down, `tick_timers`
+//! counts its timers, and `send_due_hello` sends its Hello. `take_event` takes an event of the
+//! neighbour machine, `take_description` a Database Description, and `take_request` a Request;
+//! `repeat` sends again what is due in a tick. `elect_on` ends a step on the link with its election
+//! and AdjOK?. What goes out is put into an `Outbox`, and sent at the end of a part.
+//!
+//! `link_steps` runs these parts of a step on the links of a router, one after the other.
 #![tactic(auto)]
 
 mod adjacency;
@@ -16,6 +18,7 @@ mod elections;
 mod heard;
 mod hello_laws;
 mod laws;
+pub mod link_steps;
 mod links;
 mod packing;
 mod repeating;
@@ -26,7 +29,7 @@ pub use crate::adjacency::{is_broadcast, take_event, wants_adjacency};
 pub use crate::answering::take_request;
 pub use crate::descriptions::{is_dropped, take_description};
 pub use crate::elections::elect_on;
-pub use crate::heard::{hello_on, is_at, is_named, is_settled};
+pub use crate::heard::{is_at, is_named, is_settled, receive_hello};
 pub use crate::hello_laws::{
     adj_ok_goes, elections_come_about, hello_goes, neighbours_stay_of_link, puts_one, timers_go,
 };

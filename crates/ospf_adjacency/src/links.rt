@@ -3,12 +3,12 @@
 ghost use Rattle.std.specs.Prelude.{◌≡◌, ◌==◌, ◌&&◌, [], true, false, not, ◌-◌, if◌then◌else◌};
 ghost use Rattle.std.specs.List.{list_any};
 ghost use Rattle.ospf_neighbour.specs.Machine.{is_two_way};
-ghost use Rattle.ospf_iface.specs.Machine.{is_down, started};
+ghost use Rattle.ospf_neighbour.specs.Interface.Machine.{is_down, started};
 ghost use Rattle.ospf_adjacency.specs.Links.{timed, down, elects_by_timers};
 
 use crate::heard::{is_settled, is_waiting};
-use ospf_iface::{Iface, IfaceEvent};
 use ospf_neighbour::Neighbour;
+use ospf_neighbour::iface::{Iface, IfaceEvent};
 
 /// A link goes up (RFC 2328, section 9.3). Returns whether it was down: then a
 /// Hello is sent. No memory is taken.

@@ -1,15 +1,15 @@
 //! Hellos that go out.
 
 ghost use Rattle.std.specs.Prelude.{◌≡◌, ◌&&◌, ◌∷◌, [], not, nat_le, map, IfOk, OnOk};
-ghost use Rattle.ospf_iface.specs.Machine.{is_down};
+ghost use Rattle.ospf_neighbour.specs.Interface.Machine.{is_down};
 ghost use Rattle.ospf_area.specs.Packets.{packet_if};
 ghost use Rattle.ospf_area.specs.Outboxes.{and_packets};
 ghost use Rattle.ospf_adjacency.specs.Links.{hello_packet, hello_ticked};
 
 use ospf_area::Outbox;
 use ospf_base::{ALL_SPF_ROUTERS, RouterId};
-use ospf_iface::Iface;
 use ospf_neighbour::Neighbour;
+use ospf_neighbour::iface::Iface;
 use std::alloc::{AllocError, Global};
 
 /// Sends the Hello of a link (RFC 2328, section 9.5).

@@ -9,3 +9,4 @@ pub mod ShortLemmas
 pub mod PackLemmas
 pub mod Words
 pub mod ChangeLemmas
+pub mod Updates

@@ -8,7 +8,7 @@ use Rattle.ospf_lsdb.specs.Database.{Entry, lsa_of}
 use Rattle.ospf_area.specs.declared.state.Numbering.{Numbering}
 use Rattle.ospf_packet.specs.PacketOf as packets
 use Rattle.ospf_area.specs.Outputs.{SentValue, OutputsValue}
-use Rattle.ospf_iface.specs.declared.machine.Iface.{Iface}
+use Rattle.ospf_neighbour.specs.declared.iface.machine.Iface.{Iface}
 use Rattle.ospf_area.specs.Sending.{datagrams, packet_from, to_address, way_out, sent_lsa, update_out}
 use Rattle.ospf_area.specs.declared.sending.RouterContext.{RouterContext}
 use Rattle.ospf_area.specs.Asking.{request_body}
@@ -52,7 +52,7 @@ is_numbering_of key n = same_key n.key key
 
 -- the greatest number of a key of its own, with this one
 abbrev pub greatest_after : LsaKey → ℤ → AreaValue → ℤ
-greatest_after key number s = if is_own s.router key then int_max s.greatest number else s.greatest
+greatest_after key number s = if is_own s.router key then int_max s.max_seq number else s.max_seq
 
 -- the instance waits for the acknowledgement of a neighbour that may not be there
 abbrev pub is_awaited_of : Instance → Option NeighbourValue → Bool

@@ -13,3 +13,4 @@ pub mod Numbers
 pub mod Standing
 pub mod Packing
 pub mod Laws
+pub mod Updates

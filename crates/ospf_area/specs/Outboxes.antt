@@ -2,7 +2,7 @@
 -- packets go out (RFC 2328, section 8.1).
 use Rattle.std.specs.Prelude.{◌++◌, ℕ, List}
 use Rattle.std.specs.List.{flat_map}
-use Rattle.ospf_iface.specs.declared.machine.Iface.{Iface}
+use Rattle.ospf_neighbour.specs.declared.iface.machine.Iface.{Iface}
 use Rattle.ospf_area.specs.Outputs.{SentValue}
 use Rattle.ospf_area.specs.Sending.{datagrams, packet_from, way_out}
 use Rattle.ospf_area.specs.declared.sending.RouterContext.{RouterContext}

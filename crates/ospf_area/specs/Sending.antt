@@ -4,7 +4,7 @@ use Rattle.ospf_base.specs.Addresses.{all_spf_routers}
 use Rattle.ospf_base.specs.Constants.{largest_packet, max_age}
 use Rattle.ospf_base.specs.declared.ids.Addr.{Addr}
 use Rattle.ospf_base.specs.declared.interface.InterfaceKind.TheVariants.{PointToPoint, Broadcast}
-use Rattle.ospf_iface.specs.declared.machine.Iface.{Iface}
+use Rattle.ospf_neighbour.specs.declared.iface.machine.Iface.{Iface}
 use Rattle.ospf_lsa.specs.Header.{header_of}
 use Rattle.ospf_lsa.specs.Lsa.{with_age}
 use Rattle.ospf_packet.specs.Meaning.{BodyMeaning, Meaning, packet_bytes}

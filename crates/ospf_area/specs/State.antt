@@ -6,7 +6,7 @@ use Rattle.ospf_base.specs.declared.ids.AreaId.{AreaId}
 use Rattle.ospf_base.specs.declared.ids.Instance.{Instance}
 use Rattle.ospf_base.specs.declared.ids.LsaKey.{LsaKey}
 use Rattle.ospf_base.specs.declared.ids.RouterId.{RouterId}
-use Rattle.ospf_iface.specs.declared.machine.Iface.{Iface}
+use Rattle.ospf_neighbour.specs.declared.iface.machine.Iface.{Iface}
 use Rattle.ospf_lsa.specs.declared.header.LsaHeader.{LsaHeader}
 use Rattle.ospf_lsdb.specs.Database as lsdb
 use Rattle.ospf_lsdb.specs.Database.{Held, Entry, lsa_of}
@@ -60,7 +60,7 @@ pub record AreaValue : Type 0 where
   -- the keys of the self-originated LSAs that this step installed and must still respond to (13.4)
   pub heard : List LsaKey
   -- the greatest of the floor and of all numbers of keys of its own
-  pub greatest : ℤ
+  pub max_seq : ℤ
 
 -- ---- what is read of it
 

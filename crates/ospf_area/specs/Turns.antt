@@ -4,7 +4,7 @@ use Rattle.std.specs.Prelude.{◌++◌, ℕ, List, []}
 use Rattle.std.specs.List.{flat_map}
 use Rattle.ospf_exchange.specs.Requests.{asked_next, request_due}
 use Rattle.ospf_exchange.specs.declared.rule.Local.{Local}
-use Rattle.ospf_iface.specs.declared.machine.Iface.{Iface}
+use Rattle.ospf_neighbour.specs.declared.iface.machine.Iface.{Iface}
 use Rattle.ospf_neighbour.specs.Neighbour.{NeighbourValue}
 use Rattle.ospf_neighbour.specs.declared.machine.NbrEvent.TheVariants as event
 use Rattle.ospf_area.specs.Asking.{turned_to_next}

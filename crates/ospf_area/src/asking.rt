@@ -47,7 +47,7 @@ pub fn request_turn(
 /// 10.9).
 ///
 /// `AllocError` where memory runs out; then the router must be stopped.
-pub fn turn_requests(
+pub fn advance_requests(
     links: &mut [AreaLink],
     own: RouterContext,
     out: &mut Outputs,

@@ -1,6 +1,9 @@
 //! A router's part of an area (RFC 2328, sections 8, 12 and 13): its links and their
 //! neighbours, its database, and what goes out: flooding over all links, acknowledgements that
 //! wait, and the Requests that follow.
+//!
+//! `update` is the flooding procedure for LSAs received (section 13), the acknowledgements, and how
+//! LSAs grow old and leave the database (section 14).
 #![tactic(auto)]
 
 mod asking;
@@ -15,8 +18,9 @@ mod packets;
 mod sending;
 mod standing;
 mod state;
+pub mod update;
 
-pub use crate::asking::{request_turn, turn_requests};
+pub use crate::asking::{advance_requests, request_turn};
 pub use crate::changes::{AdjacencyChange, change_at, delay_at};
 pub use crate::flooding::{Flooded, PacketSource, flood};
 pub use crate::laws::{

@@ -35,8 +35,8 @@ pub fn is_own(router: RouterId, key: &LsaKey) -> bool
 pub fn count_number(area: &mut Area, key: LsaKey, header: &LsaHeader) -> Result<(), AllocError>
     ensures { OnOk result (area.new ≡ record area.old {
       numbering = counts key header.now.number area.old;
-      greatest = if is_own area.old.router key then int_max area.old.greatest header.now.number
-          else area.old.greatest;
+      max_seq = if is_own area.old.router key then int_max area.old.max_seq header.now.number
+          else area.old.max_seq;
     }) }
 {
     let number = header.number;
@@ -45,7 +45,7 @@ pub fn count_number(area: &mut Area, key: LsaKey, header: &LsaHeader) -> Result<
     }
     let floor = area.floor;
     count(&mut area.numbering, key, number, floor)?;
-    area.greatest = larger(area.greatest, number);
+    area.max_seq = larger(area.max_seq, number);
     Ok(())
 }
 

@@ -8,7 +8,7 @@ use crate::sending::{RouterContext, send, way_out};
 use crate::state::{AreaLink, LinkSettings};
 use ospf_base::Addr;
 use ospf_exchange::Local;
-use ospf_iface::Iface;
+use ospf_neighbour::iface::Iface;
 use ospf_packet::{BodyValue, PacketValue};
 use std::alloc::{AllocError, Global};
 use std::marker::Model;

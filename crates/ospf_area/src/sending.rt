@@ -7,8 +7,8 @@ ghost use Rattle.ospf_area.specs.Sending.{context_of, and_sends, datagrams, way_
 use crate::outputs::{Outputs, Sent};
 use crate::state::{Area, LinkSettings};
 use ospf_base::{ALL_SPF_ROUTERS, Addr, AreaId, InterfaceKind, RouterId};
-use ospf_iface::Iface;
 use ospf_lsa::{Lsa, LsaView};
+use ospf_neighbour::iface::Iface;
 use ospf_packet::{PacketValue, WriteFault, write_packet};
 use std::alloc::{AllocError, Global};
 

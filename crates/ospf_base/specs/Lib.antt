@@ -11,3 +11,4 @@ pub mod Rising
 pub mod Laws
 pub mod Prefixes
 pub mod Text
+pub mod Events

@@ -4,6 +4,7 @@
 mod age;
 mod bytes;
 mod constants;
+pub mod event;
 mod ids;
 mod interface;
 mod laws;

@@ -1,7 +1,7 @@
 -- Events by chance, some of them at a time.
 use Rattle.std.proofs.Common.{◌≡◌, sym, subst, refl, ◌+◌, ◌-◌, ◌≤◌, ℕ, zero, suc, Ok, Err, arith}
 use Rattle.ospf_world.specs.Draws.{drawn_past, words_from}
-use Rattle.ospf_event.specs.declared.event.WorldFault.{WorldFault}
+use Rattle.ospf_base.specs.declared.event.event.WorldFault.{WorldFault}
 use Rattle.ospf_commands.specs.Simulations.{Answer}
 use Rattle.ospf_world.specs.Random.{GoesOnWith, IsRandom}
 use Rattle.ospf_world.specs.Worlds.{WorldValue}

@@ -1,6 +1,6 @@
 -- Rounds and batches, one after another.
 use Rattle.std.proofs.Common.{◌≡◌, sym, subst, refl, ◌+◌, ◌<◌, ◌≤◌, ℕ, zero, suc, Ok, Err, arith}
-use Rattle.ospf_event.specs.declared.event.WorldFault.{WorldFault}
+use Rattle.ospf_base.specs.declared.event.event.WorldFault.{WorldFault}
 use Rattle.ospf_commands.specs.Rounds.{AreDone, no_more, one_more, refused_at}
 use Rattle.ospf_commands.specs.Simulations.{Answer}
 use Rattle.ospf_commands.specs.declared.simulation.Simulation.{Simulation}

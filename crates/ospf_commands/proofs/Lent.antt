@@ -5,8 +5,8 @@ use Rattle.std.specs.declared.alloc.Global.{Global}
 use Rattle.std.specs.Borrow.{Bor}
 use Rattle.ospf_base.specs.declared.ids.RouterId.{RouterId}
 use Rattle.ospf_headline.specs.World.{Member, member, of_member, unless_stopped}
-use Rattle.ospf_event.specs.declared.event.WorldFault.{WorldFault}
-use Rattle.ospf_event.specs.declared.event.WorldFault.TheVariants as fault
+use Rattle.ospf_base.specs.declared.event.event.WorldFault.{WorldFault}
+use Rattle.ospf_base.specs.declared.event.event.WorldFault.TheVariants as fault
 use Rattle.ospf_router.specs.Routers.{RouterValue}
 use Rattle.ospf_files.proofs.Written.{nothing_begun}
 use Rattle.ospf_commands.specs.Asked.{IsWhyAnswered, is_explained, is_on_no_link}

@@ -8,3 +8,4 @@ pub mod Same
 pub mod Rows
 pub mod Agreed
 pub mod Among
+pub mod Deliveries

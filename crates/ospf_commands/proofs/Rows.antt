@@ -13,7 +13,7 @@ use Rattle.ospf_headline.specs.Listings.{ListTheSame, ListsInstance}
 use Rattle.ospf_lsa.specs.Listing.{IsListable, IsListing}
 use Rattle.ospf_lsa.specs.Lsa.{instance_of}
 use Rattle.ospf_lsa.specs.declared.fault.LsaFault.TheVariants as fault
-use Rattle.ospf_step.proofs.StateFacts.{Contains-map, Contains-map_cases}
+use Rattle.ospf_router.proofs.AreaStep.StateFacts.{Contains-map, Contains-map_cases}
 
 -- ---- what the contents say
 

@@ -3,8 +3,8 @@ use Rattle.std.proofs.Common.{◌≡◌, ◌∙◌, ap, sym, subst, refl, true, 
 use Rattle.ospf_commands.specs.Rounds.{IsOneRound}
 use Rattle.ospf_commands.specs.Settling.{ArePassed, IsStillFor, NeverStillFor, Passes, Settles, does_not_settle, has_ended, has_not_settled, has_settled, has_stormed, left_over, no_room_ends_it, round_ends_it, round_leaves_some, rounds_to_stay, settled_line, settles, settling_offers, sight, storm_line, unsettled_line}
 use Rattle.ospf_config.specs.declared.address.InterfaceAddress.{InterfaceAddress}
-use Rattle.ospf_event.specs.declared.event.WorldFault.{WorldFault}
-use Rattle.ospf_event.specs.declared.event.WorldFault.TheVariants as fault
+use Rattle.ospf_base.specs.declared.event.event.WorldFault.{WorldFault}
+use Rattle.ospf_base.specs.declared.event.event.WorldFault.TheVariants as fault
 use Rattle.ospf_commands.specs.declared.settle.Outcome.{Outcome}
 use Rattle.ospf_commands.specs.declared.settle.Outcome.TheVariants as outcome
 use Rattle.ospf_commands.specs.declared.simulation.Simulation.{Simulation}

@@ -6,9 +6,9 @@ use Rattle.ospf_area.specs.State.{AreaValue}
 use Rattle.ospf_base.specs.Text.{number_text}
 use Rattle.ospf_base.specs.declared.ids.Addr.{Addr}
 use Rattle.ospf_base.specs.declared.ids.RouterId.{RouterId}
-use Rattle.ospf_event.specs.declared.event.WorldFault.{WorldFault}
-use Rattle.ospf_event.specs.declared.event.WorldFault.TheVariants as fault
-use Rattle.ospf_edges.specs.Listed.{advertisements_of}
+use Rattle.ospf_base.specs.declared.event.event.WorldFault.{WorldFault}
+use Rattle.ospf_base.specs.declared.event.event.WorldFault.TheVariants as fault
+use Rattle.ospf_graph.specs.EdgeLists.Listed.{advertisements_of}
 use Rattle.ospf_inspect.specs.Lines.{AreLines}
 use Rattle.ospf_inspect.specs.Lsas.{SaysOfLsa}
 use Rattle.ospf_journal.specs.Counted.{drop_lines}

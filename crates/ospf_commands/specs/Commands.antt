@@ -1,21 +1,21 @@
 -- What a command of a script does to a simulation, and what it prints.
 use Rattle.std.specs.Prelude.{◌≡◌, ℕ, List, [], Ok, Err, Option, Some, true, false}
-use Rattle.ospf_event.specs.declared.event.WorldEvent.{WorldEvent}
-use Rattle.ospf_event.specs.declared.event.WorldFault.TheVariants as fault
+use Rattle.ospf_base.specs.declared.event.event.WorldEvent.{WorldEvent}
+use Rattle.ospf_base.specs.declared.event.event.WorldFault.TheVariants as fault
 use Rattle.ospf_script.specs.Words.{Text}
 use Rattle.ospf_script.specs.declared.command.Command.{Command}
 use Rattle.ospf_script.specs.declared.command.Command.TheVariants as command
 use Rattle.ospf_script.specs.declared.command.Many.{Many}
 use Rattle.ospf_commands.specs.Asked.{AreDatagramsShown, AreDropsShown, AreLsasShown, IsTextSaid, IsViewShown, IsWalked, IsWhyAnswered}
 use Rattle.ospf_commands.specs.Judged.{JudgedSo}
-use Rattle.ospf_rounds.specs.Losses.{lose_somewhere, losses_of}
-use Rattle.ospf_rounds.specs.Many.{ComesAbout}
+use Rattle.ospf_commands.specs.Deliveries.Losses.{lose_somewhere, losses_of}
+use Rattle.ospf_commands.specs.Deliveries.Many.{ComesAbout}
 use Rattle.ospf_commands.specs.Printed.{IsPrinted, IsPrintedBegun}
 use Rattle.ospf_commands.specs.Rounds.{AreBatches, AreRounds, most_of}
 use Rattle.ospf_commands.specs.Settling.{Settles}
 use Rattle.ospf_commands.specs.Simulations.{Answer, moved, unsettled}
 use Rattle.ospf_commands.specs.Worlds.{EventDoes, IsRandomRun, WorldValue}
-use Rattle.ospf_rounds.specs.declared.losses.Losses.{Losses}
+use Rattle.ospf_commands.specs.declared.delivery.losses.Losses.{Losses}
 use Rattle.ospf_commands.specs.declared.simulation.Simulation.{Simulation}
 
 -- an event happens

@@ -9,3 +9,4 @@ pub mod Expectations
 pub mod Judged
 pub mod Agreement
 pub mod Commands
+pub mod Deliveries

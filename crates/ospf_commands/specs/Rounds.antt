@@ -1,10 +1,10 @@
 -- Rounds of a simulation, and random events.
 use Rattle.std.specs.Prelude.{◌≡◌, ℕ, suc, Ok, Err, Option, None, Some}
-use Rattle.ospf_event.specs.declared.event.WorldFault.{WorldFault}
-use Rattle.ospf_rounds.specs.Losses.{IsLosingRound}
+use Rattle.ospf_base.specs.declared.event.event.WorldFault.{WorldFault}
+use Rattle.ospf_commands.specs.Deliveries.Losses.{IsLosingRound}
 use Rattle.ospf_commands.specs.Simulations.{Answer, moved}
 use Rattle.ospf_commands.specs.Worlds.{IsBatch, IsRoundOf, WorldValue, most_offers}
-use Rattle.ospf_rounds.specs.declared.losses.Losses.{Losses}
+use Rattle.ospf_commands.specs.declared.delivery.losses.Losses.{Losses}
 use Rattle.ospf_commands.specs.declared.simulation.Simulation.{Simulation}
 
 -- the most datagrams that a round offers: as many as the line says, else the default of a round

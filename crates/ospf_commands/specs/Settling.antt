@@ -4,8 +4,8 @@ use Rattle.ospf_base.specs.Text.{number_text}
 use Rattle.ospf_config.specs.Conflicts.{network_part}
 use Rattle.ospf_config.specs.declared.address.InterfaceAddress.{InterfaceAddress}
 use Rattle.ospf_config.specs.declared.interface.Interface.{Interface}
-use Rattle.ospf_event.specs.declared.event.WorldFault.{WorldFault}
-use Rattle.ospf_event.specs.declared.event.WorldFault.TheVariants as fault
+use Rattle.ospf_base.specs.declared.event.event.WorldFault.{WorldFault}
+use Rattle.ospf_base.specs.declared.event.event.WorldFault.TheVariants as fault
 use Rattle.ospf_originate.specs.Numbers.{min_ls_interval}
 use Rattle.ospf_script.specs.Words.{Text}
 use Rattle.ospf_views.specs.Sight.{slot_sight}

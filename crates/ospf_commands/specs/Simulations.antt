@@ -1,6 +1,6 @@
 -- What the lines of a script work on.
 use Rattle.std.specs.Prelude.{None, false, Result}
-use Rattle.ospf_event.specs.declared.event.WorldFault.{WorldFault}
+use Rattle.ospf_base.specs.declared.event.event.WorldFault.{WorldFault}
 use Rattle.ospf_commands.specs.Worlds.{WorldValue}
 use Rattle.ospf_commands.specs.declared.simulation.Simulation.{Simulation}
 

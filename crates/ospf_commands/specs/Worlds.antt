@@ -2,8 +2,8 @@
 use Rattle.std.specs.Prelude.{◌≡◌, ℕ, List, Some, Result}
 use Rattle.ospf_base.specs.declared.ids.RouterId.{RouterId}
 use Rattle.ospf_headline.specs.World.{Member, member, of_member, unless_stopped}
-use Rattle.ospf_event.specs.declared.event.WorldEvent.{WorldEvent}
-use Rattle.ospf_event.specs.declared.event.WorldFault.{WorldFault}
+use Rattle.ospf_base.specs.declared.event.event.WorldEvent.{WorldEvent}
+use Rattle.ospf_base.specs.declared.event.event.WorldFault.{WorldFault}
 use Rattle.ospf_router.specs.Routers.{RouterValue}
 use Rattle.ospf_world.specs.Does.{Does}
 use Rattle.ospf_world.specs.Random as random
@@ -12,7 +12,7 @@ use Rattle.ospf_world.specs.Worlds.{IsLent, world_of}
 use Rattle.ospf_world.specs.declared.walk.Walk.{Walk}
 use Rattle.rand_pcg.specs.Lcg.{increment_of, started}
 use Rattle.rand_pcg.specs.Pcg.{multiplier_64}
-pub use Rattle.ospf_rounds.specs.Batches.{IsBatch}
+pub use Rattle.ospf_commands.specs.Deliveries.Batches.{IsBatch}
 pub use Rattle.ospf_world.specs.Rounds.{IsRoundOf, most_offers}
 pub use Rattle.ospf_world.specs.Worlds.{SlotValue, WorldValue}
 

@@ -3,16 +3,16 @@
 ghost use Rattle.std.specs.Prelude.{◌≡◌, IfErr, IfOk, Ok, OnErr};
 ghost use Rattle.ospf_files.specs.Streams.{IsOutputCut};
 ghost use Rattle.ospf_commands.specs.Commands.{EventComesAbout, IsDone, IsDoneBegun, Loses, ManyHappen};
-ghost use Rattle.ospf_rounds.specs.Progress.{ToldOn};
+ghost use Rattle.ospf_commands.specs.Deliveries.Progress.{ToldOn};
 ghost use Rattle.ospf_world.specs.Watching.{Told};
 
 use crate::asked::{say, show, show_datagrams, show_drops, show_lsas, show_walk, show_why};
+use crate::delivery::{Losses, Watch, lose_somewhere, run_many};
 use crate::judge::judge;
 use crate::rounds::{run_batches, run_events, run_rounds};
 use crate::settle::settle;
 use crate::simulation::Simulation;
 use ospf_files::{FailedStreams, Failure};
-use ospf_rounds::{Losses, Watch, lose_somewhere, run_many};
 use ospf_script::{Command, Many};
 use ospf_world::{WorldEvent, WorldFault};
 use std::alloc::Global;

@@ -3,11 +3,14 @@
 //! `run_command` runs one on a `Simulation` (`specs/Commands`, `specs/Shown`, `specs/Judged`);
 //! `is_met` judges an expectation of a router (`specs/Expectations`), and `agreement_law` is the
 //! law of `specs/Agreement`.
+//!
+//! `delivery` delivers what is sent in rounds and batches, and loses some of it at random.
 #![tactic(auto)]
 
 mod agreement;
 mod asked;
 mod commands;
+pub mod delivery;
 mod expectations;
 mod judge;
 mod laws;
@@ -17,7 +20,7 @@ mod show;
 mod simulation;
 
 pub use crate::commands::run_command;
+pub use crate::delivery::Watch;
 pub use crate::expectations::{is_met, unmet_line, write_unmet};
 pub use crate::laws::agreement_law;
 pub use crate::simulation::Simulation;
-pub use ospf_rounds::Watch;

@@ -5,11 +5,11 @@ ghost use Rattle.ospf_commands.specs.Commands.{SomeHappen};
 ghost use Rattle.ospf_commands.specs.Rounds.{AreBatches, AreRounds, IsOneRound, most_of};
 ghost use Rattle.ospf_commands.specs.Simulations.{unsettled};
 ghost use Rattle.ospf_commands.specs.Worlds.{IsRandomRun};
-ghost use Rattle.ospf_rounds.specs.Progress.{ToldOn};
+ghost use Rattle.ospf_commands.specs.Deliveries.Progress.{ToldOn};
 ghost use Rattle.ospf_world.specs.Watching.{Told};
 
+use crate::delivery::{Watch, batch, round_losing};
 use crate::simulation::Simulation;
-use ospf_rounds::{Watch, batch, round_losing};
 use ospf_world::{MOST_OFFERS, World, WorldFault};
 use rand_pcg::Lcg64Xsh32;
 use std::alloc::Global;

@@ -5,15 +5,15 @@ ghost use Rattle.ospf_commands.specs.Printed.{IsPrinted, IsPrintedBegun};
 ghost use Rattle.ospf_commands.specs.Settling.{Passes, Settles, left_over, longer, longer_in, network_text, settled_line, storm_line, unsettled_line};
 ghost use Rattle.ospf_files.specs.Streams.{IsOutputCut};
 ghost use Rattle.ospf_originate.specs.Numbers.{min_ls_interval};
-ghost use Rattle.ospf_rounds.specs.Progress.{ToldOn};
+ghost use Rattle.ospf_commands.specs.Deliveries.Progress.{ToldOn};
 
+use crate::delivery::Watch;
 use crate::rounds::run_round;
 use crate::simulation::Simulation;
 use ospf_base::RouterId;
 use ospf_config::{Interface, InterfaceAddress};
 use ospf_files::{FailedStreams, Failure};
 use ospf_originate::MIN_LS_INTERVAL;
-use ospf_rounds::Watch;
 use ospf_views::sight_of;
 use ospf_world::{MOST_OFFERS, Slot, World, WorldFault, network_of};
 use std::alloc::{AllocError, Global};

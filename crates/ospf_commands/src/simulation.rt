@@ -3,7 +3,7 @@
 ghost use Rattle.std.specs.Prelude.{◌≡◌};
 ghost use Rattle.ospf_commands.specs.Simulations.{begun_in};
 
-use ospf_rounds::Losses;
+use crate::delivery::Losses;
 use ospf_world::{Walk, World};
 
 /// A world, and what earlier lines requested or found.

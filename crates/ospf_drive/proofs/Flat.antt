@@ -2,8 +2,8 @@
 use Rattle.std.proofs.Common.{◌≡◌, ◌++◌, ◌+◌, ℕ, List, [], ◌∷◌, Option, Some, Ok, Err, take, refl, ap, sym, subst, ◌∙◌, arith}
 use Rattle.std.proofs.lemmas.List.{append-nil}
 use Rattle.ospf_area.specs.Outputs.{SentValue}
-use Rattle.ospf_step.specs.Step.{Event}
-use Rattle.ospf_index.specs.Known.{Known}
+use Rattle.ospf_router.specs.AreaStep.Step.{Event}
+use Rattle.ospf_fib.specs.PrefixIndex.Known.{Known}
 use Rattle.ospf_router.specs.Routers.{stopped}
 use Rattle.ospf_drive.proofs.Going.{chain-append, events_done-append, events_of-append, goes-append, left_by-append, no_end-append, sent_by-append}
 use Rattle.ospf_drive.proofs.Turning.{events_of-some, not_end-of}

@@ -3,7 +3,7 @@ use Rattle.std.proofs.Common.{List, [], ◌∷◌, sym, subst, ◌∙◌}
 use Rattle.std.proofs.lemmas.Option.{same_Some}
 use Rattle.ospf_router.specs.Routers.{IsKept, RouterValue}
 use Rattle.ospf_router.specs.Steps.{Steps}
-use Rattle.ospf_step.specs.Lawful.{StepsAreLawful, StepsStayKept}
+use Rattle.ospf_router.specs.AreaStep.Lawful.{StepsAreLawful, StepsStayKept}
 use Rattle.ospf_drive.specs.Chains.{AreLawful, IsKeptRouter, IsLawfulStep}
 use Rattle.ospf_drive.specs.Machines.{router_rules}
 use Rattle.ospf_drive.specs.Moments.{Done, IsChain}

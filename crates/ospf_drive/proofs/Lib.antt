@@ -5,3 +5,4 @@ pub mod Jobs
 pub mod Flat
 pub mod Joined
 pub mod Lawful
+pub mod UdpWire

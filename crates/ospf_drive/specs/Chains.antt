@@ -2,7 +2,7 @@
 -- step (RFC 2328, sections 8 to 13).
 use Rattle.std.specs.Prelude.{◌≡◌, ⊤, List, [], ◌∷◌, Some}
 use Rattle.ospf_area.specs.State.{AreaValue}
-use Rattle.ospf_step.specs.Lawful.{IsLawful}
+use Rattle.ospf_router.specs.AreaStep.Lawful.{IsLawful}
 use Rattle.ospf_router.specs.Routers.{IsKept, RouterValue}
 use Rattle.ospf_drive.specs.Machines.{router_rules}
 use Rattle.ospf_drive.specs.Moments.{Done, IsChain}

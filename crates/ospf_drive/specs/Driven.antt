@@ -1,6 +1,6 @@
 -- The results of drivers in threads of their own.
 use Rattle.std.specs.Prelude.{⊤, ◌≡◌, ℕ, Option, Result, Ok, Err}
-use Rattle.ospf_index.specs.Known.{Known}
+use Rattle.ospf_fib.specs.PrefixIndex.Known.{Known}
 use Rattle.ospf_router.specs.Routers.{RouterValue}
 use Rattle.ospf_drive.specs.Drives.{Drives}
 use Rattle.ospf_drive.specs.Machines.{Rules}

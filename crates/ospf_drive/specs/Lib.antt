@@ -8,3 +8,4 @@ pub mod Turns
 pub mod Scripts
 pub mod Whole
 pub mod Driven
+pub mod UdpWire

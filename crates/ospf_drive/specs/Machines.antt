@@ -4,8 +4,8 @@ use Rattle.ospf_area.specs.State.{AreaValue}
 use Rattle.ospf_router.specs.Routers.{RouterValue}
 use Rattle.ospf_router.specs.Steps.{Steps}
 use Rattle.ospf_router.specs.declared.router.Step.{Step}
-use Rattle.ospf_step.specs.Drops.{dropped_by}
-use Rattle.ospf_step.specs.Step.{Event}
+use Rattle.ospf_router.specs.AreaStep.Drops.{dropped_by}
+use Rattle.ospf_router.specs.AreaStep.Step.{Event}
 
 -- the rules of a machine: which steps it makes, by the event, the router before it, what the step
 -- gives and the router after it; and at which events it may stop

@@ -1,9 +1,9 @@
 -- Where a driver stands: the router, the wire and the writer.
 use Rattle.std.specs.Prelude.{◌≡◌, ℕ, List, [], ◌∷◌, Bool, true, false, ◌&&◌, Option, None, Some, filter_map, flat_map, fold, map, nat_lt, nat_le, if◌then◌else◌}
 use Rattle.std.specs.List.{AllByRecursion}
-use Rattle.ospf_index.specs.Known.{Known, Table}
+use Rattle.ospf_fib.specs.PrefixIndex.Known.{Known, Table}
 use Rattle.ospf_area.specs.Outputs.{SentValue}
-use Rattle.ospf_step.specs.Step.{Event}
+use Rattle.ospf_router.specs.AreaStep.Step.{Event}
 use Rattle.ospf_router.specs.Routers.{RouterValue}
 use Rattle.ospf_router.specs.declared.router.Step.{Step}
 use Rattle.ospf_drive.specs.Machines.{Rules}

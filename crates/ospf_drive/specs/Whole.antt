@@ -1,8 +1,8 @@
 -- A whole call of a driver: the arrivals that it took, and one list of steps.
 use Rattle.std.specs.Prelude.{◌≡◌, ◌+◌, ◌<◌, ◌++◌, ℕ, List, [], ◌∷◌, true, Option, Result, Ok, Err, take, length}
 use Rattle.ospf_area.specs.Outputs.{SentValue}
-use Rattle.ospf_step.specs.Step.{Event}
-use Rattle.ospf_index.specs.Known.{Known, Table}
+use Rattle.ospf_router.specs.AreaStep.Step.{Event}
+use Rattle.ospf_fib.specs.PrefixIndex.Known.{Known, Table}
 use Rattle.ospf_router.specs.Routers.{stopped}
 use Rattle.ospf_drive.specs.Drives.{Drives, last_told}
 use Rattle.ospf_drive.specs.Machines.{Rules}

@@ -21,7 +21,7 @@ use std::sync::Wait;
 /// message of the last publish, if there was any.
 ///
 /// `Recv` and `Send` if the wire fails, `Stopped` if the machine stops, which a router does when
-/// it runs out of memory, and `Publish` if memory ran out at a changed table. At `Stopped` the
+/// it runs out of memory, and `Publish` if a changed table could not be published. At `Stopped` the
 /// router has stopped, and what is published is as before the arrival; else the router is as the
 /// last step left it. At `Send` some of what that step sent has not gone out, and at `Send` and
 /// `Publish` its table is not published.

@@ -6,7 +6,7 @@ ghost use Rattle.ospf_drive.specs.Whole.{AllTicksAreTaken, DrivesAreWhole};
 
 use crate::machine::Machine;
 use ospf_router::Router;
-use ospf_step::{steps_are_lawful, steps_stay_kept};
+use ospf_router::step::{steps_are_lawful, steps_stay_kept};
 
 /// What a driver does turn by turn is one list of steps: what they send goes out in order, and what
 /// they publish is published in order.
@@ -27,7 +27,7 @@ pub fn routers_go_by_their_steps()
 {}
 
 /// Whatever happens to a router, each of its steps keeps the laws of a step (`StepLaws` and
-/// `Accounts` of `ospf_step`), however many came before.
+/// `Accounts` of `ospf_router`), however many came before.
 pub fn chains_are_lawful()
     ensures { ChainsAreLawful }
 {

@@ -1,6 +1,8 @@
 //! The driver of one router: arrivals of a wire are steps, what they send goes out,
 //! and a changed table is published. It is proved for whatever is a router (`Machine`), by rules
 //! of its own.
+//!
+//! `udp` is the wire that carries OSPF in UDP on loopback.
 #![tactic(auto)]
 
 mod all;
@@ -11,6 +13,7 @@ mod machine;
 mod memory;
 mod span;
 mod turn;
+pub mod udp;
 mod wire;
 
 pub use crate::all::{Driven, DriverJob, drive_all};

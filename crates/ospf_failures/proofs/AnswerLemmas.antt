@@ -1,7 +1,7 @@
 -- How what is asked of failures ends.
 use Rattle.std.proofs.Common.{◌≡◌, ◌≢◌, ◌∙◌, ◌⊎◌, ◌++◌, ◌∷◌, ◌↔◌, ℕ, Bool, true, false, IsTrue, List, [], ap, sym, refl, subst, inl, inr, Option, IfSome, string_bytes}
 use Rattle.std.specs.Io.KnownBytes.{Appends}
-use Rattle.ospf_edges.specs.Listed.{advertisements_of}
+use Rattle.ospf_graph.specs.EdgeLists.Listed.{advertisements_of}
 use Rattle.ospf_files.specs.Status.{failure_line, failure_status}
 use Rattle.ospf_files.specs.Streams.{IsBegun, IsTold, Written, with_error, with_output}
 use Rattle.ospf_files.specs.declared.status.Failure.{Failure}

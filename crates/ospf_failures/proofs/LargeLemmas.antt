@@ -8,7 +8,7 @@ use Rattle.ospf_lsa.specs.Lsa.{key_of}
 use Rattle.ospf_lsa.specs.declared.link.Link.{Link}
 use Rattle.ospf_graph.specs.Advertisements.{Advertisement}
 use Rattle.ospf_graph.proofs.ListLemmas.{member_of_map, member_to_map, more_members}
-use Rattle.ospf_edges.specs.Listed.{advertisement_of, advertisements_of}
+use Rattle.ospf_graph.specs.EdgeLists.Listed.{advertisement_of, advertisements_of}
 use Rattle.ospf_whatif.specs.Failure.{HasLarge, IsLarge}
 use Rattle.ospf_failures.specs.Answer.{IsFirstLarge}
 

@@ -8,8 +8,8 @@ use Rattle.ospf_base.specs.declared.ids.Kind.TheVariants as kind
 use Rattle.ospf_lsa.specs.Lsa.{IsNetworkLsa, IsRouterLsa, attached_of, links_of, network_mask_of}
 use Rattle.ospf_graph.specs.Advertisements.{Advertisement, network_lsa, router_lsa}
 use Rattle.ospf_graph.proofs.ListLemmas.{member_of_map, member_to_map, more_members}
-use Rattle.ospf_edges.proofs.ListedLemmas.{network_of, router_of}
-use Rattle.ospf_edges.specs.Listed.{advertisement_of, advertisements_of}
+use Rattle.ospf_graph.proofs.EdgeLists.ListedLemmas.{network_of, router_of}
+use Rattle.ospf_graph.specs.EdgeLists.Listed.{advertisement_of, advertisements_of}
 use Rattle.ospf_failures.specs.Answer.{HasRouter}
 
 -- there are two kinds

@@ -1,7 +1,7 @@
 //! What is asked of the failures of an area, for LSAs that are read as lines of text.
 
 ghost use Rattle.std.specs.Prelude.{◌≡◌, ◌≢◌, ◌⊎◌, ◌↔◌, ◌<◌, List, [], Option, ℕ, length, IfNone, IfOk, IfErr, IfSome, IsTrue, string_bytes};
-ghost use Rattle.ospf_edges.specs.Listed.{advertisement_of, advertisements_of};
+ghost use Rattle.ospf_graph.specs.EdgeLists.Listed.{advertisement_of, advertisements_of};
 ghost use Rattle.ospf_files.specs.Streams.{written_on};
 ghost use Rattle.ospf_files.specs.declared.status.Status.{Status};
 ghost use Rattle.ospf_files.specs.declared.streams.FailedStreams.{FailedStreams};
@@ -22,8 +22,8 @@ use crate::report::{Report, has_cut, reports, reports_json, reports_text};
 use crate::warnings::hidden_text;
 use crate::without::text_without;
 use ospf_base::{Addr, Kind, RouterId};
-use ospf_edges::is_listed;
 use ospf_files::{FailedStreams, Failure, Status};
+use ospf_graph::edges::is_listed;
 use ospf_lsa::{Links, Listing, LsaView};
 use ospf_spf::RouteTable;
 use ospf_table::{EntryFault, TableFault, read_listing, reasons_text};

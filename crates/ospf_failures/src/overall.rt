@@ -3,7 +3,7 @@
 ghost use Rattle.std.specs.Prelude.{◌≡◌, ◌↔◌, ◌++◌, ◌∷◌, [], All, IfOk, IsPermutation, IsTrue, OnOk, codes, flat_map, map, string_bytes};
 ghost use Rattle.std.specs.List.Sorted.{IsSorted};
 ghost use Rattle.ospf_base.specs.Text.{number_text};
-ghost use Rattle.ospf_edges.specs.Listed.{advertisements_of};
+ghost use Rattle.ospf_graph.specs.EdgeLists.Listed.{advertisements_of};
 ghost use Rattle.ospf_whatif.specs.Effect.{IsEffectIn};
 ghost use Rattle.ospf_whatif.specs.Failure.{without, without_all};
 ghost use Rattle.ospf_whatif.specs.Outage.{IsAreaGraph, IsOutage};

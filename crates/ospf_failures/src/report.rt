@@ -3,7 +3,7 @@
 ghost use Rattle.std.specs.Prelude.{◌≡◌, ◌↔◌, All, AllPairs, Contains, IfOk, IsPermutation, IsTrue, map, string_bytes};
 ghost use Rattle.std.specs.List.Sorted.{IsSorted};
 ghost use Rattle.ospf_graph.specs.Routes.{IsTable};
-ghost use Rattle.ospf_edges.specs.Listed.{advertisements_of};
+ghost use Rattle.ospf_graph.specs.EdgeLists.Listed.{advertisements_of};
 ghost use Rattle.ospf_whatif.specs.Effect.{IsEffect};
 ghost use Rattle.ospf_whatif.specs.Outage.{IsAreaGraph, IsKeptRoot};
 ghost use Rattle.ospf_whatif.specs.Single.{IsFailureBefore};

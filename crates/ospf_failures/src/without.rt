@@ -2,7 +2,7 @@
 
 ghost use Rattle.std.specs.Prelude.{◌≡◌, ◌≢◌, [], IfErr, IfOk, string_bytes};
 ghost use Rattle.std.specs.List.{AllZip};
-ghost use Rattle.ospf_edges.specs.Listed.{advertisements_of};
+ghost use Rattle.ospf_graph.specs.EdgeLists.Listed.{advertisements_of};
 ghost use Rattle.ospf_whatif.specs.Failure.{HasLarge, without_all};
 ghost use Rattle.ospf_failures.specs.Without.{AreNamed, IsFaultOfNames, IsFirstAmong, IsFirstUnnamed, IsNamedBy, IsTableWithout, IsUnnamedHere, SaysTableOfLeft};
 

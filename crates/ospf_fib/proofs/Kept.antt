@@ -2,7 +2,7 @@
 use Rattle.std.proofs.Common.{◌≡◌, ⊎_elim, ℕ, true, false, List, [], ◌∷◌, ◌++◌, set, refl, sym, ap, ◌∙◌, subst, IsTrue, fold}
 use Rattle.crossbeam_utils.specs.Register.{Admits, Turns, TurnsAt, Forks, Merges}
 use Rattle.atomic_table.proofs.Lists.{at_set, at_snoc, set_again}
-use Rattle.ospf_index.specs.Rule.{counter_of}
+use Rattle.ospf_fib.specs.PrefixIndex.Rule.{counter_of}
 use Rattle.ospf_fib.specs.declared.shown.ShownTable.{ShownTable}
 use Rattle.ospf_fib.specs.declared.shown.HandedOver.{HandedOver}
 use Rattle.ospf_fib.specs.declared.shown.Common.{Common}

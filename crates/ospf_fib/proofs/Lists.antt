@@ -1,7 +1,7 @@
 -- The last of a list.
 use Rattle.std.proofs.Common.{◌≡◌, ◌+◌, ◌-◌, List, [], ◌∷◌, ◌++◌, length, Some, slice_get, ap, sym, ◌∙◌, arith}
 use mathlib.Core.List.{IsPrefix}
-use Rattle.ospf_index.specs.Known.{Table}
+use Rattle.ospf_fib.specs.PrefixIndex.Known.{Table}
 
 -- the last place of a list that is not empty
 at_last : (y : Table) (ys : List Table) (t : Table) → slice_get (y ∷ ys) (length (y ∷ ys) - 1) ≡ Some t → slice_get (y ∷ ys) (length ys) ≡ Some t

@@ -4,7 +4,7 @@ use Rattle.ospf_base.specs.declared.ids.Addr.{Addr}
 use Rattle.ospf_base.specs.Prefixes.{Holds}
 use Rattle.ospf_graph.specs.declared.route.Route.{Route}
 use Rattle.ospf_graph.specs.Walk.{IsBest}
-use Rattle.ospf_index.specs.Known.{Table}
+use Rattle.ospf_fib.specs.PrefixIndex.Known.{Table}
 use Rattle.ospf_fib.specs.declared.answer.Answer.{Answer}
 use Rattle.ospf_fib.specs.Versions.{IsLastTable}
 

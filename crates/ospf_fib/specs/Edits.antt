@@ -3,7 +3,7 @@ use Rattle.std.specs.Prelude.{◌≤◌, ◌+◌, List, All, length}
 use Rattle.ospf_graph.specs.declared.route.Route.{Route}
 use Rattle.ospf_spf.specs.Changes.{PutsHops}
 use Rattle.ospf_spf.specs.declared.changes.Change.{Change}
-use Rattle.ospf_index.specs.Replaced.{Replaces}
+use Rattle.ospf_fib.specs.PrefixIndex.Replaced.{Replaces}
 use Rattle.ospf_fib.specs.declared.table_edit.TableEdit.{TableEdit}
 use Rattle.ospf_fib.specs.declared.table_edit.TableEdit.TheVariants.{InPlace, OnePass}
 

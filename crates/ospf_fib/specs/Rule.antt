@@ -3,7 +3,7 @@ use Rattle.std.specs.Prelude.{◌≡◌, ℕ, Bool, true, false, List, IsTrue}
 use mathlib.Core.Option.{some}
 use lib.ListN.{get_elem?}
 use Rattle.logbook.specs.Pages.{Book}
-use Rattle.ospf_index.specs.Rule.{counter_of}
+use Rattle.ospf_fib.specs.PrefixIndex.Rule.{counter_of}
 use Rattle.ospf_fib.specs.declared.shown.ShownTable.{ShownTable}
 use Rattle.ospf_fib.specs.declared.rule.Knows.{Knows}
 

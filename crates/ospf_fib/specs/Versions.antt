@@ -1,6 +1,6 @@
 -- Versions: places in the list of published tables.
 use Rattle.std.specs.Prelude.{◌≡◌, ℕ, ◌-◌, ◌%◌, ◌^◌, Bool, true, false, List, [], ◌∷◌, ◌++◌, length, slice_get, Option, Some}
-use Rattle.ospf_index.specs.Known.{Table}
+use Rattle.ospf_fib.specs.PrefixIndex.Known.{Table}
 use Rattle.ospf_spf.specs.Changes.{edited}
 use Rattle.ospf_spf.specs.declared.changes.Change.{Change}
 

@@ -1,6 +1,6 @@
 -- What the writer's copies show, and what they will show.
 use Rattle.std.specs.Prelude.{◌≡◌, ◌++◌, ◌∷◌, [], true, List, fold}
-use Rattle.ospf_index.specs.Known.{Known, Table}
+use Rattle.ospf_fib.specs.PrefixIndex.Known.{Known, Table}
 use Rattle.ospf_fib.specs.declared.shown.ShownTable.{ShownTable}
 use Rattle.ospf_fib.specs.declared.shown.HandedOver.{HandedOver}
 use Rattle.ospf_fib.specs.declared.shown.Common.{Common}

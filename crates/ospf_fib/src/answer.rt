@@ -3,10 +3,10 @@
 ghost use Rattle.std.specs.Prelude.{◌≡◌, true};
 ghost use Rattle.ospf_fib.specs.Answers.{IsAnswer, IsAnswerOfLast};
 
+use crate::index::IndexedTable;
 use crate::shown::ShownTable;
 use ospf_base::{Addr, Prefix};
 use ospf_graph::NextHop;
-use ospf_index::IndexedTable;
 
 /// The route of longest prefix that holds an address (RFC 2328,
 /// section 11.1), with one of its hops.

@@ -3,18 +3,18 @@
 ghost use Rattle.std.specs.Prelude.{◌≡◌, ◌≤◌, All, IfOk, [], drop, length, true};
 ghost use Rattle.std.specs.Arc.{arc_value};
 ghost use Rattle.left_right.specs.Sides.{view};
-ghost use Rattle.ospf_index.specs.Known.{opening};
-ghost use Rattle.ospf_index.specs.Rule.{counter_of};
+ghost use Rattle.ospf_fib.specs.PrefixIndex.Known.{opening};
+ghost use Rattle.ospf_fib.specs.PrefixIndex.Rule.{counter_of};
 ghost use Rattle.ospf_fib.specs.Rule.{IsKnownBook};
 ghost use Rattle.ospf_fib.specs.Writing.{IsListShown, shown_end};
 
 use crate::changes::Changes;
+use crate::index::{IndexedTable, Opened, Published};
 use crate::publisher::{Copies, Publisher, closed, show};
 use crate::rule::Tells;
 use crate::seat::Seat;
 use crate::shown::{HandedOver, ShownTable, Tries};
 use crate::writer::Writer;
-use ospf_index::{IndexedTable, Opened, Published};
 use ospf_spf::RouteTable;
 use std::alloc::{AllocError, AllocFailed, Global};
 use std::fmt::{self, Display, Formatter, Write};

@@ -3,7 +3,7 @@
 ghost use Rattle.std.specs.Prelude.{◌≡◌, ◌∷◌, ◌++◌, [], drop, true, IfErr, IfOk, OnErr, OnOk};
 ghost use Rattle.std.specs.Arc.{arc_value};
 ghost use Rattle.left_right.specs.Sides.{view};
-ghost use Rattle.ospf_index.specs.Rule.{counter_of};
+ghost use Rattle.ospf_fib.specs.PrefixIndex.Rule.{counter_of};
 ghost use Rattle.ospf_fib.specs.Edits.{CanMake, changes_of};
 ghost use Rattle.ospf_fib.specs.Rule.{IsKnownBook};
 ghost use Rattle.ospf_fib.specs.Versions.{AddsEdited, EndsWith};
@@ -11,11 +11,11 @@ ghost use Rattle.ospf_fib.specs.Writing.{common_of, shown_end, with_table};
 ghost use Rattle.ospf_spf.specs.Changes.{edited};
 
 use crate::changes::Changes;
+use crate::index::{ClosedList, Counter, IndexedTable, Opened};
 use crate::rule::{Knows, OneList, Swaps};
 use crate::seat::Told;
 use crate::shown::{HandedOver, ShownTable, Tries};
 use crate::table_edit::TableEdit;
-use ospf_index::{ClosedList, Counter, IndexedTable, Opened};
 use ospf_spf::RouteTable;
 use std::alloc::{AllocError, Global};
 use std::marker::Model;
@@ -38,8 +38,8 @@ impl Model for Publisher {
     ghost use Rattle.std.specs.Prelude.{◌≡◌, drop};
     ghost use Rattle.std.specs.Arc.{arc_value};
     ghost use Rattle.left_right.specs.Sides.{view as view_of};
-    ghost use Rattle.ospf_index.specs.Known.{Known};
-    ghost use Rattle.ospf_index.specs.Rule.{counter_of};
+    ghost use Rattle.ospf_fib.specs.PrefixIndex.Known.{Known};
+    ghost use Rattle.ospf_fib.specs.PrefixIndex.Rule.{counter_of};
     ghost use Rattle.ospf_fib.specs.Rule.{IsKnownBook};
     ghost use Rattle.ospf_fib.specs.Writing.{IsListShown, shown_end};
 
@@ -191,7 +191,7 @@ impl Model for OpenPublisher {
     ghost use Rattle.std.specs.Prelude.{◌≡◌, drop};
     ghost use Rattle.std.specs.Arc.{arc_value};
     ghost use Rattle.left_right.specs.Sides.{view as view_of};
-    ghost use Rattle.ospf_index.specs.Rule.{counter_of};
+    ghost use Rattle.ospf_fib.specs.PrefixIndex.Rule.{counter_of};
     ghost use Rattle.ospf_fib.specs.Rule.{IsKnownBook};
     ghost use Rattle.ospf_fib.specs.Writing.{IsListShown, Offer, shown_end};
 

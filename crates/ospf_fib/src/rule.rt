@@ -1,10 +1,10 @@
 //! The rule of the shared table: all that read it and write it mean one list of published tables.
 //! It is only for proofs, and nothing here has bytes.
 
+use crate::index::Counter;
 use crate::shown::ShownTable;
 use atomic_table::{Join, Split};
 use crossbeam_utils::rule::{Outcome, Protocol};
-use ospf_index::Counter;
 
 /// Which list a place knows, by its counter. One that is not named knows none.
 pub(crate) struct Knows {

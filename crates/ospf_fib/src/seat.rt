@@ -7,12 +7,12 @@ ghost use Rattle.ospf_fib.specs.Answers.{IsAnswerOfLast};
 ghost use Rattle.ospf_fib.specs.Rule.{IsKnownBook};
 
 use crate::answer::{Answer, answer_of_shown};
+use crate::index::Published;
 use crate::rule::{Enters, Knows, OneList};
 use crate::shown::ShownTable;
 use core::mem::replace_with;
 use left_right::reader::Reader;
 use ospf_base::Addr;
-use ospf_index::Published;
 use std::fmt::{self, Display, Formatter, Write};
 use std::marker::Model;
 
@@ -39,7 +39,7 @@ pub struct Told {
 }
 
 impl Model for Told {
-    ghost use Rattle.ospf_index.specs.Known.{Known};
+    ghost use Rattle.ospf_fib.specs.PrefixIndex.Known.{Known};
 
     ghost Value = { Known };
 
@@ -76,7 +76,7 @@ pub struct Seat {
 
 impl Model for Seat {
     ghost use Rattle.left_right.specs.Sides.{view as view_of};
-    ghost use Rattle.ospf_index.specs.Known.{Known};
+    ghost use Rattle.ospf_fib.specs.PrefixIndex.Known.{Known};
     ghost use Rattle.ospf_fib.specs.Rule.{IsKnownBook};
 
     ghost Value = { Known };

@@ -2,13 +2,13 @@
 
 ghost use Rattle.std.specs.Prelude.{◌≡◌, true, false, not, OnOk, OnErr, Some};
 ghost use Rattle.std.specs.Arc.{arc_value};
-ghost use Rattle.ospf_index.specs.Known.{opening};
-ghost use Rattle.ospf_index.specs.Rule.{counter_of};
+ghost use Rattle.ospf_fib.specs.PrefixIndex.Known.{opening};
+ghost use Rattle.ospf_fib.specs.PrefixIndex.Rule.{counter_of};
 ghost use Rattle.ospf_fib.specs.Versions.{added_unless, edited_by, found_of};
 
 use crate::changes::Changes;
+use crate::index::{Counter, IndexedTable, Opened, Published};
 use left_right::Absorb;
-use ospf_index::{Counter, IndexedTable, Opened, Published};
 use ospf_spf::RouteTable;
 use std::alloc::{AllocError, Global};
 use std::sync::Arc;

@@ -4,7 +4,7 @@ ghost use Rattle.std.specs.Prelude.{◌≡◌, All, AllPairs, IfOk};
 ghost use Rattle.ospf_fib.specs.Edits.{CanMake, changes_of};
 ghost use Rattle.ospf_spf.specs.Changes.{edited, IsChangeBefore, PutsHops};
 
-use ospf_index::{can_replace, put_routes};
+use crate::index::{can_replace, put_routes};
 use ospf_spf::{Change, Edit, RouteTable, copy_changes};
 use std::alloc::{AllocError, Global};
 

@@ -6,10 +6,10 @@ ghost use Rattle.ospf_fib.specs.Versions.{AddsEdited, EndsWith};
 ghost use Rattle.ospf_spf.specs.Changes.{IsChangeBefore, PutsHops};
 
 use crate::changes::Changes;
+use crate::index::IndexedTable;
 use crate::publisher::Publisher;
 use crate::seat::{Seat, Told};
 use core::mem::replace_with;
-use ospf_index::IndexedTable;
 use ospf_spf::{Change, RouteTable, copy_changes};
 use std::alloc::AllocError;
 use std::marker::Model;
@@ -24,7 +24,7 @@ pub struct Writer<R: Wait + Drop> {
 }
 
 impl<R: Wait + Drop> Model for Writer<R> {
-    ghost use Rattle.ospf_index.specs.Known.{Known};
+    ghost use Rattle.ospf_fib.specs.PrefixIndex.Known.{Known};
 
     ghost Value = { Known };
 

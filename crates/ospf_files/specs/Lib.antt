@@ -8,3 +8,4 @@ pub mod Lines
 pub mod Explained
 pub mod Rows
 pub mod AllFaults
+pub mod Report

@@ -7,8 +7,9 @@
 //! configuration, and `explain_all` those of each of its faults (`specs/Explained`,
 //! `specs/AllFaults`). `lines` gives the lines of a text, with their numbers and without comments.
 //! `print_routes` and `print_lookup` print a table and the result of a lookup (RFC 2328, section
-//! 11), as `specs/Shown` defines. `FailedStreams` notes which stream failed, and `Failure::tell`
-//! prints why a program ends early (`specs/Status`).
+//! 11), as `specs/Shown` defines. `print_report` prints what a command has computed
+//! (`specs/Report`). `FailedStreams` notes which stream failed, and `Failure::tell` prints why a
+//! program ends early (`specs/Status`).
 #![tactic(auto)]
 
 mod all;
@@ -19,6 +20,7 @@ mod explained;
 mod files;
 mod line;
 mod places;
+mod report;
 mod rows;
 mod shown;
 mod status;
@@ -34,6 +36,7 @@ pub use crate::disk::{read_file, read_files, tell_unwritten, write_file};
 pub use crate::explained::{Explained, KeyExplained, explain};
 pub use crate::files::{NamedFile, config_in};
 pub use crate::line::{Line, first_line, lines};
+pub use crate::report::{Report, print_report};
 pub use crate::shown::{print_lookup, print_routes};
 pub use crate::status::{Failure, Status};
 pub use crate::streams::{FailedStreams, write_line, write_text};

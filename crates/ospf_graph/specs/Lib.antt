@@ -14,3 +14,4 @@ pub mod Pairs
 pub mod Text
 pub mod Paths
 pub mod Adds
+pub mod EdgeLists

@@ -1,8 +1,11 @@
 //! The graph of a listing, the shortest paths through it, and where walks along next hops arrive
 //! (RFC 2328, section 16.1).
+//!
+//! `edges` holds the edges and the prefixes that a listing gives, with an index by vertex.
 #![tactic(auto)]
 
 mod candidates;
+pub mod edges;
 mod graph;
 mod hop;
 mod laws;

@@ -8,12 +8,12 @@ use Rattle.ospf_base.specs.declared.ids.RouterId.{RouterId}
 use Rattle.ospf_lsa.specs.Lsa.{key_of}
 use Rattle.ospf_area.specs.Outputs.{OutputsValue}
 use Rattle.ospf_lsdb.specs.Moments.{among}
-use Rattle.ospf_step.specs.Step.{Event, heard_in}
-use Rattle.ospf_step.proofs.StateFacts.{same_contents, slice_get-append_left}
+use Rattle.ospf_router.specs.AreaStep.Step.{Event, heard_in}
+use Rattle.ospf_router.proofs.AreaStep.StateFacts.{same_contents, slice_get-append_left}
 use Rattle.ospf_area.specs.State.{AreaValue}
 use Rattle.ospf_headline.specs.World.{Comes, World, WorldEvent, Issued, Run, Running, router_at, StepsRouter, RouterBecomes, SameLogs, IsNewWorld, Happens, RunsEvents}
 use Rattle.ospf_headline.specs.Logs.{run_of}
-use Rattle.ospf_event.specs.declared.event.WorldEvent.TheVariants.{Start}
+use Rattle.ospf_base.specs.declared.event.event.WorldEvent.TheVariants.{Start}
 use Rattle.ospf_headline.specs.Sound.{IssuedAt, HasBegun, NoneLargest, BasesAreFloors}
 use Rattle.ospf_headline.proofs.Facts.{Facts}
 use Rattle.ospf_headline.proofs.FactsKept.{IsThat, which_router, WasSent, has_issued, entry_cases, new_is_own, run_goes_on}

@@ -14,7 +14,7 @@ use Rattle.ospf_graph.proofs.WalkLaw.{one_cost}
 use Rattle.ospf_graph.specs.Routes.{IsRoute}
 use Rattle.ospf_graph.specs.Walk.{IsBest}
 use Rattle.ospf_graph.specs.declared.route.Route.{Route}
-use Rattle.ospf_step.proofs.StateFacts.{Contains-from_slice_get, Contains-map, find-some, same_router}
+use Rattle.ospf_router.proofs.AreaStep.StateFacts.{Contains-from_slice_get, Contains-map, find-some, same_router}
 use Rattle.ospf_headline.specs.World.{World, Member, Running, router_at, HasItsTable}
 use Rattle.ospf_headline.specs.Walks.{adverts, table_in, StepsOn, WalksOn, StandsOnWay, RunningWalksArrive, WalkEnd, choice_of, other_choices, WalksBy, IsWalkOf, HasArrived}
 use Rattle.ospf_headline.proofs.Facts.{Facts}

@@ -7,9 +7,9 @@ use Rattle.ospf_lsa.specs.Lsa.{key_of}
 use Rattle.ospf_packet.specs.Meaning.{Meaning}
 use Rattle.ospf_packet.specs.PacketOf.{packet_of}
 use Rattle.ospf_area.specs.State.{kept_number}
-use Rattle.ospf_step.specs.Headers.{Lists}
-use Rattle.ospf_step.specs.Packets.{lsas_of, headers_in_body}
-use Rattle.ospf_step.specs.Words.{CanName, HasCopy, Asks}
+use Rattle.ospf_router.specs.AreaStep.Headers.{Lists}
+use Rattle.ospf_router.specs.AreaStep.Packets.{lsas_of, headers_in_body}
+use Rattle.ospf_router.specs.AreaStep.Words.{CanName, HasCopy, Asks}
 use Rattle.ospf_headline.specs.World.{World, Issued, Datagram, Running, router_at, HasItsTable}
 use Rattle.ospf_headline.specs.Logs.{run_of}
 use Rattle.ospf_headline.specs.Sound.{IssuedAt, WasIssued, number_in}

@@ -15,14 +15,14 @@ use Rattle.ospf_packet.specs.Meaning.{BodyMeaning, hello, description, request, 
 use Rattle.ospf_packet.specs.PacketOf.{packet_of}
 use Rattle.ospf_area.specs.Outputs.{OutputsValue, SentValue}
 use Rattle.ospf_area.specs.State.{AreaValue, kept_number}
-use Rattle.ospf_step.specs.Headers.{Lists}
-use Rattle.ospf_step.specs.Packets.{Received, lsas_of, headers_in_body, dd_headers_of, acknowledging_headers_of}
-use Rattle.ospf_step.specs.Words.{CanName, HasCopy, Asks, Brings}
+use Rattle.ospf_router.specs.AreaStep.Headers.{Lists}
+use Rattle.ospf_router.specs.AreaStep.Packets.{Received, lsas_of, headers_in_body, dd_headers_of, acknowledging_headers_of}
+use Rattle.ospf_router.specs.AreaStep.Words.{CanName, HasCopy, Asks, Brings}
 use Rattle.ospf_lsdb.specs.Moments.{among}
-use Rattle.ospf_update.specs.Removal.{lowest_number}
-use Rattle.ospf_step.specs.Accounts.{Accounts, HasContents, Hears, IsAcknowledged, IsDescribed, Sends}
-use Rattle.ospf_step.specs.Step.{Event, heard_in}
-use Rattle.ospf_step.proofs.StateFacts.{same_router, Contains-nil, slice_get-append_right, Contains-map_cases, Contains-map, slice_get-append_cases, slice_get-append_left, slice_get-map_cases, Contains-from_slice_get, slice_get-from_Contains}
+use Rattle.ospf_area.specs.Updates.Removal.{lowest_number}
+use Rattle.ospf_router.specs.AreaStep.Accounts.{Accounts, HasContents, Hears, IsAcknowledged, IsDescribed, Sends}
+use Rattle.ospf_router.specs.AreaStep.Step.{Event, heard_in}
+use Rattle.ospf_router.proofs.AreaStep.StateFacts.{same_router, Contains-nil, slice_get-append_right, Contains-map_cases, Contains-map, slice_get-append_cases, slice_get-append_left, slice_get-map_cases, Contains-from_slice_get, slice_get-from_Contains}
 use Rattle.ospf_headline.specs.World.{World, Issued, Datagram, Holding, Running, router_at, StepsRouter, RouterBecomes, HasItsTable}
 use Rattle.ospf_headline.specs.Logs.{run_of}
 use Rattle.ospf_headline.specs.Sound.{WasIssued, IssuedAt, number_in}

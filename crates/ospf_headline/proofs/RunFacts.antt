@@ -17,15 +17,15 @@ use Rattle.ospf_packet.specs.PacketOf.{packet_of}
 use Rattle.ospf_neighbour.specs.Machine.{is_exchanging}
 use Rattle.ospf_area.specs.Outputs.{OutputsValue}
 use Rattle.ospf_area.specs.State.{AreaValue, Awaits, kept_number}
-use Rattle.ospf_step.specs.Words.{CanName, HasCopy, Asks}
-use Rattle.ospf_step.specs.Accounts.{IsAcknowledged, HasWord, MayLeave, IsReplaced, WaitsOn}
-use Rattle.ospf_step.specs.Packets.{Received}
-use Rattle.ospf_step.specs.Step.{Event, heard_in}
-use Rattle.ospf_step.proofs.StateFacts.{same_contents, Contains-nil, Contains-from_slice_get}
-use Rattle.ospf_step.specs.Step.Event.{Tick, LinkUp, LinkDown}
+use Rattle.ospf_router.specs.AreaStep.Words.{CanName, HasCopy, Asks}
+use Rattle.ospf_router.specs.AreaStep.Accounts.{IsAcknowledged, HasWord, MayLeave, IsReplaced, WaitsOn}
+use Rattle.ospf_router.specs.AreaStep.Packets.{Received}
+use Rattle.ospf_router.specs.AreaStep.Step.{Event, heard_in}
+use Rattle.ospf_router.proofs.AreaStep.StateFacts.{same_contents, Contains-nil, Contains-from_slice_get}
+use Rattle.ospf_router.specs.AreaStep.Step.Event.{Tick, LinkUp, LinkDown}
 use Rattle.ospf_headline.specs.World.{Comes, World, WorldEvent, Issued, Datagram, Running, router_at, StepsRouter, RouterBecomes, SameLogs, IsRunningStarted, IsNewWorld, Happens, RunsEvents, stepped_by, HasItsTable}
 use Rattle.ospf_headline.specs.Logs.{run_of}
-use Rattle.ospf_event.specs.declared.event.WorldEvent.TheVariants.{Start, Stop, Tick as TickOf, LinkUp as LinkUpOf, LinkDown as LinkDownOf, Deliver}
+use Rattle.ospf_base.specs.declared.event.event.WorldEvent.TheVariants.{Start, Stop, Tick as TickOf, LinkUp as LinkUpOf, LinkDown as LinkDownOf, Deliver}
 use Rattle.ospf_headline.specs.Sound.{WasIssued, HeldAnywhere, IssuedAgain, AgreeUnlessIssuedAgain, NoCollision, BasesAreHigh, IssuedAt, number_in, HasToldOf, IsSoundFor, SoundFor, IsSoundAcknowledgement}
 use Rattle.ospf_headline.proofs.Facts.{Facts, IsAfter, IsKnownTo}
 use Rattle.ospf_headline.proofs.FactsKept.{IsThat, which_router, WasSent, Facts-stepped, WasIssued-more, acknowledged_held, described_held, was_held}

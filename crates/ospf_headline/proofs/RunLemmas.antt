@@ -1,8 +1,8 @@
 -- What is gone over, happens.
 use Rattle.std.proofs.Common.{◌++◌, ℕ, Bool, List, [], ◌∷◌, Ok, Err, Result, refl, take}
 use Rattle.ospf_area.specs.State.{AreaValue}
-use Rattle.ospf_step.specs.Step.{Event}
-use Rattle.ospf_event.specs.declared.event.WorldFault.TheVariants as fault
+use Rattle.ospf_router.specs.AreaStep.Step.{Event}
+use Rattle.ospf_base.specs.declared.event.event.WorldFault.TheVariants as fault
 use Rattle.ospf_headline.specs.World.{Comes, Happens, RunsEvents, World, WorldEvent, WorldFault}
 use Rattle.ospf_headline.specs.Runs.{GoesOver, IsRun, RunsOn}
 use Rattle.ospf_headline.proofs.RunFacts.{Runs-append}

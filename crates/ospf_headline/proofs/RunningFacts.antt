@@ -4,17 +4,17 @@ use Rattle.ospf_base.specs.declared.ids.LsaKey.{LsaKey}
 use Rattle.ospf_base.specs.declared.ids.RouterId.{RouterId}
 use Rattle.ospf_area.specs.Outputs.{OutputsValue, no_outputs}
 use Rattle.ospf_area.specs.State.{AreaValue}
-use Rattle.ospf_edges.specs.Listed.{advertisements_of}
+use Rattle.ospf_graph.specs.EdgeLists.Listed.{advertisements_of}
 use Rattle.ospf_graph.specs.Routes.{IsTable}
 use Rattle.ospf_headline.specs.World.{HasItsTable, RunsGoOn}
 use Rattle.ospf_headline.specs.declared.logs.Run.{Run}
-use Rattle.ospf_step.specs.Counts.{with_dropped}
-use Rattle.ospf_step.specs.Drops.{dropped_by}
-use Rattle.ospf_step.specs.Lawful.{IsLawful, StepsAreLawful}
-use Rattle.ospf_step.specs.Step.{Event}
-use Rattle.ospf_step.specs.Steps.{StepsArea}
-use Rattle.ospf_step.specs.declared.counts.DropCounts.{DropCounts}
-use Rattle.ospf_step.specs.declared.dropped.Dropped.{Dropped}
+use Rattle.ospf_router.specs.AreaStep.Counts.{with_dropped}
+use Rattle.ospf_router.specs.AreaStep.Drops.{dropped_by}
+use Rattle.ospf_router.specs.AreaStep.Lawful.{IsLawful, StepsAreLawful}
+use Rattle.ospf_router.specs.AreaStep.Step.{Event}
+use Rattle.ospf_router.specs.AreaStep.Steps.{StepsArea}
+use Rattle.ospf_router.specs.declared.step.counts.DropCounts.{DropCounts}
+use Rattle.ospf_router.specs.declared.step.dropped.Dropped.{Dropped}
 use Rattle.ospf_lsdb.specs.Database.{listed}
 use Rattle.ospf_lsdb.specs.Moments.{among}
 use Rattle.ospf_router.specs.Routers.{IsKept, RouterValue}
@@ -22,7 +22,7 @@ use Rattle.ospf_router.specs.Steps.{Steps}
 use Rattle.ospf_router.specs.declared.router.Step.{Step}
 use Rattle.ospf_headline.specs.Logs.{LogsTake, LogsValue, run_of}
 use Rattle.ospf_headline.specs.Running.{Fed, RunningValue, SettlesLogs, runs_in}
-use Rattle.ospf_update.specs.Removal.{lowest_number}
+use Rattle.ospf_area.specs.Updates.Removal.{lowest_number}
 
 -- the router takes the exact step of the event, dropped for this cause if it is dropped, which is
 -- counted; its runs are as before

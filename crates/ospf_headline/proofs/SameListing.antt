@@ -10,9 +10,9 @@ use Rattle.ospf_base.specs.declared.ids.Kind.TheVariants.{Router, Network}
 use Rattle.ospf_lsa.specs.Lsa.{key_of, instance_of, kind_of}
 use Rattle.ospf_lsa.proofs.Words.{IsRising}
 use Rattle.ospf_graph.specs.Advertisements.{Advertisement}
-use Rattle.ospf_edges.specs.Listed.{advertisement_of, advertisements_of, advertisement_by}
+use Rattle.ospf_graph.specs.EdgeLists.Listed.{advertisement_of, advertisements_of, advertisement_by}
 use Rattle.ospf_headline.specs.Listings.{ListsInstance, ListTheSame}
-use Rattle.ospf_step.proofs.SentFacts.{first_or_later}
+use Rattle.ospf_router.proofs.AreaStep.SentFacts.{first_or_later}
 
 -- LSAs of one instance have equal contents
 abbrev pub AgreeByInstance : List (List ℕ) → List (List ℕ) → Type 0

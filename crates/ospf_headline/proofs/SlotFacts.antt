@@ -8,13 +8,13 @@ use Rattle.ospf_base.specs.declared.ids.RouterId.{RouterId}
 use Rattle.ospf_flood.specs.Rules.{max_sequence_number}
 use Rattle.ospf_headline.specs.World as world
 use Rattle.ospf_headline.specs.World.{Running}
-use Rattle.ospf_event.specs.declared.event.WorldEvent.{WorldEvent}
-use Rattle.ospf_event.specs.declared.event.WorldEvent.TheVariants.{Start, Stop, Deliver}
-use Rattle.ospf_event.specs.declared.event.WorldFault.{WorldFault}
-use Rattle.ospf_event.specs.declared.event.WorldFault.TheVariants as fault
+use Rattle.ospf_base.specs.declared.event.event.WorldEvent.{WorldEvent}
+use Rattle.ospf_base.specs.declared.event.event.WorldEvent.TheVariants.{Start, Stop, Deliver}
+use Rattle.ospf_base.specs.declared.event.event.WorldFault.{WorldFault}
+use Rattle.ospf_base.specs.declared.event.event.WorldFault.TheVariants as fault
 use Rattle.ospf_headline.specs.declared.logs.Datagram.{Datagram}
 use Rattle.ospf_headline.specs.declared.logs.Issued.{Issued}
-use Rattle.ospf_step.specs.Step.{Event}
+use Rattle.ospf_router.specs.AreaStep.Step.{Event}
 use Rattle.ospf_headline.specs.Logs.{LogsValue}
 use Rattle.ospf_headline.specs.Running.{NeedsMemory, Begins, RunningValue, delivery, running_of, runs_in}
 use Rattle.ospf_headline.specs.Slots.{DeliversOn, Feeds, FeedsOn, IsSlot, SlotSteps, SlotTakes, SlotValue, StartsSlot, StopsSlot, fed_by, member_of, refused_by, slot_of, with_running}

@@ -9,11 +9,11 @@ use Rattle.ospf_config.specs.declared.interface.Interface.{Interface}
 use Rattle.ospf_headline.specs.World.{IsRunningStarted}
 use Rattle.ospf_headline.specs.declared.logs.Issued.{Issued}
 use Rattle.ospf_headline.specs.declared.logs.Run.{Run}
-use Rattle.ospf_step.proofs.StateFacts.{Contains-nil, list_in, delayed_in}
-use Rattle.ospf_step.specs.Counts.{none_dropped_on}
-use Rattle.ospf_step.specs.Headers.{Lists}
-use Rattle.ospf_step.specs.declared.counts.DropCounts.{DropCounts}
-use Rattle.ospf_step.specs.Words.{Asks, CanName}
+use Rattle.ospf_router.proofs.AreaStep.StateFacts.{Contains-nil, list_in, delayed_in}
+use Rattle.ospf_router.specs.AreaStep.Counts.{none_dropped_on}
+use Rattle.ospf_router.specs.AreaStep.Headers.{Lists}
+use Rattle.ospf_router.specs.declared.step.counts.DropCounts.{DropCounts}
+use Rattle.ospf_router.specs.AreaStep.Words.{Asks, CanName}
 use Rattle.ospf_lsa.specs.declared.header.LsaHeader.{LsaHeader}
 use Rattle.ospf_neighbour.specs.Neighbour.{NeighbourValue}
 use Rattle.ospf_neighbour.specs.Neighbours.{neighbour_of}

@@ -17,8 +17,8 @@ use Rattle.ospf_graph.specs.declared.route.Route.{Route}
 use Rattle.ospf_spf.specs.Walks as spf
 use Rattle.ospf_area.specs.State.{database_entry}
 use Rattle.ospf_area.proofs.Words.{copy_in}
-use Rattle.ospf_step.specs.Words.{HasCopy}
-use Rattle.ospf_step.proofs.StateFacts.{same_contents, key_of-lsa_of, Contains-map, Contains-map_cases, Contains-filter_cases}
+use Rattle.ospf_router.specs.AreaStep.Words.{HasCopy}
+use Rattle.ospf_router.proofs.AreaStep.StateFacts.{same_contents, key_of-lsa_of, Contains-map, Contains-map_cases, Contains-filter_cases}
 use Rattle.ospf_headline.specs.Listings.{ListTheSame}
 use Rattle.ospf_headline.specs.Sound.{NoCollision}
 use Rattle.ospf_headline.specs.World.{World, Running, router_at, listing, HasItsTable}

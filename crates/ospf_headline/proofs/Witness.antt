@@ -5,15 +5,15 @@ use Rattle.std.proofs.lemmas.Bool.{eqb-true}
 use Rattle.std.proofs.lemmas.Option.{none-some}
 use Rattle.ospf_base.specs.declared.ids.Instance.{Instance}
 use Rattle.ospf_base.specs.declared.ids.RouterId.{RouterId}
-use Rattle.ospf_edges.specs.Listed.{advertisements_of}
+use Rattle.ospf_graph.specs.EdgeLists.Listed.{advertisements_of}
 use Rattle.ospf_area.specs.Outputs.{no_outputs}
-use Rattle.ospf_update.specs.Removal.{lowest_number}
-use Rattle.ospf_step.specs.Step.{Event}
-use Rattle.ospf_step.specs.Words.{CanName, IsSoundState}
-use Rattle.ospf_step.proofs.StateFacts.{Contains-nil, same_router}
-use Rattle.ospf_step.proofs.StepAccounts.{StepLaws-accounts}
-use Rattle.ospf_step.proofs.Witness.{at_tick, ticks}
-use Rattle.ospf_event.specs.declared.event.WorldEvent.TheVariants.{Start, Tick}
+use Rattle.ospf_area.specs.Updates.Removal.{lowest_number}
+use Rattle.ospf_router.specs.AreaStep.Step.{Event}
+use Rattle.ospf_router.specs.AreaStep.Words.{CanName, IsSoundState}
+use Rattle.ospf_router.proofs.AreaStep.StateFacts.{Contains-nil, same_router}
+use Rattle.ospf_router.proofs.AreaStep.StepAccounts.{StepLaws-accounts}
+use Rattle.ospf_router.proofs.AreaStep.Witness.{at_tick, ticks}
+use Rattle.ospf_base.specs.declared.event.event.WorldEvent.TheVariants.{Start, Tick}
 use Rattle.ospf_headline.specs.World.{Comes, World, Member, Running, WorldEvent, router_at, RouterBecomes, HasItsTable, IsRunningStarted, StepsRouter, RunsEvents, IsNewWorld}
 use Rattle.ospf_headline.specs.Logs.{run_of}
 

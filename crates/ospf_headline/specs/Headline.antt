@@ -4,7 +4,7 @@ use Rattle.ospf_base.specs.declared.ids.RouterId.{RouterId}
 use Rattle.ospf_base.specs.Sums.{contents}
 use Rattle.ospf_graph.specs.Routes.{IsTable}
 use Rattle.ospf_area.specs.State.{AreaValue}
-use Rattle.ospf_step.specs.Step.{Event}
+use Rattle.ospf_router.specs.AreaStep.Step.{Event}
 use Rattle.ospf_headline.specs.World.{World, WorldEvent, Running, router_at, IsNewWorld, RunsEvents}
 use Rattle.ospf_headline.specs.Sound.{HeldAnywhere, WasIssued, AgreeUnlessIssuedAgain, BasesAreHigh, NoCollision}
 use Rattle.ospf_headline.specs.Walks.{adverts, AllListedAgree, AllReachedAgree, RunningWalksArrive, ChosenWalksArrive}

@@ -11,7 +11,7 @@ use Rattle.ospf_headline.specs.declared.logs.Issued.{Issued}
 use Rattle.ospf_headline.specs.declared.logs.Run.{Run}
 use Rattle.ospf_lsa.specs.Lsa.{instance_of, key_of}
 use Rattle.ospf_lsdb.specs.Moments.{among}
-use Rattle.ospf_update.specs.Removal.{lowest_number}
+use Rattle.ospf_area.specs.Updates.Removal.{lowest_number}
 
 -- all datagrams ever sent, all LSAs ever issued, and who ever installed, issued
 -- or acknowledged which instance

@@ -9,15 +9,15 @@ use Rattle.ospf_headline.specs.World.{HasItsTable, IsRunningStarted, Running, Ru
 use Rattle.ospf_headline.specs.declared.logs.Datagram.{Datagram}
 use Rattle.ospf_headline.specs.declared.logs.Issued.{Issued}
 use Rattle.ospf_headline.specs.declared.logs.Run.{Run}
-use Rattle.ospf_step.specs.Counts.{with_dropped, none_dropped_on}
-use Rattle.ospf_step.specs.Drops.{dropped_by}
-use Rattle.ospf_step.specs.Step.{Event}
-use Rattle.ospf_step.specs.declared.counts.DropCounts.{DropCounts}
-use Rattle.ospf_step.specs.declared.dropped.Dropped.{Dropped}
+use Rattle.ospf_router.specs.AreaStep.Counts.{with_dropped, none_dropped_on}
+use Rattle.ospf_router.specs.AreaStep.Drops.{dropped_by}
+use Rattle.ospf_router.specs.AreaStep.Step.{Event}
+use Rattle.ospf_router.specs.declared.step.counts.DropCounts.{DropCounts}
+use Rattle.ospf_router.specs.declared.step.dropped.Dropped.{Dropped}
 use Rattle.ospf_router.specs.Routers.{RouterValue}
 use Rattle.ospf_router.specs.Starts.{IsAreaOf}
-use Rattle.ospf_step.specs.Lawful.{IsLawful}
-use Rattle.ospf_step.specs.Steps.{StepsArea}
+use Rattle.ospf_router.specs.AreaStep.Lawful.{IsLawful}
+use Rattle.ospf_router.specs.AreaStep.Steps.{StepsArea}
 use Rattle.ospf_headline.specs.Logs.{BeginAgain, LogsTake, LogsValue}
 
 -- a router, the run of its keys since its start, the later runs of single keys, and what it dropped

@@ -9,18 +9,18 @@ use Rattle.ospf_headline.specs.World as world
 use Rattle.ospf_headline.specs.World.{HasItsTable, Member, Running, RunsGoOn, WantsRoom}
 use Rattle.ospf_headline.specs.declared.logs.Datagram.{Datagram}
 use Rattle.ospf_headline.specs.declared.logs.Issued.{Issued}
-use Rattle.ospf_event.specs.declared.event.WorldEvent.{WorldEvent}
-use Rattle.ospf_event.specs.declared.event.WorldFault.{WorldFault}
-use Rattle.ospf_event.specs.declared.event.WorldEvent.TheVariants.{Start, Stop, Tick, LinkUp, LinkDown, Deliver}
-use Rattle.ospf_event.specs.declared.event.WorldFault.TheVariants as fault
-use Rattle.ospf_step.specs.Counts.{with_dropped, none_dropped_on}
-use Rattle.ospf_step.specs.Drops.{dropped_by}
-use Rattle.ospf_step.specs.Step.{Event}
-use Rattle.ospf_step.specs.declared.counts.DropCounts.{DropCounts}
-use Rattle.ospf_step.specs.declared.dropped.Dropped.{Dropped}
+use Rattle.ospf_base.specs.declared.event.event.WorldEvent.{WorldEvent}
+use Rattle.ospf_base.specs.declared.event.event.WorldFault.{WorldFault}
+use Rattle.ospf_base.specs.declared.event.event.WorldEvent.TheVariants.{Start, Stop, Tick, LinkUp, LinkDown, Deliver}
+use Rattle.ospf_base.specs.declared.event.event.WorldFault.TheVariants as fault
+use Rattle.ospf_router.specs.AreaStep.Counts.{with_dropped, none_dropped_on}
+use Rattle.ospf_router.specs.AreaStep.Drops.{dropped_by}
+use Rattle.ospf_router.specs.AreaStep.Step.{Event}
+use Rattle.ospf_router.specs.declared.step.counts.DropCounts.{DropCounts}
+use Rattle.ospf_router.specs.declared.step.dropped.Dropped.{Dropped}
 use Rattle.ospf_router.specs.Routers.{RouterValue}
-use Rattle.ospf_step.specs.Lawful.{IsLawful}
-use Rattle.ospf_step.specs.Steps.{StepsArea}
+use Rattle.ospf_router.specs.AreaStep.Lawful.{IsLawful}
+use Rattle.ospf_router.specs.AreaStep.Steps.{StepsArea}
 use Rattle.ospf_headline.specs.Logs.{LogsTake, LogsValue}
 use Rattle.ospf_headline.specs.Running.{Lives, RunningValue, StartsAs, delivery, running_of}
 

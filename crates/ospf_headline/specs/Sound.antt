@@ -10,12 +10,12 @@ use Rattle.ospf_packet.specs.PacketOf.{packet_of}
 use Rattle.ospf_neighbour.specs.Machine.{is_exchanging}
 use Rattle.ospf_area.specs.Outputs.{OutputsValue}
 use Rattle.ospf_area.specs.State.{AreaValue, Awaits, neighbour, state_in}
-use Rattle.ospf_step.specs.Packets.{lsas_of}
-use Rattle.ospf_step.specs.Words.{HoldsInstance, HasCopy, Brings}
+use Rattle.ospf_router.specs.AreaStep.Packets.{lsas_of}
+use Rattle.ospf_router.specs.AreaStep.Words.{HoldsInstance, HasCopy, Brings}
 use Rattle.ospf_flood.specs.Rules.{max_sequence_number}
-use Rattle.ospf_step.specs.Accounts.{IsReplaced}
-use Rattle.ospf_step.specs.Step.{Event, heard_in}
-use Rattle.ospf_event.specs.declared.event.WorldEvent.TheVariants.{Start}
+use Rattle.ospf_router.specs.AreaStep.Accounts.{IsReplaced}
+use Rattle.ospf_router.specs.AreaStep.Step.{Event, heard_in}
+use Rattle.ospf_base.specs.declared.event.event.WorldEvent.TheVariants.{Start}
 use Rattle.ospf_headline.specs.World.{World, WorldEvent, Issued, Datagram, Run, Running, router_at, stepped_by, Comes, RunsEvents, LogsGrow}
 
 -- the number that it was issued with

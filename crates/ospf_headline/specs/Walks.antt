@@ -8,7 +8,7 @@ use Rattle.ospf_graph.specs.Walk as graph
 use Rattle.ospf_graph.specs.declared.hop.NextHop.{NextHop}
 use Rattle.ospf_graph.specs.declared.hop.NextHop.TheVariants.{Attached}
 use Rattle.ospf_graph.specs.declared.route.Route.{Route}
-use Rattle.ospf_edges.specs.Listed.{advertisements_of}
+use Rattle.ospf_graph.specs.EdgeLists.Listed.{advertisements_of}
 pub use Rattle.ospf_headline.specs.declared.walk.WalkEnd.{WalkEnd}
 use Rattle.ospf_headline.specs.declared.walk.WalkEnd.TheVariants.{Arrived, NoRoute, NotRunning, Turns}
 use Rattle.ospf_headline.specs.Listings.{ListTheSame}
@@ -34,8 +34,7 @@ AllListedAgree w x =
     → (y : Running) × (router_at w r ≡ Some y) × ListTheSame (listing x) (listing y)
 
 -- of a, which runs as x: each router that a reaches in what x lists runs, and lists the same
--- instances. A router that stopped, and is listed until its LSA is too old, is no longer reached
--- once its neighbours have dropped it
+-- instances. A router that stopped may still be listed, until its LSA reaches MaxAge
 abbrev pub AllReachedAgree : World → RouterId → Running → Type 0
 AllReachedAgree w a x =
     (r : RouterId) → IsListed (adverts x) r → IsReachedFrom (adverts x) a r

@@ -9,25 +9,25 @@ use Rattle.ospf_lsa.specs.Lsa.{key_of, instance_of}
 use Rattle.ospf_lsdb.specs.Database.{listed, IsDatabase}
 use Rattle.ospf_graph.specs.Routes.{IsTable}
 use Rattle.ospf_graph.specs.declared.route.Route.{Route}
-use Rattle.ospf_edges.specs.Listed.{advertisements_of}
+use Rattle.ospf_graph.specs.EdgeLists.Listed.{advertisements_of}
 use Rattle.ospf_flood.specs.Rules.{max_sequence_number}
 use Rattle.ospf_area.specs.Outputs.{OutputsValue}
 use Rattle.ospf_area.specs.State.{AreaValue, copy_of, kept_number}
 use Rattle.ospf_headline.specs.Logs.{run_of}
-use Rattle.ospf_step.specs.Words.{CanName, Asks}
-use Rattle.ospf_update.specs.Removal.{lowest_number}
+use Rattle.ospf_router.specs.AreaStep.Words.{CanName, Asks}
+use Rattle.ospf_area.specs.Updates.Removal.{lowest_number}
 use Rattle.ospf_lsdb.specs.Moments.{among}
-use Rattle.ospf_step.specs.Accounts.{Accounts}
-use Rattle.ospf_step.specs.Step.{Event, heard_in}
-use Rattle.ospf_step.specs.Step.Event.{Tick, LinkUp, LinkDown}
-pub use Rattle.ospf_event.specs.declared.event.WorldEvent.{WorldEvent}
-pub use Rattle.ospf_event.specs.declared.event.WorldFault.{WorldFault}
+use Rattle.ospf_router.specs.AreaStep.Accounts.{Accounts}
+use Rattle.ospf_router.specs.AreaStep.Step.{Event, heard_in}
+use Rattle.ospf_router.specs.AreaStep.Step.Event.{Tick, LinkUp, LinkDown}
+pub use Rattle.ospf_base.specs.declared.event.event.WorldEvent.{WorldEvent}
+pub use Rattle.ospf_base.specs.declared.event.event.WorldFault.{WorldFault}
 pub use Rattle.ospf_headline.specs.declared.logs.Run.{Run}
 pub use Rattle.ospf_headline.specs.declared.logs.Issued.{Issued}
 pub use Rattle.ospf_headline.specs.declared.logs.Datagram.{Datagram}
 pub use Rattle.ospf_headline.specs.declared.logs.Holding.{Holding}
-use Rattle.ospf_event.specs.declared.event.WorldEvent.TheVariants.{Start, Stop, Tick as TickOf, LinkUp as LinkUpOf, LinkDown as LinkDownOf, Deliver}
-use Rattle.ospf_event.specs.declared.event.WorldFault.TheVariants as fault
+use Rattle.ospf_base.specs.declared.event.event.WorldEvent.TheVariants.{Start, Stop, Tick as TickOf, LinkUp as LinkUpOf, LinkDown as LinkDownOf, Deliver}
+use Rattle.ospf_base.specs.declared.event.event.WorldFault.TheVariants as fault
 
 -- a running router with its routing table, the run of its keys since its start, and the later runs
 -- of single keys

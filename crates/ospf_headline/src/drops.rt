@@ -1,10 +1,10 @@
 //! What a running router dropped.
 
 ghost use Rattle.std.specs.Prelude.{◌≡◌, IfOk};
-ghost use Rattle.ospf_step.specs.Counts.{none_dropped_on, with_dropped_on};
+ghost use Rattle.ospf_router.specs.AreaStep.Counts.{none_dropped_on, with_dropped_on};
 
 use ospf_config::Config;
-use ospf_step::{DropCounts, Dropped, count_dropped, none_dropped_on};
+use ospf_router::step::{DropCounts, Dropped, count_dropped, none_dropped_on};
 use std::alloc::{AllocError, Global};
 use std::marker::Model;
 
@@ -16,7 +16,7 @@ pub(crate) struct RouterDrops {
 
 impl Model for RouterDrops {
     ghost use Rattle.std.specs.Prelude.{List};
-    ghost use Rattle.ospf_step.specs.declared.counts.DropCounts.{DropCounts};
+    ghost use Rattle.ospf_router.specs.declared.step.counts.DropCounts.{DropCounts};
 
     ghost Value = { List DropCounts };
 

@@ -5,7 +5,7 @@ ghost use Rattle.ospf_base.specs.Sums.{contents};
 ghost use Rattle.ospf_base.specs.declared.ids.RouterId.{RouterId};
 ghost use Rattle.ospf_graph.specs.Routes.{IsTable};
 ghost use Rattle.ospf_area.specs.State.{AreaValue};
-ghost use Rattle.ospf_step.specs.Step.{Event};
+ghost use Rattle.ospf_router.specs.AreaStep.Step.{Event};
 ghost use Rattle.ospf_headline.specs.Headline.{Headline, IsReached};
 ghost use Rattle.ospf_headline.specs.Runs.{IsRun};
 ghost use Rattle.ospf_headline.specs.Sound.{HeldAnywhere, WasIssued, AgreeUnlessIssuedAgain, BasesAreHigh, NoCollision, NoneLargest, BasesAreFloors, IsSoundAcknowledgement};

@@ -11,8 +11,8 @@ use crate::logs::{Datagram, Logs, Run};
 use ospf_area::Outputs;
 use ospf_base::{LsaKey, RouterId};
 use ospf_config::Config;
+use ospf_router::step::{DropCounts, steps_are_lawful};
 use ospf_router::{Event, Router, StartFault, Step, Stopped};
-use ospf_step::{DropCounts, steps_are_lawful};
 use std::alloc::Global;
 use std::marker::Model;
 

@@ -2,18 +2,18 @@
 
 ghost use Rattle.std.specs.Prelude.{◌≡◌, ◌<◌, [], None, Some, Ok, Err, IfSome, false, is_some, length, slice_get, true};
 ghost use Rattle.ospf_base.specs.declared.ids.RouterId.{RouterId};
-ghost use Rattle.ospf_event.specs.declared.event.WorldEvent.TheVariants.{Tick};
-ghost use Rattle.ospf_event.specs.declared.event.WorldFault.TheVariants as fault;
+ghost use Rattle.ospf_base.specs.declared.event.event.WorldEvent.TheVariants.{Tick};
+ghost use Rattle.ospf_base.specs.declared.event.event.WorldFault.TheVariants as fault;
 ghost use Rattle.ospf_headline.specs.Running.{delivery};
 ghost use Rattle.ospf_headline.specs.Slots.{DeliversOn, Feeds, FeedsOn, IsLent, SlotSteps, StartsSlot, StopsSlot};
 ghost use Rattle.ospf_router.specs.Steps.{happening};
 
 use crate::logs::Logs;
 use crate::running::RunningRouter;
+use ospf_base::event::{WorldEvent, WorldFault};
 use ospf_config::Config;
-use ospf_event::{WorldEvent, WorldFault};
+use ospf_router::step::DropCounts;
 use ospf_router::{Event, Router, StartFault, Stopped};
-use ospf_step::DropCounts;
 use std::alloc::Global;
 use std::marker::Model;
 

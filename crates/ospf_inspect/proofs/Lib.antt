@@ -6,3 +6,4 @@ mod AnswerLemmas
 mod ValueLemmas
 mod Floats
 mod WayLemmas
+pub mod AreaDrawing

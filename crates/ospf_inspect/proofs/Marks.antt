@@ -4,7 +4,7 @@ use Rattle.ospf_graph.specs.Advertisements.{Advertisement}
 use Rattle.ospf_graph.specs.Graph.{IsEdgeBetween}
 use Rattle.ospf_graph.specs.declared.graph.Edge.{Edge}
 use Rattle.ospf_graph.specs.declared.graph.Vertex.{Vertex}
-use Rattle.ospf_edges.specs.Near.{AreEdgesAt}
+use Rattle.ospf_graph.specs.EdgeLists.Near.{AreEdgesAt}
 use Rattle.ospf_inspect.specs.Lsas.{AreJoined, IsMarkUnless, AreJoinedBy, one_way}
 
 -- the mark of a test that says whether this holds

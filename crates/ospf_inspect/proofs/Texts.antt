@@ -3,7 +3,7 @@ use Rattle.std.proofs.Common.{◌≡◌, ◌∙◌, ◌++◌, ℕ, List, ap, sub
 use Rattle.ospf_base.specs.declared.ids.Instance.{Instance}
 use Rattle.ospf_base.specs.declared.ids.LsaKey.{LsaKey}
 use Rattle.ospf_base.specs.declared.ids.RouterId.{RouterId}
-use Rattle.ospf_edges.specs.Given.{StandsFor}
+use Rattle.ospf_graph.specs.EdgeLists.Given.{StandsFor}
 use Rattle.ospf_graph.specs.Advertisements.{Advertisement}
 use Rattle.ospf_lsa.specs.Header.{header_of}
 use Rattle.ospf_lsa.specs.Lsa.{attached_of, instance_of, key_of, links_of}

@@ -10,8 +10,8 @@ use Rattle.serde_json.specs.declared.value.Value.{Value}
 use Rattle.ospf_base.specs.declared.ids.Instance.{Instance}
 use Rattle.ospf_base.specs.declared.ids.LsaKey.{LsaKey}
 use Rattle.ospf_base.specs.declared.ids.RouterId.{RouterId}
-use Rattle.ospf_edges.specs.Given.{StandsFor}
-use Rattle.ospf_edges.specs.Near.{AreEdgesAt}
+use Rattle.ospf_graph.specs.EdgeLists.Given.{StandsFor}
+use Rattle.ospf_graph.specs.EdgeLists.Near.{AreEdgesAt}
 use Rattle.ospf_graph.specs.Advertisements.{Advertisement}
 use Rattle.ospf_graph.specs.declared.graph.Edge.{Edge}
 use Rattle.ospf_graph.specs.declared.graph.Vertex.{Vertex}

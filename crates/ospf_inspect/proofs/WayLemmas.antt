@@ -9,8 +9,8 @@ use Rattle.ospf_base.specs.declared.ids.RouterId.{RouterId}
 use Rattle.ospf_base.specs.declared.prefix.Prefix.{Prefix}
 use Rattle.ospf_base.proofs.PrefixLaws.{prefix_same}
 use Rattle.ospf_graph.specs.Advertisements.{Advertisement, IsListed, network_lsa, router_lsa}
-use Rattle.ospf_edges.specs.Listed.{advertisement_of, advertisements_of}
-use Rattle.ospf_edges.proofs.FitLemmas.{positive}
+use Rattle.ospf_graph.specs.EdgeLists.Listed.{advertisement_of, advertisements_of}
+use Rattle.ospf_graph.proofs.EdgeLists.FitLemmas.{positive}
 use Rattle.ospf_graph.specs.Routes.{IsRoute, IsTable}
 use Rattle.ospf_graph.specs.Walk.{HasPositiveMetrics, HaveTables, IsBest, IsOnWay, IsSoundWalk, IsWalk, IsWalkStep, listed_routers}
 use Rattle.ospf_graph.specs.declared.hop.NextHop.TheVariants.{Attached}

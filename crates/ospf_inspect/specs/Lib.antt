@@ -6,3 +6,4 @@ pub mod Tables
 pub mod Path
 pub mod Answer
 pub mod Laws
+pub mod AreaDrawing

@@ -16,8 +16,8 @@ use Rattle.ospf_graph.specs.Graph.{IsEdgeBetween}
 use Rattle.ospf_graph.specs.declared.graph.Edge.{Edge}
 use Rattle.ospf_graph.specs.declared.graph.Vertex.{Vertex}
 use Rattle.ospf_graph.specs.declared.graph.Vertex.TheVariants as vertex
-use Rattle.ospf_edges.specs.Given.{StandsFor}
-use Rattle.ospf_records.specs.Graph.{prefix_under}
+use Rattle.ospf_graph.specs.EdgeLists.Given.{StandsFor}
+use Rattle.ospf_inspect.specs.AreaDrawing.Graph.{prefix_under}
 use Rattle.ospf_inspect.specs.declared.lsas.NetworkName.{NetworkName}
 use Rattle.ospf_inspect.specs.declared.lsas.LinkWay.{LinkWay}
 use Rattle.ospf_script.specs.Texts.{floor_text, hexadecimal}

@@ -14,8 +14,8 @@ use Rattle.ospf_lsa.specs.declared.link.LinkKind.TheVariants.{PointToPoint, Tran
 use Rattle.ospf_graph.specs.Advertisements.{Advertisement}
 use Rattle.ospf_graph.specs.declared.graph.Vertex.{Vertex}
 use Rattle.ospf_graph.specs.declared.graph.Vertex.TheVariants as vertex
-use Rattle.ospf_edges.specs.Given.{StandsFor}
-use Rattle.ospf_records.specs.Graph.{prefix_under}
+use Rattle.ospf_graph.specs.EdgeLists.Given.{StandsFor}
+use Rattle.ospf_inspect.specs.AreaDrawing.Graph.{prefix_under}
 use Rattle.ospf_script.specs.Texts.{floor_text, hexadecimal}
 use Rattle.ospf_inspect.specs.Json.{IsArray, json_line}
 use Rattle.ospf_inspect.specs.Lsas.{AreJoined, flag_letters, flags_of, network_name_of}

@@ -3,11 +3,12 @@
 ghost use Rattle.std.specs.Prelude.{◌≡◌, ◌≢◌, ◌⊎◌, List, [], Option, ℕ, IfErr, IfOk, IfSome, string_bytes};
 ghost use Rattle.ospf_files.specs.Streams.{written_on};
 ghost use Rattle.ospf_files.specs.declared.streams.FailedStreams.{FailedStreams};
-ghost use Rattle.ospf_records.specs.Graph.{graph_text};
+ghost use Rattle.ospf_inspect.specs.AreaDrawing.Graph.{graph_text};
 ghost use Rattle.ospf_table.specs.Line.{LeavesOut, Reads, Refuses};
 ghost use Rattle.ospf_inspect.specs.Answer.{InspectEndsBy, IsInspectAnswerOf, IsInspectAnswered, IsInspectCutShort, IsInspectEnding, IsUnanswered, IsInspectRefusal, IsInspectRefusalTold, IsInspectSaid, Says, Warns, WarnsOfJob, WarnsOfWay};
 ghost use Rattle.ospf_inspect.specs.declared.answer.InspectJob.{InspectJob};
 
+use crate::drawing::Graph;
 use crate::lsas::lsas_text;
 use crate::path::path_text;
 use crate::tables::{table_json, tables_json, tables_text};
@@ -15,7 +16,6 @@ use crate::values::lsas_json;
 use ospf_base::{Addr, RouterId};
 use ospf_files::{FailedStreams, Failure, Status};
 use ospf_lsa::Listing;
-use ospf_records::Graph;
 use ospf_spf::RouteTable;
 use ospf_table::{
     CountedListing, EntryFault, TableFault, left_out_text, read_counted, unlisted_text,

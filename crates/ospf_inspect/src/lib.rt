@@ -3,10 +3,11 @@
 //!
 //! `inspect_text` is the whole: it reads lines of LSAs, and prints. `lsas_text`, `tables_text` and
 //! `path_text` are what it prints of a listing, `lsas_json`, `tables_json` and `table_json` the
-//! same as values of JSON, and a drawing is what a `Graph` of `ospf_records` prints.
+//! same as values of JSON, and a drawing is what a `Graph` of `drawing` prints.
 #![tactic(auto)]
 
 mod answer;
+pub mod drawing;
 mod json;
 mod laws;
 mod lsas;

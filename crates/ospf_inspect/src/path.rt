@@ -1,13 +1,13 @@
 //! The way from a router to an address, by the tables of all routers on it.
 
 ghost use Rattle.std.specs.Prelude.{◌≡◌, ◌≢◌, ◌+◌, ◌*◌, ◌%◌, ◌<◌, ◌^◌, ◌++◌, ℕ, List, Some, IfNone, IfOk, IfSome, OnOk, length, slice_get, string_bytes};
-ghost use Rattle.ospf_edges.specs.Listed.{advertisements_of};
+ghost use Rattle.ospf_graph.specs.EdgeLists.Listed.{advertisements_of};
 ghost use Rattle.ospf_graph.specs.Walk.{HasLinkFor, IsLinkCost, IsNext};
 ghost use Rattle.ospf_graph.specs.declared.hop.NextHop.TheVariants as hops;
 ghost use Rattle.ospf_inspect.specs.Path.{SaysLeg, SaysPath, SaysWay, arrived_line, first_choice, later_choices, leg_line, leg_of, no_route_line, turns_line};
 
 use ospf_base::{Addr, Prefix, RouterId};
-use ospf_edges::link_cost;
+use ospf_graph::edges::link_cost;
 use ospf_graph::{NextHop, Route};
 use ospf_lsa::Listing;
 use ospf_spf::RouteTable;

@@ -2,7 +2,7 @@
 
 ghost use Rattle.std.specs.Prelude.{◌≡◌, IfOk, string_bytes};
 ghost use Rattle.serde_json.specs.View.{view};
-ghost use Rattle.ospf_edges.specs.Listed.{advertisements_of};
+ghost use Rattle.ospf_graph.specs.EdgeLists.Listed.{advertisements_of};
 ghost use Rattle.ospf_files.specs.Shown.{routes_text};
 ghost use Rattle.ospf_inspect.specs.Lines.{AreLines};
 ghost use Rattle.ospf_inspect.specs.Tables.{SaysTable, SaysTableInJson, SaysTableOf, SaysTablesInJson, TellsRoot, TellsTable, TellsTables, hops_data, root_data, route_data, routes_data};

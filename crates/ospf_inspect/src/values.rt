@@ -5,20 +5,20 @@ ghost use Rattle.serde_json.specs.View.{members_view, view};
 ghost use Rattle.ospf_lsa.specs.Lsa.{IsNetworkLsa, IsRouterLsa};
 ghost use Rattle.ospf_graph.specs.Advertisements.{Advertisement};
 ghost use Rattle.ospf_graph.specs.declared.graph.Vertex.TheVariants as vertex;
-ghost use Rattle.ospf_edges.specs.Listed.{advertisements_of};
-ghost use Rattle.ospf_edges.specs.Near.{AreEdgesAt};
+ghost use Rattle.ospf_graph.specs.EdgeLists.Listed.{advertisements_of};
+ghost use Rattle.ospf_graph.specs.EdgeLists.Near.{AreEdgesAt};
 ghost use Rattle.ospf_inspect.specs.Json.{IsArray};
 ghost use Rattle.ospf_inspect.specs.Values.{SaysLsasInJson, TellsAttached, TellsLink, TellsLsa, TellsLsas, TellsNetwork, TellsRouter, instance_data, member_data, network_data, router_data, stub_data, virtual_data, way_data};
 
+use crate::drawing::Under;
 use crate::json::json_line;
 use crate::lsas::{
     Flags, LsaShown, NetworkName, Sum, flags_of, joins, name_of, shown_of, stands_for,
 };
 use ospf_base::{Addr, Kind, RouterId};
-use ospf_edges::edges_at;
+use ospf_graph::edges::edges_at;
 use ospf_graph::{Edge, Vertex};
 use ospf_lsa::{Attached, Link, LinkKind, Links, Listing, Lsa, LsaView};
-use ospf_records::Under;
 use ospf_script::FloorShown;
 use serde_json::{Map, Value, json, put};
 use std::alloc::{AllocError, Global};

@@ -21,16 +21,16 @@ use Rattle.ospf_graph.specs.Text.{hop_text, hops_text}
 use Rattle.ospf_graph.specs.declared.hop.NextHop.{NextHop}
 use Rattle.ospf_graph.specs.declared.route.Route.{Route}
 use Rattle.ospf_graph.specs.declared.hop.NextHop.TheVariants.{Attached, PointToPoint, Lan}
-use Rattle.ospf_iface.specs.declared.machine.IfaceState.{IfaceState}
-use Rattle.ospf_iface.specs.declared.machine.IfaceState.TheVariants as iface
+use Rattle.ospf_neighbour.specs.declared.iface.machine.IfaceState.{IfaceState}
+use Rattle.ospf_neighbour.specs.declared.iface.machine.IfaceState.TheVariants as iface
 use Rattle.ospf_neighbour.specs.Text.{state_text}
 use Rattle.ospf_neighbour.specs.declared.machine.NeighbourState.{NeighbourState}
 use Rattle.ospf_neighbour.specs.declared.machine.NeighbourState.TheVariants as state
 use Rattle.ospf_script.specs.Texts.{floor_text, hexadecimal}
 use Rattle.ospf_script.specs.Views.{lsa_kind_text}
-use Rattle.ospf_step.specs.Text.{dropped_text}
-use Rattle.ospf_step.specs.declared.dropped.Dropped.{Dropped}
-use Rattle.ospf_step.specs.declared.dropped.Dropped.TheVariants as dropped
+use Rattle.ospf_router.specs.AreaStep.Text.{dropped_text}
+use Rattle.ospf_router.specs.declared.step.dropped.Dropped.{Dropped}
+use Rattle.ospf_router.specs.declared.step.dropped.Dropped.TheVariants as dropped
 use Rattle.ospf_journal.specs.Laws.{ObjectsAreJson, router_change_data}
 use Rattle.ospf_journal.specs.Lines.{iface_text}
 use Rattle.ospf_journal.specs.Objects.{cause_members, change_members, elected_members, iface_states_members, moment_members, number_member, own_members, path_members, prefix_member, router_member, states_members}

@@ -8,8 +8,8 @@ use Rattle.ospf_base.specs.declared.ids.LsaKey.{LsaKey}
 use Rattle.ospf_base.specs.declared.ids.RouterId.{RouterId}
 use Rattle.ospf_base.specs.declared.prefix.Prefix.{Prefix}
 use Rattle.ospf_graph.specs.declared.route.Route.{Route}
-use Rattle.ospf_iface.specs.declared.machine.IfaceState.{IfaceState}
-use Rattle.ospf_iface.specs.declared.machine.IfaceState.TheVariants as iface
+use Rattle.ospf_neighbour.specs.declared.iface.machine.IfaceState.{IfaceState}
+use Rattle.ospf_neighbour.specs.declared.iface.machine.IfaceState.TheVariants as iface
 use Rattle.ospf_neighbour.specs.declared.machine.NeighbourState.{NeighbourState}
 use Rattle.ospf_neighbour.specs.declared.machine.NeighbourState.TheVariants as state
 use Rattle.ospf_spf.specs.Changes as tables

@@ -1,11 +1,11 @@
 -- What a router dropped, by link and cause (RFC 2328, section 8.2).
 use Rattle.std.specs.Prelude.{◌==◌, ◌++◌, ◌∷◌, [], ℕ, List, codes, decimal, flat_map, if◌then◌else◌}
 use Rattle.std.specs.List.{enumerate_from}
-use Rattle.ospf_step.specs.Counts.{drops_for}
-use Rattle.ospf_step.specs.Text.{dropped_text}
-use Rattle.ospf_step.specs.declared.counts.DropCounts.{DropCounts}
-use Rattle.ospf_step.specs.declared.dropped.Dropped.{Dropped}
-use Rattle.ospf_step.specs.declared.dropped.Dropped.TheVariants as dropped
+use Rattle.ospf_router.specs.AreaStep.Counts.{drops_for}
+use Rattle.ospf_router.specs.AreaStep.Text.{dropped_text}
+use Rattle.ospf_router.specs.declared.step.counts.DropCounts.{DropCounts}
+use Rattle.ospf_router.specs.declared.step.dropped.Dropped.{Dropped}
+use Rattle.ospf_router.specs.declared.step.dropped.Dropped.TheVariants as dropped
 
 -- the causes, in the order of their numbers
 abbrev pub causes : List Dropped

@@ -9,7 +9,7 @@ use Rattle.ospf_graph.specs.Text.{hops_text}
 use Rattle.ospf_neighbour.specs.Text.{state_text}
 use Rattle.ospf_script.specs.Texts.{floor_text}
 use Rattle.ospf_script.specs.Views.{lsa_kind_text}
-use Rattle.ospf_step.specs.Text.{dropped_text}
+use Rattle.ospf_router.specs.AreaStep.Text.{dropped_text}
 use Rattle.ospf_journal.specs.Lines.{iface_text}
 use Rattle.ospf_journal.specs.Objects.{journal_object}
 use Rattle.ospf_journal.specs.declared.change.RouterChange.{RouterChange}

@@ -4,13 +4,13 @@ use Rattle.ospf_base.specs.Text.{number_text, prefix_text}
 use Rattle.ospf_base.specs.declared.ids.LsaKey.{LsaKey}
 use Rattle.ospf_base.specs.declared.ids.RouterId.{RouterId}
 use Rattle.ospf_graph.specs.Text.{route_text}
-use Rattle.ospf_iface.specs.declared.machine.IfaceState.{IfaceState}
-use Rattle.ospf_iface.specs.declared.machine.IfaceState.TheVariants as iface
+use Rattle.ospf_neighbour.specs.declared.iface.machine.IfaceState.{IfaceState}
+use Rattle.ospf_neighbour.specs.declared.iface.machine.IfaceState.TheVariants as iface
 use Rattle.ospf_neighbour.specs.Text.{state_text}
 use Rattle.ospf_neighbour.specs.declared.machine.NeighbourState.{NeighbourState}
 use Rattle.ospf_script.specs.Texts.{floor_text}
 use Rattle.ospf_script.specs.Views.{lsa_kind_text}
-use Rattle.ospf_step.specs.Text.{dropped_text}
+use Rattle.ospf_router.specs.AreaStep.Text.{dropped_text}
 use Rattle.ospf_journal.specs.declared.change.RouterChange.{RouterChange}
 use Rattle.ospf_journal.specs.declared.change.RouterChange.TheVariants as change
 use Rattle.ospf_journal.specs.declared.line.JournalLine.{JournalLine}

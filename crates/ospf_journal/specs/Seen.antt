@@ -4,7 +4,7 @@ use Rattle.std.specs.Prelude.{not, List, [], Option, None, Some, map, option_map
 use Rattle.ospf_area.specs.State.{AreaValue, LinkValue}
 use Rattle.ospf_area.specs.declared.state.Numbering.{Numbering}
 use Rattle.ospf_graph.specs.declared.route.Route.{Route}
-use Rattle.ospf_iface.specs.declared.machine.Iface.{Iface}
+use Rattle.ospf_neighbour.specs.declared.iface.machine.Iface.{Iface}
 use Rattle.ospf_lsdb.specs.Database.{Entry, Held, entry_of, header_at, is_fresh}
 use Rattle.ospf_neighbour.specs.Neighbour.{NeighbourValue}
 use Rattle.ospf_router.specs.Routers.{RouterValue}

@@ -1,14 +1,14 @@
 //! Why a router drops a datagram.
 
 ghost use Rattle.std.specs.Prelude.{◌≡◌};
-ghost use Rattle.ospf_step.specs.Step.Event.{Datagram};
+ghost use Rattle.ospf_router.specs.AreaStep.Step.Event.{Datagram};
 ghost use Rattle.ospf_journal.specs.Causes.{cause_of};
-ghost use Rattle.ospf_step.specs.Drops.{dropped_by};
+ghost use Rattle.ospf_router.specs.AreaStep.Drops.{dropped_by};
 
 use ospf_area::{Area, context_of, local_of};
 use ospf_base::Addr;
 use ospf_router::Router;
-use ospf_step::{Dropped, receive};
+use ospf_router::step::{Dropped, receive};
 
 /// Why a router drops a datagram that came from `source` on a link and is for `destination`, as its
 /// step does: the first cause that applies (RFC 2328, section 8.2). `None` where it takes it, and

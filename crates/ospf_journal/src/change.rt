@@ -3,9 +3,9 @@
 use crate::seen::SeenIface;
 use ospf_base::{Addr, LsaKey, Prefix, RouterId};
 use ospf_graph::Route;
-use ospf_iface::IfaceState;
 use ospf_neighbour::NeighbourState;
-use ospf_step::Dropped;
+use ospf_neighbour::iface::IfaceState;
+use ospf_router::step::Dropped;
 
 /// A datagram that a router dropped: the link that it came on, where from, and why.
 #[derive(Clone, Copy, Debug, PartialEq, Eq)]

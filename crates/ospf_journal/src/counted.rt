@@ -3,7 +3,7 @@
 ghost use Rattle.std.specs.Prelude.{◌≡◌, ◌++◌, IfOk, OnOk, string_bytes};
 ghost use Rattle.ospf_journal.specs.Counted.{cause_line, drop_lines, link_lines};
 
-use ospf_step::{DropCounts, Dropped};
+use ospf_router::step::{DropCounts, Dropped};
 use std::alloc::{AllocError, Global};
 use std::fmt::{self, Display, Formatter, Write};
 

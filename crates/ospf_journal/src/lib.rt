@@ -28,4 +28,4 @@ pub use crate::object::Object;
 pub use crate::reported::Reported;
 pub use crate::seen::{Seen, SeenCopy, SeenIface, SeenNeighbour, SeenOwn};
 pub use crate::told::state_place;
-pub use ospf_step::Dropped;
+pub use ospf_router::step::Dropped;

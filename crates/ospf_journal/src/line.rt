@@ -7,8 +7,8 @@ ghost use Rattle.ospf_journal.specs.Lines.{elected_text, iface_states_text, ifac
 use crate::change::RouterChange;
 use crate::seen::SeenIface;
 use ospf_base::{Kind, LsaKey, RouterId};
-use ospf_iface::IfaceState;
 use ospf_neighbour::NeighbourState;
+use ospf_neighbour::iface::IfaceState;
 use ospf_script::FloorShown;
 use std::fmt::{self, Display, Formatter, Write};
 

@@ -9,8 +9,8 @@ use crate::line::iface_text;
 use crate::seen::SeenIface;
 use ospf_base::{Kind, LsaKey, Prefix, RouterId};
 use ospf_graph::Route;
-use ospf_iface::IfaceState;
 use ospf_neighbour::NeighbourState;
+use ospf_neighbour::iface::IfaceState;
 use ospf_script::FloorShown;
 use std::fmt::{self, Display, Formatter, Write};
 

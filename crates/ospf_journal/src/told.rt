@@ -8,8 +8,8 @@ ghost use Rattle.ospf_journal.specs.Changes.{LeadsAlong, copy_changes, copy_in, 
 use crate::change::{DroppedAt, RouterChange};
 use crate::seen::{SeenCopy, SeenIface, SeenLink, SeenNeighbour, SeenOwn};
 use ospf_base::{Addr, Instance, LsaKey, RouterId};
-use ospf_iface::IfaceState;
 use ospf_neighbour::NeighbourState;
+use ospf_neighbour::iface::IfaceState;
 use ospf_spf::{self as spf, RouteTable};
 use std::alloc::{AllocError, Global};
 

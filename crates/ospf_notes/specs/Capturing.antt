@@ -2,9 +2,9 @@
 use Rattle.std.specs.Prelude.{◌≡◌, ◌+◌, ◌<◌, ◌⊎◌, ℕ, Bool, List, [], Option, length}
 use Rattle.ospf_base.specs.Constants.{ip_header}
 use Rattle.ospf_base.specs.declared.ids.Addr.{Addr}
-use Rattle.ospf_records.specs.Datagram.{datagram_bytes}
-use Rattle.ospf_records.specs.Ip.{largest_ip_packet}
-use Rattle.ospf_records.specs.declared.moment.Moment.{Moment}
+use Rattle.ospf_views.specs.RecordFiles.Datagram.{datagram_bytes}
+use Rattle.ospf_views.specs.RecordFiles.Ip.{largest_ip_packet}
+use Rattle.ospf_views.specs.declared.records.moment.Moment.{Moment}
 
 -- the contents of its file, if they are known, as long as there is a file to write to; and whether
 -- everything could be written so far

@@ -2,7 +2,7 @@
 use Rattle.std.specs.Prelude.{Option, None, Some}
 use Rattle.ospf_journal.specs.declared.change.DroppedAt.{DroppedAt}
 use Rattle.ospf_notes.specs.declared.dropped.Heard.{Heard}
-use Rattle.ospf_step.specs.declared.dropped.Dropped.{Dropped}
+use Rattle.ospf_router.specs.declared.step.dropped.Dropped.{Dropped}
 
 -- the drop of the packet that had arrived, if one had and the step has a cause
 abbrev pub dropped_in : Option Heard → Option Dropped → Option DroppedAt

@@ -17,9 +17,9 @@ use Rattle.ospf_packet.specs.PacketOf.{packet_of}
 use Rattle.ospf_packet.specs.Text.{packet_fault_text}
 use Rattle.ospf_packet.specs.declared.fault.PacketFault.{PacketFault}
 use Rattle.ospf_packet.specs.declared.fault.PacketFault.TheVariants as packet
-use Rattle.ospf_step.specs.Text.{dropped_text}
-use Rattle.ospf_step.specs.declared.dropped.Dropped.{Dropped}
-use Rattle.ospf_step.specs.declared.dropped.Dropped.TheVariants as dropped
+use Rattle.ospf_router.specs.AreaStep.Text.{dropped_text}
+use Rattle.ospf_router.specs.declared.step.dropped.Dropped.{Dropped}
+use Rattle.ospf_router.specs.declared.step.dropped.Dropped.TheVariants as dropped
 use Rattle.ospf_views.specs.Drops.{detail_words, dropped_detail}
 use Rattle.ospf_views.specs.declared.detail.Detail.{Detail}
 use Rattle.ospf_views.specs.declared.detail.Detail.TheVariants as detail

@@ -3,8 +3,8 @@
 ghost use Rattle.std.specs.Prelude.{IfOk};
 ghost use Rattle.ospf_notes.specs.Capturing.{IsRecord};
 
-use ospf_records::{CaptureFault, Moment, write_datagram};
 use ospf_run::Sent;
+use ospf_views::records::{CaptureFault, Moment, write_datagram};
 use std::alloc::Global;
 use std::io::{self, ErrorKind, Write};
 use std::marker::Model;

@@ -1,7 +1,7 @@
 //! What is recorded and shown of routers while they run.
 //!
 //! `Notes` is a tap of `ospf_run`: it writes what the routers send into a capture, whose packets
-//! are those of `ospf_records`; prints their tables from time to time, each as `ospf_run` prints
+//! are those of `ospf_views`; prints their tables from time to time, each as `ospf_run` prints
 //! it; and counts what they drop. On standard error it shows the progress of the run, if that is a
 //! terminal, and reports packets that are dropped because of how their sender or the router is
 //! configured (`Misfits`, `specs/Misfits`), and neighbours with LSAs that their router refuses, for

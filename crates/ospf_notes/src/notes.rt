@@ -3,7 +3,7 @@
 //! LSAs a router refuses and about packets that do not fit it.
 
 ghost use Rattle.std.specs.Prelude.{◌≡◌, IfOk};
-ghost use Rattle.ospf_records.specs.Pcap.{file_header};
+ghost use Rattle.ospf_views.specs.RecordFiles.Pcap.{file_header};
 
 use crate::capture::{Capture, record_of};
 use crate::dropped::{Heard, dropped_in};
@@ -18,9 +18,9 @@ use ospf_config::Interface;
 use ospf_files::{Failure, NamedFile, tell_unwritten};
 use ospf_journal::{DroppedAt, Reported, RouterChange, Seen};
 use ospf_neighbour::NeighbourState;
-use ospf_records::{Journal, write_header};
+use ospf_router::step::{DropCounts, count_dropped, none_dropped_on};
 use ospf_run::{Config, Drops, Ending, Router, Sent, Step, Tap};
-use ospf_step::{DropCounts, count_dropped, none_dropped_on};
+use ospf_views::records::{Journal, write_header};
 use std::alloc::{AllocError, Global};
 use std::fmt::Display;
 use std::io::{self, Write};

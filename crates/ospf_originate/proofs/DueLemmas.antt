@@ -14,11 +14,11 @@ use Rattle.ospf_area.specs.State.{AreaValue, database_entry, numbering_of, kept_
 use Rattle.ospf_area.specs.declared.state.Numbering.{Numbering}
 use Rattle.ospf_originate.specs.Actions.{own_action, unwanted_action}
 use Rattle.ospf_originate.specs.Numbers.{waits}
-use Rattle.ospf_wanted.specs.Own.{wanted_value}
-use Rattle.ospf_wanted.specs.declared.wants.OwnLsa.{OwnLsa}
+use Rattle.ospf_originate.specs.Wants.Own.{wanted_value}
+use Rattle.ospf_originate.specs.declared.contents.wants.OwnLsa.{OwnLsa}
 use Rattle.ospf_originate.specs.Sound.{AreNumbered}
 use Rattle.ospf_originate.specs.Steps.{wants, action_of, candidates}
-use Rattle.ospf_wanted.specs.Wanted.{WantedValue, wanted_key, wanted_of}
+use Rattle.ospf_originate.specs.Wants.Wanted.{WantedValue, wanted_key, wanted_of}
 use Rattle.ospf_originate.specs.declared.action.OwnAction.{OwnAction}
 use Rattle.ospf_originate.specs.declared.action.OwnAction.TheVariants.{Leave}
 

@@ -18,11 +18,11 @@ use Rattle.ospf_originate.specs.Numbers.{waits}
 use Rattle.ospf_originate.specs.Sound.{AreApart, AreNumbered}
 use Rattle.ospf_lsdb.specs.Moments.{among}
 use Rattle.ospf_originate.specs.Steps.{OwnLsas, action_of, wants}
-use Rattle.ospf_wanted.specs.Wanted.{WantedValue, is_dr_of, network_of, wanted_lsas, wanted_key, wanted_of}
+use Rattle.ospf_originate.specs.Wants.Wanted.{WantedValue, is_dr_of, network_of, wanted_lsas, wanted_key, wanted_of}
 use Rattle.ospf_originate.specs.declared.action.OwnAction.{OwnAction}
 use Rattle.ospf_originate.specs.declared.action.OwnAction.TheVariants.{Leave, Flush, Issue}
 use Rattle.ospf_originate.proofs.DueLemmas.{left_alone}
-use Rattle.ospf_wanted.proofs.WantedLemmas.{networks, networks-step, one_if, wanted_alone}
+use Rattle.ospf_originate.proofs.Wants.WantedLemmas.{networks, networks-step, one_if, wanted_alone}
 
 -- ---- one key
 

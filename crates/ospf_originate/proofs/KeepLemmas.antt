@@ -19,12 +19,12 @@ use Rattle.ospf_area.specs.Numbers.{is_own}
 use Rattle.ospf_area.specs.State.{AreaValue, database_entry, kept_number}
 use Rattle.ospf_originate.specs.Actions.{own_action, wanted_action, unwanted_action, next_action, is_due}
 use Rattle.ospf_originate.specs.Laws.{IsNextIssue}
-use Rattle.ospf_wanted.specs.Made.{lsa_value}
+use Rattle.ospf_originate.specs.Wants.Made.{lsa_value}
 use Rattle.ospf_originate.specs.Numbers.{waits}
 use Rattle.ospf_lsdb.specs.Moments.{among}
 use Rattle.ospf_originate.specs.Steps.{wants, action_of}
-use Rattle.ospf_wanted.specs.Wanted.{WantedValue, wanted_key, wanted_of}
-use Rattle.ospf_wanted.specs.Wanted.WantedValue.{RouterLsa, NetworkLsa}
+use Rattle.ospf_originate.specs.Wants.Wanted.{WantedValue, wanted_key, wanted_of}
+use Rattle.ospf_originate.specs.Wants.Wanted.WantedValue.{RouterLsa, NetworkLsa}
 use Rattle.ospf_originate.specs.declared.action.OwnAction.TheVariants.{Leave, Flush, Issue}
 use Rattle.ospf_originate.proofs.Words.{makes_room}
 

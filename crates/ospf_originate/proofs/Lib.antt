@@ -10,4 +10,5 @@ mod SoundLemmas
 mod StaySound
 mod StepLemmas
 pub mod Words
-pub use Rattle.ospf_wanted.proofs.WantedLemmas
+pub use Rattle.ospf_originate.proofs.Wants.WantedLemmas
+pub mod Wants

@@ -9,8 +9,8 @@ use Rattle.ospf_area.proofs.LawLemmas.{find-map}
 use Rattle.ospf_area.specs.State.{numbering_of}
 use Rattle.ospf_area.proofs.Words.{kept_in, counted, counted_one, is_numbering_of}
 use Rattle.ospf_area.specs.declared.state.Numbering.{Numbering}
-use Rattle.ospf_update.specs.Removal.{lowest_number, reset}
-use Rattle.ospf_update.proofs.Words.{reset_one}
+use Rattle.ospf_area.specs.Updates.Removal.{lowest_number, reset}
+use Rattle.ospf_area.proofs.Updates.Words.{reset_one}
 use Rattle.ospf_originate.specs.Numbers.{issued}
 use Rattle.ospf_originate.proofs.Words.{issued_one, issued_at_in}
 use Rattle.ospf_area.proofs.NumberLemmas.{counted_key, found_of}

@@ -11,12 +11,12 @@ use Rattle.ospf_area.specs.Outputs.{OutputsValue}
 use Rattle.ospf_area.specs.State.{AreaValue, kept_number, numbering_of}
 use Rattle.ospf_area.proofs.Words.{kept_in, counted}
 use Rattle.ospf_area.specs.declared.state.Numbering.{Numbering}
-use Rattle.ospf_update.specs.Aging.{turned_area}
+use Rattle.ospf_area.specs.Updates.Aging.{turned_area}
 use Rattle.ospf_originate.specs.Numbers.{issued}
 use Rattle.ospf_originate.specs.Sound.{IsSound}
 use Rattle.ospf_originate.specs.Steps.{Acts, Issues, OwnLsas, wants}
 use Rattle.ospf_originate.proofs.Words.{ActsInTurn, IssuesIf, issued_at_in}
-use Rattle.ospf_wanted.specs.Wanted.{WantedValue, wanted_key, wanted_of}
+use Rattle.ospf_originate.specs.Wants.Wanted.{WantedValue, wanted_key, wanted_of}
 use Rattle.ospf_originate.specs.declared.action.DueAction.{DueAction}
 use Rattle.ospf_originate.specs.declared.action.OwnAction.{OwnAction}
 use Rattle.ospf_originate.specs.declared.action.OwnAction.TheVariants.{Leave, Flush, Issue}
@@ -71,10 +71,10 @@ module _ (w : WantedValue) (number : ℤ) (s : AreaValue) (o o' : OutputsValue) 
       let stored = store_sound is.lsa None s mid is.stores sound in
       let old = numbers_of mid stored in
       let now : AreaValue = record mid { numbering = issued (wanted_key w) s.tick mid.numbering } in
-      let numbers : Numbers now.router now.database now.numbering now.floor now.greatest = record {
+      let numbers : Numbers now.router now.database now.numbering now.floor now.max_seq = record {
         numbered = λ key c at own. issued_some (wanted_key w) s.tick mid.numbering key ∙ old.numbered key c at own;
         counted = λ key c at own. rw (issued_kept mid.floor (wanted_key w) s.tick mid.numbering key) (old.counted key c at own);
-        greatest = λ key. rw (issued_kept mid.floor (wanted_key w) s.tick mid.numbering key) (old.greatest key);
+        max_seq = λ key. rw (issued_kept mid.floor (wanted_key w) s.tick mid.numbering key) (old.max_seq key);
       } in
       subst (λ (x : AreaValue). IsSound x) (sym is.state) (sound_of now stored.links numbers)
 

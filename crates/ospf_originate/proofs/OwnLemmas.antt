@@ -4,7 +4,7 @@ use Rattle.std.specs.Prelude.{option_copied}
 use Rattle.std.proofs.Math.Seq.{drop-cons}
 use Rattle.std.proofs.lemmas.List.{drop_all}
 use denote.Ref.{Bor}
-use Rattle.ospf_wanted.specs.Wanted.{WantedValue}
+use Rattle.ospf_originate.specs.Wants.Wanted.{WantedValue}
 use Rattle.ospf_area.specs.Outputs.{OutputsValue}
 use Rattle.ospf_area.specs.State.{AreaValue}
 use Rattle.ospf_originate.specs.Steps.{Acts}

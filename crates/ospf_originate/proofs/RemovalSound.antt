@@ -10,12 +10,12 @@ use Rattle.ospf_lsdb.proofs.Words.{AreKeysRising}
 use Rattle.ospf_area.specs.Numbers.{is_own}
 use Rattle.ospf_area.specs.Outputs.{OutputsValue}
 use Rattle.ospf_area.specs.State.{AreaValue, database_entry, kept_number, some_link_loading}
-use Rattle.ospf_update.specs.Removal.{RemovesOne, ends_run, is_leaving, leaving, lowest_number, reset}
-use Rattle.ospf_update.proofs.Words.{RemovesAll, Removes, key_of_entry, is_last, some_awaits}
+use Rattle.ospf_area.specs.Updates.Removal.{RemovesOne, ends_run, is_leaving, leaving, lowest_number, reset}
+use Rattle.ospf_area.proofs.Updates.Words.{RemovesAll, Removes, key_of_entry, is_last, some_awaits}
 use Rattle.ospf_originate.specs.Sound.{IsSound}
 use Rattle.ospf_originate.proofs.SoundLemmas.{Numbers, ended_numbers, fewer, known, last_is_high, numbers_of, sound_of}
 use Rattle.ospf_area.proofs.ShortLemmas.{removed_was}
-use Rattle.ospf_wanted.proofs.WantedLemmas.{map_all}
+use Rattle.ospf_originate.proofs.Wants.WantedLemmas.{map_all}
 
 -- the copy of a key, if there is one, is at MaxAge
 IsOld : AreaValue → LsaKey → Type 0
@@ -46,14 +46,14 @@ module _ (k : LsaKey) (s : AreaValue) (o o' : OutputsValue) (s' : AreaValue) (is
       by_test true one e = absurd (none-some c (ap (option_map (λ (h : Held). h.entry.contents)) (sym (removed_old (held_of s.database k) old)) ∙ e))
       by_test false two e = (two, e)
 
-  low : IsSound s → ends_run s k ≡ true → lowest_number ≤ℤ s.greatest
+  low : IsSound s → ends_run s k ≡ true → lowest_number ≤ℤ s.max_seq
   low sound ends = by_own (is_own s.router k) refl ends
     where
-      by_copy : (copy : Option Entry) → database_entry s k ≡ copy → is_own s.router k ≡ true → is_last copy ≡ true → lowest_number ≤ℤ s.greatest
+      by_copy : (copy : Option Entry) → database_entry s k ≡ copy → is_own s.router k ≡ true → is_last copy ≡ true → lowest_number ≤ℤ s.max_seq
       by_copy None at own last = absurd (cc)
-      by_copy (Some e) at own last = last_is_high (header_at e).number (kept_number s k) s.greatest last (sound.counted k e at own) (sound.greatest k)
+      by_copy (Some e) at own last = last_is_high (header_at e).number (kept_number s k) s.max_seq last (sound.counted k e at own) (sound.max_seq k)
 
-      by_own : (b : Bool) → is_own s.router k ≡ b → (b && is_last (database_entry s k)) ≡ true → lowest_number ≤ℤ s.greatest
+      by_own : (b : Bool) → is_own s.router k ≡ b → (b && is_last (database_entry s k)) ≡ true → lowest_number ≤ℤ s.max_seq
       by_own true own last = by_copy (database_entry s k) refl own last
       by_own false other last = absurd (cc)
 
@@ -63,9 +63,9 @@ module _ (k : LsaKey) (s : AreaValue) (o o' : OutputsValue) (s' : AreaValue) (is
       now : AreaValue
       now = record s { database = s'.database; numbering = if ends_run s k then reset k s.numbering else s.numbering }
 
-      by_test : (b : Bool) → ends_run s k ≡ b → Numbers s.router s'.database (if b then reset k s.numbering else s.numbering) s.floor s.greatest
-      by_test true ends = ended_numbers s.router s.database s'.database s.numbering s.floor s.greatest k (gone old) (low sound ends) (numbers_of s sound)
-      by_test false stays = fewer s.router s.database s'.database s.numbering s.floor s.greatest (λ key c at. (gone old key c at).1) (numbers_of s sound)
+      by_test : (b : Bool) → ends_run s k ≡ b → Numbers s.router s'.database (if b then reset k s.numbering else s.numbering) s.floor s.max_seq
+      by_test true ends = ended_numbers s.router s.database s'.database s.numbering s.floor s.max_seq k (gone old) (low sound ends) (numbers_of s sound)
+      by_test false stays = fewer s.router s.database s'.database s.numbering s.floor s.max_seq (λ key c at. (gone old key c at).1) (numbers_of s sound)
 
 all_sound : (keys : List LsaKey) (s : AreaValue) (o o' : OutputsValue) (s' : AreaValue) → RemovesAll keys s o o' s' → AllByRecursion (IsOld s) keys → IsSound s → IsSound s'
 all_sound [] s o o' s' is old sound = subst (λ (x : AreaValue). IsSound x) (sym is.state) sound

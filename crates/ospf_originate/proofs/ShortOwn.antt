@@ -9,12 +9,12 @@ use Rattle.ospf_lsa.specs.declared.fault.LsaFault.TheVariants as fault
 use Rattle.ospf_area.specs.Laws.{AreShort}
 use Rattle.ospf_area.specs.Outputs.{OutputsValue}
 use Rattle.ospf_area.specs.State.{AreaValue}
-use Rattle.ospf_update.specs.Laws.{IsShortLsa}
-use Rattle.ospf_update.proofs.ShortLemmas.{flush_short, store_short}
-use Rattle.ospf_wanted.specs.Made.{CanBeMade, CanBeMadeIf, Needs, lsa_value}
-use Rattle.ospf_wanted.specs.Wanted.{WantedValue, wanted_of}
-use Rattle.ospf_wanted.specs.Wanted.WantedValue.{RouterLsa, NetworkLsa}
-use Rattle.ospf_wanted.proofs.MakeLemmas.{found_made, wanted_made}
+use Rattle.ospf_area.specs.Updates.Laws.{IsShortLsa}
+use Rattle.ospf_area.proofs.Updates.ShortLemmas.{flush_short, store_short}
+use Rattle.ospf_originate.specs.Wants.Made.{CanBeMade, CanBeMadeIf, Needs, lsa_value}
+use Rattle.ospf_originate.specs.Wants.Wanted.{WantedValue, wanted_of}
+use Rattle.ospf_originate.specs.Wants.Wanted.WantedValue.{RouterLsa, NetworkLsa}
+use Rattle.ospf_originate.proofs.Wants.MakeLemmas.{found_made, wanted_made}
 use Rattle.ospf_originate.specs.Sound.{AreSetUp}
 use Rattle.ospf_originate.specs.Steps.{Acts, Issues, OwnLsas, wants}
 use Rattle.ospf_originate.proofs.Words.{ActsInTurn, IssuesIf}

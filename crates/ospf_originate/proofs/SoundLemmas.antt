@@ -17,7 +17,7 @@ use Rattle.ospf_area.specs.Numbers.{is_own}
 use Rattle.ospf_area.specs.State.{AreaValue, kept_number, numbering_of}
 use Rattle.ospf_area.proofs.Words.{kept_in, counted}
 use Rattle.ospf_area.specs.declared.state.Numbering.{Numbering}
-use Rattle.ospf_update.specs.Removal.{lowest_number, reset}
+use Rattle.ospf_area.specs.Updates.Removal.{lowest_number, reset}
 use Rattle.ospf_originate.specs.Sound.{AreSetUp, IsSound}
 use Rattle.ospf_originate.proofs.NumberLemmas.{counted_some, reset_kept, reset_some}
 
@@ -49,10 +49,10 @@ contents-entry_from lsa tick by_flooding = refl
 pub record Numbers (router : RouterId) (db : List Held) (ns : List Numbering) (floor top : ℤ) : Type 0 where
   pub numbered : (key : LsaKey) (c : List ℕ) → known db key ≡ Some c → is_own router key ≡ true → is_some (numbering_of ns key) ≡ true
   pub counted : (key : LsaKey) (c : List ℕ) → known db key ≡ Some c → is_own router key ≡ true → number_in c ≤ℤ kept_in floor (numbering_of ns key)
-  pub greatest : (key : LsaKey) → kept_in floor (numbering_of ns key) ≤ℤ top
+  pub max_seq : (key : LsaKey) → kept_in floor (numbering_of ns key) ≤ℤ top
 
 abbrev pub NumbersOf : AreaValue → Type 0
-NumbersOf s = Numbers s.router s.database s.numbering s.floor s.greatest
+NumbersOf s = Numbers s.router s.database s.numbering s.floor s.max_seq
 
 held_known : (db : List Held) (key : LsaKey) (c : List ℕ) → known db key ≡ Some c → (h : Held) × (held_of db key ≡ Some h) × (h.entry.contents ≡ c)
 unfolding known
@@ -74,7 +74,7 @@ numbers_of s sound = record {
   counted = λ key c is own.
       let (h, at, same) = held_known s.database key c is in
       subst (λ (n : ℤ). n ≤ℤ kept_number s key) (number_at h.entry ∙ ap number_in same) (sound.counted key h.entry (ap (option_map (λ (h : Held). h.entry)) at) own);
-  greatest = sound.greatest;
+  max_seq = sound.max_seq;
 }
 
 pub sound_of : (s : AreaValue) → AreSetUp s.links → NumbersOf s → IsSound s
@@ -82,7 +82,7 @@ sound_of s up ns = record {
   links = up;
   numbered = λ key there own. by_held key (held_of s.database key) refl there own;
   counted = λ key copy is own. by_copy key copy (held_of s.database key) refl is own;
-  greatest = ns.greatest;
+  max_seq = ns.max_seq;
 }
   where
     by_held : (key : LsaKey) (o : Option Held) → held_of s.database key ≡ o → is_some (option_map (λ (h : Held). h.entry) o) ≡ true → is_own s.router key ≡ true → is_some (numbering_of s.numbering key) ≡ true
@@ -102,7 +102,7 @@ pub fewer : (r : RouterId) (db db' : List Held) (ns : List Numbering) (f g : ℤ
 fewer r db db' ns f g was old = record {
   numbered = λ key c is own. old.numbered key c (was key c is) own;
   counted = λ key c is own. old.counted key c (was key c is) own;
-  greatest = old.greatest;
+  max_seq = old.max_seq;
 }
 
 -- an LSA is installed, and counted
@@ -190,7 +190,7 @@ pub counted_numbers : (r : RouterId) (db : List Held) (ns : List Numbering) (f g
 counted_numbers r db ns f g at n old = record {
   numbered = λ key c is own. counts_some r ns f at n key (old.numbered key c is own);
   counted = λ key c is own. le_trans _ _ _ (old.counted key c is own) (rises r ns f at n key);
-  greatest = top r ns f at n g old.greatest;
+  max_seq = top r ns f at n g old.max_seq;
 }
 
 -- where an LSA with the number is installed
@@ -210,7 +210,7 @@ module _ (r : RouterId) (db db' : List Held) (ns : List Numbering) (f g : ℤ) (
   stored_numbers = record {
     numbered = λ key d is own. some_test key d own (same_key at key) refl (sym (puts key) ∙ is);
     counted = λ key d is own. count_test key d own (same_key at key) refl (sym (puts key) ∙ is);
-    greatest = top r ns f at (number_in c) g old.greatest;
+    max_seq = top r ns f at (number_in c) g old.max_seq;
   }
 
 -- the copy of a key leaves, and its numbers begin again
@@ -222,12 +222,12 @@ ended_numbers r db db' ns f g at was low old = record {
       subst (λ (n : ℤ). number_in c ≤ℤ n)
       (sym (reset_kept f at ns key ∙ ap (λ (b : Bool). if b then lowest_number else kept_in f (numbering_of ns key)) (was key c is).0))
       (old.counted key c (was key c is).1 own);
-  greatest = λ key. subst (λ (n : ℤ). n ≤ℤ g) (sym (reset_kept f at ns key)) (by_test key (same_key at key));
+  max_seq = λ key. subst (λ (n : ℤ). n ≤ℤ g) (sym (reset_kept f at ns key)) (by_test key (same_key at key));
 }
   where
     by_test : (key : LsaKey) (b : Bool) → (if b then lowest_number else kept_in f (numbering_of ns key)) ≤ℤ g
     by_test key true = low
-    by_test key false = old.greatest key
+    by_test key false = old.max_seq key
 
 -- where the copy's number is the last one, no kept number is below the lowest
 pub last_is_high : (n k g : ℤ) → int_eq n max_sequence_number ≡ true → n ≤ℤ k → k ≤ℤ g → lowest_number ≤ℤ g

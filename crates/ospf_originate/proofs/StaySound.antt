@@ -16,7 +16,7 @@ use Rattle.ospf_flood.specs.declared.acknowledgement.Acknowledgement.{Acknowledg
 use Rattle.ospf_flood.specs.declared.acknowledgement.Acknowledgement.TheVariants as answer
 use Rattle.ospf_flood.specs.declared.rule.LsaRule.{LsaRule}
 use Rattle.ospf_flood.specs.declared.rule.LsaRule.TheVariants.{AcknowledgesExpired, TooSoon, Installs, BadRequest, Duplicate, Stale}
-use Rattle.ospf_iface.specs.declared.machine.Iface.{Iface}
+use Rattle.ospf_neighbour.specs.declared.iface.machine.Iface.{Iface}
 use Rattle.ospf_exchange.proofs.Words.{copy_in_database}
 use Rattle.ospf_lsa.specs.Header.{header_of, key_of_header}
 use Rattle.ospf_lsa.specs.Lsa.{key_of, instance_of}
@@ -41,18 +41,18 @@ use Rattle.ospf_area.specs.declared.changes.AdjacencyChange.{AdjacencyChange}
 use Rattle.ospf_area.specs.declared.flooding.PacketSource.{PacketSource}
 use Rattle.ospf_area.specs.declared.sending.RouterContext.{RouterContext}
 use Rattle.ospf_area.specs.declared.state.Numbering.{Numbering}
-use Rattle.ospf_update.specs.Aging.{Flushes, TickAges, copy_flooded, turned_area}
+use Rattle.ospf_area.specs.Updates.Aging.{Flushes, TickAges, copy_flooded, turned_area}
 use Rattle.ospf_area.specs.Acting.{Becomes}
-use Rattle.ospf_update.specs.Meets.{MeetsLsa, MeetsRule, Stores, restarted, header_met, heard_by, named_by, replied, reply_to, rule_met}
-use Rattle.ospf_update.proofs.Words.{taken_off, copy_flooded_by, TakesSlices, copies_sent, copy_sent, undelayed_link, noted, flooded_area, MeetsAndTurns}
-use Rattle.ospf_update.specs.Updates.{TakesSlice, TakesUpdate}
-use Rattle.ospf_update.specs.Updates.TakesSlice.{Met, PassedOver}
-use Rattle.ospf_update.proofs.PassLemmas.{passed}
+use Rattle.ospf_area.specs.Updates.Meets.{MeetsLsa, MeetsRule, Stores, restarted, header_met, heard_by, named_by, replied, reply_to, rule_met}
+use Rattle.ospf_area.proofs.Updates.Words.{taken_off, copy_flooded_by, TakesSlices, copies_sent, copy_sent, undelayed_link, noted, flooded_area, MeetsAndTurns}
+use Rattle.ospf_area.specs.Updates.Updates.{TakesSlice, TakesUpdate}
+use Rattle.ospf_area.specs.Updates.Updates.TakesSlice.{Met, PassedOver}
+use Rattle.ospf_area.proofs.Updates.PassLemmas.{passed}
 use Rattle.ospf_originate.specs.Laws.{LinksStaySetUp, PartsStaySound}
 use Rattle.ospf_originate.specs.Sound.{AreApart, AreSetUp, IsSetUp, IsSound, max_links}
 use Rattle.ospf_originate.proofs.SoundLemmas.{Numbers, contents-entry_from, counted_numbers, counts_in, fewer, greatest_in, known, number_of-contents, numbers_of, sound_of, stored_numbers}
 use Rattle.ospf_area.proofs.ShortLemmas.{expired_contents, older_contents}
-use Rattle.ospf_update.proofs.CopyLemmas.{copies_become}
+use Rattle.ospf_area.proofs.Updates.CopyLemmas.{copies_become}
 
 -- ---- links
 
@@ -130,7 +130,7 @@ delayed_up number h xs up = set_up_from (delayed_on number h) (λ l x. by_test x
 
 rest : (s : AreaValue) (links : List LinkValue) (direct : List LsaHeader) (tick next_dd : ℕ) (sent heard : List LsaKey) → AreSetUp links → IsSound s
     → IsSound (record s { links = links; direct = direct; tick = tick; next_dd = next_dd; sent = sent; heard = heard })
-rest s links direct tick next_dd sent heard up sound = record { links = up; numbered = sound.numbered; counted = sound.counted; greatest = sound.greatest }
+rest s links direct tick next_dd sent heard up sound = record { links = up; numbered = sound.numbered; counted = sound.counted; max_seq = sound.max_seq }
 
 relinked : (s : AreaValue) (links : List LinkValue) → AreSetUp links → IsSound s → IsSound (record s { links = links })
 relinked s links up sound = rest s links s.direct s.tick s.next_dd s.sent s.heard up sound
@@ -186,11 +186,11 @@ store_sound lsa from s s' stores sound =
       links = links;
       sent = marked key (goes_anywhere key h from (released key s.links)) s.sent;
       numbering = counts key h.number s;
-      greatest = greatest_after key h.number s;
+      max_seq = greatest_after key h.number s;
     } in
-    let numbers : Numbers s.router s'.database (counts_in s.router key h.number s.floor s.numbering) s.floor (greatest_in s.router key h.number s.greatest) =
-    subst (λ (n : ℤ). Numbers s.router s'.database (counts_in s.router key n s.floor s.numbering) s.floor (greatest_in s.router key n s.greatest)) (sym (number_of-contents lsa))
-    (stored_numbers s.router s.database s'.database s.numbering s.floor s.greatest key (sums.contents lsa) (stored_known lsa s.tick (is_some from) s.database s'.database stores.database) (numbers_of s sound)) in
+    let numbers : Numbers s.router s'.database (counts_in s.router key h.number s.floor s.numbering) s.floor (greatest_in s.router key h.number s.max_seq) =
+    subst (λ (n : ℤ). Numbers s.router s'.database (counts_in s.router key n s.floor s.numbering) s.floor (greatest_in s.router key n s.max_seq)) (sym (number_of-contents lsa))
+    (stored_numbers s.router s.database s'.database s.numbering s.floor s.max_seq key (sums.contents lsa) (stored_known lsa s.tick (is_some from) s.database s'.database stores.database) (numbers_of s sound)) in
     along now s' stores.rest (sound_of now (flooded_up key h from s.tick (released key s.links) (released_up key s.links sound.links)) numbers)
 
 -- ---- the rules of an Update
@@ -260,15 +260,15 @@ expired_known at db db' puts key = ap (option_map (λ (h : Held). h.entry.conten
     by_test false two = refl
 
 -- the database has what it had, at other ages
-same_sound : (s s' : AreaValue) → s'.links ≡ s.links → s'.router ≡ s.router → s'.numbering ≡ s.numbering → s'.floor ≡ s.floor → s'.greatest ≡ s.greatest
+same_sound : (s s' : AreaValue) → s'.links ≡ s.links → s'.router ≡ s.router → s'.numbering ≡ s.numbering → s'.floor ≡ s.floor → s'.max_seq ≡ s.max_seq
     → ((key : LsaKey) → known s'.database key ≡ known s.database key) → IsSound s → IsSound s'
-same_sound s s' links router numbering floor greatest same sound =
+same_sound s s' links router numbering floor max_seq same sound =
     sound_of s' (subst (λ (ls : List LinkValue). AreSetUp ls) (sym links) sound.links)
-    (subst (λ (r : RouterId). Numbers r s'.database s'.numbering s'.floor s'.greatest) (sym router)
-    (subst (λ (ns : List Numbering). Numbers s.router s'.database ns s'.floor s'.greatest) (sym numbering)
-    (subst (λ (f : ℤ). Numbers s.router s'.database s.numbering f s'.greatest) (sym floor)
-    (subst (λ (g : ℤ). Numbers s.router s'.database s.numbering s.floor g) (sym greatest)
-    (fewer s.router s.database s'.database s.numbering s.floor s.greatest (λ key c is. sym (same key) ∙ is) (numbers_of s sound))))))
+    (subst (λ (r : RouterId). Numbers r s'.database s'.numbering s'.floor s'.max_seq) (sym router)
+    (subst (λ (ns : List Numbering). Numbers s.router s'.database ns s'.floor s'.max_seq) (sym numbering)
+    (subst (λ (f : ℤ). Numbers s.router s'.database s.numbering f s'.max_seq) (sym floor)
+    (subst (λ (g : ℤ). Numbers s.router s'.database s.numbering s.floor g) (sym max_seq)
+    (fewer s.router s.database s'.database s.numbering s.floor s.max_seq (λ key c is. sym (same key) ∙ is) (numbers_of s sound))))))
 
 noted_sound : (key : LsaKey) (went : Bool) (s : AreaValue) → IsSound s → IsSound (noted key went s)
 noted_sound key true s sound = rest s s.links s.direct s.tick s.next_dd (marked key true s.sent) s.heard sound.links sound
@@ -292,7 +292,7 @@ pub flush_sound : (key : LsaKey) (s : AreaValue) (o o' : OutputsValue) (s' : Are
 flush_sound key s o o' s' is sound =
     let mid = is.mid in
     let mid_sound = same_sound s mid (ap (λ (x : AreaValue). x.links) is.rest) (ap (λ (x : AreaValue). x.router) is.rest) (ap (λ (x : AreaValue). x.numbering) is.rest) (ap (λ (x : AreaValue). x.floor) is.rest)
-    (ap (λ (x : AreaValue). x.greatest) is.rest) (expired_known key s.database mid.database is.database) sound in
+    (ap (λ (x : AreaValue). x.max_seq) is.rest) (expired_known key s.database mid.database is.database) sound in
     along (copy_sent key mid) s' is.sends.state (sent_sound key mid mid_sound)
 
 pub age_sound : (s : AreaValue) (o o' : OutputsValue) (s' : AreaValue) → TickAges s o o' s' → IsSound s → IsSound s'
@@ -300,7 +300,7 @@ age_sound s o o' s' is sound =
     let mid = is.mid in
     let rise = is.rest in
     let mid_sound = same_sound s mid (ap (λ (x : AreaValue). x.links) rise) (ap (λ (x : AreaValue). x.router) rise) (ap (λ (x : AreaValue). x.numbering) rise) (ap (λ (x : AreaValue). x.floor) rise)
-    (ap (λ (x : AreaValue). x.greatest) rise) (aged_known s.database mid.database is.database) sound in
+    (ap (λ (x : AreaValue). x.max_seq) rise) (aged_known s.database mid.database is.database) sound in
     let keys = reached_at max_age mid.database in
     along (copies_sent keys mid) s' (copies_become keys mid s' o o' is.sends).state (all_sent_sound keys mid mid_sound)
 
@@ -313,11 +313,11 @@ known_nothing key = refl
 le_itself : (z : ℤ) → z ≤ℤ z
 le_itself z = omega (arith, ints)
 
-pub begun_sound : (s : AreaValue) → AreSetUp s.links → s.database ≡ [] → s.numbering ≡ [] → s.greatest ≡ s.floor → IsSound s
+pub begun_sound : (s : AreaValue) → AreSetUp s.links → s.database ≡ [] → s.numbering ≡ [] → s.max_seq ≡ s.floor → IsSound s
 begun_sound s up none unnumbered top = sound_of s up (record {
   numbered = λ key c at own. absurd (none-some c (sym (ap (λ (db : List Held). known db key) none ∙ known_nothing key) ∙ at));
   counted = λ key c at own. absurd (none-some c (sym (ap (λ (db : List Held). known db key) none ∙ known_nothing key) ∙ at));
-  greatest = λ key. subst (λ (ns : List Numbering). kept_in s.floor (numbering_of ns key) ≤ℤ s.greatest) (sym unnumbered) (subst (λ (n : ℤ). s.floor ≤ℤ n) (sym top) (le_itself s.floor));
+  max_seq = λ key. subst (λ (ns : List Numbering). kept_in s.floor (numbering_of ns key) ≤ℤ s.max_seq) (sym unnumbered) (subst (λ (n : ℤ). s.floor ≤ℤ n) (sym top) (le_itself s.floor));
 })
 
 -- other links, that are set up, at another tick
@@ -343,10 +343,10 @@ links_stay = record {
   undelayed = set_up_map undelayed_link (λ x. record { iface = refl; many = refl });
 }
 
-pub count_sound : (key : LsaKey) (number : ℤ) (s : AreaValue) → IsSound s → IsSound (record s { numbering = counts key number s; greatest = greatest_after key number s })
+pub count_sound : (key : LsaKey) (number : ℤ) (s : AreaValue) → IsSound s → IsSound (record s { numbering = counts key number s; max_seq = greatest_after key number s })
 count_sound key number s sound =
-    sound_of (record s { numbering = counts key number s; greatest = greatest_after key number s }) sound.links
-    (counted_numbers s.router s.database s.numbering s.floor s.greatest key number (numbers_of s sound))
+    sound_of (record s { numbering = counts key number s; max_seq = greatest_after key number s }) sound.links
+    (counted_numbers s.router s.database s.numbering s.floor s.max_seq key number (numbers_of s sound))
 
 pub parts_stay : PartsStaySound
 parts_stay = record {

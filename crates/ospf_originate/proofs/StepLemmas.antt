@@ -6,13 +6,13 @@ use Rattle.ospf_lsa.specs.Value.{IsMade}
 use Rattle.ospf_area.specs.Outputs.{OutputsValue}
 use Rattle.ospf_area.specs.Sending.{and_sends}
 use Rattle.ospf_area.specs.State.{AreaValue}
-use Rattle.ospf_update.specs.Meets.{Stores}
-use Rattle.ospf_update.proofs.Words.{store_updates}
-use Rattle.ospf_wanted.specs.Made.{lsa_value}
+use Rattle.ospf_area.specs.Updates.Meets.{Stores}
+use Rattle.ospf_area.proofs.Updates.Words.{store_updates}
+use Rattle.ospf_originate.specs.Wants.Made.{lsa_value}
 use Rattle.ospf_originate.specs.Numbers.{issued}
 use Rattle.ospf_originate.specs.Steps.{Issues}
 use Rattle.ospf_originate.proofs.Words.{and_issues}
-use Rattle.ospf_wanted.specs.Wanted.{WantedValue, wanted_key}
+use Rattle.ospf_originate.specs.Wants.Wanted.{WantedValue, wanted_key}
 
 ticked : LsaKey → ℕ → AreaValue → AreaValue
 ticked key tick s = record s { numbering = issued key tick s.numbering }

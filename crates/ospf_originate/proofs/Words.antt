@@ -7,7 +7,7 @@ use Rattle.ospf_area.specs.declared.state.Numbering.{Numbering}
 use Rattle.ospf_area.specs.Outputs.{OutputsValue, SentValue}
 use Rattle.ospf_area.specs.State.{AreaValue}
 use Rattle.ospf_area.specs.Acting.{Becomes, InTurn}
-use Rattle.ospf_wanted.specs.Wanted.{WantedValue}
+use Rattle.ospf_originate.specs.Wants.Wanted.{WantedValue}
 use Rattle.ospf_originate.specs.declared.action.DueAction.{DueAction}
 use Rattle.ospf_originate.specs.declared.action.OwnAction.{OwnAction}
 use Rattle.ospf_originate.specs.declared.action.OwnAction.TheVariants.{Leave, Flush, Issue}

@@ -4,8 +4,8 @@ use Rattle.std.specs.Ordering.{int_eq}
 use Rattle.ospf_flood.specs.Rules.{max_sequence_number}
 use Rattle.ospf_lsa.specs.Value.{unused_number}
 use Rattle.ospf_lsdb.specs.Database.{Entry, is_fresh, ls_refresh_time}
-use Rattle.ospf_wanted.specs.Made.{says}
-use Rattle.ospf_wanted.specs.Wanted.{WantedValue}
+use Rattle.ospf_originate.specs.Wants.Made.{says}
+use Rattle.ospf_originate.specs.Wants.Wanted.{WantedValue}
 use Rattle.ospf_originate.specs.declared.action.OwnAction.{OwnAction}
 use Rattle.ospf_originate.specs.declared.action.OwnAction.TheVariants.{Leave, Flush, Issue}
 

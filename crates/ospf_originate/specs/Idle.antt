@@ -7,8 +7,8 @@ use Rattle.ospf_area.specs.State.{AreaValue, LinkValue, database_entry, kept_num
 use Rattle.ospf_originate.specs.Actions.{unwanted_action, wanted_action}
 use Rattle.ospf_originate.specs.Numbers.{waits}
 use Rattle.ospf_originate.specs.Steps.{action_of, wants}
-use Rattle.ospf_wanted.specs.Wanted.{WantedValue, is_dr_of, links_of_link, network_of, wanted_key, wanted_of}
-use Rattle.ospf_wanted.specs.Wanted.WantedValue.{RouterLsa}
+use Rattle.ospf_originate.specs.Wants.Wanted.{WantedValue, is_dr_of, links_of_link, network_of, wanted_key, wanted_of}
+use Rattle.ospf_originate.specs.Wants.Wanted.WantedValue.{RouterLsa}
 use Rattle.ospf_originate.specs.declared.action.OwnAction.{OwnAction}
 use Rattle.ospf_originate.specs.declared.action.OwnAction.TheVariants.{Leave, Flush, Issue}
 

@@ -1,5 +1,5 @@
 -- Laws of own LSAs: their numbers, and what is recorded for them; those of what is
--- wanted are in `ospf_wanted`.
+-- wanted are in `ospf_originate`.
 use Rattle.std.specs.Prelude.{◌≡◌, ◌&&◌, ◌+ℤ◌, ◌≤ℤ◌, ℕ, ℤ, pos, true, List, [], Option, Some, if◌then◌else◌, map, option_and_then}
 use Rattle.std.specs.Int.{int_max}
 use Rattle.ospf_area.specs.Asking.{turned_link}
@@ -23,18 +23,18 @@ use Rattle.ospf_area.specs.declared.changes.AdjacencyChange.{AdjacencyChange}
 use Rattle.ospf_area.specs.declared.flooding.PacketSource.{PacketSource}
 use Rattle.ospf_area.specs.declared.sending.RouterContext.{RouterContext}
 use Rattle.ospf_flood.specs.declared.acknowledgement.Acknowledgement.{Acknowledgement}
-use Rattle.ospf_update.specs.Aging.{Flushes, SendsCopy, TickAges, turned_area}
-use Rattle.ospf_update.specs.Laws.{IsShortLsa}
+use Rattle.ospf_area.specs.Updates.Aging.{Flushes, SendsCopy, TickAges, turned_area}
+use Rattle.ospf_area.specs.Updates.Laws.{IsShortLsa}
 use Rattle.ospf_area.specs.Acting.{Becomes, InTurn}
-use Rattle.ospf_update.specs.Meets.{MeetsLsa, Stores, restarted, header_met}
-use Rattle.ospf_update.specs.Removal.{RemovesOne, leaving}
-use Rattle.ospf_update.specs.Updates.{TakesUpdate}
+use Rattle.ospf_area.specs.Updates.Meets.{MeetsLsa, Stores, restarted, header_met}
+use Rattle.ospf_area.specs.Updates.Removal.{RemovesOne, leaving}
+use Rattle.ospf_area.specs.Updates.Updates.{TakesUpdate}
 use Rattle.ospf_originate.specs.Sound.{AreSetUp, IsSound}
 use Rattle.ospf_originate.specs.Steps.{Issues, OwnLsas, wants, action_of}
-use Rattle.ospf_wanted.specs.Made.{CanBeMade, lsa_value}
-use Rattle.ospf_wanted.specs.Wanted.{WantedValue, wanted_key, wanted_of}
+use Rattle.ospf_originate.specs.Wants.Made.{CanBeMade, lsa_value}
+use Rattle.ospf_originate.specs.Wants.Wanted.{WantedValue, wanted_key, wanted_of}
 use Rattle.ospf_originate.specs.declared.action.OwnAction.TheVariants.{Issue}
-pub use Rattle.ospf_wanted.specs.Laws.{WantedAreOfTheirKeys, WantedAreOwn, WantedCanBeMade}
+pub use Rattle.ospf_originate.specs.Wants.Laws.{WantedAreOfTheirKeys, WantedAreOwn, WantedCanBeMade}
 
 -- ---- numbers
 
@@ -82,7 +82,7 @@ NextIsNewer =
 -- a router that starts has it, and keeps it where its links are others that are set up
 pub record StartsSound : Type 0 where
   pub begun : (s : AreaValue) → AreSetUp s.links → s.database ≡ [] → s.numbering ≡ []
-      → s.greatest ≡ s.floor → IsSound s
+      → s.max_seq ≡ s.floor → IsSound s
   pub relinked : (s : AreaValue) (links : List LinkValue) (tick : ℕ) → AreSetUp links → IsSound s
       → IsSound (record s { links = links; tick = tick })
 
@@ -130,7 +130,7 @@ pub record PartsStaySound : Type 0 where
       → IsSound
       (record s {
         numbering = counts key number s;
-        greatest = if is_own s.router key then int_max s.greatest number else s.greatest;
+        max_seq = if is_own s.router key then int_max s.max_seq number else s.max_seq;
       })
   pub acknowledging : (a : Acknowledgement) (f : PacketSource) (h : LsaHeader) (s : AreaValue)
       → IsSound s

@@ -1,10 +1,11 @@
-pub use Rattle.ospf_wanted.specs.Wanted
-pub use Rattle.ospf_wanted.specs.Own
-pub use Rattle.ospf_wanted.specs.Made
-pub use Rattle.ospf_wanted.specs.Said
+pub use Rattle.ospf_originate.specs.Wants.Wanted
+pub use Rattle.ospf_originate.specs.Wants.Own
+pub use Rattle.ospf_originate.specs.Wants.Made
+pub use Rattle.ospf_originate.specs.Wants.Said
 pub mod Numbers
 pub mod Actions
 pub mod Sound
 pub mod Steps
 pub mod Idle
 pub mod Laws
+pub mod Wants

@@ -6,7 +6,7 @@ use Rattle.ospf_base.specs.declared.ids.LsaKey.{LsaKey}
 use Rattle.ospf_area.specs.State.{numbering_of}
 use Rattle.ospf_area.specs.declared.state.Numbering.{Numbering}
 use Rattle.ospf_base.specs.Keys.{same_key}
-pub use Rattle.ospf_wanted.specs.Made.{first_number}
+pub use Rattle.ospf_originate.specs.Wants.Made.{first_number}
 
 -- MinLSInterval: the ticks between two issues of an LSA (appendix B)
 abbrev pub min_ls_interval : ℕ

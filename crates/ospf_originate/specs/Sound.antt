@@ -5,7 +5,7 @@ use Rattle.ospf_base.specs.declared.ids.LsaKey.{LsaKey}
 use Rattle.ospf_lsdb.specs.Database.{Entry, header_at}
 use Rattle.ospf_area.specs.Numbers.{is_own}
 use Rattle.ospf_area.specs.State.{AreaValue, database_entry, kept_number, numbering_of}
-pub use Rattle.ospf_wanted.specs.SetUp.{IsSetUp, AreApart, max_links, AreSetUp}
+pub use Rattle.ospf_originate.specs.Wants.SetUp.{IsSetUp, AreApart, max_links, AreSetUp}
 
 -- ---- numbers
 
@@ -23,7 +23,7 @@ AreCounted s =
 
 -- no recorded number is above the greatest one
 abbrev pub AreBelowGreatest : AreaValue → Type 0
-AreBelowGreatest s = (key : LsaKey) → kept_number s key ≤ℤ s.greatest
+AreBelowGreatest s = (key : LsaKey) → kept_number s key ≤ℤ s.max_seq
 
 -- ---- both
 
@@ -32,4 +32,4 @@ pub record IsSound (s : AreaValue) : Type 0 where
   pub links : AreSetUp s.links
   pub numbered : AreNumbered s
   pub counted : AreCounted s
-  pub greatest : AreBelowGreatest s
+  pub max_seq : AreBelowGreatest s

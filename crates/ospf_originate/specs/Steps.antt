@@ -14,13 +14,13 @@ use Rattle.ospf_area.specs.Outputs.{OutputsValue}
 use Rattle.ospf_area.specs.Sending.{and_sends, context_of}
 use Rattle.ospf_area.specs.State.{AreaValue, database_entry, kept_number}
 use Rattle.ospf_area.specs.declared.state.Numbering.{Numbering}
-use Rattle.ospf_update.specs.Aging.{Flushes, turn_out, turned_area}
+use Rattle.ospf_area.specs.Updates.Aging.{Flushes, turn_out, turned_area}
 use Rattle.ospf_area.specs.Acting.{Becomes, InTurn}
-use Rattle.ospf_update.specs.Meets.{Stores}
+use Rattle.ospf_area.specs.Updates.Meets.{Stores}
 use Rattle.ospf_originate.specs.Actions.{IsUsed, own_action}
-use Rattle.ospf_wanted.specs.Made.{lsa_value}
+use Rattle.ospf_originate.specs.Wants.Made.{lsa_value}
 use Rattle.ospf_originate.specs.Numbers.{waits, issued}
-use Rattle.ospf_wanted.specs.Wanted.{WantedValue, wanted_lsas, wanted_of, wanted_key}
+use Rattle.ospf_originate.specs.Wants.Wanted.{WantedValue, wanted_lsas, wanted_of, wanted_key}
 use Rattle.ospf_originate.specs.declared.action.DueAction.{DueAction}
 use Rattle.ospf_originate.specs.declared.action.OwnAction.{OwnAction}
 use Rattle.ospf_originate.specs.declared.action.OwnAction.TheVariants.{Leave, Flush, Issue}

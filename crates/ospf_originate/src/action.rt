@@ -4,13 +4,13 @@ ghost use Rattle.std.specs.Prelude.{◌≡◌, IfErr, IfOk, None, OnErr, Some, f
 ghost use Rattle.ospf_lsa.specs.Value.{IsUnmade};
 ghost use Rattle.ospf_lsdb.specs.Database.{is_fresh};
 ghost use Rattle.ospf_originate.specs.Actions.{next_action, is_due, wanted_action, unwanted_action, own_action, IsCompared, IsUsed};
-ghost use Rattle.ospf_wanted.specs.Made.{IsUnmadeIf, Needs, first_number};
-ghost use Rattle.ospf_wanted.specs.Own.{wanted_value};
+ghost use Rattle.ospf_originate.specs.Wants.Made.{IsUnmadeIf, Needs, first_number};
+ghost use Rattle.ospf_originate.specs.Wants.Own.{wanted_value};
 
+use crate::contents::OwnLsa;
 use ospf_base::{LsaKey, MAX_AGE, MAX_SEQUENCE_NUMBER};
 use ospf_lsa::LsaFault;
 use ospf_lsdb::{EntryView, LS_REFRESH_TIME};
-use ospf_wanted::OwnLsa;
 use std::alloc::Global;
 
 /// What happens to an own LSA.

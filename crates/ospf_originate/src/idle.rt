@@ -10,15 +10,15 @@ ghost use Rattle.ospf_originate.specs.Idle.{IsIdle, is_left, is_quiet, key_left,
 ghost use Rattle.ospf_originate.specs.Numbers.{waits};
 ghost use Rattle.ospf_originate.specs.Sound.{IsSound};
 ghost use Rattle.ospf_originate.specs.Steps.{wants};
-ghost use Rattle.ospf_wanted.specs.Wanted.{is_dr_of, network_of, wanted_key, wanted_of};
-ghost use Rattle.ospf_wanted.specs.Wanted.WantedValue.{RouterLsa};
+ghost use Rattle.ospf_originate.specs.Wants.Wanted.{is_dr_of, network_of, wanted_key, wanted_of};
+ghost use Rattle.ospf_originate.specs.Wants.Wanted.WantedValue.{RouterLsa};
 
 use crate::action::{OwnAction, is_fresh, next_action};
+use crate::contents::{is_dr_of, says_network, says_router};
 use crate::numbers::{kept_number, waits};
 use ospf_area::{Area, AreaLink, Numbering, is_own};
 use ospf_base::{Kind, LsaKey, RouterId};
 use ospf_lsdb::{EntryView, LS_REFRESH_TIME};
-use ospf_wanted::{is_dr_of, says_network, says_router};
 
 /// Whether no self-originated LSA was heard in this step, and nothing is due of any key
 /// (RFC 2328, sections 12.4, 13.4 and 14.1). What is wanted is compared with its copies
@@ -120,7 +120,7 @@ fn network_stays(area: &Area, link: &AreaLink) -> bool
 }
 
 // The key of the network-LSA of a link.
-#[tactic(auto, unfolding(ospf_wanted::specs::Wanted::network_of))]
+#[tactic(auto, unfolding(crate::specs::Wants::Wanted::network_of))]
 fn network_key(router: RouterId, link: &AreaLink) -> LsaKey
     ensures { result ≡ wanted_key (network_of router link.now) }
 {
@@ -132,7 +132,7 @@ fn network_key(router: RouterId, link: &AreaLink) -> LsaKey
 }
 
 // Whether the network-LSA of a link is due.
-#[tactic(auto, unfolding(ospf_wanted::specs::Wanted::network_of))]
+#[tactic(auto, unfolding(crate::specs::Wants::Wanted::network_of))]
 fn network_is_due(router: RouterId, link: &AreaLink, copy: Option<&EntryView<'_>>) -> bool
     ensures { result ≡ is_due (network_of router link.now) (option_copied copy.entry) }
 {

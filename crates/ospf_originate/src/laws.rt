@@ -37,7 +37,7 @@ pub fn area_stays_sound()
     ensures { AreaStaysSound }
 {}
 
-/// Each call of `ospf_area` and `ospf_update` that these consist of keeps it valid too.
+/// Each call of `ospf_area` and `ospf_area` that these consist of keeps it valid too.
 pub fn parts_stay_sound()
     ensures { PartsStaySound }
 {}

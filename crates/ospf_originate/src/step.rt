@@ -3,17 +3,17 @@
 ghost use Rattle.std.specs.Prelude.{◌≡◌, ◌∷◌, ◌++◌, [], IfOk, OnOk};
 ghost use Rattle.ospf_lsa.specs.Lsa.{IsLsa};
 ghost use Rattle.ospf_lsa.specs.Value.{HasAll, IsMade};
-ghost use Rattle.ospf_wanted.specs.Made.{Needs, lsa_value};
+ghost use Rattle.ospf_originate.specs.Wants.Made.{Needs, lsa_value};
 ghost use Rattle.ospf_originate.specs.Numbers.{issued};
-ghost use Rattle.ospf_wanted.specs.Own.{wanted_value};
+ghost use Rattle.ospf_originate.specs.Wants.Own.{wanted_value};
 ghost use Rattle.ospf_originate.specs.Steps.{Issues};
 
+use crate::contents::OwnLsa;
 use crate::numbers::note_issue;
+use ospf_area::update::store;
 use ospf_area::{Area, Outputs};
 use ospf_base::LsaKey;
 use ospf_lsa::{Lsa, LsaFault, LsaView};
-use ospf_update::store;
-use ospf_wanted::OwnLsa;
 use std::alloc::{AllocError, Global};
 
 /// Issues a wanted LSA with a number (RFC 2328, section 12.4): it is stored as a neighbour's LSA

@@ -12,9 +12,9 @@ use Rattle.ospf_config.specs.declared.interface.Interface.{Interface}
 use Rattle.ospf_lsa.specs.declared.header.LsaHeader.{LsaHeader}
 use Rattle.ospf_packet.specs.Meaning.{BodyMeaning, Meaning, hello, description, request, update, acknowledgment}
 use Rattle.ospf_packet.specs.declared.body.Description.{Description}
-use Rattle.ospf_iface.specs.Hello.{agrees, own_hello}
-use Rattle.ospf_iface.specs.Machine.{is_down}
-use Rattle.ospf_iface.specs.declared.machine.Iface.{Iface}
+use Rattle.ospf_neighbour.specs.Interface.Hello.{agrees, own_hello}
+use Rattle.ospf_neighbour.specs.Interface.Machine.{is_down}
+use Rattle.ospf_neighbour.specs.declared.iface.machine.Iface.{Iface}
 use Rattle.ospf_neighbour.specs.Machine.{is_exchanging}
 use Rattle.ospf_neighbour.specs.Neighbour.{NeighbourValue, is_empty}
 use Rattle.ospf_neighbour.specs.Neighbours.{max_neighbours, neighbour_of}
@@ -29,9 +29,9 @@ use Rattle.ospf_exchange.specs.declared.fault.ExchangeFault.TheVariants as excha
 use Rattle.ospf_exchange.specs.declared.rule.Local.{Local}
 use Rattle.ospf_adjacency.specs.Adjacency.{is_broadcast}
 use Rattle.ospf_adjacency.specs.Descriptions.{dd_dropped}
-use Rattle.ospf_step.specs.Receipt.{drop_below_exchange, drop_by_body, drop_of_description, drop_of_hello, drop_of_packet, is_destination, sender_in}
-use Rattle.ospf_step.specs.declared.dropped.Dropped.{Dropped}
-use Rattle.ospf_step.specs.declared.dropped.Dropped.TheVariants as dropped
+use Rattle.ospf_router.specs.AreaStep.Receipt.{drop_below_exchange, drop_by_body, drop_of_description, drop_of_hello, drop_of_packet, is_destination, sender_in}
+use Rattle.ospf_router.specs.declared.step.dropped.Dropped.{Dropped}
+use Rattle.ospf_router.specs.declared.step.dropped.Dropped.TheVariants as dropped
 use Rattle.ospf_plan.specs.declared.ends.LinkEnd.{LinkEnd}
 use Rattle.ospf_plan.specs.declared.fault.AreaFault.{AreaFault}
 use Rattle.ospf_plan.specs.declared.fault.AreaFault.TheVariants as fault

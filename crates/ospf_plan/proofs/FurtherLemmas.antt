@@ -13,18 +13,18 @@ use Rattle.ospf_base.proofs.PrefixLaws.{mask_injective}
 use Rattle.ospf_config.specs.declared.address.InterfaceAddress.{InterfaceAddress}
 use Rattle.ospf_config.specs.declared.config.Config.{Config}
 use Rattle.ospf_packet.specs.Meaning.{BodyMeaning}
-use Rattle.ospf_iface.specs.Election.{IsBackup, IsDr, IsElected, IsElectionRound, IsEligible, changes_role, declaring}
-use Rattle.ospf_iface.specs.Machine.{is_down, own_candidate}
-use Rattle.ospf_iface.specs.declared.candidate.Candidate.{Candidate}
-use Rattle.ospf_iface.specs.declared.candidate.Elected.{Elected}
-use Rattle.ospf_iface.specs.declared.machine.Iface.{Iface}
+use Rattle.ospf_neighbour.specs.Interface.Election.{IsBackup, IsDr, IsElected, IsElectionRound, IsEligible, changes_role, declaring}
+use Rattle.ospf_neighbour.specs.Interface.Machine.{is_down, own_candidate}
+use Rattle.ospf_neighbour.specs.declared.iface.candidate.Candidate.{Candidate}
+use Rattle.ospf_neighbour.specs.declared.iface.candidate.Elected.{Elected}
+use Rattle.ospf_neighbour.specs.declared.iface.machine.Iface.{Iface}
 use Rattle.ospf_neighbour.specs.Machine.{is_two_way}
 use Rattle.ospf_neighbour.specs.Neighbour.{NeighbourValue, is_empty}
 use Rattle.ospf_neighbour.specs.Neighbours.{max_neighbours, neighbour_of}
 use Rattle.ospf_adjacency.specs.Adjacency.{is_broadcast}
 use Rattle.ospf_adjacency.specs.Elections.{candidates_of}
-use Rattle.ospf_step.specs.Receipt.{drop_by_body, drop_of_hello, is_destination, sender_in}
-use Rattle.ospf_step.specs.declared.dropped.Dropped.TheVariants as dropped
+use Rattle.ospf_router.specs.AreaStep.Receipt.{drop_by_body, drop_of_hello, is_destination, sender_in}
+use Rattle.ospf_router.specs.declared.step.dropped.Dropped.TheVariants as dropped
 use Rattle.ospf_plan.specs.declared.ends.LinkEnd.{LinkEnd}
 use Rattle.ospf_plan.specs.declared.fault.AreaFault.TheVariants as fault
 use Rattle.ospf_plan.specs.declared.finding.Finding.{Finding}

@@ -14,10 +14,10 @@ use Rattle.ospf_packet.specs.Meaning.{BodyMeaning, Meaning, hello, request, upda
 use Rattle.ospf_packet.specs.declared.body.Description.{Description}
 use Rattle.ospf_packet.specs.declared.body.Hello.{Hello}
 use Rattle.ospf_packet.specs.declared.entry.RequestEntry.{RequestEntry}
-use Rattle.ospf_iface.specs.Hello.{own_hello}
-use Rattle.ospf_iface.specs.Machine.{is_down}
-use Rattle.ospf_iface.specs.declared.machine.Iface.{Iface}
-use Rattle.ospf_iface.specs.declared.settings.IfaceSettings.{IfaceSettings}
+use Rattle.ospf_neighbour.specs.Interface.Hello.{own_hello}
+use Rattle.ospf_neighbour.specs.Interface.Machine.{is_down}
+use Rattle.ospf_neighbour.specs.declared.iface.machine.Iface.{Iface}
+use Rattle.ospf_neighbour.specs.declared.iface.settings.IfaceSettings.{IfaceSettings}
 use Rattle.ospf_neighbour.specs.Neighbour.{NeighbourValue, new_neighbour}
 use Rattle.ospf_neighbour.specs.Neighbours.{neighbour_of}
 use Rattle.ospf_neighbour.specs.declared.machine.NbrEvent.{NbrEvent}
@@ -48,23 +48,23 @@ use Rattle.ospf_area.specs.declared.sending.RouterContext.{RouterContext}
 use Rattle.ospf_area.specs.declared.sending.Way.{Way}
 use Rattle.ospf_area.specs.declared.state.LinkSettings.{LinkSettings}
 use Rattle.ospf_area.proofs.Words.{flooding_update, posted}
-use Rattle.ospf_update.specs.Acks.{ack_room, acks_out, in_order}
-use Rattle.ospf_update.specs.Meets.{first_dd_on}
-use Rattle.ospf_update.proofs.Words.{ack_out, packets}
+use Rattle.ospf_area.specs.Updates.Acks.{ack_room, acks_out, in_order}
+use Rattle.ospf_area.specs.Updates.Meets.{first_dd_on}
+use Rattle.ospf_area.proofs.Updates.Words.{ack_out, packets}
 use Rattle.ospf_adjacency.specs.Adjacency.{begins_by, event_taken, is_broadcast, number_by, wants_adjacency}
 use Rattle.ospf_adjacency.specs.Answers.{answer_turn, copies_turn}
 use Rattle.ospf_adjacency.specs.Descriptions.{answered_turn, dd_repeated, description_turn, event_turn, is_init}
 use Rattle.ospf_adjacency.specs.Elections.{first_dds}
-use Rattle.ospf_adjacency.specs.Heard.{Neighbourhood, hello_on, hello_turn}
+use Rattle.ospf_adjacency.specs.Heard.{Neighbourhood, receive_hello, hello_effect}
 use Rattle.ospf_adjacency.specs.Links.{hello_packet, hello_ticked}
 use Rattle.ospf_adjacency.specs.Packing.{copies_of, packed, update_count, updates_of}
 use Rattle.ospf_adjacency.specs.Repeats.{due_keys}
 use Rattle.ospf_adjacency.proofs.Words.{adj_ok_for}
-use Rattle.ospf_links.specs.Parts.{description_on, hello_out, request_on}
-use Rattle.ospf_links.proofs.Words.{description_by, repeats_to, request_by}
-use Rattle.ospf_links.specs.Repeats.{link_repeats_out, repeats_for}
-use Rattle.ospf_step.proofs.SentFacts.{flat_map-members}
-use Rattle.ospf_step.proofs.StateFacts.{Contains-nil}
+use Rattle.ospf_adjacency.specs.LinkSteps.Parts.{description_on, hello_out, request_on}
+use Rattle.ospf_adjacency.proofs.LinkSteps.Words.{description_by, repeats_to, request_by}
+use Rattle.ospf_adjacency.specs.LinkSteps.Repeats.{link_repeats_out, repeats_for}
+use Rattle.ospf_router.proofs.AreaStep.SentFacts.{flat_map-members}
+use Rattle.ospf_router.proofs.AreaStep.StateFacts.{Contains-nil}
 use Rattle.ospf_plan.proofs.Members.{in_cases}
 use Rattle.ospf_plan.proofs.Order.{map_from}
 use Rattle.ospf_plan.proofs.SettingsLemmas.{all_fixed, fixed}
@@ -105,14 +105,14 @@ module _ (i : Iface) (k : LinkSettings) (own : RouterContext) where
       let m = event_taken e i.settings.dead t.next own.tick t.neighbour in
       both_of t.sent (packet_if (begins_by e t.neighbour) (dd_packet i k.mtu m)) of (if_of (begins_by e t.neighbour) (dd_packet i k.mtu m) (said_description i m))
 
-  hello_of : (h : Hello) (named : Bool) (t : Turn) → AllOf i.settings k t.sent → AllOf i.settings k (hello_turn i (local_by own k) h named t).sent
+  hello_of : (h : Hello) (named : Bool) (t : Turn) → AllOf i.settings k t.sent → AllOf i.settings k (hello_effect i (local_by own k) h named t).sent
   hello_of h named t of =
       let m : NeighbourValue = after_event event.HelloReceived i.settings.dead t.neighbour in
       let n : NeighbourValue = (if is_broadcast i then record m { declared = record { priority = h.priority; dr = h.designated; backup = h.backup } } else m) in
       let e : NbrEvent = (if named then TwoWayReceived (wants_adjacency i t.neighbour.address) else event.OneWayReceived) in
       event_of e (record t { neighbour = n }) of
 
-  pub hello_on_of : (q : RouterId) (source : Addr) (h : Hello) (named : Bool) (x : Neighbourhood) → AllOf i.settings k x.sent → AllOf i.settings k (hello_on i (local_by own k) q source h named x).sent
+  pub hello_on_of : (q : RouterId) (source : Addr) (h : Hello) (named : Bool) (x : Neighbourhood) → AllOf i.settings k x.sent → AllOf i.settings k (receive_hello i (local_by own k) q source h named x).sent
   hello_on_of q source h named x of =
       hello_of h named (record { neighbour = unwrap_or (neighbour_of x.neighbours q) (new_neighbour q source); next = x.next; sent = x.sent }) of
 

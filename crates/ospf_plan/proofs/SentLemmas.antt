@@ -9,9 +9,9 @@ use Rattle.ospf_base.specs.declared.ids.LsaKey.{LsaKey}
 use Rattle.ospf_lsa.specs.Lsa.{key_of}
 use Rattle.ospf_packet.specs.Meaning.{BodyMeaning, Meaning, hello, description, request, update, acknowledgment}
 use Rattle.ospf_packet.specs.PacketOf.{packet_of}
-use Rattle.ospf_iface.specs.Machine.{is_changed, is_down, started}
-use Rattle.ospf_iface.specs.declared.machine.Iface.{Iface}
-use Rattle.ospf_iface.specs.declared.settings.IfaceSettings.{IfaceSettings}
+use Rattle.ospf_neighbour.specs.Interface.Machine.{is_changed, is_down, started}
+use Rattle.ospf_neighbour.specs.declared.iface.machine.Iface.{Iface}
+use Rattle.ospf_neighbour.specs.declared.iface.settings.IfaceSettings.{IfaceSettings}
 use Rattle.ospf_lsdb.specs.Database.{Entry, lsa_of, reached_at}
 use Rattle.ospf_flood.specs.declared.rule.LsaRule.{LsaRule}
 use Rattle.ospf_flood.specs.declared.rule.LsaRule.TheVariants.{AcknowledgesExpired, TooSoon, Installs, BadRequest, Duplicate, Stale}
@@ -27,33 +27,33 @@ use Rattle.ospf_area.proofs.Words.{released_link}
 use Rattle.ospf_adjacency.specs.Elections.{first_dds}
 use Rattle.ospf_adjacency.specs.Heard.{Neighbourhood, names}
 use Rattle.ospf_adjacency.specs.Links.{hello_packet}
-use Rattle.ospf_update.specs.Acks.{delayed_out_on}
-use Rattle.ospf_update.specs.Aging.{Flushes, TickAges, copy_flooded, turn_out}
-use Rattle.ospf_update.specs.Meets.{MeetsRule, first_dd_on, reply_out, reply_to, rule_met}
-use Rattle.ospf_update.specs.Removal.{RemovesOne, leaving}
-use Rattle.ospf_update.specs.Updates.{TakesSlice, TakesUpdate}
-use Rattle.ospf_update.specs.Updates.TakesSlice.{Met, PassedOver}
-use Rattle.ospf_update.proofs.CopyLemmas.{copies_become}
-use Rattle.ospf_update.proofs.Words.{RemovesAll, TakesSlices, copies_out, copy_flood_out_by, copy_out, copy_sent, direct_out_on}
-use Rattle.ospf_links.specs.Elections.{ElectsAt, ElectsFrom, ElectsIf}
-use Rattle.ospf_links.specs.Parts.{description_part, hello_out, hello_part, link_up, neighbourhood_of, request_part}
-use Rattle.ospf_links.specs.Repeats.{link_repeats_out}
-use Rattle.ospf_links.specs.Works.{up_out_on}
-use Rattle.ospf_links.proofs.Words.{ElectsThere, work_sent_on}
+use Rattle.ospf_area.specs.Updates.Acks.{delayed_out_on}
+use Rattle.ospf_area.specs.Updates.Aging.{Flushes, TickAges, copy_flooded, turn_out}
+use Rattle.ospf_area.specs.Updates.Meets.{MeetsRule, first_dd_on, reply_out, reply_to, rule_met}
+use Rattle.ospf_area.specs.Updates.Removal.{RemovesOne, leaving}
+use Rattle.ospf_area.specs.Updates.Updates.{TakesSlice, TakesUpdate}
+use Rattle.ospf_area.specs.Updates.Updates.TakesSlice.{Met, PassedOver}
+use Rattle.ospf_area.proofs.Updates.CopyLemmas.{copies_become}
+use Rattle.ospf_area.proofs.Updates.Words.{RemovesAll, TakesSlices, copies_out, copy_flood_out_by, copy_out, copy_sent, direct_out_on}
+use Rattle.ospf_adjacency.specs.LinkSteps.Elections.{ElectsAt, ElectsFrom, ElectsIf}
+use Rattle.ospf_adjacency.specs.LinkSteps.Parts.{description_part, hello_out, hello_part, link_up, neighbourhood_of, request_part}
+use Rattle.ospf_adjacency.specs.LinkSteps.Repeats.{link_repeats_out}
+use Rattle.ospf_adjacency.specs.LinkSteps.Works.{up_out_on}
+use Rattle.ospf_adjacency.proofs.LinkSteps.Words.{ElectsThere, work_sent_on}
 use Rattle.ospf_originate.specs.Steps.{Acts, OwnLsas, wants}
 use Rattle.ospf_originate.specs.Wanted.{WantedValue, wanted_of}
 use Rattle.ospf_originate.specs.declared.action.DueAction.{DueAction}
 use Rattle.ospf_originate.specs.declared.action.OwnAction.{OwnAction}
 use Rattle.ospf_originate.specs.declared.action.OwnAction.TheVariants.{Leave, Flush, Issue}
 use Rattle.ospf_originate.proofs.Words.{ActsInTurn, IssuesIf}
-use Rattle.ospf_step.specs.Ends.{EndsStep}
-use Rattle.ospf_step.specs.Step.{Event}
-use Rattle.ospf_step.specs.Step.Event.{Datagram, Tick, LinkUp, LinkDown}
-use Rattle.ospf_step.specs.Steps.{StepsArea, Takes}
-use Rattle.ospf_step.specs.Takes.{TakesBody, TakesDatagram, TakesEvent, source_of}
-use Rattle.ospf_step.specs.Ticks.{TakesTick}
-use Rattle.ospf_step.specs.declared.dropped.Dropped.{Dropped}
-use Rattle.ospf_step.proofs.StateFacts.{Contains-nil}
+use Rattle.ospf_router.specs.AreaStep.Ends.{EndsStep}
+use Rattle.ospf_router.specs.AreaStep.Step.{Event}
+use Rattle.ospf_router.specs.AreaStep.Step.Event.{Datagram, Tick, LinkUp, LinkDown}
+use Rattle.ospf_router.specs.AreaStep.Steps.{StepsArea, Takes}
+use Rattle.ospf_router.specs.AreaStep.Takes.{TakesBody, TakesDatagram, TakesEvent, source_of}
+use Rattle.ospf_router.specs.AreaStep.Ticks.{TakesTick}
+use Rattle.ospf_router.specs.declared.step.dropped.Dropped.{Dropped}
+use Rattle.ospf_router.proofs.AreaStep.StateFacts.{Contains-nil}
 use Rattle.ospf_plan.proofs.SendLemmas.{AllOf, AllOut, acknowledged_out, both_out, description_on_of, first_of, first_out, flood_out, hello_on_of, hellos_out, if_of, links_out, none_of, none_out, one_out, posted_out, repeated_out, request_on_of, said_hello, said_update, turns_out}
 use Rattle.ospf_plan.proofs.SettingsLemmas.{IsAs, age_as, acts_as, aside_as, copy_as, issue_as, mapped_fixed, rule_as, sent_as, slice_as, slices_as}
 use Rattle.ospf_plan.proofs.StepSettings.{acknowledged_as, elects_all_as, event_as, helloed_as, itself, joined, timed_as}

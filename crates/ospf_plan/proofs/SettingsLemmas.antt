@@ -16,7 +16,7 @@ use Rattle.ospf_lsdb.specs.Database as lsdb
 use Rattle.std.proofs.lemmas.Option.{same_Some}
 use Rattle.ospf_area.specs.Places.{map_from}
 use Rattle.ospf_area.specs.declared.state.LinkSettings.{LinkSettings}
-use Rattle.ospf_iface.specs.declared.settings.IfaceSettings.{IfaceSettings}
+use Rattle.ospf_neighbour.specs.declared.iface.settings.IfaceSettings.{IfaceSettings}
 use Rattle.ospf_area.specs.Asking.{turned_link}
 use Rattle.ospf_area.specs.Changes.{changed_at}
 use Rattle.ospf_area.specs.Flooding.{goes_anywhere, released}
@@ -27,21 +27,21 @@ use Rattle.ospf_area.specs.Standing.{acknowledging}
 use Rattle.ospf_area.specs.State.{AreaValue, LinkValue, database_entry}
 use Rattle.ospf_area.specs.declared.changes.AdjacencyChange.{AdjacencyChange}
 use Rattle.ospf_area.specs.declared.flooding.PacketSource.{PacketSource}
-use Rattle.ospf_update.specs.Aging.{Flushes, TickAges, copy_flooded, turned_area}
-use Rattle.ospf_update.specs.Meets.{MeetsRule, Stores, header_met, heard_by, named_by, replied, reply_to, rule_met}
-use Rattle.ospf_update.proofs.Words.{taken_off, copy_flooded_by, RemovesAll, Removes, TakesSlices, copies_sent, copy_sent, noted, flooded_area}
-use Rattle.ospf_update.specs.Removal.{leaving}
-use Rattle.ospf_update.specs.Updates.{TakesSlice, TakesUpdate}
-use Rattle.ospf_update.specs.Updates.TakesSlice.{Met, PassedOver}
-use Rattle.ospf_update.proofs.PassLemmas.{passed}
-use Rattle.ospf_step.specs.Puts.{headers_met}
+use Rattle.ospf_area.specs.Updates.Aging.{Flushes, TickAges, copy_flooded, turned_area}
+use Rattle.ospf_area.specs.Updates.Meets.{MeetsRule, Stores, header_met, heard_by, named_by, replied, reply_to, rule_met}
+use Rattle.ospf_area.proofs.Updates.Words.{taken_off, copy_flooded_by, RemovesAll, Removes, TakesSlices, copies_sent, copy_sent, noted, flooded_area}
+use Rattle.ospf_area.specs.Updates.Removal.{leaving}
+use Rattle.ospf_area.specs.Updates.Updates.{TakesSlice, TakesUpdate}
+use Rattle.ospf_area.specs.Updates.Updates.TakesSlice.{Met, PassedOver}
+use Rattle.ospf_area.proofs.Updates.PassLemmas.{passed}
+use Rattle.ospf_router.specs.AreaStep.Puts.{headers_met}
 use Rattle.ospf_originate.specs.Steps.{Acts, Issues, OwnLsas, wants}
 use Rattle.ospf_originate.proofs.Words.{ActsInTurn, IssuesIf}
 use Rattle.ospf_originate.specs.Wanted.{WantedValue, wanted_of}
 use Rattle.ospf_originate.specs.declared.action.DueAction.{DueAction}
 use Rattle.ospf_originate.specs.declared.action.OwnAction.{OwnAction}
 use Rattle.ospf_originate.specs.declared.action.OwnAction.TheVariants.{Leave, Flush, Issue}
-use Rattle.ospf_update.proofs.CopyLemmas.{copies_become}
+use Rattle.ospf_area.proofs.Updates.CopyLemmas.{copies_become}
 use Rattle.ospf_area.proofs.Words.{changed_link, changed_on, delayed_on, flooded_link, released_link}
 
 -- ---- links

@@ -14,7 +14,7 @@ use Rattle.std.proofs.lemmas.Int.{ints}
 use Rattle.ospf_lsdb.specs.Database.{Entry, instance_at, lsa_of}
 use Rattle.ospf_lsdb.proofs.EntryLemmas as entry
 use Rattle.ospf_area.specs.Sending.{sent_lsa}
-use Rattle.ospf_update.specs.Meets.{named_by}
+use Rattle.ospf_area.specs.Updates.Meets.{named_by}
 
 newer_is : (a b : LsaHeader) → IsNewer a b → recency a b ≡ Newer
 newer_is a b n = grind (arith, ints, nat_tests)

@@ -8,8 +8,8 @@ use Rattle.ospf_base.specs.declared.ids.RouterId.{RouterId}
 use Rattle.ospf_config.specs.declared.address.InterfaceAddress.{InterfaceAddress}
 use Rattle.ospf_config.specs.declared.config.Config.{Config}
 use Rattle.ospf_config.specs.declared.interface.Interface.{Interface}
-use Rattle.ospf_iface.specs.declared.machine.Iface.{Iface}
-use Rattle.ospf_iface.specs.declared.settings.IfaceSettings.{IfaceSettings}
+use Rattle.ospf_neighbour.specs.declared.iface.machine.Iface.{Iface}
+use Rattle.ospf_neighbour.specs.declared.iface.settings.IfaceSettings.{IfaceSettings}
 use Rattle.ospf_packet.specs.Meaning.{BodyMeaning, Meaning}
 use Rattle.ospf_packet.specs.PacketOf.{packet_of}
 use Rattle.ospf_area.specs.Outputs.{SentValue}
@@ -18,12 +18,12 @@ use Rattle.ospf_area.specs.Outboxes.{local_by}
 use Rattle.ospf_area.specs.Sending.{context_of}
 use Rattle.ospf_area.specs.State.{AreaValue, LinkValue}
 use Rattle.ospf_area.specs.declared.state.LinkSettings.{LinkSettings}
-use Rattle.ospf_step.specs.Drops.{dropped_by}
-use Rattle.ospf_step.specs.Receipt.{drop_of_packet}
-use Rattle.ospf_step.specs.Step.{Event}
-use Rattle.ospf_step.specs.Step.Event.{Datagram}
-use Rattle.ospf_step.specs.declared.dropped.Dropped.{Dropped}
-use Rattle.ospf_step.specs.declared.dropped.Dropped.TheVariants as dropped
+use Rattle.ospf_router.specs.AreaStep.Drops.{dropped_by}
+use Rattle.ospf_router.specs.AreaStep.Receipt.{drop_of_packet}
+use Rattle.ospf_router.specs.AreaStep.Step.{Event}
+use Rattle.ospf_router.specs.AreaStep.Step.Event.{Datagram}
+use Rattle.ospf_router.specs.declared.step.dropped.Dropped.{Dropped}
+use Rattle.ospf_router.specs.declared.step.dropped.Dropped.TheVariants as dropped
 use Rattle.ospf_router.specs.Routers.{RouterValue}
 use Rattle.ospf_router.specs.Starts.{AreLinksOf, IsLinkOf, iface_of}
 use Rattle.ospf_router.specs.Steps.{Steps}

@@ -3,9 +3,9 @@ use Rattle.std.proofs.Common.{◌≡◌, ℕ, zero, suc, Bool, true, false, List
 use Rattle.std.proofs.lemmas.Option.{none-some}
 use Rattle.ospf_base.specs.declared.ids.Addr.{Addr}
 use Rattle.ospf_base.specs.declared.ids.LsaKey.{LsaKey}
-use Rattle.ospf_iface.specs.Machine.{is_down, iface_stopped, started}
-use Rattle.ospf_iface.specs.declared.machine.Iface.{Iface}
-use Rattle.ospf_iface.specs.declared.settings.IfaceSettings.{IfaceSettings}
+use Rattle.ospf_neighbour.specs.Interface.Machine.{is_down, iface_stopped, started}
+use Rattle.ospf_neighbour.specs.declared.iface.machine.Iface.{Iface}
+use Rattle.ospf_neighbour.specs.declared.iface.settings.IfaceSettings.{IfaceSettings}
 use Rattle.ospf_packet.specs.Meaning.{BodyMeaning, Meaning, hello, description, request, update, acknowledgment}
 use Rattle.ospf_packet.specs.PacketOf.{packet_of}
 use Rattle.ospf_area.specs.Outputs.{OutputsValue, no_outputs}
@@ -16,19 +16,19 @@ use Rattle.ospf_area.specs.declared.flooding.PacketSource.{PacketSource}
 use Rattle.ospf_area.specs.declared.sending.RouterContext.{RouterContext}
 use Rattle.ospf_area.specs.declared.state.LinkSettings.{LinkSettings}
 use Rattle.ospf_adjacency.specs.Heard.{Neighbourhood, names}
-use Rattle.ospf_update.proofs.Words.{undelayed_link}
-use Rattle.ospf_links.specs.Elections.{ElectsAt, ElectsFrom, ElectsIf}
-use Rattle.ospf_links.specs.Parts.{description_part, hello_part, link_down, link_timed, link_up, request_part, with_neighbourhood}
-use Rattle.ospf_links.specs.Repeats.{link_repeated}
-use Rattle.ospf_links.specs.Works.{link_changed}
-use Rattle.ospf_links.proofs.Words.{ElectsThere, hello_sent, some_changed, worked, worked_by}
-use Rattle.ospf_step.specs.Ends.{EndsStep}
-use Rattle.ospf_step.specs.Step.{Event}
-use Rattle.ospf_step.specs.Step.Event.{Datagram, Tick, LinkUp, LinkDown}
-use Rattle.ospf_step.specs.Steps.{StepsArea, Takes}
-use Rattle.ospf_step.specs.Takes.{TakesBody, TakesDatagram, TakesEvent, source_of}
-use Rattle.ospf_step.specs.Ticks.{TakesTick}
-use Rattle.ospf_step.specs.declared.dropped.Dropped.{Dropped}
+use Rattle.ospf_area.proofs.Updates.Words.{undelayed_link}
+use Rattle.ospf_adjacency.specs.LinkSteps.Elections.{ElectsAt, ElectsFrom, ElectsIf}
+use Rattle.ospf_adjacency.specs.LinkSteps.Parts.{description_part, hello_part, link_down, link_timed, link_up, request_part, with_neighbourhood}
+use Rattle.ospf_adjacency.specs.LinkSteps.Repeats.{link_repeated}
+use Rattle.ospf_adjacency.specs.LinkSteps.Works.{link_changed}
+use Rattle.ospf_adjacency.proofs.LinkSteps.Words.{ElectsThere, hello_sent, some_changed, worked, worked_by}
+use Rattle.ospf_router.specs.AreaStep.Ends.{EndsStep}
+use Rattle.ospf_router.specs.AreaStep.Step.{Event}
+use Rattle.ospf_router.specs.AreaStep.Step.Event.{Datagram, Tick, LinkUp, LinkDown}
+use Rattle.ospf_router.specs.AreaStep.Steps.{StepsArea, Takes}
+use Rattle.ospf_router.specs.AreaStep.Takes.{TakesBody, TakesDatagram, TakesEvent, source_of}
+use Rattle.ospf_router.specs.AreaStep.Ticks.{TakesTick}
+use Rattle.ospf_router.specs.declared.step.dropped.Dropped.{Dropped}
 use Rattle.ospf_plan.proofs.SettingsLemmas.{IsAs, age_as, along, fixed, headers_as, mapped_fixed, own_as, removes_as, set_fixed, update_as}
 
 -- ---- a link

@@ -11,19 +11,19 @@ use Rattle.ospf_base.specs.declared.interface.InterfaceKind.TheVariants.{PointTo
 use Rattle.ospf_config.specs.declared.config.Config.{Config}
 use Rattle.ospf_lsa.specs.Header.{header_of}
 use Rattle.ospf_packet.specs.Meaning.{Meaning, hello}
-use Rattle.ospf_iface.specs.Election.{IsElected}
-use Rattle.ospf_iface.specs.Hello.{agrees, own_hello}
-use Rattle.ospf_iface.specs.declared.candidate.Elected.{Elected}
-use Rattle.ospf_iface.specs.declared.machine.Iface.{Iface}
+use Rattle.ospf_neighbour.specs.Interface.Election.{IsElected}
+use Rattle.ospf_neighbour.specs.Interface.Hello.{agrees, own_hello}
+use Rattle.ospf_neighbour.specs.declared.iface.candidate.Elected.{Elected}
+use Rattle.ospf_neighbour.specs.declared.iface.machine.Iface.{Iface}
 use Rattle.ospf_neighbour.specs.Neighbour.{NeighbourValue}
 use Rattle.ospf_neighbour.specs.Neighbours.{neighbour_of}
 use Rattle.ospf_lsdb.specs.Database.{Entry, lsa_of}
 use Rattle.ospf_exchange.specs.declared.rule.Local.{Local}
 use Rattle.ospf_area.specs.Sending.{sent_lsa}
-use Rattle.ospf_update.specs.Meets.{named_by}
+use Rattle.ospf_area.specs.Updates.Meets.{named_by}
 use Rattle.ospf_adjacency.specs.Elections.{candidates_of}
-use Rattle.ospf_step.specs.Receipt.{drop_of_packet}
-use Rattle.ospf_step.specs.declared.dropped.Dropped.TheVariants as dropped
+use Rattle.ospf_router.specs.AreaStep.Receipt.{drop_of_packet}
+use Rattle.ospf_router.specs.declared.step.dropped.Dropped.TheVariants as dropped
 use Rattle.ospf_plan.specs.declared.ends.LinkEnd.{LinkEnd}
 use Rattle.ospf_plan.specs.declared.fault.AreaFault.TheVariants as fault
 use Rattle.ospf_plan.specs.declared.finding.Finding.{Finding}

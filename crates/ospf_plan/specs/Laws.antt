@@ -2,8 +2,8 @@
 use Rattle.std.specs.Prelude.{◌≡◌, ◌↔◌, ◌⊎◌, ◌&&◌, ◌<◌, ℕ, Bool, true, false, List, Contains, None, Some}
 use Rattle.ospf_base.specs.Masks.{mask_of}
 use Rattle.ospf_base.specs.Rising.{IsRisingBy}
-use Rattle.ospf_iface.specs.Hello.{agrees, own_hello}
-use Rattle.ospf_iface.specs.declared.machine.Iface.{Iface}
+use Rattle.ospf_neighbour.specs.Interface.Hello.{agrees, own_hello}
+use Rattle.ospf_neighbour.specs.declared.iface.machine.Iface.{Iface}
 use Rattle.ospf_plan.specs.declared.ends.LinkEnd.{LinkEnd}
 use Rattle.ospf_plan.specs.declared.fault.AreaFault.{AreaFault}
 use Rattle.ospf_plan.specs.declared.fault.AreaFault.TheVariants as fault

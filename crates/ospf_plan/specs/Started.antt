@@ -10,9 +10,9 @@ use Rattle.ospf_lsa.specs.declared.header.LsaHeader.{LsaHeader}
 use Rattle.ospf_packet.specs.Meaning.{Meaning, description, hello}
 use Rattle.ospf_packet.specs.PacketOf.{packet_of}
 use Rattle.ospf_packet.specs.declared.body.Description.{Description}
-use Rattle.ospf_iface.specs.Hello.{own_hello}
-use Rattle.ospf_iface.specs.Machine.{is_down}
-use Rattle.ospf_iface.specs.declared.machine.Iface.{Iface}
+use Rattle.ospf_neighbour.specs.Interface.Hello.{own_hello}
+use Rattle.ospf_neighbour.specs.Interface.Machine.{is_down}
+use Rattle.ospf_neighbour.specs.declared.iface.machine.Iface.{Iface}
 use Rattle.ospf_neighbour.specs.Neighbour.{NeighbourValue}
 use Rattle.ospf_exchange.specs.Exchange.{dd_answer}
 use Rattle.ospf_exchange.specs.declared.fault.ExchangeFault.TheVariants as exchange
@@ -20,11 +20,11 @@ use Rattle.ospf_area.specs.Outputs.{SentValue, no_outputs}
 use Rattle.ospf_area.specs.Outboxes.{local_by}
 use Rattle.ospf_area.specs.Sending.{context_of}
 use Rattle.ospf_area.specs.State.{AreaValue, LinkValue}
-use Rattle.ospf_step.specs.Receipt.{sender_in}
-use Rattle.ospf_step.specs.Step.{Event}
-use Rattle.ospf_step.specs.Step.Event.{Datagram}
-use Rattle.ospf_step.specs.declared.dropped.Dropped.{Dropped}
-use Rattle.ospf_step.specs.declared.dropped.Dropped.TheVariants as dropped
+use Rattle.ospf_router.specs.AreaStep.Receipt.{sender_in}
+use Rattle.ospf_router.specs.AreaStep.Step.{Event}
+use Rattle.ospf_router.specs.AreaStep.Step.Event.{Datagram}
+use Rattle.ospf_router.specs.declared.step.dropped.Dropped.{Dropped}
+use Rattle.ospf_router.specs.declared.step.dropped.Dropped.TheVariants as dropped
 use Rattle.ospf_router.specs.Routers.{RouterValue}
 use Rattle.ospf_router.specs.Starts.{IsStarted, iface_of}
 use Rattle.ospf_router.specs.Steps.{Steps}

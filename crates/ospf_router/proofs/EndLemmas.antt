@@ -3,7 +3,7 @@ use Rattle.std.proofs.Common.{◌≡◌, ◌≢◌, ◌↔◌, ◌⊎◌, ◌+�
 use Rattle.std.specs.List.{Contains, filter}
 use Rattle.std.proofs.lemmas.List.Elements.{Contains-append_left, Contains-push}
 use Rattle.ospf_base.specs.declared.prefix.Prefix.{Prefix}
-use Rattle.ospf_edges.specs.declared.end.End.{End}
+use Rattle.ospf_graph.specs.declared.edges.end.End.{End}
 use Rattle.ospf_graph.proofs.CandidateLemmas.{same_or_other, vertex_eq-refl, vertex_eq-same}
 use Rattle.ospf_graph.proofs.ListLemmas.{more_members}
 use Rattle.ospf_graph.specs.Search.{vertex_eq}

@@ -11,13 +11,13 @@ use Rattle.ospf_base.specs.declared.ids.RouterId.{RouterId}
 use Rattle.ospf_base.specs.declared.prefix.Prefix.{Prefix}
 use Rattle.ospf_lsa.specs.Listing.{IsPut}
 use Rattle.ospf_lsa.specs.Lsa.{key_of, kind_of}
-use Rattle.ospf_edges.specs.Given.{AreEndsAt, IsEdgesOf, IsEndsOf}
-use Rattle.ospf_edges.specs.Listed.{advertisement_of, advertisements_of, advertisement_by}
-use Rattle.ospf_edges.specs.declared.end.End.{End}
+use Rattle.ospf_graph.specs.EdgeLists.Given.{AreEndsAt, IsEdgesOf, IsEndsOf}
+use Rattle.ospf_graph.specs.EdgeLists.Listed.{advertisement_of, advertisements_of, advertisement_by}
+use Rattle.ospf_graph.specs.declared.edges.end.End.{End}
 use Rattle.ospf_graph.specs.Advertisements.{Advertisement, IsListed, IsNetwork, router_lsa, network_lsa}
 use Rattle.ospf_graph.specs.Elsewhere.{AreSameBut, vertex_of}
 use Rattle.ospf_graph.specs.Graph.{IsEdge}
-use Rattle.ospf_incremental.specs.Kept.{ChangesEdges, IsKeptTree, IsSameBut, KeptTree}
+use Rattle.ospf_spf.specs.IncrementalSpf.Kept.{ChangesEdges, IsKeptTree, IsSameBut, KeptTree}
 use Rattle.ospf_graph.specs.Routes.{IsEnd}
 use Rattle.ospf_graph.specs.Search.{AtIn, StartsIn}
 use Rattle.ospf_graph.specs.Tree.{IsTree}

@@ -6,7 +6,7 @@ use Rattle.ospf_base.proofs.SameKeys.{same_key-eq, same_key-refl}
 use Rattle.ospf_base.specs.Keys.{Precedes, same_key}
 use Rattle.ospf_base.specs.Sums.{contents}
 use Rattle.ospf_base.specs.declared.ids.LsaKey.{LsaKey}
-use Rattle.ospf_step.proofs.StateFacts.{Contains-filter, Contains-map, Contains-map_cases, find-some}
+use Rattle.ospf_router.proofs.AreaStep.StateFacts.{Contains-filter, Contains-map, Contains-map_cases, find-some}
 use Rattle.ospf_lsa.specs.Listing.{IsListing, IsPut}
 use Rattle.ospf_lsa.specs.Lsa.{key_of}
 use Rattle.ospf_lsdb.specs.Database.{Entry, Held, IsDatabase, entries, entry_of, held_of, is_fresh, key_at, key_in, listed, lsa_of}

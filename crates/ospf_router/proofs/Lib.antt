@@ -11,3 +11,4 @@ mod TouchedChains
 mod SameEnds
 mod EndLemmas
 mod GrowingLemmas
+pub mod AreaStep

@@ -3,7 +3,7 @@ use Rattle.std.proofs.Common.{◌≡◌, ℕ, Bool, true, false, List, [], ◌�
 use Rattle.std.proofs.lemmas.Bool.{true≢false}
 use Rattle.std.specs.Option.{MatchOption}
 use Rattle.ospf_base.specs.Sums.{contents}
-use Rattle.ospf_edges.specs.Listed.{advertisement_of, advertisements_of, advertisement_by}
+use Rattle.ospf_graph.specs.EdgeLists.Listed.{advertisement_of, advertisements_of, advertisement_by}
 use Rattle.ospf_base.specs.declared.ids.Kind.{Kind}
 use Rattle.ospf_base.specs.declared.ids.Kind.TheVariants.{Router, Network}
 use Rattle.ospf_lsa.specs.Lsa.{kind_of}

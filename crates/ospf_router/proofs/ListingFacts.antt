@@ -3,7 +3,7 @@ use Rattle.std.proofs.Common.{◌≡◌, ℕ, List, [], ◌∷◌, Option, None,
 use Rattle.std.specs.Prelude.{IfSome}
 use Rattle.ospf_area.specs.State.{AreaValue}
 use Rattle.ospf_base.specs.Sums.{contents}
-use Rattle.ospf_edges.specs.Listed.{advertisements_of}
+use Rattle.ospf_graph.specs.EdgeLists.Listed.{advertisements_of}
 use Rattle.ospf_router.proofs.ListLemmas.{same_told}
 use Rattle.ospf_router.specs.Routes.{RoutesValue}
 use Rattle.ospf_router.specs.Routers.{IsRouter, listing_of}

@@ -10,8 +10,8 @@ use Rattle.ospf_base.specs.declared.prefix.Prefix.{Prefix}
 use Rattle.ospf_graph.specs.contracts.graph.VertexPartialEq.TheImpl.{eq-value as vertex-eq}
 use Rattle.ospf_graph.specs.declared.graph.Vertex.{Vertex}
 use Rattle.ospf_graph.specs.declared.graph.Vertex.TheVariants.{Router, Network}
-use Rattle.ospf_edges.specs.contracts.end.EndPartialEq.TheImpl.{eq-value}
-use Rattle.ospf_edges.specs.declared.end.End.{End}
+use Rattle.ospf_graph.specs.contracts.edges.end.EndPartialEq.TheImpl.{eq-value}
+use Rattle.ospf_graph.specs.declared.edges.end.End.{End}
 use Rattle.ospf_spf.proofs.SameRoute.{router_is}
 
 prefix_decides : (p q : Prefix) → Decides (prefix-eq.it p q) (p ≡ q)

@@ -3,16 +3,16 @@ use Rattle.std.proofs.Common.{◌≡◌, ◌≢◌, IsTrue, is_some, ◌⊎◌, 
 use Rattle.std.specs.List.{All, Contains}
 use Rattle.std.proofs.lemmas.List.Elements.{All-contains}
 use Rattle.ospf_base.specs.declared.ids.Instance.{Instance}
-use Rattle.ospf_step.proofs.StateFacts.{Contains-nil}
-use Rattle.ospf_step.specs.Words.{Brings}
+use Rattle.ospf_router.proofs.AreaStep.StateFacts.{Contains-nil}
+use Rattle.ospf_router.specs.AreaStep.Words.{Brings}
 use Rattle.ospf_lsa.specs.Lsa.{key_of}
 use Rattle.ospf_area.specs.Outputs.{OutputsValue}
 use Rattle.ospf_area.specs.State.{AreaValue}
 use Rattle.ospf_base.specs.declared.ids.LsaKey.{LsaKey}
-use Rattle.ospf_step.specs.Step.{Event, StepLaws}
+use Rattle.ospf_router.specs.AreaStep.Step.{Event, StepLaws}
 use Rattle.ospf_lsdb.specs.Database.{Entry, Held, entry_of, is_fresh}
-use Rattle.ospf_step.specs.declared.dropped.Dropped.{Dropped}
-use Rattle.ospf_step.specs.Drops.{is_dropped}
+use Rattle.ospf_router.specs.declared.step.dropped.Dropped.{Dropped}
+use Rattle.ospf_router.specs.AreaStep.Drops.{is_dropped}
 use Rattle.ospf_router.proofs.KeepLemmas.{lists_each}
 use Rattle.ospf_router.proofs.TouchedChains.{step_keeps, KeepsBut}
 use Rattle.ospf_router.specs.Listings.{AreListedAt, ListsAs, ListsBut, ListsEntry, StayListed}

@@ -2,12 +2,12 @@
 use Rattle.std.proofs.lemmas.Option.{none-some}
 use Rattle.std.proofs.Common.{◌≡◌, ◌≢◌, ◌≤◌, ◌<◌, ◌++◌, ◌+◌, ℕ, ℤ, zero, suc, slice_get, Some, List, [], ◌∷◌, AllPairs, get_or, length, map, take, refl, sym, ap, subst, ◌∙◌, arith, add-one}
 use Rattle.std.specs.List.{AllByRecursion}
-use Rattle.ospf_step.proofs.StateFacts.{Contains-nil}
+use Rattle.ospf_router.proofs.AreaStep.StateFacts.{Contains-nil}
 use Rattle.std.specs.Prelude.{slice_index_or}
 use Rattle.ospf_config.specs.Conflicts.{Conflict}
 use Rattle.ospf_config.specs.Conflicts.Conflict.{one_address}
 use Rattle.ospf_config.specs.declared.config.Config.{Config}
-use Rattle.ospf_edges.specs.Listed.{advertisements_of}
+use Rattle.ospf_graph.specs.EdgeLists.Listed.{advertisements_of}
 use Rattle.ospf_graph.proofs.TableLemmas.{pairs_tail}
 use Rattle.ospf_graph.specs.Routes.{IsTable}
 use Rattle.ospf_lsa.specs.Lsa.{key_of}
@@ -25,11 +25,11 @@ use Rattle.ospf_base.specs.declared.ids.RouterId.{RouterId}
 use Rattle.ospf_config.specs.declared.interface.Interface.{Interface}
 use Rattle.ospf_area.specs.State.{AreaValue, LinkValue, WaitsIn}
 use Rattle.ospf_area.proofs.Words.{copy_in, neighbours_in}
-use Rattle.ospf_iface.specs.declared.machine.Iface.{Iface}
+use Rattle.ospf_neighbour.specs.declared.iface.machine.Iface.{Iface}
 use Rattle.ospf_neighbour.specs.Neighbour.{NeighbourValue}
-use Rattle.ospf_step.specs.Words.{IsSoundState}
+use Rattle.ospf_router.specs.AreaStep.Words.{IsSoundState}
 use Rattle.ospf_neighbour.specs.Neighbours.{max_neighbours, neighbour_of}
-use Rattle.ospf_step.specs.Fit.{IsFitRouter, IsFitLink}
+use Rattle.ospf_router.specs.AreaStep.Fit.{IsFitRouter, IsFitLink}
 use Rattle.ospf_router.specs.Starts.{AreLinksOf, IsAreaOf, IsLinkOf, area_of}
 
 -- one link more

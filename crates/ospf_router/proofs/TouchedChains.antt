@@ -20,14 +20,14 @@ use Rattle.ospf_area.specs.Outputs.{OutputsValue, no_outputs, then_outputs}
 use Rattle.ospf_area.specs.Standing.{acknowledging}
 use Rattle.ospf_area.specs.State.{AreaValue, database_entry}
 use Rattle.ospf_area.specs.declared.flooding.PacketSource.{PacketSource}
-use Rattle.ospf_update.specs.Meets.{MeetsRule, heard_by, replied, rule_met}
-use Rattle.ospf_update.proofs.Words.{taken_off}
-use Rattle.ospf_update.proofs.PassLemmas.{passed}
-use Rattle.ospf_step.specs.Parts.{AgesPart, ExpiryPart, IssuePart, LsaPart, RemovalPart, leaves_if}
-use Rattle.ospf_step.proofs.StateFacts.{AnswersAll}
-use Rattle.ospf_step.specs.Step.{AndRequests, Chain, Event, ExpiryStep, IsPart, OwnStep, Part, StepLaws, Then, Times}
-use Rattle.ospf_step.specs.Step.Part.{HelloComes, DdComes, RequestComes, LsaComes, HeaderComes, DirectAcknowledgements, LinkChanges, Ages, Timers, Hellos, Acknowledgements, Repeats, Requests, Elections, OwnLsas, Removals}
-use Rattle.ospf_step.specs.Words.{Brings}
+use Rattle.ospf_area.specs.Updates.Meets.{MeetsRule, heard_by, replied, rule_met}
+use Rattle.ospf_area.proofs.Updates.Words.{taken_off}
+use Rattle.ospf_area.proofs.Updates.PassLemmas.{passed}
+use Rattle.ospf_router.specs.AreaStep.Parts.{AgesPart, ExpiryPart, IssuePart, LsaPart, RemovalPart, leaves_if}
+use Rattle.ospf_router.proofs.AreaStep.StateFacts.{AnswersAll}
+use Rattle.ospf_router.specs.AreaStep.Step.{AndRequests, Chain, Event, ExpiryStep, IsPart, OwnStep, Part, StepLaws, Then, Times}
+use Rattle.ospf_router.specs.AreaStep.Step.Part.{HelloComes, DdComes, RequestComes, LsaComes, HeaderComes, DirectAcknowledgements, LinkChanges, Ages, Timers, Hellos, Acknowledgements, Repeats, Requests, Elections, OwnLsas, Removals}
+use Rattle.ospf_router.specs.AreaStep.Words.{Brings}
 use Rattle.ospf_router.specs.Touched.{TouchesKey}
 
 -- each entry below MaxAge is of a key that is taken or issued, or stood there

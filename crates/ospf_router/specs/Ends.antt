@@ -1,7 +1,7 @@
 -- Ends of which those at a vertex are replaced, and prefixes that are collected.
 use Rattle.std.specs.Prelude.{◌≡◌, ◌≢◌, ◌↔◌, ◌⊎◌, List, Contains}
 use Rattle.ospf_base.specs.declared.prefix.Prefix.{Prefix}
-use Rattle.ospf_edges.specs.declared.end.End.{End}
+use Rattle.ospf_graph.specs.declared.edges.end.End.{End}
 use Rattle.ospf_graph.specs.declared.graph.Vertex.{Vertex}
 
 -- the ends at a vertex are replaced, and nothing else changes

@@ -2,19 +2,19 @@
 use Rattle.std.specs.Prelude.{◌≡◌, ◌↔◌, ◌⊎◌, ℕ, List, [], Contains, IsTrue}
 use Rattle.ospf_base.specs.declared.ids.RouterId.{RouterId}
 use Rattle.ospf_base.specs.declared.prefix.Prefix.{Prefix}
-use Rattle.ospf_edges.specs.Given.{AreEndsAt, IsEdgesOf, IsEndsOf}
-use Rattle.ospf_edges.specs.Listed.{advertisements_of}
-use Rattle.ospf_edges.specs.Near.{AreEdgesAt}
+use Rattle.ospf_graph.specs.EdgeLists.Given.{AreEndsAt, IsEdgesOf, IsEndsOf}
+use Rattle.ospf_graph.specs.EdgeLists.Listed.{advertisements_of}
+use Rattle.ospf_graph.specs.EdgeLists.Near.{AreEdgesAt}
 use Rattle.ospf_graph.specs.Advertisements.{Advertisement, IsListed}
 use Rattle.ospf_graph.specs.Elsewhere.{AreSameBut}
-use Rattle.ospf_incremental.specs.Kept.{IsKeptTree, KeptTree}
+use Rattle.ospf_spf.specs.IncrementalSpf.Kept.{IsKeptTree, KeptTree}
 use Rattle.ospf_graph.specs.Routes.{IsEnd}
 use Rattle.ospf_graph.specs.Search.{AtIn, AreFitEdges}
 use Rattle.ospf_graph.specs.declared.graph.Edge.{Edge}
 use Rattle.ospf_graph.specs.declared.graph.Vertex.{Vertex}
 use Rattle.ospf_graph.specs.declared.graph.Vertex.TheVariants.{Router}
 use Rattle.ospf_graph.specs.declared.paths.Settled.{Settled}
-use Rattle.ospf_edges.specs.declared.end.End.{End}
+use Rattle.ospf_graph.specs.declared.edges.end.End.{End}
 use Rattle.ospf_spf.specs.Spared.{AreEndsInOrder}
 use Rattle.ospf_router.specs.declared.growing.Around.{Around}
 use Rattle.ospf_router.specs.declared.growing.Turn.{Turn}

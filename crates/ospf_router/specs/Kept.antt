@@ -2,7 +2,7 @@
 use Rattle.std.specs.Prelude.{⊤, ◌≡◌, ℕ, List, [], Option, None, Some}
 use Rattle.ospf_base.specs.declared.ids.RouterId.{RouterId}
 use Rattle.ospf_base.specs.declared.prefix.Prefix.{Prefix}
-use Rattle.ospf_edges.specs.Listed.{advertisements_of}
+use Rattle.ospf_graph.specs.EdgeLists.Listed.{advertisements_of}
 use Rattle.ospf_graph.specs.Routes.{IsTable}
 use Rattle.ospf_graph.specs.declared.route.Route.{Route}
 use Rattle.ospf_router.specs.declared.followed.Grown.{Grown}

@@ -8,3 +8,4 @@ pub mod Starts
 pub mod Steps
 pub mod Text
 pub mod Touched
+pub mod AreaStep

@@ -4,12 +4,12 @@ use Rattle.ospf_area.specs.State.{AreaValue, neighbour}
 use Rattle.ospf_base.specs.declared.ids.Instance.{Instance}
 use Rattle.ospf_base.specs.declared.ids.RouterId.{RouterId}
 use Rattle.ospf_graph.specs.declared.route.Route.{Route}
-use Rattle.ospf_step.specs.Words.{IsSoundState}
+use Rattle.ospf_router.specs.AreaStep.Words.{IsSoundState}
 use Rattle.ospf_lsdb.specs.Database.{listed}
 use Rattle.ospf_neighbour.specs.Neighbour.{NeighbourValue}
 use Rattle.ospf_router.specs.Listings.{ListsAs}
 use Rattle.ospf_router.specs.Routes.{AreRoutes, RoutesValue}
-use Rattle.ospf_step.specs.Fit.{IsFitRouter}
+use Rattle.ospf_router.specs.AreaStep.Fit.{IsFitRouter}
 use Rattle.ospf_neighbour.specs.Lists.{is_listed}
 
 -- a router: how many links it has, the floor of its start, its routing table, and its part of the
@@ -62,7 +62,7 @@ awaits_in (Some s) link q i = elim (neighbour s link q) [
 -- not below the floor of the start
 abbrev pub greatest_in : ℤ → Option AreaValue → ℤ
 greatest_in floor None = floor
-greatest_in floor (Some s) = s.greatest
+greatest_in floor (Some s) = s.max_seq
 
 -- ---- one that stops
 

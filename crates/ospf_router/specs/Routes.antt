@@ -1,7 +1,7 @@
 -- The routes of a database (RFC 2328, sections 14 and 16.1).
 use Rattle.std.specs.Prelude.{ℕ, List}
 use Rattle.ospf_base.specs.declared.ids.RouterId.{RouterId}
-use Rattle.ospf_edges.specs.Listed.{advertisements_of}
+use Rattle.ospf_graph.specs.EdgeLists.Listed.{advertisements_of}
 use Rattle.ospf_graph.specs.Routes.{IsTable}
 use Rattle.ospf_graph.specs.declared.route.Route.{Route}
 use Rattle.ospf_lsa.specs.Listing.{IsListing}

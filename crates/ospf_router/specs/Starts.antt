@@ -8,8 +8,8 @@ use Rattle.ospf_base.specs.Masks.{mask_of}
 use Rattle.ospf_base.specs.declared.ids.RouterId.{RouterId}
 use Rattle.ospf_config.specs.declared.config.Config.{Config}
 use Rattle.ospf_config.specs.declared.interface.Interface.{Interface}
-use Rattle.ospf_iface.specs.declared.machine.Iface.{Iface}
-use Rattle.ospf_iface.specs.declared.machine.IfaceState.TheVariants.{Down}
+use Rattle.ospf_neighbour.specs.declared.iface.machine.Iface.{Iface}
+use Rattle.ospf_neighbour.specs.declared.iface.machine.IfaceState.TheVariants.{Down}
 use Rattle.ospf_router.specs.Routers.{RouterValue}
 
 -- the interface of a link that is down (9.1)
@@ -63,7 +63,7 @@ area_of config dd_start floor links = record {
   next_dd = dd_start;
   sent = [];
   heard = [];
-  greatest = floor;
+  max_seq = floor;
 }
 
 -- the area of a router that starts by this configuration

@@ -2,13 +2,13 @@
 -- (RFC 2328, sections 8.2 and 16.1).
 use Rattle.std.specs.Prelude.{◌≡◌, ◌≢◌, ◌↔◌, IsTrue, Some}
 use Rattle.ospf_area.specs.State.{AreaValue}
-use Rattle.ospf_step.specs.Step.{Event}
-use Rattle.ospf_step.specs.Steps.{StepsArea}
+use Rattle.ospf_router.specs.AreaStep.Step.{Event}
+use Rattle.ospf_router.specs.AreaStep.Steps.{StepsArea}
 use Rattle.ospf_router.specs.Routers.{RouterValue}
 use Rattle.ospf_router.specs.Routes.{AreRoutes}
 use Rattle.ospf_router.specs.declared.router.Step.{Step}
-pub use Rattle.ospf_step.specs.Drops.{is_dropped}
-pub use Rattle.ospf_step.specs.Events.{happening}
+pub use Rattle.ospf_router.specs.AreaStep.Drops.{is_dropped}
+pub use Rattle.ospf_router.specs.AreaStep.Events.{happening}
 
 -- an event happens at a router: its area drops or takes it, by the exact rules of the event, and
 -- then its routing table is that of what the database lists. `table_changed` says whether the table

@@ -3,7 +3,7 @@ use Rattle.std.specs.Prelude.{◌≡◌}
 use Rattle.ospf_base.specs.declared.ids.Instance.{Instance}
 use Rattle.ospf_base.specs.declared.ids.LsaKey.{LsaKey}
 use Rattle.ospf_area.specs.Outputs.{OutputsValue}
-use Rattle.ospf_step.specs.Words.{Brings}
+use Rattle.ospf_router.specs.AreaStep.Words.{Brings}
 
 -- an instance of this key is taken or issued
 abbrev pub TouchesKey : OutputsValue → LsaKey → Type 0

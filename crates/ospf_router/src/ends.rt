@@ -1,12 +1,12 @@
 //! Ends in the order of their prefixes, of which some are replaced.
 
 ghost use Rattle.std.specs.Prelude.{◌≡◌, ◌↔◌, ◌⊎◌, OnOk, Contains, IsTrue, filter, not};
-ghost use Rattle.ospf_edges.specs.declared.end.End.{End};
+ghost use Rattle.ospf_graph.specs.declared.edges.end.End.{End};
 ghost use Rattle.ospf_graph.specs.Search.{vertex_eq};
 ghost use Rattle.ospf_router.specs.Ends.{HoldsEndsAt, LeavesEnds, ReplacesEnds};
 ghost use Rattle.ospf_spf.specs.Spared.{AreEndsInOrder};
 
-use ospf_edges::End;
+use ospf_graph::edges::End;
 use ospf_graph::{Vertex, is_same};
 use ospf_spf::{ends_to, prefix_order};
 use std::alloc::{AllocError, Global};

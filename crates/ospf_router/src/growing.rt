@@ -3,7 +3,7 @@
 ghost use Rattle.std.specs.Prelude.{◌≡◌, ◌⊎◌, ℕ, List, Contains, Err, IfErr, IfOk, IfSome, IsTrue, OnOk};
 ghost use Rattle.ospf_base.specs.Constants.{max_age};
 ghost use Rattle.ospf_base.specs.declared.prefix.Prefix.{Prefix};
-ghost use Rattle.ospf_edges.specs.Listed.{advertisement_of, advertisements_of};
+ghost use Rattle.ospf_graph.specs.EdgeLists.Listed.{advertisement_of, advertisements_of};
 ghost use Rattle.ospf_graph.specs.Elsewhere.{vertex_of};
 ghost use Rattle.ospf_graph.specs.Routes.{IsEnd, IsTable};
 ghost use Rattle.ospf_graph.specs.Search.{AtIn};
@@ -19,10 +19,10 @@ ghost use Rattle.ospf_router.specs.Growing.{AreGone, HasEndOf, HasSameEnds, IsAr
 
 use crate::ends::replace_ends;
 use ospf_base::{Kind, Prefix, RouterId};
-use ospf_edges::{End, edges_at, edges_of, ends_at, is_listed};
+use ospf_graph::edges::{End, edges_at, edges_of, ends_at, is_listed};
 use ospf_graph::{Edge, Vertex};
-use ospf_incremental::KeptPaths;
 use ospf_lsa::{Listing, ListingFault, Lsa};
+use ospf_spf::incremental::KeptPaths;
 use ospf_spf::{Change, RouteTable, ends_in_order, ends_to, route_by, table_of};
 use std::alloc::{AllocError, Global};
 use std::marker::Model;

@@ -5,6 +5,9 @@
 //! 8.2 and 16.1). Its table is a `KeptRoutes`: the routes of what its database lists, with the
 //! listing and the shortest paths that they were made from, which grow when a new or changed LSA is
 //! listed. What a step does is in `specs/Steps`, and what routes are in `specs/Routes`.
+//!
+//! `step` steps the router's area: drops, packets, ticks, elections and own LSAs, and the laws that
+//! each step keeps (`specs/AreaStep`).
 #![tactic(auto)]
 
 mod ends;
@@ -15,10 +18,11 @@ mod listed;
 mod router;
 mod routes;
 mod start;
+pub mod step;
 mod turned;
 
 pub use crate::fault::{StartFault, Stopped};
 pub use crate::router::{Router, Step};
 pub use crate::routes::KeptRoutes;
+pub use crate::step::{Dropped, Event};
 pub use ospf_area::{Outputs, Sent};
-pub use ospf_step::{Dropped, Event};

@@ -2,22 +2,23 @@
 
 ghost use Rattle.std.specs.Prelude.{◌≡◌, ◌≢◌, ◌<◌, ◌↔◌, [], IsTrue, IfErr, IfOk, IfSome, OnErr, OnOk, None, Some, is_some, map};
 ghost use Rattle.ospf_base.specs.Sums.{contents};
-ghost use Rattle.ospf_edges.specs.Listed.{advertisements_of};
+ghost use Rattle.ospf_graph.specs.EdgeLists.Listed.{advertisements_of};
 ghost use Rattle.ospf_flood.specs.Rules.{max_sequence_number};
 ghost use Rattle.ospf_router.specs.Listings.{ListsAs, ListsBut};
-ghost use Rattle.ospf_step.specs.Same.{IsSameRouter};
-ghost use Rattle.ospf_step.specs.Drops.{dropped_by};
-ghost use Rattle.ospf_step.specs.Events.{happening};
+ghost use Rattle.ospf_router.specs.AreaStep.Same.{IsSameRouter};
+ghost use Rattle.ospf_router.specs.AreaStep.Drops.{dropped_by};
+ghost use Rattle.ospf_router.specs.AreaStep.Events.{happening};
 ghost use Rattle.ospf_area.specs.State.{AreaValue};
 ghost use Rattle.ospf_router.specs.Routers.{IsKept, awaits_in, greatest_in, listing_of, neighbours_on, stopped};
 ghost use Rattle.ospf_router.specs.Routes.{AreRoutes};
 ghost use Rattle.ospf_router.specs.Starts.{IsStarted};
 ghost use Rattle.ospf_router.specs.Steps.{Steps};
-ghost use Rattle.ospf_step.specs.Steps.{StepsArea};
+ghost use Rattle.ospf_router.specs.AreaStep.Steps.{StepsArea};
 
 use crate::fault::{StartFault, Stopped};
 use crate::routes::KeptRoutes;
 use crate::start::area_of;
+use crate::step::{Dropped, Event, StepResult};
 use ospf_area::{Area, Outputs};
 use ospf_base::{Instance, MAX_SEQUENCE_NUMBER, RouterId};
 use ospf_config::Config;
@@ -25,7 +26,6 @@ use ospf_lsa::Listing;
 use ospf_neighbour::Neighbour;
 use ospf_originate::starts_sound;
 use ospf_spf::RouteTable;
-use ospf_step::{Dropped, Event, StepResult};
 use std::alloc::{AllocError, Global};
 use std::marker::Model;
 
@@ -133,7 +133,7 @@ impl Router {
     }
 
     /// What each step needs of the state of a router that runs, and keeps: by it each step is
-    /// lawful (`ospf_step::steps_are_lawful`). It is there for proofs, and costs nothing.
+    /// lawful (`crate::step::steps_are_lawful`). It is there for proofs, and costs nothing.
     pub fn keeps(&self)
         ensures { (s : AreaValue) → self.now.area ≡ Some s → IsKept s }
     {
@@ -231,7 +231,7 @@ impl Router {
         ensures { result ≡ greatest_in self.now.floor self.now.area }
     {
         match &self.area {
-            Some(area) => area.greatest,
+            Some(area) => area.max_seq,
             None => self.floor,
         }
     }
@@ -270,7 +270,7 @@ fn advance(
     ensures router { routes.new.router ≡ routes.old.router }
     ensures memory { OnErr result (dropped_by (happening event.entry) area.old ≡ None) }
 {
-    let taken = ospf_step::step(area, event, alloc)?;
+    let taken = crate::step::step(area, event, alloc)?;
     let table_changed = refresh(&taken, area, routes, alloc)?;
     Ok(Advanced {
         taken,

@@ -6,9 +6,9 @@ ghost use Rattle.ospf_router.specs.Starts.{AreLinksOf, IsAreaOf, IsLinkOf, iface
 use ospf_area::{Area, AreaLink, LinkSettings};
 use ospf_base::{Addr, RouterId, mask_of};
 use ospf_config::{Config, Interface};
-use ospf_iface::{Iface, IfaceSettings, IfaceState};
 use ospf_lsdb::Lsdb;
 use ospf_neighbour::Neighbours;
+use ospf_neighbour::iface::{Iface, IfaceSettings, IfaceState};
 use std::alloc::{AllocError, Global};
 use std::collections::BTreeSet;
 
@@ -38,7 +38,7 @@ pub(crate) fn area_of(
         next_dd: dd_start,
         sent: BTreeSet::new(alloc),
         heard: Vec::new(alloc),
-        greatest: floor,
+        max_seq: floor,
     })
 }
 

@@ -1,7 +1,7 @@
 //! A table that is made that of a tree, prefix by prefix.
 
 ghost use Rattle.std.specs.Prelude.{◌≢◌, ◌↔◌, List, IfOk, IsTrue, OnOk};
-ghost use Rattle.ospf_edges.specs.Listed.{advertisements_of};
+ghost use Rattle.ospf_graph.specs.EdgeLists.Listed.{advertisements_of};
 ghost use Rattle.ospf_graph.specs.Advertisements.{Advertisement};
 ghost use Rattle.ospf_graph.specs.Routes.{IsTable};
 ghost use Rattle.ospf_spf.specs.Spared.{SparesBut};

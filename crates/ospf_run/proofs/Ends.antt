@@ -6,7 +6,7 @@ use Rattle.ospf_drive.specs.Driven.{DrivesToEnd, IsDriven, Outcome as Driven}
 use Rattle.ospf_drive.specs.Drives.{last_told}
 use Rattle.ospf_drive.specs.Machines.{Rules}
 use Rattle.ospf_drive.specs.Moments.{Moment, tables_published}
-use Rattle.ospf_index.specs.Known.{Known, Table, opening}
+use Rattle.ospf_fib.specs.PrefixIndex.Known.{Known, Table, opening}
 use Rattle.ospf_router.specs.Routers.{RouterValue}
 use Rattle.ospf_run.proofs.Known.{both_begin, prefix_trans}
 use Rattle.ospf_run.specs.Lookups.{Follows}

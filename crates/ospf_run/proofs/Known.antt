@@ -1,9 +1,9 @@
 -- What seats and writers know of the tables that are published.
 use Rattle.std.proofs.Common.{◌≡◌, refl, sym, subst, ◌∙◌, List, [], ◌∷◌, Result, Ok, Err, IfOk, OnErr}
 use mathlib.Core.List.{IsPrefix}
-use Rattle.ospf_index.specs.Known.{Known, Table}
+use Rattle.ospf_fib.specs.PrefixIndex.Known.{Known, Table}
 use Rattle.ospf_run.specs.Lookups.{Follows}
-use Rattle.ospf_index.proofs.Prefixes.{prefix_self}
+use Rattle.ospf_fib.proofs.PrefixIndex.Prefixes.{prefix_self}
 
 -- a beginning of a beginning
 pub prefix_trans : {A : Type 0} (xs ys zs : List A) → IsPrefix xs ys → IsPrefix ys zs → IsPrefix xs zs

@@ -14,7 +14,7 @@ use Rattle.ospf_drive.proofs.Jobs.{of_first, of_later}
 use Rattle.ospf_drive.proofs.Joined.{pairs_then}
 use Rattle.ospf_base.specs.declared.ids.Addr.{Addr}
 use Rattle.ospf_files.specs.declared.files.NamedFile.{NamedFile}
-use Rattle.ospf_index.specs.Known.{Known}
+use Rattle.ospf_fib.specs.PrefixIndex.Known.{Known}
 use Rattle.ospf_run.specs.Lookups.{IsFrom}
 use Rattle.ospf_run.specs.Runs.{AreOutcomes, BeginsRun, IsOutcome, RouterRan, RoutersRan, Terms}
 use Rattle.ospf_run.specs.declared.outcome.Outcome.{Outcome}

@@ -10,13 +10,13 @@ use Rattle.ospf_files.specs.declared.status.Failure.{Failure}
 use Rattle.ospf_files.specs.declared.status.Status.{Status}
 use Rattle.ospf_files.specs.declared.streams.FailedStreams.{FailedStreams}
 use Rattle.ospf_run.specs.Cut.{EndsRun, EndsBy, IsRunCut, comes, cut_short, in_report, last_status}
-use Rattle.ospf_udp.specs.Obstacles.{Hinders, obstacle_line, obstacle_status}
+use Rattle.ospf_drive.specs.UdpWire.Obstacles.{Hinders, obstacle_line, obstacle_status}
 use Rattle.ospf_run.specs.Printed.{IsReportCut, AreOutcomesReported}
 use Rattle.ospf_run.specs.Runs.{AreExtras, Asked, ComesOfRun, HaveRun, asked_of, hindered, ran}
 use Rattle.ospf_run.specs.declared.outcome.Extras.{Extras}
 use Rattle.ospf_run.specs.declared.outcome.Outcome.{Outcome}
 use Rattle.ospf_run.specs.declared.settings.Settings.{Settings}
-use Rattle.ospf_udp.specs.declared.stop.Obstacle.{Obstacle}
+use Rattle.ospf_drive.specs.declared.udp.stop.Obstacle.{Obstacle}
 
 -- what keeps the routers from running is told
 pub obstacle_comes : {rules : Rules} (asked : Asked) (files : List NamedFile) (o : Obstacle) (oo eo en : Option (List ℕ))

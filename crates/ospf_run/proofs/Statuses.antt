@@ -8,9 +8,9 @@ use Rattle.ospf_files.specs.declared.status.Status.{Status}
 use Rattle.ospf_files.specs.declared.status.Status.TheVariants as status
 use Rattle.std.specs.List.{list_any}
 use Rattle.ospf_run.specs.Cut.{EndsRun, comes, cut_short}
-use Rattle.ospf_udp.specs.Obstacles.{obstacle_status}
-use Rattle.ospf_udp.specs.declared.stop.Obstacle.{Obstacle}
-use Rattle.ospf_udp.specs.declared.stop.Obstacle.TheVariants as obstacle
+use Rattle.ospf_drive.specs.UdpWire.Obstacles.{obstacle_status}
+use Rattle.ospf_drive.specs.declared.udp.stop.Obstacle.{Obstacle}
+use Rattle.ospf_drive.specs.declared.udp.stop.Obstacle.TheVariants as obstacle
 use Rattle.ospf_run.specs.Printed.{is_early, is_failed}
 use Rattle.ospf_run.specs.Runs.{Asked, ComesOfRun, IsHindered, IsPlanRun, hindered, ran}
 

@@ -3,11 +3,11 @@ use Rattle.std.proofs.Common.{List, subst, sym}
 use Rattle.ospf_files.specs.declared.files.NamedFile.{NamedFile}
 use Rattle.ospf_files.specs.declared.status.Failure.{Failure}
 use Rattle.ospf_files.specs.declared.status.Failure.TheVariants as failure
-use Rattle.ospf_udp.specs.Obstacles.{IsUnplanned}
-use Rattle.ospf_udp.specs.Plans.{HasPlan}
-use Rattle.ospf_udp.specs.declared.stop.Obstacle.TheVariants as obstacle
-use Rattle.ospf_udp.specs.declared.stop.Stop.{Stop}
-use Rattle.ospf_udp.specs.declared.stop.Stop.TheVariants as stop
+use Rattle.ospf_drive.specs.UdpWire.Obstacles.{IsUnplanned}
+use Rattle.ospf_drive.specs.UdpWire.Plans.{HasPlan}
+use Rattle.ospf_drive.specs.declared.udp.stop.Obstacle.TheVariants as obstacle
+use Rattle.ospf_drive.specs.declared.udp.stop.Stop.{Stop}
+use Rattle.ospf_drive.specs.declared.udp.stop.Stop.TheVariants as stop
 use Rattle.ospf_run.specs.Cut.{FailsPlan, IsEarly, IsStop, closed, no_memory}
 use Rattle.ospf_run.specs.Runs.{Asked}
 

@@ -6,14 +6,14 @@ use Rattle.ospf_config.specs.declared.interface.Interface.{Interface}
 use Rattle.ospf_drive.specs.Traffic.Carried.{Ticks}
 use Rattle.ospf_drive.specs.declared.span.Span.{Span}
 use Rattle.ospf_files.specs.declared.files.NamedFile.{NamedFile}
-use Rattle.ospf_udp.proofs.Planned.{at_item}
-use Rattle.ospf_udp.specs.Obstacles.{IsSocketless}
+use Rattle.ospf_drive.proofs.UdpWire.Planned.{at_item}
+use Rattle.ospf_drive.specs.UdpWire.Obstacles.{IsSocketless}
 use Rattle.ospf_run.specs.Wires.{IsFresh}
-use Rattle.ospf_udp.proofs.Opened.{failing_in}
-use Rattle.ospf_udp.specs.Faults.{FailsAt, IsPortIn}
-use Rattle.ospf_udp.specs.Plans.{HasPorts}
-use Rattle.ospf_udp.specs.Wires.{UdpValue}
-use Rattle.ospf_udp.specs.declared.fault.NoSocket.{NoSocket}
+use Rattle.ospf_drive.proofs.UdpWire.Opened.{failing_in}
+use Rattle.ospf_drive.specs.UdpWire.Faults.{FailsAt, IsPortIn}
+use Rattle.ospf_drive.specs.UdpWire.Plans.{HasPorts}
+use Rattle.ospf_drive.specs.UdpWire.Wires.{UdpValue}
+use Rattle.ospf_drive.specs.declared.udp.fault.NoSocket.{NoSocket}
 
 -- a wire that came is fresh
 pub has_wire : (span : Span) (found : Result UdpValue NoSocket) (wire : UdpValue) → found ≡ Ok wire → IfOk found (IsFresh span) → IsFresh span wire

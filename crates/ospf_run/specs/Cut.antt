@@ -11,16 +11,16 @@ use Rattle.ospf_files.specs.declared.status.Failure.{Failure}
 use Rattle.ospf_files.specs.declared.status.Failure.TheVariants as failure
 use Rattle.ospf_files.specs.declared.status.Status.{Status}
 use Rattle.ospf_files.specs.declared.streams.FailedStreams.{FailedStreams}
-use Rattle.ospf_udp.specs.Obstacles.{Hinders, obstacle_line}
-use Rattle.ospf_udp.specs.Plans.{HasPlan, IsPlan}
+use Rattle.ospf_drive.specs.UdpWire.Obstacles.{Hinders, obstacle_line}
+use Rattle.ospf_drive.specs.UdpWire.Plans.{HasPlan, IsPlan}
 use Rattle.ospf_run.specs.Printed.{IsReportCut}
 use Rattle.ospf_run.specs.Runs.{AreExtras, Asked, ComesOfRun, HaveRun, asked_of}
 use Rattle.ospf_run.specs.declared.outcome.Extras.{Extras}
 use Rattle.ospf_run.specs.declared.outcome.Outcome.{Outcome}
 use Rattle.ospf_run.specs.declared.settings.Settings.{Settings}
-use Rattle.ospf_udp.specs.declared.stop.Obstacle.{Obstacle}
-use Rattle.ospf_udp.specs.declared.stop.Stop.{Stop}
-use Rattle.ospf_udp.specs.declared.stop.Stop.TheVariants as stop
+use Rattle.ospf_drive.specs.declared.udp.stop.Obstacle.{Obstacle}
+use Rattle.ospf_drive.specs.declared.udp.stop.Stop.{Stop}
+use Rattle.ospf_drive.specs.declared.udp.stop.Stop.TheVariants as stop
 
 -- what fails before anything is written: memory ran out; or, if there is a plan of at least one
 -- router and an address is looked up, a table that a router publishes was closed

@@ -1,7 +1,7 @@
 -- Seats from which an address is looked up while a driver runs.
 use Rattle.std.specs.Prelude.{◌≡◌, ⊤}
 use mathlib.Core.List.{IsPrefix}
-use Rattle.ospf_index.specs.Known.{Known}
+use Rattle.ospf_fib.specs.PrefixIndex.Known.{Known}
 use Rattle.ospf_run.specs.declared.look.RouterSeat.{RouterSeat}
 use Rattle.ospf_run.specs.declared.look.RouterSeat.TheVariants as router_seat
 

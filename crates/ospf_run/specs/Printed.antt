@@ -19,7 +19,7 @@ use Rattle.ospf_files.specs.declared.streams.FailedStreams.{FailedStreams}
 use Rattle.ospf_views.specs.Shown.{view_lines}
 use Rattle.ospf_script.specs.declared.command.View.{View}
 use Rattle.ospf_script.specs.declared.command.View.TheVariants as view
-use Rattle.ospf_udp.specs.Obstacles.{line_about}
+use Rattle.ospf_drive.specs.UdpWire.Obstacles.{line_about}
 use Rattle.ospf_run.specs.declared.outcome.Drops.{Drops}
 use Rattle.ospf_run.specs.declared.outcome.Extras.{Extras}
 use Rattle.ospf_run.specs.declared.outcome.Looked.{Looked}

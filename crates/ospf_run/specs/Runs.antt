@@ -14,20 +14,20 @@ use Rattle.ospf_fib.specs.Answers.{IsAnswerOfLast}
 use Rattle.ospf_files.specs.Streams.{Written}
 use Rattle.ospf_files.specs.declared.status.Status.{Status}
 use Rattle.ospf_files.specs.declared.files.NamedFile.{NamedFile}
-use Rattle.ospf_index.specs.Known.{Known, Table, opening}
+use Rattle.ospf_fib.specs.PrefixIndex.Known.{Known, Table, opening}
 use Rattle.ospf_router.specs.Routers.{RouterValue}
 use Rattle.ospf_router.specs.Starts.{IsStarted}
 use Rattle.ospf_run.specs.Lookups.{IsFrom}
-use Rattle.ospf_udp.specs.Obstacles.{Hinders, obstacle_line, obstacle_status}
-use Rattle.ospf_udp.specs.Plans.{IsPlan}
+use Rattle.ospf_drive.specs.UdpWire.Obstacles.{Hinders, obstacle_line, obstacle_status}
+use Rattle.ospf_drive.specs.UdpWire.Plans.{IsPlan}
 use Rattle.ospf_run.specs.Printed.{AreOutcomesReported}
 use Rattle.ospf_run.specs.declared.outcome.Extras.{Extras}
 use Rattle.ospf_run.specs.declared.outcome.Looked.{Looked}
 use Rattle.ospf_run.specs.declared.outcome.Outcome.{Outcome}
 use Rattle.ospf_run.specs.declared.outcome.RouterShown.{RouterShown}
 use Rattle.ospf_run.specs.declared.look.RouterSeat.{RouterSeat}
-use Rattle.ospf_udp.specs.declared.plan.Plan.{Plan}
-use Rattle.ospf_udp.specs.declared.stop.Obstacle.{Obstacle}
+use Rattle.ospf_drive.specs.declared.udp.plan.Plan.{Plan}
+use Rattle.ospf_drive.specs.declared.udp.stop.Obstacle.{Obstacle}
 use Rattle.ospf_run.specs.declared.settings.Settings.{Settings}
 
 -- a router begins with its configuration, DD sequence number 1 and the floor,

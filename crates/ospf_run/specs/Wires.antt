@@ -1,7 +1,7 @@
 -- The sockets of routers.
 use Rattle.std.specs.Prelude.{◌≡◌, ℕ, List, All, length}
 use Rattle.ospf_drive.specs.declared.span.Span.{Span}
-use Rattle.ospf_udp.specs.Wires.{UdpValue}
+use Rattle.ospf_drive.specs.UdpWire.Wires.{UdpValue}
 
 -- a wire that has not failed yet and has delivered no tick, with this span
 abbrev pub IsFresh : Span → UdpValue → Type 0

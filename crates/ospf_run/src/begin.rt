@@ -3,15 +3,15 @@
 ghost use Rattle.std.specs.Prelude.{◌≡◌, ◌≢◌, ◌+◌, ◌<◌, ◌^◌, All, IfOk, length, map};
 ghost use Rattle.std.specs.List.{AllZip};
 ghost use Rattle.ospf_flood.specs.Rules.{max_sequence_number};
-ghost use Rattle.ospf_index.specs.Known.{opening};
+ghost use Rattle.ospf_fib.specs.PrefixIndex.Known.{opening};
 ghost use Rattle.ospf_router.specs.Starts.{IsStarted};
 ghost use Rattle.ospf_run.specs.Runs.{BeginsRun};
 
 use ospf_config::Config;
+use ospf_drive::udp::put;
 use ospf_drive::{DriverJob, Machine, Wire};
 use ospf_fib::{Fib, OpenRefused, Seat, Writer};
 use ospf_router::StartFault;
-use ospf_udp::put;
 use std::alloc::{AllocError, Global};
 use std::sync::Wait;
 

@@ -4,7 +4,7 @@ ghost use Rattle.std.specs.Prelude.{◌≡◌, IfErr, IfOk, IfSome, IsSome, OnEr
 ghost use mathlib.Core.List.{IsPrefix};
 ghost use Rattle.ospf_drive.specs.Moments.{Moment};
 ghost use Rattle.ospf_fib.specs.Answers.{IsAnswerOfLast};
-ghost use Rattle.ospf_index.specs.Known.{opening};
+ghost use Rattle.ospf_fib.specs.PrefixIndex.Known.{opening};
 ghost use Rattle.ospf_run.specs.Cut.{FailsPlan};
 ghost use Rattle.ospf_run.specs.Runs.{AreOutcomes, Came, IsLookedUp, IsPublishTold, Ran, RoutersRan, Terms};
 
@@ -12,10 +12,10 @@ use crate::look::RouterSeat;
 use crate::outcome::{Looked, Outcome, RouterShown};
 use ospf_base::Addr;
 use ospf_config::Config;
+use ospf_drive::udp::put;
 use ospf_drive::{DriveFault, Driven, Machine, all_ticks_are_taken};
 use ospf_fib::{Answer, Closed, Seat, Told, Writer};
 use ospf_files::{Failure, NamedFile};
-use ospf_udp::put;
 use std::alloc::Global;
 use std::sync::Wait;
 use std::thread::Threads;

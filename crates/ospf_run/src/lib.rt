@@ -4,9 +4,9 @@
 //! reads configurations, opens sockets, drives the routers, looks an address up while they run,
 //! prints their tables, and reports to a `Tap` what happens meanwhile. The outcome of each router
 //! is in `specs/Runs`, and what is written if a failure cuts a run short in `specs/Cut`. `prepare`
-//! of `ospf_udp` finds what is refused before a socket is opened. All output is in `specs/Printed`:
-//! `print_at_tick` prints a table while routers run, and `report` prints their outcomes and returns
-//! the status to end with.
+//! of `ospf_drive` finds what is refused before a socket is opened. All output is in
+//! `specs/Printed`: `print_at_tick` prints a table while routers run, and `report` prints their
+//! outcomes and returns the status to end with.
 #![tactic(auto)]
 
 mod at_tick;
@@ -33,5 +33,5 @@ pub use crate::settings::Settings;
 pub use crate::tap::Tap;
 pub use ospf_config::Config;
 pub use ospf_drive::Machine;
+pub use ospf_drive::udp::Ending;
 pub use ospf_router::{Router, Sent, Step};
-pub use ospf_udp::Ending;

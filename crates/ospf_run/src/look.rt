@@ -1,7 +1,7 @@
 //! Threads that look up an address while the drivers run.
 
 ghost use Rattle.std.specs.Prelude.{IfSome};
-ghost use Rattle.ospf_index.specs.Known.{Known};
+ghost use Rattle.ospf_fib.specs.PrefixIndex.Known.{Known};
 ghost use Rattle.ospf_run.specs.Lookups.{IsFrom, Follows};
 
 use ospf_base::Addr;
@@ -28,7 +28,7 @@ pub(crate) struct Looking {
 }
 
 impl Model for Looking {
-    ghost use Rattle.ospf_index.specs.Known.{Known};
+    ghost use Rattle.ospf_fib.specs.PrefixIndex.Known.{Known};
 
     ghost Value = { Known };
 

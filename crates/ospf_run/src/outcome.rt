@@ -5,7 +5,7 @@ use ospf_drive::DriveFault;
 use ospf_fib::Answer;
 use ospf_files::NamedFile;
 use ospf_router::Router;
-use ospf_step::DropCounts;
+use ospf_router::step::DropCounts;
 
 /// An address, and what a lookup found for it.
 #[derive(Clone, Copy)]

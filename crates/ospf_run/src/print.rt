@@ -4,7 +4,7 @@ ghost use Rattle.std.specs.Prelude.{◌≡◌, IfErr, IfOk, OnErr, OnOk, string_
 ghost use Rattle.std.specs.Io.KnownBytes.{Appends};
 ghost use Rattle.ospf_files.specs.Streams.{IsBegun, IsErrorCut, IsOutputCut, written_on};
 ghost use Rattle.ospf_drive.specs.Faults.{drive_fault_text};
-ghost use Rattle.ospf_udp.specs.Obstacles.{line_about};
+ghost use Rattle.ospf_drive.specs.UdpWire.Obstacles.{line_about};
 ghost use Rattle.ospf_run.specs.Printed.{IsReportCut, AreOutcomesReported, looked_lines, outcome_lines, outcome_told, report_lines, report_told, router_id_line, router_lines, table_lines};
 
 use crate::extras::print_extras;
@@ -12,8 +12,8 @@ use crate::outcome::{Extras, Looked, Outcome, RouterShown};
 use crate::status::status_of;
 use ospf_base::RouterId;
 use ospf_drive::DriveFault;
+use ospf_drive::udp::line_about;
 use ospf_files::{FailedStreams, Failure, NamedFile, Status, print_lookup, print_routes};
-use ospf_udp::line_about;
 use std::alloc::{AllocError, Global};
 use std::io::Write;
 

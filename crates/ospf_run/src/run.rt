@@ -4,7 +4,7 @@ ghost use Rattle.std.specs.Prelude.{◌≡◌, ◌≢◌, [], ℕ, List, Option,
 ghost use Rattle.ospf_files.specs.Status.{failure_line};
 ghost use Rattle.ospf_files.specs.Streams.{IsTold, written_on};
 ghost use Rattle.ospf_run.specs.Cut.{EndsBy, EndsRun, IsStop, last_status};
-ghost use Rattle.ospf_udp.specs.Plans.{IsPlanAt};
+ghost use Rattle.ospf_drive.specs.UdpWire.Plans.{IsPlanAt};
 ghost use Rattle.ospf_run.specs.Runs.{ComeOf, IsHindered, IsPlanRun, RunsTo, asked_of, floor_of};
 
 use crate::outcome::{Drops, Extras, Outcome};
@@ -14,8 +14,8 @@ use crate::settings::Settings;
 use crate::tap::{Tap, tap_all};
 use crate::wires::open_wires;
 use ospf_drive::Machine;
+use ospf_drive::udp::{Plan, Stop, prepare, status_of, tell_obstacle};
 use ospf_files::{FailedStreams, Failure, NamedFile, Status};
-use ospf_udp::{Plan, Stop, prepare, status_of, tell_obstacle};
 use std::alloc::{AllocError, Global};
 use std::io::Write;
 use std::net::Net;

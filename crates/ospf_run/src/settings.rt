@@ -6,7 +6,7 @@ ghost use Rattle.ospf_run.specs.Runs.{AreExtras, asked_of, span_of};
 use crate::outcome::{Drops, Extras};
 use ospf_base::Addr;
 use ospf_drive::Span;
-use ospf_udp::Ending;
+use ospf_drive::udp::Ending;
 
 /// What is requested of a run, besides its configurations.
 #[derive(Drop)]

@@ -6,10 +6,10 @@ ghost use Rattle.std.specs.List.{AllZip};
 use crate::outcome::Drops;
 use ospf_base::Addr;
 use ospf_config::Config;
+use ospf_drive::udp::put;
 use ospf_drive::{Arrival, LONGEST, Wire, WireFault};
 use ospf_files::NamedFile;
 use ospf_router::{Router, Sent, Step};
-use ospf_udp::put;
 use std::alloc::{AllocError, Global};
 
 /// Receives what happens to the routers while they run, for each router in its own thread. What a

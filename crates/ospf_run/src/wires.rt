@@ -2,15 +2,15 @@
 
 ghost use Rattle.std.specs.Prelude.{◌≡◌, All, IfErr, IfOk, length};
 ghost use Rattle.ospf_run.specs.Cut.{IsStopOfPlan};
-ghost use Rattle.ospf_udp.specs.Plans.{HasPorts};
+ghost use Rattle.ospf_drive.specs.UdpWire.Plans.{HasPorts};
 ghost use Rattle.ospf_run.specs.Runs.{span_of};
 ghost use Rattle.ospf_run.specs.Wires.{AreWires, IsFresh};
-ghost use Rattle.ospf_udp.specs.Faults.{IsPortIn};
+ghost use Rattle.ospf_drive.specs.UdpWire.Faults.{IsPortIn};
 
 use crate::settings::Settings;
 use ospf_config::Config;
+use ospf_drive::udp::{NoSocket, Obstacle, OpenFault, Stop, UdpWire, put};
 use ospf_files::NamedFile;
-use ospf_udp::{NoSocket, Obstacle, OpenFault, Stop, UdpWire, put};
 use std::alloc::{AllocError, Global};
 use std::net::Net;
 use std::time::{Clock, Duration};

@@ -2,8 +2,8 @@
 use Rattle.std.proofs.Common.{ℕ, ℤ, List}
 use Rattle.ospf_base.specs.declared.ids.Addr.{Addr}
 use Rattle.ospf_base.specs.declared.ids.RouterId.{RouterId}
-use Rattle.ospf_event.specs.declared.event.WorldEvent.{WorldEvent}
-use Rattle.ospf_event.specs.declared.event.WorldEvent.TheVariants as event
+use Rattle.ospf_base.specs.declared.event.event.WorldEvent.{WorldEvent}
+use Rattle.ospf_base.specs.declared.event.event.WorldEvent.TheVariants as event
 use Rattle.ospf_script.specs.Commands.{AreEventsOf, IsAddressAlone, IsEventOf, IsRouterAlone, IsRouterAndLink, IsStart}
 use Rattle.ospf_script.specs.Words.{Text}
 use Rattle.ospf_script.specs.declared.command.Many.{Many}

@@ -4,8 +4,8 @@ use Rattle.std.specs.declared.alloc.Global.{Global}
 use Rattle.std.proofs.Common.{inl, inr, ◌≡◌, ◌==◌, if◌then◌else◌, ℕ, ◌+◌, ◌*◌, List, [], ◌∷◌, length, get_or, Option, None, Some, refl, subst, sym, ap, ◌∙◌}
 use Rattle.ospf_base.specs.declared.ids.Addr.{Addr}
 use Rattle.ospf_base.specs.declared.ids.RouterId.{RouterId}
-use Rattle.ospf_event.specs.declared.event.WorldEvent.{WorldEvent}
-use Rattle.ospf_event.specs.declared.event.WorldEvent.TheVariants as event
+use Rattle.ospf_base.specs.declared.event.event.WorldEvent.{WorldEvent}
+use Rattle.ospf_base.specs.declared.event.event.WorldEvent.TheVariants as event
 use Rattle.ospf_script.specs.Commands.{AreDatagramWords, AreNumbers, AreRoundWords, IsLossWords, IsNamedCommand, IsRouterAlone, IsRouterAndLink, IsUnreadable, IsWalkWords, IsWhy, SpellsCommand, TakesWords, name_of_command, name_of_event, name_of_many, spaced}
 use Rattle.ospf_script.specs.Names.{IsWordOf}
 use Rattle.ospf_base.specs.Text.{IsBlank}

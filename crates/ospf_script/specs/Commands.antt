@@ -3,8 +3,8 @@ use Rattle.std.specs.Prelude.{◌≡◌, ◌⊎◌, ⊤, ℕ, ℤ, List, [], ◌
 use Rattle.std.specs.List.{AllZip}
 use Rattle.ospf_base.specs.declared.ids.Addr.{Addr}
 use Rattle.ospf_base.specs.declared.ids.RouterId.{RouterId}
-use Rattle.ospf_event.specs.declared.event.WorldEvent.{WorldEvent}
-use Rattle.ospf_event.specs.declared.event.WorldEvent.TheVariants as event
+use Rattle.ospf_base.specs.declared.event.event.WorldEvent.{WorldEvent}
+use Rattle.ospf_base.specs.declared.event.event.WorldEvent.TheVariants as event
 use Rattle.ospf_script.specs.Expected.{IsExpected, IsLongRoute}
 use Rattle.ospf_script.specs.Names.{IsWordOf, command_name_text}
 use Rattle.ospf_script.specs.Values.{AreManySpelled, IsAddress, IsDecimal, IsFloor, IsPercent, IsRouterWord, no_floor}

@@ -1,8 +1,8 @@
 //! The commands of a script.
 
 use crate::expected::Expected;
+use ospf_base::event::WorldEvent;
 use ospf_base::{Addr, RouterId};
-use ospf_event::WorldEvent;
 
 /// What a line of a script asks for: an event, several events, or a line to be printed.
 #[derive(Debug, PartialEq, Eq, Drop)]

@@ -9,8 +9,8 @@ use crate::shapes::{address_in, router_and_link_in, router_in};
 use crate::spelled::Spelled;
 use crate::values::{floor_of, number_of, router_of};
 use crate::words::{is_alone, three_words, two_words};
+use ospf_base::event::WorldEvent;
 use ospf_base::{NO_FLOOR, RouterId};
-use ospf_event::WorldEvent;
 
 // The event of a name, and of the words after it.
 pub(crate) fn event_in(name: Name, text: &[u8]) -> Option<WorldEvent>

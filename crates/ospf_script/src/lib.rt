@@ -34,4 +34,4 @@ pub use crate::values::{
     text_of,
 };
 pub use crate::words::{first_word, is_alone, one_word, three_words, two_words};
-pub use ospf_event::WorldEvent;
+pub use ospf_base::event::WorldEvent;

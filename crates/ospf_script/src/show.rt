@@ -7,7 +7,7 @@ ghost use Rattle.ospf_script.specs.Texts.{choices_text, event_text, spaced_hops_
 use crate::command::{Command, Many, View};
 use crate::expected::{Expected, Wanted};
 use ospf_base::RouterId;
-use ospf_event::WorldEvent;
+use ospf_base::event::WorldEvent;
 use ospf_graph::NextHop;
 use ospf_neighbour::NeighbourState;
 use std::fmt::{self, Display, Formatter, Write};

@@ -10,10 +10,10 @@ use Rattle.std.specs.declared.alloc.AllocError.{AllocError}
 use Rattle.ospf_base.proofs.KeyMaps.{is_eq-nat_cmp}
 use Rattle.ospf_base.specs.declared.ids.RouterId.{RouterId}
 use Rattle.ospf_router.specs.Routers.{RouterValue}
-use Rattle.ospf_event.specs.Events.{router_in}
+use Rattle.ospf_base.specs.Events.Events.{router_in}
 use Rattle.ospf_headline.specs.World.{Member, Running, World, member, router_at}
-use Rattle.ospf_event.specs.declared.event.WorldEvent.{WorldEvent}
-use Rattle.ospf_event.specs.declared.event.WorldFault.{WorldFault}
+use Rattle.ospf_base.specs.declared.event.event.WorldEvent.{WorldEvent}
+use Rattle.ospf_base.specs.declared.event.event.WorldFault.{WorldFault}
 use Rattle.ospf_world.specs.Worlds.{Lends, WorldValue}
 use Rattle.ospf_files.specs.Streams.{IsBegun, IsOutputCut}
 use Rattle.ospf_journal.specs.Changes.{AreChanges}
@@ -21,7 +21,7 @@ use Rattle.ospf_journal.specs.Reports.{ReportedValue, nothing_reported}
 use Rattle.ospf_journal.specs.Seen.{SeenValue, seen_of}
 use Rattle.ospf_journal.specs.declared.change.RouterChange.{RouterChange}
 use Rattle.ospf_sim.specs.Followed.{EventsValue, FollowedRouter, FollowsEvent, JournalGoesOn, OthersStay, followed_in, followed_of, not_followed, report_of, seen_in, seen_running, ticks_then}
-use Rattle.ospf_records.specs.Journals.{JournalValue, entries_text, without_memory}
+use Rattle.ospf_views.specs.RecordFiles.Journals.{JournalValue, entries_text, without_memory}
 
 -- a router that is lent runs so
 pub record LentRuns (w : World) (q : RouterId) (r : RouterValue) : Type 0 where

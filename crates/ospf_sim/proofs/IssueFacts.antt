@@ -1,9 +1,9 @@
 -- The LSAs that the log of issued ones has after an event and not before it.
 use Rattle.std.proofs.Common.{◌≡◌, ◌∙◌, ap, refl, ℕ, List, [], ◌∷◌, ◌++◌, length, drop, map, Result}
 use Rattle.ospf_base.specs.declared.ids.LsaKey.{LsaKey}
-use Rattle.ospf_event.specs.Events.{router_in}
-use Rattle.ospf_event.specs.declared.event.WorldEvent.{WorldEvent}
-use Rattle.ospf_event.specs.declared.event.WorldFault.{WorldFault}
+use Rattle.ospf_base.specs.Events.Events.{router_in}
+use Rattle.ospf_base.specs.declared.event.event.WorldEvent.{WorldEvent}
+use Rattle.ospf_base.specs.declared.event.event.WorldFault.{WorldFault}
 use Rattle.ospf_headline.specs.Logs.{LogsValue, issued_in}
 use Rattle.ospf_headline.specs.Slots.{SlotSteps, SlotTakes, SlotValue}
 use Rattle.ospf_headline.specs.declared.logs.Issued.{Issued}

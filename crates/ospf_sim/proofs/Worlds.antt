@@ -15,8 +15,8 @@ use Rattle.ospf_commands.specs.declared.simulation.Simulation.{Simulation}
 use Rattle.ospf_sim.specs.declared.text.Simulated.{Simulated}
 use Rattle.ospf_sim.specs.Simulations.{ComesOfScript, IsNoWorld, IsNewOf, IsToldFrom, IsWorldOf, OpensWorld, WorldComes, same_router, status_of_script}
 use Rattle.ospf_commands.specs.Simulations.{begun_in}
-use Rattle.ospf_event.specs.declared.event.WorldFault.{WorldFault}
-use Rattle.ospf_rounds.specs.Progress.{ProgressRule, ToldOn}
+use Rattle.ospf_base.specs.declared.event.event.WorldFault.{WorldFault}
+use Rattle.ospf_commands.specs.Deliveries.Progress.{ProgressRule, ToldOn}
 use Rattle.ospf_world.specs.Watching.{CameRule, ComesRule}
 use Rattle.ospf_world.specs.Worlds as worlds
 use Rattle.ospf_world.specs.Worlds.{Begins, NoMemory, SameRouter, new_world}

@@ -10,7 +10,7 @@ use Rattle.ospf_files.specs.declared.files.NamedFile.{NamedFile}
 use Rattle.ospf_files.specs.declared.status.Failure.{Failure}
 use Rattle.ospf_files.specs.declared.status.Failure.TheVariants as failure
 use Rattle.ospf_files.specs.declared.streams.FailedStreams.{FailedStreams}
-use Rattle.ospf_event.specs.declared.event.WorldFault.{WorldFault}
+use Rattle.ospf_base.specs.declared.event.event.WorldFault.{WorldFault}
 use Rattle.ospf_script.specs.Commands.{IsUnreadable, NeedsRoom, SpellsCommand}
 use Rattle.ospf_files.specs.Lines.{numbered_from}
 use Rattle.ospf_script.specs.Words.{Text, line_words}

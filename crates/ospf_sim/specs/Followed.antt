@@ -9,11 +9,11 @@ use Rattle.ospf_base.specs.declared.ids.Instance.{Instance}
 use Rattle.ospf_base.specs.declared.ids.RouterId.{RouterId}
 use Rattle.ospf_files.specs.Streams.{IsBegun, IsOutputCut}
 use Rattle.ospf_headline.specs.Running.{delivery}
-use Rattle.ospf_event.specs.Events.{router_in}
+use Rattle.ospf_base.specs.Events.Events.{router_in}
 use Rattle.ospf_headline.specs.World.{Running, router_at}
-use Rattle.ospf_event.specs.declared.event.WorldEvent.{WorldEvent}
-use Rattle.ospf_event.specs.declared.event.WorldEvent.TheVariants.{Start, Stop, Tick, LinkUp, LinkDown, Deliver}
-use Rattle.ospf_event.specs.declared.event.WorldFault.{WorldFault}
+use Rattle.ospf_base.specs.declared.event.event.WorldEvent.{WorldEvent}
+use Rattle.ospf_base.specs.declared.event.event.WorldEvent.TheVariants.{Start, Stop, Tick, LinkUp, LinkDown, Deliver}
+use Rattle.ospf_base.specs.declared.event.event.WorldFault.{WorldFault}
 use Rattle.ospf_headline.specs.declared.logs.Datagram.{Datagram}
 use Rattle.ospf_headline.specs.declared.logs.Issued.{Issued}
 use Rattle.ospf_journal.specs.Causes.{cause_of}
@@ -25,7 +25,7 @@ use Rattle.ospf_journal.specs.declared.change.RouterChange.{RouterChange}
 use Rattle.ospf_world.specs.Watching.{ComesRule}
 use Rattle.ospf_world.specs.Worlds.{WorldValue, world_of}
 use Rattle.ospf_lsa.specs.Lsa.{instance_of}
-use Rattle.ospf_records.specs.Journals.{JournalValue, entries_text, without_memory}
+use Rattle.ospf_views.specs.RecordFiles.Journals.{JournalValue, entries_text, without_memory}
 use Rattle.ospf_sim.specs.declared.events.Coming.{Coming}
 
 -- ---- what is stored

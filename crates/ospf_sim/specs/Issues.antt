@@ -2,12 +2,12 @@
 -- routers issue.
 use Rattle.std.specs.Prelude.{◌≡◌, List, [], Result, map}
 use Rattle.ospf_base.specs.declared.ids.Instance.{Instance}
-use Rattle.ospf_event.specs.Events.{router_in}
-use Rattle.ospf_event.specs.declared.event.WorldEvent.{WorldEvent}
-use Rattle.ospf_event.specs.declared.event.WorldFault.{WorldFault}
+use Rattle.ospf_base.specs.Events.Events.{router_in}
+use Rattle.ospf_base.specs.declared.event.event.WorldEvent.{WorldEvent}
+use Rattle.ospf_base.specs.declared.event.event.WorldFault.{WorldFault}
 use Rattle.ospf_headline.specs.Slots.{SlotGoesOn, SlotValue}
 use Rattle.ospf_lsa.specs.Lsa.{instance_of}
-use Rattle.ospf_step.specs.Step.{Event}
+use Rattle.ospf_router.specs.AreaStep.Step.{Event}
 use Rattle.ospf_world.specs.Does.{Changes, Does}
 use Rattle.ospf_world.specs.Worlds.{WorldValue}
 use Rattle.ospf_sim.specs.Followed.{known_before, report_taken}

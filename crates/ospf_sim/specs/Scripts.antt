@@ -1,8 +1,8 @@
 -- What a script does: its lines run one after another, up to one that cannot be read.
 use Rattle.std.specs.Prelude.{◌≡◌, ℕ, Bool, true, false, List, [], ◌∷◌, ◌++◌, Ok, Err, codes, decimal}
 use Rattle.std.specs.Io.KnownBytes.{Appends}
-use Rattle.ospf_event.specs.Text.{world_fault_text}
-use Rattle.ospf_event.specs.declared.event.WorldFault.{WorldFault}
+use Rattle.ospf_base.specs.Events.Text.{world_fault_text}
+use Rattle.ospf_base.specs.declared.event.event.WorldFault.{WorldFault}
 use Rattle.ospf_script.specs.Commands.{IsUnreadable, SpellsCommand}
 use Rattle.ospf_sim.specs.Hints.{hint_text}
 use Rattle.ospf_files.specs.Lines.{numbered_from}

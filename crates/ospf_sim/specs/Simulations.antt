@@ -8,7 +8,7 @@ use Rattle.ospf_files.specs.declared.files.NamedFile.{NamedFile}
 use Rattle.ospf_files.specs.declared.status.Status.{Status}
 use Rattle.ospf_files.specs.declared.status.Status.TheVariants as status
 use Rattle.ospf_files.specs.Lines.{numbered_from}
-use Rattle.ospf_rounds.specs.Progress.{ProgressRule, ToldOn}
+use Rattle.ospf_commands.specs.Deliveries.Progress.{ProgressRule, ToldOn}
 use Rattle.ospf_sim.specs.Twins.{AreTwinsTold}
 use Rattle.ospf_sim.specs.Scripts.{EndsEarly, IsScriptRun}
 use Rattle.ospf_commands.specs.Simulations.{begun_in}

@@ -6,7 +6,7 @@ ghost use Rattle.ospf_files.specs.declared.files.NamedFile.{NamedFile};
 ghost use Rattle.ospf_files.specs.declared.streams.FailedStreams.{FailedStreams};
 ghost use Rattle.ospf_files.specs.Listed.{IsFirstUnread};
 ghost use Rattle.ospf_files.specs.Streams.{IsOfInput, written_on};
-ghost use Rattle.ospf_rounds.specs.Progress.{ToldOn};
+ghost use Rattle.ospf_commands.specs.Deliveries.Progress.{ToldOn};
 ghost use Rattle.ospf_sim.specs.Begun.{IsLineCut};
 ghost use Rattle.ospf_sim.specs.Consoles.{ConsoleComes, IsLineAnswered, IsConsoleCut, IsConsoleStopped, IsConsoled, IsNoConsole, IsPiece, IsAllAnswered, IsSessionCut, IsUnreadOf};
 ghost use Rattle.ospf_sim.specs.Ends.{sim_end_by};

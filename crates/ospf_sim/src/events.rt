@@ -3,20 +3,20 @@
 ghost use Rattle.std.specs.Prelude.{◌≡◌, ◌≢◌, ◌≤◌, None, Some, IfOk, OnOk, drop, length, map, option_map};
 ghost use Rattle.ospf_base.specs.declared.ids.RouterId.{RouterId};
 ghost use Rattle.ospf_headline.specs.Running.{delivery};
-ghost use Rattle.ospf_event.specs.Events.{router_in};
+ghost use Rattle.ospf_base.specs.Events.Events.{router_in};
 ghost use Rattle.ospf_headline.specs.World.{router_at};
-ghost use Rattle.ospf_event.specs.declared.event.WorldEvent.TheVariants.{Deliver};
+ghost use Rattle.ospf_base.specs.declared.event.event.WorldEvent.TheVariants.{Deliver};
 ghost use Rattle.ospf_journal.specs.Causes.{cause_of};
 ghost use Rattle.ospf_journal.specs.Changes.{AreChanges};
-ghost use Rattle.ospf_step.specs.Step.Event.{Datagram};
+ghost use Rattle.ospf_router.specs.AreaStep.Step.Event.{Datagram};
 ghost use Rattle.ospf_sim.specs.Followed.{drop_coming, followed_in, issued_instance, known_before, not_followed, report_of, report_seen, report_taken, seen_in, ticks_then};
 ghost use Rattle.ospf_world.specs.Worlds.{world_of};
 
 use ospf_base::{Instance, RouterId};
 use ospf_files::Failure;
 use ospf_journal::{Dropped, DroppedAt, Reported, RouterChange, Seen, dropped_of};
-use ospf_records::Journal;
 use ospf_router::{Router, Sent};
+use ospf_views::records::Journal;
 use ospf_world::{EventWatch, Issued, World, WorldEvent, WorldFault};
 use std::alloc::{AllocError, Global};
 use std::collections::BTreeMap;

@@ -1,6 +1,6 @@
 //! The capture of a simulation, written while it runs.
 
-use ospf_records::{Recorder, write_header};
+use ospf_views::records::{Recorder, write_header};
 use ospf_world::World;
 use std::alloc::{AllocError, Global};
 use std::fs;
@@ -12,8 +12,8 @@ const BLOCK: usize = 1 << 16;
 
 /// Writes what the routers of a simulation send into a capture file while the simulation runs, so
 /// that an interrupted simulation leaves a readable file. The packets have the times that
-/// `ospf_records::capture` gives. They are written in blocks, and the rest at the end of a line.
-/// The file is created when something is first sent. If it cannot be written, nothing more is
+/// `ospf_views::records::capture` gives. They are written in blocks, and the rest at the end of a
+/// line. The file is created when something is first sent. If it cannot be written, nothing more is
 /// written and no error is reported: the capture of the whole simulation, which replaces it, is
 /// written at the end.
 #[derive(Drop)]

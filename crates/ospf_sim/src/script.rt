@@ -3,7 +3,7 @@
 ghost use Rattle.std.specs.Prelude.{◌≡◌, [], IfErr, IfOk, OnOk, string_bytes};
 ghost use Rattle.std.specs.Io.KnownBytes.{Appends};
 ghost use Rattle.ospf_files.specs.Streams.{written_on};
-ghost use Rattle.ospf_rounds.specs.Progress.{ToldOn};
+ghost use Rattle.ospf_commands.specs.Deliveries.Progress.{ToldOn};
 ghost use Rattle.ospf_sim.specs.Begun.{IsEventAnswerCut, IsLineCut, IsScriptCut, IsTellingCut};
 ghost use Rattle.ospf_sim.specs.Scripts.{LineComes, ScriptComes, answered, hint_line, not_a_command_line, world_refusal_line, told_of, unreadable_line};
 

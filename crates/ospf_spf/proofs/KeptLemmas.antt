@@ -13,12 +13,12 @@ use Rattle.ospf_graph.specs.declared.graph.Vertex.TheVariants.{Router}
 use Rattle.ospf_graph.specs.declared.paths.ShortestPaths.{ShortestPaths}
 use Rattle.ospf_graph.proofs.GraphLemmas.{same_edges, IsSameGraph}
 use Rattle.ospf_graph.proofs.TreeLemmas.{IsTree-map}
-use Rattle.ospf_edges.specs.Items.{graph_in, items_of_all}
+use Rattle.ospf_graph.specs.EdgeLists.Items.{graph_in, items_of_all}
 use Rattle.ospf_spf.specs.Kept.{IsKeptFor, IsTreeOf}
 use Rattle.ospf_graph.specs.Paths.{AreStartsInOrder}
-use Rattle.ospf_edges.specs.Given.{IsEdgesOf}
-use Rattle.ospf_edges.specs.declared.items.GraphItem.{GraphItem}
-use Rattle.ospf_edges.proofs.ItemLemmas.{graph_in-items, items_of_parts}
+use Rattle.ospf_graph.specs.EdgeLists.Given.{IsEdgesOf}
+use Rattle.ospf_graph.specs.declared.edges.items.GraphItem.{GraphItem}
+use Rattle.ospf_graph.proofs.EdgeLists.ItemLemmas.{graph_in-items, items_of_parts}
 
 tree_of_same : (A B : List Advertisement) → IsSameGraph A B → (root : RouterId) (paths : ShortestPaths) → IsTreeOf A root paths → IsTreeOf B root paths
 tree_of_same A B same root paths tree =

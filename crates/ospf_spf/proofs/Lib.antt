@@ -15,3 +15,4 @@ pub mod PutLemmas
 pub mod OrderLemmas
 pub mod RouteFrame
 pub mod TurnLemmas
+pub mod IncrementalSpf

@@ -6,7 +6,7 @@ use Rattle.ospf_graph.proofs.ListLemmas.{more_members}
 use Rattle.ospf_graph.specs.Search.{AtIn}
 use Rattle.ospf_graph.specs.declared.paths.Settled.{Settled}
 use Rattle.ospf_spf.specs.Reach.{IsReachOf, reach_of}
-use Rattle.ospf_edges.specs.declared.end.End.{End}
+use Rattle.ospf_graph.specs.declared.edges.end.End.{End}
 use Rattle.ospf_spf.specs.declared.routes.Reach.{Reach}
 
 module _ (ends : List End) (settled : List Settled) (i : ℕ) (d : End) (lt : i < length ends) (old : List Reach)

@@ -11,7 +11,7 @@ use Rattle.ospf_graph.specs.declared.graph.Start.{Start}
 use Rattle.ospf_graph.specs.declared.graph.Vertex.{Vertex}
 use Rattle.ospf_graph.specs.declared.graph.Vertex.TheVariants.{Network, Router}
 use Rattle.ospf_graph.specs.declared.route.Route.{Route}
-use Rattle.ospf_incremental.specs.Kept.{KeptTree}
+use Rattle.ospf_spf.specs.IncrementalSpf.Kept.{KeptTree}
 use Rattle.ospf_spf.proofs.RouteLemmas.{IsReach, reach_of_way, route_exact, route_reached, way_of_reach, IsReachedRoute}
 use Rattle.ospf_spf.specs.Spared.{IsSparedPrefix}
 

@@ -16,7 +16,7 @@ use Rattle.ospf_graph.specs.declared.paths.VertexStart.{VertexStart}
 use Rattle.ospf_graph.specs.declared.route.Route.{Route}
 use Rattle.ospf_spf.proofs.RouteLemmas.{IsReach, reach_of_way, route_exact, table_exact, IsReachedRoute}
 use Rattle.ospf_spf.specs.Reach.{AreEndsWithin, IsReachOf, IsRouteOf, IsLargerNetwork}
-use Rattle.ospf_edges.specs.declared.end.End.{End}
+use Rattle.ospf_graph.specs.declared.edges.end.End.{End}
 use Rattle.ospf_spf.specs.declared.routes.Reach.{Reach}
 
 larger_network : (a b : Vertex) → IsLargerNetwork a b → (m n : ℕ) × (a ≡ Network m) × (b ≡ Network n) × (n < m)

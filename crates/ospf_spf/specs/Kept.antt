@@ -9,9 +9,9 @@ use Rattle.ospf_graph.specs.Tree.{IsTree}
 use Rattle.ospf_graph.specs.declared.graph.Vertex.{Vertex}
 use Rattle.ospf_graph.specs.declared.graph.Vertex.TheVariants.{Router}
 use Rattle.ospf_graph.specs.declared.paths.ShortestPaths.{ShortestPaths}
-use Rattle.ospf_edges.specs.Items.{graph_in, items_of_all}
+use Rattle.ospf_graph.specs.EdgeLists.Items.{graph_in, items_of_all}
 use Rattle.ospf_graph.specs.Paths.{AreStartsInOrder}
-use Rattle.ospf_edges.specs.declared.items.GraphItem.{GraphItem}
+use Rattle.ospf_graph.specs.declared.edges.items.GraphItem.{GraphItem}
 
 -- what is known of a stored tree: the LSAs that it was computed from, without their links of types
 -- 3 and 4, its root, and how often its search looked at a candidate

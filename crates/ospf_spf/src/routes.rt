@@ -18,13 +18,13 @@ ghost use Rattle.ospf_base.specs.declared.ids.RouterId.{RouterId};
 ghost use Rattle.ospf_spf.specs.Reach.{AddsHops, AreEndsWithin, GathersHops, HasHop, HasHopOf, IsLargestOf, IsLeastReach, IsReachOf, IsRouteOf, IsRouterOr, IsGroup, AreReachesInOrder, network_reach, prefix_code};
 ghost use Rattle.std.specs.List.Sorted.{IsNonDecreasingBy};
 
+use crate::incremental::Paths;
 use ospf_base::Prefix;
-use ospf_edges::End;
+use ospf_graph::edges::End;
 use ospf_graph::{
     Hops, NextHop, Route, Settled, ShortestPaths, Start, Vertex, VertexStart, distance_at,
     starts_at,
 };
-use ospf_incremental::Paths;
 use std::alloc::{AllocError, Global};
 
 // Up to twice as many hops are gathered before doubles are looked for.

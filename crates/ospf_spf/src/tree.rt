@@ -3,13 +3,13 @@
 ghost use Rattle.std.specs.Prelude.{◌≡◌, ◌+◌, ◌*◌, ◌≤◌, ◌↔◌, IfOk, IsTrue, map};
 ghost use Rattle.ospf_graph.specs.Routes.{IsTable};
 ghost use Rattle.ospf_graph.specs.SameGraph.{graph_part};
-ghost use Rattle.ospf_edges.specs.Given.{link_count};
-ghost use Rattle.ospf_edges.specs.Listed.{advertisements_of};
+ghost use Rattle.ospf_graph.specs.EdgeLists.Given.{link_count};
+ghost use Rattle.ospf_graph.specs.EdgeLists.Listed.{advertisements_of};
 
 use crate::routes::table_of;
 use crate::table::RouteTable;
 use ospf_base::RouterId;
-use ospf_edges::{GraphItem, are_items_of, edges_of, ends_of, is_listed, items_in};
+use ospf_graph::edges::{GraphItem, are_items_of, edges_of, ends_of, is_listed, items_in};
 use ospf_graph::{ShortestPaths, Vertex, shortest_paths};
 use ospf_lsa::Listing;
 use std::alloc::{AllocError, Global};
@@ -27,7 +27,7 @@ pub struct Tree {
 }
 
 impl Model for Tree {
-    ghost use Rattle.ospf_edges.specs.Items.{graph_in};
+    ghost use Rattle.ospf_graph.specs.EdgeLists.Items.{graph_in};
     ghost use Rattle.ospf_spf.specs.Kept.{IsKeptFor, KeptSearch};
 
     ghost Value = { KeptSearch };

@@ -3,7 +3,7 @@ use Rattle.std.proofs.Common.{◌≡◌, ◌∙◌, ◌+◌, ◌<◌, ap, sym, s
 use mathlib.Core.List.{IsPrefix}
 use Rattle.ospf_base.specs.declared.ids.Addr.{Addr}
 use Rattle.ospf_graph.specs.declared.hop.NextHop.{NextHop}
-use Rattle.ospf_index.specs.Known.{Table, opening}
+use Rattle.ospf_fib.specs.PrefixIndex.Known.{Table, opening}
 use Rattle.ospf_fib.specs.declared.answer.Answer.{Answer}
 use Rattle.ospf_fib.specs.Answers.{IsAnswer, IsAnswerOfLast}
 use Rattle.ospf_files.specs.Shown.{lookup_line}

@@ -3,7 +3,7 @@
 ghost use Rattle.std.specs.Prelude.{◌≡◌, ◌++◌, ◌∷◌, ℕ, List, [], IfOk, IfErr, OnErr, OnOk};
 ghost use Rattle.std.specs.Io.KnownBytes.{Appends};
 ghost use Rattle.ospf_graph.specs.declared.route.Route.{Route};
-ghost use Rattle.ospf_index.specs.Known.{opening};
+ghost use Rattle.ospf_fib.specs.PrefixIndex.Known.{opening};
 ghost use Rattle.ospf_fib.specs.Answers.{IsAnswerOfLast};
 ghost use Rattle.ospf_table.specs.Cut.{AreLookupsBefore, AreLookupsBegun, IsLookupCut};
 ghost use Rattle.ospf_table.specs.Output.{AreLookups};

@@ -5,7 +5,7 @@ ghost use Rattle.std.specs.Io.KnownBytes.{Appends};
 ghost use Rattle.ospf_files.specs.Streams.{IsBegun, IsErrorCut, IsOfInput, written_on};
 ghost use Rattle.ospf_files.specs.declared.status.Failure.{Failure};
 ghost use Rattle.ospf_files.specs.declared.streams.FailedStreams.{FailedStreams};
-ghost use Rattle.ospf_index.specs.Known.{opening};
+ghost use Rattle.ospf_fib.specs.PrefixIndex.Known.{opening};
 ghost use Rattle.ospf_table.specs.Cut.{IsTableAnswerCut, IsTableCutShort, IsLookupCut, IsOutputBefore, IsOutputBegun, IsTableCut};
 ghost use Rattle.ospf_table.specs.Fault.{IsMemoryFault, IsLineRefusal};
 ghost use Rattle.ospf_table.specs.declared.table.EntryFault.{EntryFault};

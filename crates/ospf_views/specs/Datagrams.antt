@@ -4,14 +4,14 @@ use Rattle.std.specs.List.{enumerate_from, list_any}
 use Rattle.ospf_area.specs.State.{AreaValue}
 use Rattle.ospf_base.specs.Text.{number_text}
 use Rattle.ospf_base.specs.declared.ids.RouterId.{RouterId}
-use Rattle.ospf_event.specs.declared.event.WorldEvent.{WorldEvent}
-use Rattle.ospf_event.specs.declared.event.WorldEvent.TheVariants as event
+use Rattle.ospf_base.specs.declared.event.event.WorldEvent.{WorldEvent}
+use Rattle.ospf_base.specs.declared.event.event.WorldEvent.TheVariants as event
 use Rattle.ospf_headline.specs.declared.logs.Datagram.{Datagram}
 use Rattle.ospf_journal.specs.Causes.{cause_of}
 use Rattle.ospf_script.specs.Words.{Text}
-use Rattle.ospf_step.specs.Step as laws
-use Rattle.ospf_step.specs.Text.{dropped_text}
-use Rattle.ospf_step.specs.declared.dropped.Dropped.{Dropped}
+use Rattle.ospf_router.specs.AreaStep.Step as laws
+use Rattle.ospf_router.specs.AreaStep.Text.{dropped_text}
+use Rattle.ospf_router.specs.declared.step.dropped.Dropped.{Dropped}
 use Rattle.ospf_world.specs.Rounds.{offers_of}
 use Rattle.ospf_world.specs.Worlds.{WorldValue}
 

@@ -7,10 +7,10 @@ use Rattle.ospf_base.specs.declared.ids.Addr.{Addr}
 use Rattle.ospf_journal.specs.Causes.{cause_of}
 use Rattle.ospf_packet.specs.Meaning.{Meaning}
 use Rattle.ospf_packet.specs.PacketOf.{packet_of}
-use Rattle.ospf_step.specs.Step.Event.{Datagram}
-use Rattle.ospf_step.specs.Text.{dropped_text}
-use Rattle.ospf_step.specs.declared.dropped.Dropped.{Dropped}
-use Rattle.ospf_step.specs.declared.dropped.Dropped.TheVariants as dropped
+use Rattle.ospf_router.specs.AreaStep.Step.Event.{Datagram}
+use Rattle.ospf_router.specs.AreaStep.Text.{dropped_text}
+use Rattle.ospf_router.specs.declared.step.dropped.Dropped.{Dropped}
+use Rattle.ospf_router.specs.declared.step.dropped.Dropped.TheVariants as dropped
 use Rattle.ospf_views.specs.Details.{detail_on, detail_text}
 use Rattle.ospf_views.specs.declared.detail.Detail.{Detail}
 

@@ -7,3 +7,4 @@ pub mod Misfits
 pub mod Offered
 pub mod Datagrams
 pub mod Sight
+pub mod RecordFiles

@@ -7,7 +7,7 @@ use Rattle.ospf_area.specs.State.{AreaValue, LinkValue}
 use Rattle.ospf_base.specs.Addresses.{nowhere}
 use Rattle.ospf_base.specs.Text.{number_text}
 use Rattle.ospf_base.specs.declared.ids.Addr.{Addr}
-use Rattle.ospf_iface.specs.declared.machine.Iface.{Iface}
+use Rattle.ospf_neighbour.specs.declared.iface.machine.Iface.{Iface}
 use Rattle.ospf_packet.specs.Meaning.{BodyMeaning, Meaning, hello, description, request, update, acknowledgment}
 use Rattle.ospf_packet.specs.PacketOf.{packet_of}
 use Rattle.ospf_packet.specs.declared.body.Description.{Description}

@@ -5,9 +5,9 @@ use Rattle.ospf_base.specs.Addresses.{nowhere}
 use Rattle.ospf_base.specs.Text.{number_text}
 use Rattle.ospf_base.specs.declared.ids.Addr.{Addr}
 use Rattle.ospf_base.specs.declared.ids.RouterId.{RouterId}
-use Rattle.ospf_iface.specs.declared.machine.Iface.{Iface}
-use Rattle.ospf_iface.specs.declared.machine.IfaceState.{IfaceState}
-use Rattle.ospf_iface.specs.declared.machine.IfaceState.TheVariants as iface
+use Rattle.ospf_neighbour.specs.declared.iface.machine.Iface.{Iface}
+use Rattle.ospf_neighbour.specs.declared.iface.machine.IfaceState.{IfaceState}
+use Rattle.ospf_neighbour.specs.declared.iface.machine.IfaceState.TheVariants as iface
 use Rattle.ospf_journal.specs.Lines.{iface_text}
 use Rattle.ospf_lsa.specs.declared.header.LsaHeader.{LsaHeader}
 use Rattle.ospf_neighbour.specs.Neighbour.{NeighbourValue}

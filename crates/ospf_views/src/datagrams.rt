@@ -9,7 +9,7 @@ use ospf_base::RouterId;
 use ospf_headline::Datagram;
 use ospf_journal::dropped_of;
 use ospf_router::Router;
-use ospf_step::Dropped;
+use ospf_router::step::Dropped;
 use ospf_world::{World, WorldEvent};
 use std::alloc::{AllocError, Global};
 use std::fmt::{self, Display, Formatter, Write};

@@ -8,7 +8,7 @@ ghost use Rattle.ospf_views.specs.Details.{body_detail, detail_on, hello_detail,
 use ospf_adjacency::is_broadcast;
 use ospf_area::AreaLink;
 use ospf_base::{Addr, AreaId};
-use ospf_iface::{Iface, OPTIONS};
+use ospf_neighbour::iface::{Iface, OPTIONS};
 use ospf_packet::{Body, Description, Hello, Packet};
 use ospf_router::Router;
 use std::fmt::{self, Display, Formatter, Write};

@@ -10,7 +10,7 @@ use ospf_area::Sent;
 use ospf_base::Addr;
 use ospf_journal::dropped_of;
 use ospf_router::Router;
-use ospf_step::Dropped;
+use ospf_router::step::Dropped;
 use std::alloc::{AllocError, Global};
 use std::fmt::{self, Display, Formatter, Write};
 

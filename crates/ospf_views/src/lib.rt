@@ -1,6 +1,8 @@
 //! Lines that show a router: neighbours, listing, routes, floor, and why it stands as it does.
 //! `write_view` writes what `ospfd sim` and `run` print, `why` what a link or neighbour waits for,
 //! `drop_reason` why a datagram is dropped, and `sight_of` gives what is seen of all routers.
+//!
+//! `records` writes files: captures for Wireshark, drawings, and journals.
 #![tactic(auto)]
 
 mod datagrams;
@@ -9,6 +11,7 @@ mod drops;
 mod headed;
 mod misfit;
 mod offered;
+pub mod records;
 mod shown;
 mod sight;
 mod views;

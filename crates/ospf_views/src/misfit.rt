@@ -8,7 +8,7 @@ ghost use Rattle.ospf_views.specs.Misfits.{body_misfit, broadcast_misfit, kind_m
 use ospf_adjacency::is_broadcast;
 use ospf_area::{AreaLink, Sent};
 use ospf_base::Addr;
-use ospf_iface::Iface;
+use ospf_neighbour::iface::Iface;
 use ospf_packet::{Body, Description, Hello, Packet};
 use ospf_router::Router;
 use std::alloc::{AllocError, Global};

@@ -7,9 +7,9 @@ ghost use Rattle.ospf_views.specs.Waits.{asked_text, acknowledgement_waits, ackn
 use crate::shown::ListedShown;
 use ospf_area::AreaLink;
 use ospf_base::{Addr, NETWORK_LSA, ROUTER_LSA, RouterId};
-use ospf_iface::{Iface, IfaceState};
 use ospf_journal::iface_text;
 use ospf_lsa::LsaHeader;
+use ospf_neighbour::iface::{Iface, IfaceState};
 use ospf_neighbour::{Exchanging, Listed, Neighbour, NeighbourState};
 use ospf_router::Router;
 use std::alloc::{AllocError, Global};

@@ -13,7 +13,7 @@ use Rattle.ospf_base.proofs.PrefixLaws.{mask_injective, prefix_same}
 use Rattle.ospf_lsa.specs.declared.link.Link.{Link}
 use Rattle.ospf_lsa.specs.declared.link.LinkKind.{LinkKind}
 use Rattle.ospf_lsa.specs.declared.link.LinkKind.TheVariants as kind
-use Rattle.ospf_edges.specs.Addresses.{links_by}
+use Rattle.ospf_graph.specs.EdgeLists.Addresses.{links_by}
 use Rattle.ospf_graph.specs.Advertisements.{Advertisement, HasLink}
 use Rattle.ospf_graph.proofs.ListLemmas.{bool_cases, member_head}
 use Rattle.ospf_whatif.specs.Failure.{inner_of, is_of_subnet, is_stub_of, is_wire_end, takes, takes_in}

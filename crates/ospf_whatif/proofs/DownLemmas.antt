@@ -9,18 +9,18 @@ use Rattle.ospf_base.specs.declared.interface.InterfaceKind.TheVariants as kind
 use Rattle.ospf_base.specs.declared.prefix.Prefix.{Prefix}
 use Rattle.ospf_lsa.specs.declared.link.Link.{Link}
 use Rattle.ospf_area.specs.State.{LinkValue}
-use Rattle.ospf_iface.specs.Machine.{is_down}
+use Rattle.ospf_neighbour.specs.Interface.Machine.{is_down}
 use Rattle.ospf_neighbour.specs.Neighbour.{NeighbourValue}
 use Rattle.ospf_graph.proofs.ListLemmas.{bool_cases}
-use Rattle.ospf_wanted.proofs.Words.{links_of_kind}
-use Rattle.ospf_wanted.specs.Wanted.{is_full, is_transit, links_of_link, network_link, router_link, subnet_link}
+use Rattle.ospf_originate.proofs.Wants.Words.{links_of_kind}
+use Rattle.ospf_originate.specs.Wants.Wanted.{is_full, is_transit, links_of_link, network_link, router_link, subnet_link}
 use Rattle.ospf_graph.specs.Advertisements.{Advertisement}
 use Rattle.ospf_whatif.specs.Failure.{inner_of, kept_after, kept_links, takes, without, without_all}
 use Rattle.ospf_whatif.specs.declared.failure.AreaFailure.{AreaFailure}
 use Rattle.ospf_whatif.specs.declared.failure.AreaFailure.TheVariants as fails
 use Rattle.ospf_whatif.proofs.WithoutLemmas.{kept_links-append}
 use Rattle.ospf_whatif.specs.Wanted.{AreSpared, AreSparedBy, FailuresComeTogether, IsInNone, IsLeft, IsNetworkFailure, IsWireUp, wanted_links}
-use Rattle.ospf_wanted.proofs.SaidLemmas.{up_is}
+use Rattle.ospf_originate.proofs.Wants.SaidLemmas.{up_is}
 
 -- ---- links that are all kept, or all taken
 

@@ -13,7 +13,7 @@ use Rattle.ospf_graph.specs.Graph.{IsEdge, IsEdgeBetween, IsPath}
 use Rattle.ospf_graph.specs.Routes.{IsEnd, IsTable, Way}
 use Rattle.ospf_graph.proofs.ListLemmas.{transit_found}
 use Rattle.ospf_graph.proofs.TreeLemmas.{IsPath-map}
-use Rattle.ospf_edges.specs.Costs.{HasLinkTo}
+use Rattle.ospf_graph.specs.EdgeLists.Costs.{HasLinkTo}
 use Rattle.ospf_whatif.specs.LinksBack.{AreLinkedAlike, IsLinked}
 use Rattle.ospf_whatif.proofs.MatchingLemmas.{moved, same_tables}
 

@@ -15,9 +15,9 @@ use Rattle.ospf_base.proofs.PrefixLaws.{mask_injective, prefix_same}
 use Rattle.ospf_lsa.specs.declared.link.Link.{Link}
 use Rattle.ospf_lsa.specs.declared.link.LinkKind.{LinkKind}
 use Rattle.ospf_lsa.specs.declared.link.LinkKind.TheVariants as kind
-use Rattle.ospf_edges.specs.declared.end.End.{End}
-use Rattle.ospf_edges.specs.Given.{AreEndsAt}
-use Rattle.ospf_edges.specs.Near.{AreEdgesAt}
+use Rattle.ospf_graph.specs.declared.edges.end.End.{End}
+use Rattle.ospf_graph.specs.EdgeLists.Given.{AreEndsAt}
+use Rattle.ospf_graph.specs.EdgeLists.Near.{AreEdgesAt}
 use Rattle.ospf_graph.specs.Advertisements.{Advertisement, router_lsa, HasLink, IsAddressOn, IsAttached, IsNetwork, transit_address}
 use Rattle.ospf_graph.specs.Elsewhere.{Touches}
 use Rattle.ospf_graph.specs.Graph.{IsEdge, IsEdgeBetween}

@@ -14,8 +14,8 @@ use Rattle.ospf_base.proofs.PrefixLaws.{prefix_same}
 use Rattle.ospf_lsa.specs.Listing.{IsListing}
 use Rattle.ospf_graph.specs.Graph.{IsEdgeBetween}
 use Rattle.ospf_graph.specs.declared.graph.Vertex.TheVariants as vertex
-use Rattle.ospf_edges.specs.Listed.{advertisements_of}
-use Rattle.ospf_edges.proofs.FitLemmas.{network_fits, router_fits}
+use Rattle.ospf_graph.specs.EdgeLists.Listed.{advertisements_of}
+use Rattle.ospf_graph.proofs.EdgeLists.FitLemmas.{network_fits, router_fits}
 use Rattle.ospf_whatif.specs.Carrier.{IsFailureBy}
 use Rattle.ospf_whatif.specs.Laws.{CarriedNamesTellApart, FailureNamesTellApart}
 use Rattle.ospf_whatif.specs.declared.carrier.Carrier.{Carrier}

@@ -7,7 +7,7 @@ use Rattle.std.proofs.lemmas.List.Elements.{All-push, Contains-append_left, Cont
 use Rattle.std.proofs.lemmas.List.Sorted.{Contains-permutation, IsPermutation-sym}
 use Rattle.ospf_base.specs.declared.ids.RouterId.{RouterId}
 use Rattle.ospf_base.specs.declared.prefix.Prefix.{Prefix}
-use Rattle.ospf_edges.specs.declared.end.End.{End}
+use Rattle.ospf_graph.specs.declared.edges.end.End.{End}
 use Rattle.ospf_graph.specs.Advertisements.{Advertisement}
 use Rattle.ospf_graph.specs.Graph.{IsEdge, IsEdgeBetween}
 use Rattle.ospf_graph.specs.Routes.{IsEnd, IsRoute}
@@ -21,10 +21,10 @@ use Rattle.ospf_graph.specs.declared.route.Route.{Route}
 use Rattle.ospf_graph.proofs.CandidateLemmas.{candidates_from-has, candidates_from-is}
 use Rattle.ospf_graph.proofs.ListLemmas.{more_members, transit_exists, transit_found}
 use Rattle.ospf_graph.proofs.TreeLemmas.{IsTree-map}
-use Rattle.ospf_incremental.specs.Kept.{IsKeptTree, IsSameBut, KeptTree}
-use Rattle.ospf_incremental.specs.Left.{LeadBack}
-use Rattle.ospf_incremental.specs.Shrinking.{TakesEdges}
-use Rattle.ospf_edges.specs.Given.{IsEdgesOf}
+use Rattle.ospf_spf.specs.IncrementalSpf.Kept.{IsKeptTree, IsSameBut, KeptTree}
+use Rattle.ospf_spf.specs.IncrementalSpf.Left.{LeadBack}
+use Rattle.ospf_spf.specs.IncrementalSpf.Shrinking.{TakesEdges}
+use Rattle.ospf_graph.specs.EdgeLists.Given.{IsEdgesOf}
 use Rattle.ospf_spf.proofs.RouteFrame.{IsKeptHere, kept_routes}
 use Rattle.ospf_spf.specs.Spared.{AreEndsInOrder}
 use Rattle.ospf_whatif.specs.Failure.{without, without_all}

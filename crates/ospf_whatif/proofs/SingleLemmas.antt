@@ -17,12 +17,12 @@ use Rattle.ospf_graph.specs.Pairs.{pair_code}
 use Rattle.ospf_graph.specs.Routes.{IsEnd}
 use Rattle.ospf_graph.specs.Search.{AreFitEdges, HaveSameFrom, vertex_id}
 use Rattle.ospf_graph.proofs.ListLemmas.{member_of_map, member_to_map, more_members}
-use Rattle.ospf_edges.specs.Listed.{advertisement_of, advertisements_of}
-use Rattle.ospf_edges.specs.declared.end.End.{End}
+use Rattle.ospf_graph.specs.EdgeLists.Listed.{advertisement_of, advertisements_of}
+use Rattle.ospf_graph.specs.declared.edges.end.End.{End}
 use Rattle.std.proofs.lemmas.List.{get_or_default}
 use Rattle.ospf_graph.specs.Adds.{Adds}
-use Rattle.ospf_edges.specs.Given.{AreEndsAt, IsEdgesOf}
-use Rattle.ospf_edges.proofs.AddsLemmas.{adds_next}
+use Rattle.ospf_graph.specs.EdgeLists.Given.{AreEndsAt, IsEdgesOf}
+use Rattle.ospf_graph.proofs.EdgeLists.AddsLemmas.{adds_next}
 use Rattle.ospf_whatif.specs.Single.{AttachmentGiven, EdgeGiven, GivenBy, HasEndFor, IsFailure, IsInterfaceIndex, IsUnnumberedAt, IsLongestOf, IsLongestSuch, IsOfIndices, IsOn, IsPairOf, IsShared, IsSharedIn, IsWire, IsWireAt, LinksGiven, NetworkGiven, RouterGiven, UnnumberedGiven, WireGiven}
 use Rattle.ospf_whatif.specs.declared.failure.AreaFailure.{AreaFailure}
 use Rattle.ospf_whatif.specs.declared.failure.AreaFailure.TheVariants.{Attachment, Link, Links, Network, Router}

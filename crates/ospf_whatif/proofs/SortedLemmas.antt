@@ -4,7 +4,7 @@ use Rattle.std.specs.List.Sorted.{IsPermutation}
 use Rattle.std.proofs.lemmas.List.Sorted.{Contains-permutation, IsPermutation-sym}
 use Rattle.ospf_graph.specs.Advertisements.{Advertisement}
 use Rattle.ospf_graph.specs.declared.graph.Edge.{Edge}
-use Rattle.ospf_edges.specs.Given.{IsEdgesOf}
+use Rattle.ospf_graph.specs.EdgeLists.Given.{IsEdgesOf}
 
 -- they are those of the same area
 pub edges_sorted : (adverts : List Advertisement) (edges sorted : List Edge) → IsPermutation edges sorted → IsEdgesOf adverts edges → IsEdgesOf adverts sorted

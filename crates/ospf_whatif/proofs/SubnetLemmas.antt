@@ -10,8 +10,8 @@ use Rattle.ospf_base.specs.Masks.{mask_of}
 use Rattle.ospf_base.specs.declared.ids.RouterId.{RouterId}
 use Rattle.ospf_base.specs.declared.prefix.Prefix.{Prefix}
 use Rattle.ospf_lsa.specs.declared.link.Link.{Link}
-use Rattle.ospf_edges.specs.Addresses.{links_by}
-use Rattle.ospf_edges.specs.Near.{AreLinksBy}
+use Rattle.ospf_graph.specs.EdgeLists.Addresses.{links_by}
+use Rattle.ospf_graph.specs.EdgeLists.Near.{AreLinksBy}
 use Rattle.ospf_graph.specs.Advertisements.{Advertisement, router_lsa, network_lsa, IsListed}
 use Rattle.ospf_graph.proofs.ListLemmas.{bool_cases, member_cases, member_head, member_later}
 use Rattle.ospf_whatif.specs.Failure.{HasLeftLarge, HasLeftLargeBy, IsLeftBy, IsLeftLarge, IsLeftLsa, inner_of, is_of_subnet, is_stub_of, kept_links, left_of_lsa, takes, without}

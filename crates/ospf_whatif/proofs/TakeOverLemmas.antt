@@ -4,9 +4,9 @@ use Rattle.std.specs.List.{AllByRecursion}
 use Rattle.std.proofs.lemmas.List.Concat.{flat_map-append}
 use Rattle.ospf_lsa.specs.declared.link.Link.{Link}
 use Rattle.ospf_area.specs.State.{LinkValue}
-use Rattle.ospf_wanted.specs.Wanted.{links_of_link, network_link}
-use Rattle.ospf_wanted.proofs.Words.{links_of_kind, through_metric}
-use Rattle.ospf_wanted.proofs.SaidLemmas.{up_is}
+use Rattle.ospf_originate.specs.Wants.Wanted.{links_of_link, network_link}
+use Rattle.ospf_originate.proofs.Wants.Words.{links_of_kind, through_metric}
+use Rattle.ospf_originate.proofs.Wants.SaidLemmas.{up_is}
 use Rattle.ospf_whatif.specs.Renamed.{renamed_link}
 use Rattle.ospf_whatif.specs.Wanted.{IsOnTransit, KeepTheirNames, wanted_links}
 

@@ -17,9 +17,9 @@ use Rattle.ospf_lsa.proofs.ListingLemmas.{AllBefore, before_it}
 use Rattle.ospf_lsa.specs.Value.{HasAll, IsMade, IsUnmade, RouterNeeds, router_value, LsaValue, router_body}
 use Rattle.ospf_lsa.specs.declared.link.Link.{Link}
 use Rattle.ospf_graph.specs.Advertisements.{Advertisement, network_lsa, router_lsa}
-use Rattle.ospf_edges.specs.Listed.{advertisement_of}
+use Rattle.ospf_graph.specs.EdgeLists.Listed.{advertisement_of}
 use Rattle.ospf_graph.proofs.ListLemmas.{bool_cases, member_of_map, member_to_map}
-use Rattle.ospf_edges.proofs.ListedLemmas.{router_of, network_of}
+use Rattle.ospf_graph.proofs.EdgeLists.ListedLemmas.{router_of, network_of}
 use Rattle.ospf_whatif.specs.Failure.{HasLarge, HasLeftLarge, HasLeftLargeBy, IsLarge, IsLeftBy, IsLeftLarge, IsLeftLsa, inner_of, left_of_lsa, kept_after, kept_links, takes, without, without_all}
 use Rattle.ospf_whatif.specs.declared.failure.AreaFailure.{AreaFailure}
 

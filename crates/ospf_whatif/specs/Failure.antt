@@ -10,7 +10,7 @@ use Rattle.ospf_lsa.specs.Value.{IsMade, router_value}
 use Rattle.ospf_lsa.specs.declared.link.Link.{Link}
 use Rattle.ospf_lsa.specs.declared.link.LinkKind.{LinkKind}
 use Rattle.ospf_lsa.specs.declared.link.LinkKind.TheVariants as kind
-use Rattle.ospf_edges.specs.Addresses.{links_by}
+use Rattle.ospf_graph.specs.EdgeLists.Addresses.{links_by}
 use Rattle.ospf_graph.specs.Advertisements.{Advertisement, router_lsa, network_lsa}
 use Rattle.ospf_whatif.specs.Subnets.{inner_between, is_held, is_link_to}
 use Rattle.ospf_whatif.specs.declared.failure.AreaFailure as failure

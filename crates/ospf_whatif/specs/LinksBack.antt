@@ -5,7 +5,7 @@ use Rattle.ospf_base.specs.declared.ids.RouterId.{RouterId}
 use Rattle.ospf_lsa.specs.declared.link.Link.{Link}
 use Rattle.ospf_lsa.specs.declared.link.LinkKind.TheVariants.{Transit}
 use Rattle.ospf_graph.specs.Advertisements.{Advertisement, router_lsa, IsAttached, IsNetwork}
-use Rattle.ospf_edges.specs.Costs.{HasLinkTo}
+use Rattle.ospf_graph.specs.EdgeLists.Costs.{HasLinkTo}
 use Rattle.ospf_graph.specs.Routes.{IsTable}
 use Rattle.ospf_graph.specs.declared.route.Route.{Route}
 

@@ -2,7 +2,7 @@
 use Rattle.std.specs.Prelude.{◌≡◌, ◌⊎◌, ◌↔◌, false, List, Any, Contains}
 use Rattle.ospf_base.specs.declared.ids.RouterId.{RouterId}
 use Rattle.ospf_base.specs.declared.prefix.Prefix.{Prefix}
-use Rattle.ospf_edges.specs.declared.end.End.{End as PrefixEnd}
+use Rattle.ospf_graph.specs.declared.edges.end.End.{End as PrefixEnd}
 use Rattle.ospf_lsa.specs.declared.link.Link.{Link as LsaLink}
 use Rattle.ospf_graph.specs.Advertisements.{Advertisement}
 use Rattle.ospf_graph.specs.Graph.{IsEdge}

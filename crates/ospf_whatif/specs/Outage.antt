@@ -12,9 +12,9 @@ use Rattle.ospf_graph.specs.declared.graph.Edge.{Edge}
 use Rattle.ospf_graph.specs.declared.graph.Vertex.{Vertex}
 use Rattle.ospf_graph.specs.declared.graph.Vertex.TheVariants.{Router}
 use Rattle.ospf_graph.specs.declared.route.Route.{Route}
-use Rattle.ospf_edges.specs.Given.{IsEdgesOf, IsEndsOf}
-use Rattle.ospf_edges.specs.declared.end.End.{End}
-use Rattle.ospf_incremental.specs.Kept.{IsKeptTree, IsSameBut, KeptTree}
+use Rattle.ospf_graph.specs.EdgeLists.Given.{IsEdgesOf, IsEndsOf}
+use Rattle.ospf_graph.specs.declared.edges.end.End.{End}
+use Rattle.ospf_spf.specs.IncrementalSpf.Kept.{IsKeptTree, IsSameBut, KeptTree}
 use Rattle.ospf_spf.specs.Spared.{AreEndsInOrder}
 use Rattle.ospf_whatif.specs.Effect.{IsRouteChangeBefore}
 use Rattle.ospf_whatif.specs.Failure.{without_all}

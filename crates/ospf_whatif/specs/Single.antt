@@ -10,7 +10,7 @@ use Rattle.ospf_graph.specs.Advertisements.{Advertisement, IsListed, router_lsa,
 use Rattle.ospf_graph.specs.Graph.{IsEdgeBetween}
 use Rattle.ospf_graph.specs.Pairs.{pair_code}
 use Rattle.ospf_graph.specs.Routes.{IsEnd}
-use Rattle.ospf_edges.specs.declared.end.End.{End}
+use Rattle.ospf_graph.specs.declared.edges.end.End.{End}
 use Rattle.ospf_whatif.specs.declared.failure.AreaFailure as failure
 use Rattle.ospf_whatif.specs.declared.failure.AreaFailure.TheVariants.{Attachment, Links, Network, Router}
 use Rattle.ospf_whatif.specs.declared.failure.AreaFailure.TheVariants as fails

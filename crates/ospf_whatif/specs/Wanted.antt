@@ -8,8 +8,8 @@ use Rattle.ospf_base.specs.declared.prefix.Prefix.{Prefix}
 use Rattle.ospf_lsa.specs.declared.link.Link.{Link}
 use Rattle.ospf_area.specs.State.{LinkValue}
 use Rattle.ospf_graph.specs.Advertisements.{Advertisement}
-use Rattle.ospf_iface.specs.Machine.{is_down}
-use Rattle.ospf_wanted.specs.Wanted.{is_transit, links_of_link}
+use Rattle.ospf_neighbour.specs.Interface.Machine.{is_down}
+use Rattle.ospf_originate.specs.Wants.Wanted.{is_transit, links_of_link}
 use Rattle.ospf_whatif.specs.Failure.{inner_of, kept_after, kept_links, takes, takes_in, without, without_all}
 use Rattle.ospf_whatif.specs.Renamed.{renamed_link}
 use Rattle.ospf_whatif.specs.Subnets.{is_held}

@@ -6,7 +6,7 @@ ghost use Rattle.ospf_base.specs.Constants.{max_age};
 ghost use Rattle.ospf_lsa.specs.Header.{header_of};
 ghost use Rattle.ospf_lsa.specs.Lsa.{key_of, IsRouterLsa};
 ghost use Rattle.ospf_lsa.specs.Listing.{IsListable};
-ghost use Rattle.ospf_edges.specs.Listed.{advertisement_of, advertisements_of};
+ghost use Rattle.ospf_graph.specs.EdgeLists.Listed.{advertisement_of, advertisements_of};
 ghost use Rattle.ospf_whatif.specs.Failure.{HasLarge, HasLeftLarge, HasLeftLargeBy, IsLeftBy, IsLeftLarge, IsLeftLsa, left_of_lsa, kept_links, without, without_all};
 
 use crate::failure::AreaFailure;
@@ -170,7 +170,7 @@ fn lsa_without(
     ensures bytes { IfOk result (IsLeftBy (kept_links inner.now failure.now) lsa.now) }
     ensures key { IfOk result (λ left. key_of left ≡ key_of lsa.now) }
     ensures young { IfOk result (λ left. (header_of left).age < max_age) }
-    // It is too long exactly if it is rebuilt with more links than one of the largest size has.
+    // It is too long only if it is rebuilt with more links than one of the largest size has.
     ensures large { result ≡ Err LsaFault.Length →
         IsLeftLarge inner.now failure.now (advertisement_of lsa.now) }
     ensures small { OnOk result
@@ -197,7 +197,7 @@ fn router_without(
     ensures bytes { IfOk result (IsLeftBy (kept_links inner.now failure.now) lsa.now) }
     ensures key { IfOk result (λ left. key_of left ≡ key_of lsa.now) }
     ensures young { IfOk result (λ left. (header_of left).age < max_age) }
-    // It is too long exactly if it is rebuilt with more links than one of the largest size has.
+    // It is too long only if it is rebuilt with more links than one of the largest size has.
     ensures large { result ≡ Err LsaFault.Length →
         IsLeftLarge inner.now failure.now (advertisement_of lsa.now) }
     ensures small { OnOk result

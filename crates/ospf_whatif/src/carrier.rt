@@ -1,7 +1,7 @@
 //! What carries the links of an area, and what fails together for that.
 
 ghost use Rattle.std.specs.Prelude.{◌≡◌, ◌↔◌, ◌++◌, ◌∷◌, [], All, AllPairs, Contains, IfOk, IsTrue, OnOk, List, flat_map, if◌then◌else◌, map};
-ghost use Rattle.ospf_edges.specs.Listed.{advertisements_of};
+ghost use Rattle.ospf_graph.specs.EdgeLists.Listed.{advertisements_of};
 ghost use Rattle.ospf_graph.specs.Adds.{Adds};
 ghost use Rattle.ospf_graph.specs.Advertisements.{Advertisement};
 ghost use Rattle.ospf_whatif.specs.Carrier.{AreHiddenBy, EndGiven, IsFailureBy, is_attached_to, is_cable, leaving_network, powered, together, together_direct};

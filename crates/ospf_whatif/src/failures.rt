@@ -5,15 +5,15 @@ ghost use Rattle.ospf_base.specs.Prefixes.{Holds};
 ghost use Rattle.ospf_graph.specs.Search.{AreEdgesInOrder};
 ghost use Rattle.ospf_graph.specs.declared.graph.Vertex.TheVariants.{Router};
 ghost use Rattle.ospf_graph.specs.Adds.{Adds};
-ghost use Rattle.ospf_edges.specs.Given.{IsEdgesOf};
-ghost use Rattle.ospf_edges.specs.Listed.{advertisement_of, advertisements_of};
+ghost use Rattle.ospf_graph.specs.EdgeLists.Given.{IsEdgesOf};
+ghost use Rattle.ospf_graph.specs.EdgeLists.Listed.{advertisement_of, advertisements_of};
 ghost use Rattle.ospf_whatif.specs.Single.{AreFailures, AttachmentGiven, EdgeGiven, GivenBy, HasEndFor, IsFailureBefore, IsInterfaceIndex, IsUnnumberedAt, IsLongestOf, IsOfIndices, IsPairOf, IsShared, IsSharedFar, IsSharedIn, IsWireAt, LeadsBack, LinksGiven, NetworkGiven, RouterGiven, UnnumberedGiven, WireGiven};
 ghost use Rattle.ospf_whatif.specs.declared.failure.AreaFailure.{AreaFailure};
 
 use crate::failure::AreaFailure;
 use crate::outage::edges_in_order;
 use ospf_base::{Addr, Kind, Prefix, RouterId};
-use ospf_edges::{End, ends_at};
+use ospf_graph::edges::{End, ends_at};
 use ospf_graph::{Edge, Pairs, Vertex, edges_from, pair_order};
 use ospf_lsa::{Listing, Lsa};
 use ospf_spf::is_same_prefix;

@@ -1,14 +1,14 @@
 //! Costs that no LSA contains, and that a failure brings about.
 
 ghost use Rattle.std.specs.Prelude.{◌≡◌, ◌↔◌, All, IfOk, IsTrue, OnOk};
-ghost use Rattle.ospf_edges.specs.Listed.{advertisements_of};
+ghost use Rattle.ospf_graph.specs.EdgeLists.Listed.{advertisements_of};
 ghost use Rattle.ospf_graph.specs.Adds.{Adds};
 ghost use Rattle.ospf_whatif.specs.Hidden.{AreHidden, HiddenGiven, IsOfTwo, OtherGiven};
 ghost use Rattle.ospf_whatif.specs.Single.{GivenBy};
 
 use crate::outage::edges_in_order;
 use ospf_base::RouterId;
-use ospf_edges::edges_at;
+use ospf_graph::edges::edges_at;
 use ospf_graph::{Edge, Vertex, is_same};
 use ospf_lsa::Listing;
 use std::alloc::{AllocError, Global};

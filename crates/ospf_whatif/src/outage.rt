@@ -1,8 +1,8 @@
 //! The graph of an area, and what a failure takes from it.
 
 ghost use Rattle.std.specs.Prelude.{◌≡◌, ◌↔◌, ◌∷◌, [], Contains, IfOk, IsTrue};
-ghost use Rattle.ospf_edges.specs.Given.{IsEdgesOf};
-ghost use Rattle.ospf_edges.specs.Listed.{advertisements_of};
+ghost use Rattle.ospf_graph.specs.EdgeLists.Given.{IsEdgesOf};
+ghost use Rattle.ospf_graph.specs.EdgeLists.Listed.{advertisements_of};
 ghost use Rattle.ospf_graph.specs.Search.{AreEdgesInOrder, AreFitEdges};
 ghost use Rattle.ospf_graph.specs.declared.graph.Vertex.TheVariants.{Router};
 ghost use Rattle.ospf_whatif.specs.Lost.{AreEdgesLost, AreEndsLost, AreStubsAt, AreStubsOf, Connects, IsOutside, IsTwoWay, IsWayBack, Stays};
@@ -14,7 +14,7 @@ use crate::area::without_more;
 use crate::failure::{AreaFailure, is_of_subnet};
 use crate::subnets::inner_of;
 use ospf_base::{Prefix, RouterId};
-use ospf_edges::{End, edges_at, edges_of, ends_at};
+use ospf_graph::edges::{End, edges_at, edges_of, ends_at};
 use ospf_graph::{Edge, Vertex, edges_from, is_same, sorted_edges};
 use ospf_lsa::{Link, Listing};
 use ospf_spf::{ends_in_order, ends_to, is_same_prefix, prefix_order};
@@ -30,7 +30,7 @@ pub struct AreaGraph {
 
 impl AreaGraph {
     ghost use Rattle.std.specs.Prelude.{IfOk};
-    ghost use Rattle.ospf_edges.specs.Listed.{advertisements_of};
+    ghost use Rattle.ospf_graph.specs.EdgeLists.Listed.{advertisements_of};
     ghost use Rattle.ospf_whatif.specs.Outage.{IsAreaGraph};
 
     /// The graph of the area of a listing.
@@ -55,7 +55,7 @@ pub struct Outage {
 
 impl Outage {
     ghost use Rattle.std.specs.Prelude.{◌≡◌, ◌∷◌, ◌<◌, [], List, IfOk, length};
-    ghost use Rattle.ospf_edges.specs.Listed.{advertisements_of};
+    ghost use Rattle.ospf_graph.specs.EdgeLists.Listed.{advertisements_of};
     ghost use Rattle.ospf_graph.specs.Advertisements.{Advertisement};
     ghost use Rattle.ospf_graph.specs.Search.{AreEdgesInOrder};
     ghost use Rattle.ospf_spf.specs.Spared.{AreEndsInOrder};

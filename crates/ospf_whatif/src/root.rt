@@ -3,14 +3,14 @@
 ghost use Rattle.std.specs.Prelude.{◌≡◌, ◌↔◌, ◌<◌, ℕ, List, All, AllPairs, Contains, IfOk, IsFalse, IsTrue, OnOk, length, slice_index_or};
 ghost use Rattle.std.specs.List.Sorted.{IsNonDecreasing};
 ghost use Rattle.ospf_base.specs.declared.ids.RouterId.{RouterId};
-ghost use Rattle.ospf_edges.specs.Listed.{advertisements_of};
-ghost use Rattle.ospf_edges.specs.declared.end.End.{End};
+ghost use Rattle.ospf_graph.specs.EdgeLists.Listed.{advertisements_of};
+ghost use Rattle.ospf_graph.specs.declared.edges.end.End.{End};
 ghost use Rattle.ospf_graph.specs.Advertisements.{Advertisement};
 ghost use Rattle.ospf_graph.specs.Routes.{IsRoute, IsRouteBefore, IsTable};
 ghost use Rattle.ospf_graph.specs.Search.{AreEdgesInOrder, AtIn};
 ghost use Rattle.ospf_graph.specs.declared.graph.Edge.{Edge};
 ghost use Rattle.ospf_graph.specs.declared.route.Route.{Route};
-ghost use Rattle.ospf_incremental.specs.Kept.{KeptTree};
+ghost use Rattle.ospf_spf.specs.IncrementalSpf.Kept.{KeptTree};
 ghost use Rattle.ospf_spf.specs.Spared.{AreEndsInOrder};
 ghost use Rattle.ospf_whatif.specs.Effect.{IsEffectIn};
 ghost use Rattle.ospf_whatif.specs.Laws.{IsOffLeastPaths};
@@ -20,10 +20,10 @@ ghost use Rattle.ospf_whatif.specs.Told.{IsLive};
 use crate::effect::{Loss, RouteChange, place_to};
 use crate::outage::{AreaGraph, Outage, ends_left};
 use ospf_base::{Prefix, RouterId};
-use ospf_edges::{End, ends_at};
+use ospf_graph::edges::{End, ends_at};
 use ospf_graph::{Edge, Route, Vertex, edges_from, is_same};
-use ospf_incremental::{KeptPaths, Paths};
 use ospf_lsa::Listing;
+use ospf_spf::incremental::{KeptPaths, Paths};
 use ospf_spf::{RouteTable, ends_to, is_same_prefix, is_same_route, route_by};
 use std::alloc::{AllocError, Global};
 
@@ -36,7 +36,7 @@ pub struct KeptRoot {
 
 impl KeptRoot {
     ghost use Rattle.std.specs.Prelude.{◌≡◌, List, IfOk};
-    ghost use Rattle.ospf_edges.specs.Listed.{advertisements_of};
+    ghost use Rattle.ospf_graph.specs.EdgeLists.Listed.{advertisements_of};
     ghost use Rattle.ospf_graph.specs.Advertisements.{Advertisement};
     ghost use Rattle.ospf_graph.specs.Routes.{IsTable};
     ghost use Rattle.ospf_whatif.specs.Effect.{IsEffectIn};

@@ -2,8 +2,8 @@
 
 ghost use Rattle.std.specs.Prelude.{◌≡◌, ◌++◌, ◌∷◌, [], filter, IfOk, OnOk};
 ghost use Rattle.std.specs.List.{list_any};
-ghost use Rattle.ospf_edges.specs.Addresses.{links_by};
-ghost use Rattle.ospf_edges.specs.Listed.{advertisements_of};
+ghost use Rattle.ospf_graph.specs.EdgeLists.Addresses.{links_by};
+ghost use Rattle.ospf_graph.specs.EdgeLists.Listed.{advertisements_of};
 ghost use Rattle.ospf_whatif.specs.Failure.{inner_of};
 ghost use Rattle.ospf_whatif.specs.Subnets.{HaveSame, indices, inner_between, is_address, is_end_in, is_held, is_inside, is_link_in, is_link_to, is_same_stub, is_shared_stub, is_stub_link};
 

@@ -5,9 +5,9 @@ use Rattle.std.specs.List.{Contains}
 use Rattle.std.specs.Borrow.{Bor}
 use Rattle.ospf_area.specs.State.{AreaValue}
 use Rattle.ospf_base.specs.declared.ids.RouterId.{RouterId}
-use Rattle.ospf_edges.specs.Listed.{advertisements_of}
+use Rattle.ospf_graph.specs.EdgeLists.Listed.{advertisements_of}
 use Rattle.ospf_graph.proofs.WalkSteps.{onward_of}
-use Rattle.ospf_step.proofs.StateFacts.{Contains-nil}
+use Rattle.ospf_router.proofs.AreaStep.StateFacts.{Contains-nil}
 use Rattle.ospf_graph.specs.Advertisements.{Advertisement}
 use Rattle.ospf_graph.specs.Routes.{IsHop, IsRoute, IsTable}
 use Rattle.ospf_graph.specs.Walk.{HasLinkFor, IsBest}
@@ -16,7 +16,7 @@ use Rattle.ospf_graph.specs.declared.hop.NextHop.TheVariants as hops
 use Rattle.ospf_graph.specs.declared.route.Route.{Route}
 use Rattle.ospf_headline.specs.Walks.{HasNoRoute, adverts}
 use Rattle.ospf_headline.specs.World.{Member, Running, World, router_at}
-use Rattle.ospf_event.specs.declared.event.WorldFault.{WorldFault}
+use Rattle.ospf_base.specs.declared.event.event.WorldFault.{WorldFault}
 use Rattle.ospf_router.specs.Routers.{RouterValue, listing_of}
 use Rattle.ospf_world.specs.declared.walk.Leg.{Leg}
 use Rattle.ospf_world.specs.Walks.{IsLeg, LegsOver}

@@ -11,9 +11,9 @@ use Rattle.ospf_base.specs.declared.ids.RouterId.{RouterId}
 use Rattle.ospf_config.specs.declared.config.Config.{Config}
 use Rattle.ospf_headline.specs.Headline.{IsReached}
 use Rattle.ospf_headline.specs.World.{IsNewWorld}
-use Rattle.ospf_event.specs.declared.event.WorldFault.{WorldFault}
-use Rattle.ospf_event.specs.declared.event.WorldFault.TheVariants as fault
-use Rattle.ospf_step.proofs.StateFacts.{slice_get-append_cases}
+use Rattle.ospf_base.specs.declared.event.event.WorldFault.{WorldFault}
+use Rattle.ospf_base.specs.declared.event.event.WorldFault.TheVariants as fault
+use Rattle.ospf_router.proofs.AreaStep.StateFacts.{slice_get-append_cases}
 use Rattle.ospf_headline.specs.Slots.{SlotValue}
 use Rattle.ospf_router.specs.Steps.{is_dropped}
 use Rattle.ospf_config.specs.Configs.{ShareRouter}

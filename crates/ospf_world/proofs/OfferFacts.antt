@@ -9,8 +9,8 @@ use Rattle.ospf_config.specs.Conflicts.{network_part}
 use Rattle.ospf_config.specs.declared.config.Config.{Config}
 use Rattle.ospf_config.specs.declared.address.InterfaceAddress.{InterfaceAddress}
 use Rattle.ospf_config.specs.declared.interface.Interface.{Interface}
-use Rattle.ospf_event.specs.declared.event.WorldEvent.{WorldEvent}
-use Rattle.ospf_event.specs.declared.event.WorldEvent.TheVariants.{Deliver}
+use Rattle.ospf_base.specs.declared.event.event.WorldEvent.{WorldEvent}
+use Rattle.ospf_base.specs.declared.event.event.WorldEvent.TheVariants.{Deliver}
 use Rattle.ospf_headline.specs.declared.logs.Datagram.{Datagram}
 use Rattle.ospf_headline.specs.Slots.{SlotValue}
 use Rattle.ospf_world.specs.Networks.{AreNetworks, places_on_network, links_from, links_on, router_links}

@@ -14,9 +14,9 @@ use Rattle.ospf_graph.specs.Advertisements.{Advertisement, network_lsa, router_l
 use Rattle.ospf_graph.specs.Routes.{IsEnd, IsTable}
 use Rattle.ospf_graph.specs.declared.graph.Vertex.{Vertex}
 use Rattle.ospf_graph.specs.declared.graph.Vertex.TheVariants as vertex
-use Rattle.ospf_step.proofs.StateFacts.{Contains-nil}
-use Rattle.ospf_links.specs.Parts.{link_up}
-use Rattle.ospf_links.specs.Works.{link_changed, up_out_on}
+use Rattle.ospf_router.proofs.AreaStep.StateFacts.{Contains-nil}
+use Rattle.ospf_adjacency.specs.LinkSteps.Parts.{link_up}
+use Rattle.ospf_adjacency.specs.LinkSteps.Works.{link_changed, up_out_on}
 use Rattle.ospf_lsa.specs.declared.link.Link.{Link}
 use Rattle.ospf_lsa.specs.declared.link.LinkKind.TheVariants.{Stub}
 use Rattle.ospf_lsa.specs.Header.{HeaderFits, header_of}
@@ -27,11 +27,11 @@ use Rattle.ospf_lsdb.specs.Database.{Held, entry_from}
 use Rattle.ospf_originate.specs.Numbers.{issued}
 use Rattle.ospf_originate.proofs.Words.{and_issues}
 use Rattle.ospf_router.specs.Starts.{IsAreaOf, area_of, iface_of}
-use Rattle.ospf_update.specs.Aging.{turned_area}
-use Rattle.ospf_update.proofs.Words.{store_updates}
-use Rattle.ospf_update.specs.Removal.{lowest_number}
-use Rattle.ospf_wanted.specs.Made.{lsa_value}
-use Rattle.ospf_wanted.specs.Wanted.{WantedValue}
+use Rattle.ospf_area.specs.Updates.Aging.{turned_area}
+use Rattle.ospf_area.proofs.Updates.Words.{store_updates}
+use Rattle.ospf_area.specs.Updates.Removal.{lowest_number}
+use Rattle.ospf_originate.specs.Wants.Made.{lsa_value}
+use Rattle.ospf_originate.specs.Wants.Wanted.{WantedValue}
 use Rattle.ospf_world.proofs.Config.{config, interface, it}
 use Rattle.ospf_area.proofs.Words.{greatest_after}
 
@@ -115,7 +115,7 @@ stored = record ticked {
   links = flooded_links (key_of own_lsa) (header_of own_lsa) None 1 (released (key_of own_lsa) ticked.links);
   sent = marked (key_of own_lsa) (goes_anywhere (key_of own_lsa) (header_of own_lsa) None (released (key_of own_lsa) ticked.links)) ticked.sent;
   numbering = counts (key_of own_lsa) (header_of own_lsa).number ticked;
-  greatest = greatest_after (key_of own_lsa) (header_of own_lsa).number ticked;
+  max_seq = greatest_after (key_of own_lsa) (header_of own_lsa).number ticked;
 }
 
 abbrev pub issuing : AreaValue

@@ -10,15 +10,15 @@ use Rattle.ospf_area.specs.declared.state.Numbering.{Numbering}
 use Rattle.ospf_base.specs.Keys.{same_key}
 use Rattle.ospf_base.specs.declared.ids.Instance.{Instance}
 use Rattle.ospf_base.specs.declared.ids.RouterId.{RouterId}
-use Rattle.ospf_step.proofs.StepChains.{up_chain, ends_put, tick_puts}
-use Rattle.ospf_step.specs.Invariants.{AreRising}
+use Rattle.ospf_router.proofs.AreaStep.StepChains.{up_chain, ends_put, tick_puts}
+use Rattle.ospf_router.specs.AreaStep.Invariants.{AreRising}
 use Rattle.ospf_adjacency.specs.Links.{hello_packet}
-use Rattle.ospf_step.proofs.Chains.{step_from_chain}
-use Rattle.ospf_step.proofs.StepAccounts.{StepLaws-accounts, StepLaws-sound}
-use Rattle.ospf_step.specs.Step.{Event, StepLaws, last_parts}
-use Rattle.ospf_step.specs.Words.{IsSoundState}
-use Rattle.ospf_links.specs.Elections.{ElectsFrom}
-use Rattle.ospf_links.specs.Parts.{link_up}
+use Rattle.ospf_router.proofs.AreaStep.Chains.{step_from_chain}
+use Rattle.ospf_router.proofs.AreaStep.StepAccounts.{StepLaws-accounts, StepLaws-sound}
+use Rattle.ospf_router.specs.AreaStep.Step.{Event, StepLaws, last_parts}
+use Rattle.ospf_router.specs.AreaStep.Words.{IsSoundState}
+use Rattle.ospf_adjacency.specs.LinkSteps.Elections.{ElectsFrom}
+use Rattle.ospf_adjacency.specs.LinkSteps.Parts.{link_up}
 use Rattle.ospf_lsdb.specs.Database.{Held, IsDatabase, entry_from, key_in, reached_at}
 use Rattle.ospf_neighbour.specs.Neighbours.{AreNeighboursRising}
 use Rattle.ospf_originate.proofs.DueLemmas.{no_candidate}
@@ -30,14 +30,14 @@ use Rattle.ospf_originate.specs.declared.action.DueAction.{DueAction}
 use Rattle.ospf_originate.specs.declared.action.OwnAction.TheVariants.{Issue}
 use Rattle.ospf_packet.proofs.RoundTrip.{read_again}
 use Rattle.ospf_packet.specs.Meaning.{Meaning, MeaningFits}
-use Rattle.ospf_step.specs.Lawful.{IsLawful}
-use Rattle.ospf_step.specs.Drops.{is_dropped}
-use Rattle.ospf_step.specs.Ends.{EndsStep}
-use Rattle.ospf_step.specs.Steps.{StepsArea}
-use Rattle.ospf_step.specs.Ticks.{TakesTick}
-use Rattle.ospf_update.specs.Acks.{cut}
-use Rattle.ospf_wanted.specs.Made.{says}
-use Rattle.ospf_wanted.specs.Wanted.{links_of_link, wanted_lsas}
+use Rattle.ospf_router.specs.AreaStep.Lawful.{IsLawful}
+use Rattle.ospf_router.specs.AreaStep.Drops.{is_dropped}
+use Rattle.ospf_router.specs.AreaStep.Ends.{EndsStep}
+use Rattle.ospf_router.specs.AreaStep.Steps.{StepsArea}
+use Rattle.ospf_router.specs.AreaStep.Ticks.{TakesTick}
+use Rattle.ospf_area.specs.Updates.Acks.{cut}
+use Rattle.ospf_originate.specs.Wants.Made.{says}
+use Rattle.ospf_originate.specs.Wants.Wanted.{links_of_link, wanted_lsas}
 use Rattle.ospf_world.proofs.States.{begun, down_link, has_issued, is_lsa, is_made, issuing, issuing_out, linked, linked_out, own_key, own_lsa, stored, stored_lsa, ticked}
 
 -- ---- a tick

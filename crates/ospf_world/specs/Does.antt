@@ -1,11 +1,11 @@
 -- What a world event does in code, at the router that it names.
 use Rattle.std.specs.Prelude.{◌≡◌, ◌++◌, ℕ, List, None, Some, Result, Err, length, slice_get, slice_set}
 use Rattle.ospf_base.specs.declared.ids.RouterId.{RouterId}
-use Rattle.ospf_event.specs.declared.event.WorldEvent.{WorldEvent}
-use Rattle.ospf_event.specs.declared.event.WorldFault.{WorldFault}
-use Rattle.ospf_event.specs.declared.event.WorldFault.TheVariants as fault
+use Rattle.ospf_base.specs.declared.event.event.WorldEvent.{WorldEvent}
+use Rattle.ospf_base.specs.declared.event.event.WorldFault.{WorldFault}
+use Rattle.ospf_base.specs.declared.event.event.WorldFault.TheVariants as fault
 use Rattle.ospf_headline.specs.Slots.{SlotSteps, SlotValue}
-use Rattle.ospf_event.specs.Events.{router_in}
+use Rattle.ospf_base.specs.Events.Events.{router_in}
 use Rattle.ospf_world.specs.Ticks.{ticked_by}
 use Rattle.ospf_world.specs.Worlds.{WorldValue, place_of}
 

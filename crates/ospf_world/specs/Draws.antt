@@ -3,11 +3,11 @@ use Rattle.std.specs.Prelude.{◌==◌, ◌%◌, ℕ, zero, suc, Bool, Option, N
 use Rattle.rand_pcg.specs.Lcg.{Lcg}
 use Rattle.rand_pcg.specs.Pcg.{pcg32}
 use Rattle.ospf_base.specs.declared.ids.RouterId.{RouterId}
-use Rattle.ospf_update.specs.Removal.{lowest_number}
+use Rattle.ospf_area.specs.Updates.Removal.{lowest_number}
 use Rattle.ospf_world.specs.declared.chance.Words.{Words}
 use Rattle.ospf_headline.specs.World.{Member, World}
-use Rattle.ospf_event.specs.declared.event.WorldEvent.{WorldEvent}
-use Rattle.ospf_event.specs.declared.event.WorldEvent.TheVariants.{Start, Stop, Tick, LinkUp, LinkDown, Deliver}
+use Rattle.ospf_base.specs.declared.event.event.WorldEvent.{WorldEvent}
+use Rattle.ospf_base.specs.declared.event.event.WorldEvent.TheVariants.{Start, Stop, Tick, LinkUp, LinkDown, Deliver}
 
 -- the next four words of a generator
 unfoldable pub words_from : Lcg → Words × Lcg

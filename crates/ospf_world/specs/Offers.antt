@@ -6,8 +6,8 @@ use Rattle.ospf_base.specs.declared.ids.Addr.{Addr}
 use Rattle.ospf_config.specs.Conflicts.{network_part}
 use Rattle.ospf_config.specs.declared.address.InterfaceAddress.{InterfaceAddress}
 use Rattle.ospf_config.specs.declared.config.Config.{Config}
-use Rattle.ospf_event.specs.declared.event.WorldEvent.{WorldEvent}
-use Rattle.ospf_event.specs.declared.event.WorldEvent.TheVariants.{Deliver}
+use Rattle.ospf_base.specs.declared.event.event.WorldEvent.{WorldEvent}
+use Rattle.ospf_base.specs.declared.event.event.WorldEvent.TheVariants.{Deliver}
 
 -- the address of the interface of a link
 abbrev pub address_at : Config → ℕ → Option InterfaceAddress

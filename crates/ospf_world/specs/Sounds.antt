@@ -2,7 +2,7 @@
 use Rattle.std.specs.Prelude.{List}
 use Rattle.ospf_headline.specs.Sound.{IsSoundAcknowledgement}
 use Rattle.ospf_headline.specs.World.{Happens, RunsEvents, World}
-use Rattle.ospf_event.specs.declared.event.WorldEvent.{WorldEvent}
+use Rattle.ospf_base.specs.declared.event.event.WorldEvent.{WorldEvent}
 use Rattle.ospf_router.specs.Steps.{is_dropped}
 
 -- some events lead from one to the other, and whatever events do,

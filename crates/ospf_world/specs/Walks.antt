@@ -8,8 +8,8 @@ use Rattle.ospf_graph.specs.declared.hop.NextHop.TheVariants as hops
 use Rattle.ospf_graph.specs.declared.route.Route.{Route}
 use Rattle.ospf_headline.specs.Walks.{HasNoRoute, WorldWalk, adverts}
 use Rattle.ospf_headline.specs.World.{Member, Running, World, member, router_at}
-use Rattle.ospf_event.specs.declared.event.WorldFault.{WorldFault}
-use Rattle.ospf_event.specs.declared.event.WorldFault.TheVariants as fault
+use Rattle.ospf_base.specs.declared.event.event.WorldFault.{WorldFault}
+use Rattle.ospf_base.specs.declared.event.event.WorldFault.TheVariants as fault
 use Rattle.ospf_headline.specs.declared.walk.WalkEnd.TheVariants as ends
 use Rattle.ospf_world.specs.declared.walk.Leg.{Leg}
 use Rattle.ospf_world.specs.declared.walk.Leg.TheVariants.{Ends, Goes}

@@ -5,11 +5,11 @@ use Rattle.ospf_base.specs.declared.ids.RouterId.{RouterId}
 use Rattle.ospf_config.specs.declared.config.Config.{Config}
 use Rattle.ospf_headline.specs.Runs.{RunsOn}
 use Rattle.ospf_headline.specs.World.{Running, router_at}
-use Rattle.ospf_event.specs.declared.event.WorldEvent.TheVariants.{Start, Tick, LinkUp}
+use Rattle.ospf_base.specs.declared.event.event.WorldEvent.TheVariants.{Start, Tick, LinkUp}
 use Rattle.ospf_headline.specs.declared.logs.Datagram.{Datagram}
 use Rattle.ospf_headline.specs.declared.logs.Issued.{Issued}
-use Rattle.ospf_iface.specs.Machine.{is_down}
-use Rattle.ospf_step.specs.Words.{HasCopy}
+use Rattle.ospf_neighbour.specs.Interface.Machine.{is_down}
+use Rattle.ospf_router.specs.AreaStep.Words.{HasCopy}
 use Rattle.ospf_lsa.specs.Lsa.{IsLsa, key_of}
 use Rattle.ospf_packet.specs.Meaning.{hello}
 use Rattle.ospf_packet.specs.PacketOf.{packet_of}

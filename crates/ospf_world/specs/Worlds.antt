@@ -7,8 +7,8 @@ use Rattle.ospf_base.specs.declared.ids.RouterId.{RouterId}
 use Rattle.ospf_config.specs.Configs.{ShareRouter}
 use Rattle.ospf_config.specs.declared.config.Config.{Config}
 use Rattle.ospf_headline.specs.World.{Member, World, member}
-use Rattle.ospf_event.specs.declared.event.WorldFault.{WorldFault}
-use Rattle.ospf_event.specs.declared.event.WorldFault.TheVariants as fault
+use Rattle.ospf_base.specs.declared.event.event.WorldFault.{WorldFault}
+use Rattle.ospf_base.specs.declared.event.event.WorldFault.TheVariants as fault
 use Rattle.ospf_headline.specs.Logs.{LogsValue}
 use Rattle.ospf_headline.specs.Slots.{member_of}
 use Rattle.ospf_world.specs.declared.ticks.Ticked.{Ticked}

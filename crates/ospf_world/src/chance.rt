@@ -3,8 +3,8 @@
 ghost use Rattle.std.specs.Prelude.{◌≡◌, ◌<◌, ◌==◌, IfSome};
 ghost use Rattle.ospf_world.specs.Draws.{chosen_of, drawn_delivery, drawn_for, drawn_link_down, drawn_link_up, drawn_turn, words_from};
 
+use ospf_base::event::WorldEvent;
 use ospf_base::{NO_FLOOR, RouterId};
-use ospf_event::WorldEvent;
 use rand_core::utils::NextWord;
 use rand_pcg::Lcg64Xsh32;
 

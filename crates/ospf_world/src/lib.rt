@@ -32,5 +32,5 @@ pub use crate::walk::Walk;
 pub use crate::watch::{EventWatch, Unwatched};
 pub use crate::work_laws::some_router_works;
 pub use crate::world::World;
-pub use ospf_event::{WorldEvent, WorldFault};
+pub use ospf_base::event::{WorldEvent, WorldFault};
 pub use ospf_headline::{Datagram, Holding, Issued, Logs, Run, Slot};

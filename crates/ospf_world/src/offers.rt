@@ -6,9 +6,9 @@ ghost use Rattle.ospf_world.specs.Offers.{address_at, is_for, is_offered, share_
 ghost use Rattle.ospf_world.specs.Rounds.{is_offered_to, offer_at, offer_on};
 
 use crate::networks::LinkPlace;
+use ospf_base::event::WorldEvent;
 use ospf_base::{ALL_D_ROUTERS, ALL_SPF_ROUTERS, Addr, mask_of};
 use ospf_config::{Config, InterfaceAddress};
-use ospf_event::WorldEvent;
 use ospf_headline::{Datagram, Slot};
 use std::alloc::{AllocError, Global};
 

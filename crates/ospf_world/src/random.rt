@@ -15,7 +15,7 @@ ghost use Rattle.rand_pcg.specs.Pcg.{multiplier_64};
 use crate::chance::{Words, chosen, draw, drawn_at};
 use crate::watch::{EventWatch, Unwatched};
 use crate::world::{World, is_memory};
-use ospf_event::{WorldEvent, WorldFault};
+use ospf_base::event::{WorldEvent, WorldFault};
 use ospf_headline::{headline, soundness};
 use rand_pcg::Lcg64Xsh32;
 use std::alloc::Global;

@@ -11,7 +11,7 @@ ghost use Rattle.ospf_world.specs.Worlds.{world_of};
 
 use crate::watch::{EventWatch, Unwatched};
 use crate::world::World;
-use ospf_event::{WorldEvent, WorldFault};
+use ospf_base::event::{WorldEvent, WorldFault};
 use ospf_headline::{Slot, headline, runs_lead_on, soundness};
 use std::alloc::{AllocError, Global};
 

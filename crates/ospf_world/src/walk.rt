@@ -1,7 +1,7 @@
 //! Walks along next hops, from router to router.
 
 ghost use Rattle.std.specs.Prelude.{◌≡◌, ◌≢◌, ◌<◌, ◌%◌, ℕ, None, Some, IfOk, drop, is_some, length, slice_get};
-ghost use Rattle.ospf_edges.specs.Listed.{advertisements_of};
+ghost use Rattle.ospf_graph.specs.EdgeLists.Listed.{advertisements_of};
 ghost use Rattle.ospf_graph.specs.Walk.{HasLinkFor, IsNext};
 ghost use Rattle.ospf_graph.specs.declared.hop.NextHop.TheVariants as hops;
 ghost use Rattle.ospf_headline.specs.Sound.{NoCollision};
@@ -13,9 +13,9 @@ ghost use Rattle.ospf_world.specs.Walks.{IsLeg, LegsOver, Walks};
 ghost use Rattle.ospf_world.specs.Worlds.{world_of};
 
 use crate::world::World;
+use ospf_base::event::WorldFault;
 use ospf_base::{Addr, RouterId};
-use ospf_edges::link_cost;
-use ospf_event::WorldFault;
+use ospf_graph::edges::link_cost;
 use ospf_graph::{NextHop, Route};
 use ospf_headline::{WalkEnd, headline};
 use ospf_router::Router;

@@ -4,7 +4,7 @@ ghost use Rattle.std.specs.Prelude.{⊤};
 ghost use Rattle.ospf_world.specs.Watching.{CameRule, ComesRule};
 
 use crate::world::World;
-use ospf_event::{WorldEvent, WorldFault};
+use ospf_base::event::{WorldEvent, WorldFault};
 
 /// Is notified of each event of a run, a round or a draw. What it does then is its own affair:
 /// it returns nothing to the world.

@@ -14,7 +14,7 @@ ghost use Rattle.ospf_world.specs.Worlds.{SameSettings, world_of};
 
 use crate::watch::EventWatch;
 use crate::world::{World, is_memory};
-use ospf_event::{WorldEvent, WorldFault};
+use ospf_base::event::{WorldEvent, WorldFault};
 use ospf_headline::{headline, runs_lead_on, soundness};
 use std::alloc::Global;
 

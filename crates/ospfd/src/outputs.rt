@@ -1,7 +1,7 @@
 //! The files that are written besides standard output.
 
 use ospf_files::tell_unwritten;
-use ospf_records::Journal;
+use ospf_views::records::Journal;
 use std::fs;
 use std::io::{self, ErrorKind, Write};
 use std::rt::Runtime;

@@ -2,10 +2,10 @@
 
 use crate::names::tell_overwritten;
 use crate::outputs::{OutputFiles, Written, open_written};
+use ospf_drive::udp::{Stop, prepare};
 use ospf_files::{FailedStreams, Failure, NamedFile, Status, read_files};
 use ospf_notes::{Noted, Notes, StatusLine, Tables};
 use ospf_run::{Ending, Settings};
-use ospf_udp::{Stop, prepare};
 use ospf_words::RunJob;
 use std::alloc::Global;
 use std::io::{self, BufWriter, ErrorKind, Read, Write};

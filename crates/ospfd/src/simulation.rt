@@ -7,8 +7,8 @@ use ospf_files::{
     FailedStreams, Failure, NamedFile, Status, read_file, read_files, tell_unwritten,
 };
 use ospf_notes::StatusLine;
-use ospf_records::write_records;
 use ospf_sim::{Console, Events, Recording, Simulated, Watch, console_text, sim_text};
+use ospf_views::records::write_records;
 use ospf_words::SimJob;
 use std::alloc::Global;
 use std::io::{self, BufReader, Write};

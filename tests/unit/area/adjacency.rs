@@ -8,7 +8,7 @@ use ospf_adjacency::{
 use ospf_area::{LinkContext, Outputs, RouterContext, Outbox, request_turn, send_dd, send_request};
 use ospf_base::{ALL_SPF_ROUTERS, Addr, AreaId, InterfaceKind, RouterId};
 use ospf_exchange::Local;
-use ospf_iface::{Iface, IfaceState};
+use ospf_neighbour::iface::{Iface, IfaceState};
 use ospf_lsa::Lsa;
 use ospf_lsdb::Lsdb;
 use ospf_neighbour::{Declared, NbrEvent, Neighbour, NeighbourState};

@@ -6,11 +6,11 @@ use ospf_area::{
     Area, AdjacencyChange, AreaLink, LinkSettings, LinkContext, PacketSource, Outputs, Outbox, acknowledge_by, answer_at,
     change_at, count_number, delay_at, flood, is_awaited, is_numbered, is_own, is_requested,
     is_self_originated, is_taken, mark, source_of, context_of, release, send_request, sent_lsa,
-    some_link_loading, to_address, turn_requests, was_sent,
+    some_link_loading, to_address, advance_requests, was_sent,
 };
 use ospf_base::{Addr, Instance, InterfaceKind, Kind, LsaKey, RouterId};
 use ospf_flood::{Acknowledgement, AcknowledgementCase};
-use ospf_iface::{Iface, IfaceSettings, IfaceState};
+use ospf_neighbour::iface::{Iface, IfaceSettings, IfaceState};
 use ospf_lsa::{Lsa, LsaHeader, LsaView};
 use ospf_neighbour::{NeighbourState, Neighbours};
 use ospf_packet::{Body, Packet};
@@ -260,7 +260,7 @@ fn loading(area: &Area) -> (bool, bool, bool) {
 // The next Requests. Answers how many datagrams there are then.
 fn ask(area: &mut Area, out: &mut Outputs, alloc: Global) -> Result<usize, Fail> {
     let own = context_of(area);
-    turn_requests(&mut area.links, own, out, alloc)?;
+    advance_requests(&mut area.links, own, out, alloc)?;
     Ok(out.sent.len())
 }
 
@@ -376,7 +376,7 @@ fn numbers(area: &Area) -> (usize, bool, bool, i32) {
         area.numbering.len(),
         is_numbered(&area.numbering, &OWN_KEY),
         is_numbered(&area.numbering, &KEY),
-        area.greatest,
+        area.max_seq,
     )
 }
 

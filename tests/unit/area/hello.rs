@@ -3,12 +3,12 @@
 use super::made::require;
 use super::wired::{LOCAL, OWN, count, iface};
 use ospf_adjacency::{
-    go_down, go_up, hello_on, is_at, is_named, is_settled, send_due_hello, send_hello,
+    go_down, go_up, receive_hello, is_at, is_named, is_settled, send_due_hello, send_hello,
     tick_neighbours, tick_timers,
 };
 use ospf_area::{LinkContext, Outputs, RouterContext, Outbox};
 use ospf_base::{ALL_SPF_ROUTERS, Addr, AreaId, InterfaceKind, RouterId};
-use ospf_iface::{Iface, IfaceState};
+use ospf_neighbour::iface::{Iface, IfaceState};
 use ospf_neighbour::{NbrEvent, Neighbour, NeighbourState, place_for};
 use ospf_packet::{Body, BodyValue, Hello, Packet, PacketValue, write_packet};
 use std::alloc::Global;
@@ -65,7 +65,7 @@ fn a_hello_makes_a_neighbour(rt: HostRuntime) -> Result<(), Fail> {
     let mut neighbours = Vec::new(alloc);
     let mut outbox = Outbox::new(5, alloc);
     let said = hello(3, Addr(2), Addr::NOWHERE);
-    let elects = hello_on(
+    let elects = receive_hello(
         &mut neighbours,
         RouterId(2),
         Addr(2),
@@ -98,7 +98,7 @@ fn heard_both_ways(rt: HostRuntime) -> Result<(), Fail> {
     let mut neighbours = vec![in alloc; neighbour(alloc, 2, false, 1)]?;
     let mut outbox = Outbox::new(5, alloc);
     let said = hello(1, Addr::NOWHERE, Addr::NOWHERE);
-    let elects = hello_on(
+    let elects = receive_hello(
         &mut neighbours,
         RouterId(2),
         Addr(2),
@@ -137,7 +137,7 @@ fn elects_by(
     let link = iface(InterfaceKind::Broadcast, state);
     let mut neighbours = vec![in alloc; neighbour(alloc, 2, true, 40)]?;
     let mut outbox = Outbox::new(5, alloc);
-    let elects = hello_on(
+    let elects = receive_hello(
         &mut neighbours,
         RouterId(2),
         Addr(2),

@@ -5,8 +5,8 @@ use super::wired::area_of;
 use super::written::bytes_of;
 use ospf_area::{Area, AreaLink, LinkSettings, PacketSource, Outputs, Sent, source_of, context_of};
 use ospf_base::{Addr, AreaId, InterfaceKind, RouterId};
-use ospf_iface::{Iface, IfaceSettings, IfaceState};
-use ospf_links::{
+use ospf_neighbour::iface::{Iface, IfaceSettings, IfaceState};
+use ospf_adjacency::link_steps::{
     count_timers, repeat_all, send_hellos, take_description, take_hello, take_request, take_up,
 };
 use ospf_lsa::Lsa;

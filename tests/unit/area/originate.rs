@@ -2,12 +2,12 @@
 
 use ospf_area::{Area, AreaLink, LinkSettings, PacketSource, Outputs};
 use ospf_base::{Addr, AreaId, Instance, InterfaceKind, Kind, LsaKey, MAX_AGE, RouterId, is_mask};
-use ospf_iface::{Iface, IfaceSettings, IfaceState};
+use ospf_neighbour::iface::{Iface, IfaceSettings, IfaceState};
 use ospf_lsa::{LinkKind, Lsa, LsaView};
 use ospf_lsdb::Lsdb;
 use ospf_neighbour::{NbrEvent, Neighbour, Neighbours};
 use ospf_originate::own_lsas;
-use ospf_update::{on_lsa, remove};
+use ospf_area::update::{on_lsa, remove};
 use std::alloc::Global;
 use std::collections::BTreeSet;
 use std::test::Fail;
@@ -151,7 +151,7 @@ fn area(alloc: Global, own: End, stub_router: bool, floor: i32, links: Vec<AreaL
         next_dd: 1,
         sent: BTreeSet::new(alloc),
         heard: Vec::new(alloc),
-        greatest: floor,
+        max_seq: floor,
     }
 }
 
@@ -252,7 +252,7 @@ fn first_number(rt: HostRuntime) -> Result<(), Fail> {
     let alloc = rt.alloc();
     let mut area = one(alloc, false, NO_FLOOR, None)?;
     assert!(rt; issues_number(&mut area, FIRST, alloc)?);
-    assert_eq!(rt; area.greatest, FIRST);
+    assert_eq!(rt; area.max_seq, FIRST);
     assert!(rt; has_one_stub_link(&area));
     Ok(())
 }
@@ -340,7 +340,7 @@ fn numbers_begin_above_the_floor(rt: HostRuntime) -> Result<(), Fail> {
     let alloc = rt.alloc();
     let mut area = one(alloc, false, FIRST + 6, None)?;
     assert!(rt; issues(&mut area, ROUTER_KEY, FIRST + 7, 0x41f1, alloc)?);
-    assert_eq!(rt; area.greatest, FIRST + 7);
+    assert_eq!(rt; area.max_seq, FIRST + 7);
     Ok(())
 }
 
@@ -353,7 +353,7 @@ fn numbers_begin_again(rt: HostRuntime) -> Result<(), Fail> {
     assert!(rt; goes_down(&mut area, alloc)?);
     leave(&mut area, ROUTER_KEY, alloc)?;
     assert!(rt; issues(&mut area, ROUTER_KEY, FIRST, 0x3328, alloc)?);
-    assert_eq!(rt; area.greatest, 0x7fff_ffff);
+    assert_eq!(rt; area.max_seq, 0x7fff_ffff);
     Ok(())
 }
 

@@ -6,7 +6,7 @@ use ospf_adjacency::{repeat, take_description, take_event, take_request};
 use ospf_area::{LinkContext, Outputs, RouterContext, Outbox, Sent, request_turn};
 use ospf_base::{Addr, AreaId, Instance, InterfaceKind, RouterId};
 use ospf_exchange::Local;
-use ospf_iface::{Iface, IfaceSettings, IfaceState};
+use ospf_neighbour::iface::{Iface, IfaceSettings, IfaceState};
 use ospf_lsa::{Lsa, LsaHeader, LsaView};
 use ospf_lsdb::Lsdb;
 use ospf_neighbour::{NbrEvent, Neighbour, NeighbourState};

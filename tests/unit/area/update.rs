@@ -4,11 +4,11 @@ use super::made::lsa_of;
 use super::wired::{area_of, neighbour, waiting};
 use ospf_area::{Area, AreaLink, LinkSettings, PacketSource, Outputs};
 use ospf_base::{Addr, AreaId, InterfaceKind, RouterId};
-use ospf_iface::{Iface, IfaceSettings, IfaceState};
+use ospf_neighbour::iface::{Iface, IfaceSettings, IfaceState};
 use ospf_lsa::{Lsa, LsaHeader};
 use ospf_neighbour::Neighbours;
 use ospf_packet::{Body, BodyValue, Packet, PacketValue, write_packet};
-use ospf_update::{on_update, store};
+use ospf_area::update::{on_update, store};
 use std::alloc::Global;
 use std::test::Fail;
 

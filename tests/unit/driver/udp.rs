@@ -3,7 +3,7 @@
 use ospf_base::Addr;
 use ospf_config::Config;
 use ospf_drive::{Arrival, LONGEST, Wire, WireFault};
-use ospf_udp::{Ending, NoSocket, OpenFault, SocketCause, UdpWire};
+use ospf_drive::udp::{Ending, NoSocket, OpenFault, SocketCause, UdpWire};
 use std::alloc::Global;
 use std::fmt::Write;
 use std::io;

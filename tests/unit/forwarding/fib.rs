@@ -3,7 +3,7 @@
 use super::given::{FAR, far_answer, two_routers};
 use ospf_base::Addr;
 use ospf_fib::{Closed, Fib, MAX_SEATS, OpenRefused};
-use ospf_index::Opened;
+use ospf_fib::index::Opened;
 use ospf_spf::{Change, RouteTable};
 use std::fmt::Write;
 use std::test::Fail;

@@ -2,9 +2,9 @@
 
 use super::made::{FIRST_NUMBER, stub, to};
 use ospf_base::{Addr, RouterId};
-use ospf_index::IndexedTable;
-use ospf_index::counts::most_hops;
-use ospf_index::numbering::{SetNumbers, numbers_of};
+use ospf_fib::index::IndexedTable;
+use ospf_fib::index::counts::most_hops;
+use ospf_fib::index::numbering::{SetNumbers, numbers_of};
 use ospf_lsa::{Link, Listing, Lsa};
 use ospf_spf::RouteTable;
 use std::alloc::Global;

@@ -2,7 +2,7 @@
 
 use super::made::{draw, require};
 use ospf_base::{Addr, Prefix, RouterId, mask_of};
-use ospf_index::{IndexedTable, can_replace, put_routes};
+use ospf_fib::index::{IndexedTable, can_replace, put_routes};
 use ospf_spf::{Change, Hops, NextHop, Route, RouteTable, copy_changes, is_same_route};
 use std::alloc::Global;
 use std::test::Fail;

@@ -3,7 +3,7 @@
 use ospf_area::{Area, AreaLink, PacketSource, Outputs, source_of};
 use ospf_base::{Addr, AreaId, InterfaceKind, RouterId};
 use ospf_exchange::Local;
-use ospf_iface::{Iface, IfaceSettings, IfaceState};
+use ospf_neighbour::iface::{Iface, IfaceSettings, IfaceState};
 use ospf_lsa::LsaHeader;
 use ospf_lsdb::Lsdb;
 use ospf_neighbour::{NbrEvent, Neighbour};
@@ -107,7 +107,7 @@ pub(crate) fn area_of(
         next_dd,
         sent: BTreeSet::new(alloc),
         heard: Vec::new(alloc),
-        greatest: i32::MIN,
+        max_seq: i32::MIN,
     }
 }
 

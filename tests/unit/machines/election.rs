@@ -1,7 +1,7 @@
 //! Elections that were worked out by hand.
 
 use ospf_base::{Addr, RouterId};
-use ospf_iface::{Candidate, Elected, elect};
+use ospf_neighbour::iface::{Candidate, Elected, elect};
 use std::test::Fail;
 
 const NONE: Addr = Addr(0);

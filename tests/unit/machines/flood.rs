@@ -7,7 +7,7 @@ use ospf_flood::{
     Acknowledgement, AcknowledgementCase, LsaRule, Sender, acknowledge, case_of_newer, case_of_same,
     flood_to, flooding_address, is_due, is_flooded_out, is_sent_back, lsa_rule, sender_at,
 };
-use ospf_iface::{Iface, IfaceSettings, IfaceState};
+use ospf_neighbour::iface::{Iface, IfaceSettings, IfaceState};
 use ospf_lsa::{Lsa, LsaHeader};
 use ospf_lsdb::Lsdb;
 use ospf_neighbour::{Listed, Neighbour, NeighbourState};

@@ -1,7 +1,7 @@
 //! The table of the state machine, each pair of state and event, and Hellos.
 
 use ospf_base::{Addr, InterfaceKind, RouterId};
-use ospf_iface::{Candidate, Iface, IfaceChange, IfaceEvent, IfaceSettings, IfaceState};
+use ospf_neighbour::iface::{Candidate, Iface, IfaceChange, IfaceEvent, IfaceSettings, IfaceState};
 use ospf_packet::{BodyValue, Hello};
 use std::test::Fail;
 

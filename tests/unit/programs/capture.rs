@@ -4,7 +4,7 @@ use super::given::{FIRST, SECOND};
 use super::worlds::two_that_run;
 use super::written::{HELLO, UPDATE};
 use ospf_base::{ALL_SPF_ROUTERS, Addr};
-use ospf_records::{
+use ospf_views::records::{
     CaptureFault, Moment, Recorder, capture, captures_go_on, checksum_holds, has_one_reading,
     lengths_are_told, logs_go_on, write_datagram, write_header,
 };

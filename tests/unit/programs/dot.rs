@@ -3,7 +3,7 @@
 use super::made::link;
 use ospf_base::RouterId;
 use ospf_lsa::{Link, LinkKind, Listing, Lsa};
-use ospf_records::{Graph, names_tell_apart, prefixes_are_drawn};
+use ospf_inspect::drawing::{Graph, names_tell_apart, prefixes_are_drawn};
 use std::alloc::Global;
 use std::process::Abort;
 use std::test::Fail;

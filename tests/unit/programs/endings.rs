@@ -5,7 +5,7 @@ use super::given::{CONFIG, FIRST};
 use super::program::Nobody;
 use ospf_files::{Failure, NamedFile, Status};
 use ospf_journal::RouterChange;
-use ospf_records::Journal;
+use ospf_views::records::Journal;
 use ospf_sim::{Console, SimStatus, console_text, sim_text};
 use std::alloc::{AllocError, Global};
 use std::io::BufReader;

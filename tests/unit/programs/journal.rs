@@ -4,7 +4,7 @@ use super::made::{FIRST, SECOND, key_of};
 use super::worlds::{routers_of, start, three_on_a_network, two_on_a_link};
 use ospf_base::{Addr, Kind, LsaKey, Prefix, RouterId};
 use ospf_graph::{Hops, NextHop, Route};
-use ospf_iface::IfaceState;
+use ospf_neighbour::iface::IfaceState;
 use ospf_journal::{Dropped, DroppedAt, JournalLine, Object, Reported, RouterChange, Seen, SeenIface, dropped_of};
 use ospf_neighbour::NeighbourState;
 use ospf_world::{World, WorldEvent};

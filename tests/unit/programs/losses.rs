@@ -4,7 +4,7 @@ use super::made::{FIRST, SECOND};
 use super::worlds::two_that_run;
 use ospf_base::{Addr, RouterId};
 use ospf_neighbour::NeighbourState;
-use ospf_rounds::{Losses, round_losing};
+use ospf_commands::delivery::{Losses, round_losing};
 use ospf_world::{EventWatch, MOST_OFFERS, Unwatched, World, WorldEvent, WorldFault};
 use std::alloc::Global;
 use std::test::Fail;

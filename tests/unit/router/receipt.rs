@@ -2,10 +2,10 @@
 
 use super::wired::{LOCAL, OWN, iface_at};
 use ospf_base::{ALL_D_ROUTERS, ALL_SPF_ROUTERS, Addr, AreaId, InterfaceKind, RouterId};
-use ospf_iface::{Iface, IfaceState};
+use ospf_neighbour::iface::{Iface, IfaceState};
 use ospf_neighbour::{NbrEvent, Neighbour};
 use ospf_packet::{BodyValue, Description, Hello, PacketValue, write_packet};
-use ospf_step::{Dropped, receive};
+use ospf_router::step::{Dropped, receive};
 use std::alloc::Global;
 use std::test::Fail;
 

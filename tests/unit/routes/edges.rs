@@ -2,7 +2,7 @@
 
 use super::made::{FIRST_NUMBER, draw};
 use ospf_base::RouterId;
-use ospf_edges::{edges_at, edges_of};
+use ospf_graph::edges::{edges_at, edges_of};
 use ospf_graph::{Edge, Vertex};
 use ospf_lsa::{Link, LinkKind, Listing, Lsa};
 use std::alloc::Global;

@@ -5,7 +5,7 @@ use ospf_base::{Addr, RouterId};
 use ospf_graph::{
     Edge, NextHop, ShortestPaths, Start, Vertex, distance_at, shortest_paths, starts_at,
 };
-use ospf_incremental::{KeptPaths, Paths};
+use ospf_spf::incremental::{KeptPaths, Paths};
 use rand_core::utils::NextWord;
 use rand_pcg::Pcg32;
 use std::alloc::Global;

@@ -2,7 +2,7 @@
 
 use super::given::{FIRST, SECOND};
 use super::worlds::two_that_run;
-use ospf_rounds::batch;
+use ospf_commands::delivery::batch;
 use ospf_neighbour::NeighbourState;
 use ospf_world::{EventWatch, Unwatched, World, WorldEvent, WorldFault};
 use std::alloc::Global;

@@ -6,8 +6,8 @@ use super::{
 };
 use ospf_area::PacketSource;
 use ospf_base::Addr;
-use ospf_iface::IfaceState;
-use ospf_links::take_down;
+use ospf_neighbour::iface::IfaceState;
+use ospf_adjacency::link_steps::take_down;
 use ospf_neighbour::NeighbourState;
 use std::alloc::Global;
 use std::test::Fail;

@@ -7,8 +7,8 @@ use super::{
 };
 use ospf_area::{AreaLink, PacketSource};
 use ospf_base::{Addr, AreaId, InterfaceKind, RouterId};
-use ospf_iface::{IfaceSettings, IfaceState};
-use ospf_links::elect;
+use ospf_neighbour::iface::{IfaceSettings, IfaceState};
+use ospf_adjacency::link_steps::elect;
 use ospf_neighbour::NeighbourState;
 use ospf_packet::{Body, BodyValue, Hello, Packet, PacketValue, write_packet};
 use std::alloc::Global;

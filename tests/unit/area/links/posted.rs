@@ -5,7 +5,7 @@ use super::super::written::HELLO;
 use super::{FROM_SECOND, Router, are_same, is_sent, point_to_point, router_of, sends_to};
 use ospf_area::{Outbox, context_of};
 use ospf_base::{ALL_SPF_ROUTERS, Addr};
-use ospf_iface::Iface;
+use ospf_neighbour::iface::Iface;
 use ospf_packet::{BodyValue, Hello};
 use std::alloc::{AllocError, Global};
 use std::test::Fail;

@@ -7,7 +7,7 @@ use super::{
     neighbour_state, pass, wait_for,
 };
 use ospf_area::{flood, context_of};
-use ospf_links::count_timers;
+use ospf_adjacency::link_steps::count_timers;
 use ospf_lsa::LsaView;
 use ospf_neighbour::NeighbourState;
 use std::alloc::{AllocError, Global};

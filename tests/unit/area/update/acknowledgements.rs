@@ -4,10 +4,10 @@ use super::super::made::lsa_of;
 use super::{FIRST, FROM_FIRST, SECOND, all_waiting, area, header_of, headers_in, stores};
 use ospf_area::{AreaLink, Outputs, RouterContext, Outbox, context_of};
 use ospf_base::{Addr, RouterId};
-use ospf_iface::IfaceState;
+use ospf_neighbour::iface::IfaceState;
 use ospf_lsa::LsaHeader;
 use ospf_packet::{Body, Packet};
-use ospf_update::{on_header, send_acks};
+use ospf_area::update::{on_header, send_acks};
 use std::alloc::Global;
 use std::test::Fail;
 

@@ -8,7 +8,7 @@ use super::{
 use ospf_area::{Area, PacketSource, Outputs, answer_at};
 use ospf_base::MAX_AGE;
 use ospf_flood::{Acknowledgement, AcknowledgementCase};
-use ospf_iface::IfaceState;
+use ospf_neighbour::iface::IfaceState;
 use std::alloc::Global;
 use std::test::Fail;
 

@@ -7,10 +7,10 @@ use super::{
 };
 use ospf_area::{Area, PacketSource, Outputs, context_of};
 use ospf_base::{ALL_SPF_ROUTERS, Addr};
-use ospf_iface::IfaceState;
+use ospf_neighbour::iface::IfaceState;
 use ospf_lsa::LsaView;
 use ospf_packet::{Body, Packet};
-use ospf_update::send_delayed;
+use ospf_area::update::send_delayed;
 use std::alloc::Global;
 use std::test::Fail;
 

@@ -8,8 +8,8 @@ use super::{
 use ospf_area::{Area, Numbering, Outputs};
 use ospf_base::{Age, Instance, Kind, LsaKey, MAX_AGE, RouterId};
 use ospf_flood::LsaRule;
-use ospf_iface::IfaceState;
-use ospf_update::{age, flush, on_header, remove, rule_met, some_awaits};
+use ospf_neighbour::iface::IfaceState;
+use ospf_area::update::{age, flush, on_header, remove, rule_met, some_awaits};
 use std::alloc::Global;
 use std::test::Fail;
 

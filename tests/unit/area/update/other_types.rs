@@ -4,7 +4,7 @@ use super::super::made::lsa_of;
 use super::{FIRST, FROM_FIRST, acknowledged, area, delayed, takes_bytes, update_of};
 use ospf_area::Outputs;
 use ospf_base::{lsa_sum, packet_sum};
-use ospf_iface::IfaceState;
+use ospf_neighbour::iface::IfaceState;
 use std::alloc::Global;
 use std::test::Fail;
 

@@ -1,5 +1,5 @@
 use Rattle.std.proofs.Common.{ap, refl}
-use Rattle.ospf_rounds.proofs.ProgressFacts.{on_events, on_nowhere, on_same_world}
+use Rattle.ospf_commands.proofs.Deliveries.ProgressFacts.{on_events, on_nowhere, on_same_world}
 use Rattle.ospf_script.specs.declared.command.Command.TheVariants as command
 use Rattle.ospf_commands.specs.Asked.{AreDatagramsShown, AreDropsShown, AreLsasShown, IsViewShown, IsWhyAnswered}
 use Rattle.ospf_commands.specs.declared.simulation.Simulation.{Simulation}

@@ -1,5 +1,5 @@
 use Rattle.std.proofs.Common.{refl, sym, subst, arith}
-use Rattle.ospf_rounds.proofs.ProgressFacts.{on_nowhere, word_then_events}
+use Rattle.ospf_commands.proofs.Deliveries.ProgressFacts.{on_nowhere, word_then_events}
 use Rattle.rand_pcg.specs.Lcg.{Lcg, increment_of, started}
 use Rattle.rand_pcg.specs.Pcg.{multiplier_64}
 use Rattle.ospf_commands.proofs.Chances.{LeadsOn, leads_at_start, leads_further, leads_to_end, leads_to_refusal}

@@ -1,5 +1,5 @@
 use Rattle.std.proofs.Common.{◌≤◌, ◌-◌}
-use Rattle.ospf_rounds.specs.Progress.{ToldOn}
+use Rattle.ospf_commands.specs.Deliveries.Progress.{ToldOn}
 use Rattle.ospf_commands.proofs.Chances.{LeadsOn}
 use Rattle.rand_pcg.specs.Lcg.{increment_of, started}
 use Rattle.rand_pcg.specs.Pcg.{multiplier_64}

@@ -1,5 +1,5 @@
 use Rattle.std.proofs.Common.{refl}
-use Rattle.ospf_rounds.proofs.ProgressFacts.{on_nowhere, word_then_events}
+use Rattle.ospf_commands.proofs.Deliveries.ProgressFacts.{on_nowhere, word_then_events}
 use Rattle.ospf_commands.proofs.Leading.{leads_at_start, leads_further, leads_to_end, leads_to_refusal}
 use Rattle.ospf_commands.proofs.rounds.run_batches.Goals as goal
 

@@ -1,4 +1,4 @@
-use Rattle.ospf_rounds.specs.Progress.{ToldOn}
+use Rattle.ospf_commands.specs.Deliveries.Progress.{ToldOn}
 use Rattle.ospf_commands.specs.Rounds.{IsOneBatch}
 use Rattle.ospf_commands.specs.Simulations.{unsettled}
 use Rattle.ospf_commands.proofs.Leading.{LeadsOn}

@@ -1,7 +1,7 @@
 use Rattle.std.proofs.Common.{sym, subst, refl, Option, Some}
 use Rattle.ospf_commands.specs.Rounds.{RoundBy}
 use Rattle.ospf_commands.specs.Simulations.{moved}
-use Rattle.ospf_rounds.specs.declared.losses.Losses.{Losses}
+use Rattle.ospf_commands.specs.declared.delivery.losses.Losses.{Losses}
 use Rattle.ospf_commands.proofs.rounds.run_round.Goals as goal
 
 pub returns-in-Some-clause-round : goal.returns-in-Some-clause-round

@@ -1,5 +1,5 @@
 use Rattle.std.proofs.Common.{refl, subst, ℕ, Ok, Err}
-use Rattle.ospf_rounds.proofs.ProgressFacts.{on_nowhere, word_then_events}
+use Rattle.ospf_commands.proofs.Deliveries.ProgressFacts.{on_nowhere, word_then_events}
 use Rattle.ospf_commands.specs.Rounds.{AreRounds}
 use Rattle.ospf_commands.specs.Simulations.{unsettled}
 use Rattle.ospf_commands.proofs.Leading.{leads_at_start, leads_further, leads_to_end, leads_to_refusal}

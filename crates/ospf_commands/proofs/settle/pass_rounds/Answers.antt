@@ -1,5 +1,5 @@
 use Rattle.std.proofs.Common.{◌≡◌, ◌∙◌, ap, refl, sym, subst, arith, ℕ, ◌+◌, ◌≤◌, Ok, flat_map}
-use Rattle.ospf_rounds.proofs.ProgressFacts.{on_nowhere, word_then_events}
+use Rattle.ospf_commands.proofs.Deliveries.ProgressFacts.{on_nowhere, word_then_events}
 use Rattle.ospf_commands.specs.Settling.{Passes, sight}
 use Rattle.ospf_views.specs.Sight.{slot_sight}
 use Rattle.ospf_commands.proofs.Settling.{Passed, ends_in_round, ends_in_storm, ends_settled, ends_unsettled, no_room_at_start, no_room_behind, passed_none, passed_other, passed_same}

@@ -1,5 +1,5 @@
 use Rattle.std.proofs.Common.{◌≡◌}
-use Rattle.ospf_rounds.specs.Progress.{ToldOn}
+use Rattle.ospf_commands.specs.Deliveries.Progress.{ToldOn}
 use Rattle.ospf_commands.specs.Settling.{sight}
 use Rattle.ospf_commands.proofs.Settling.{Passed}
 use Rattle.ospf_commands.proofs.settle.pass_rounds.Given as goal

@@ -1,5 +1,5 @@
 use Rattle.std.proofs.Common.{◌↔◌, ◌∙◌, List, IsTrue, subst, sym}
-use Rattle.ospf_edges.specs.Listed.{advertisements_of}
+use Rattle.ospf_graph.specs.EdgeLists.Listed.{advertisements_of}
 use Rattle.ospf_graph.specs.Advertisements.{IsListed}
 use Rattle.ospf_failures.specs.Answer.{IsEndBy, IsAllPrinted, IsUnmetAt, changes_text}
 use Rattle.ospf_failures.specs.Reports.{HasCut, ReportValue}

@@ -1,7 +1,7 @@
 use Rattle.std.proofs.Common.{◌≤◌, ◌∙◌, ℕ, List, length, ap, sym, subst, arith}
 use Rattle.ospf_base.specs.declared.ids.LsaKey.{LsaKey}
 use Rattle.ospf_lsa.specs.Lsa.{key_of}
-use Rattle.ospf_edges.specs.Listed.{advertisement_of}
+use Rattle.ospf_graph.specs.EdgeLists.Listed.{advertisement_of}
 use Rattle.ospf_whatif.specs.Failure.{IsLarge}
 use Rattle.ospf_failures.proofs.LargeLemmas.{first_is, none_at_start, none_more, none_of_all}
 use Rattle.ospf_failures.proofs.answer.first_large.Goals as goal

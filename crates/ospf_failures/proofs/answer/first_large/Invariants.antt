@@ -1,5 +1,5 @@
 use Rattle.std.proofs.Common.{map, take}
-use Rattle.ospf_edges.specs.Listed.{advertisement_of}
+use Rattle.ospf_graph.specs.EdgeLists.Listed.{advertisement_of}
 use Rattle.ospf_whatif.specs.Failure.{HasLarge}
 use Rattle.ospf_failures.proofs.answer.first_large.Given as goal
 

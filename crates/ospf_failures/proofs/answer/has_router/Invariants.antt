@@ -1,5 +1,5 @@
 use Rattle.std.proofs.Common.{map, take}
-use Rattle.ospf_edges.specs.Listed.{advertisement_of}
+use Rattle.ospf_graph.specs.EdgeLists.Listed.{advertisement_of}
 use Rattle.ospf_failures.specs.Answer.{HasRouter}
 use Rattle.ospf_failures.proofs.answer.has_router.Given as goal
 

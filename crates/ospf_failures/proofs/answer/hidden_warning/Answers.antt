@@ -1,4 +1,4 @@
-use Rattle.ospf_edges.specs.Listed.{advertisements_of}
+use Rattle.ospf_graph.specs.EdgeLists.Listed.{advertisements_of}
 use Rattle.ospf_failures.proofs.AnswerLemmas.{told_hidden}
 use Rattle.ospf_failures.proofs.answer.hidden_warning.Goals as goal
 

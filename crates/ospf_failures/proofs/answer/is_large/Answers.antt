@@ -1,5 +1,5 @@
 use Rattle.std.proofs.Common.{◌↔◌, ◌<◌, IsTrue, List, length, subst}
-use Rattle.ospf_edges.proofs.ListedLemmas.{network_of, router_of}
+use Rattle.ospf_graph.proofs.EdgeLists.ListedLemmas.{network_of, router_of}
 use Rattle.ospf_lsa.specs.declared.link.Link.{Link}
 use Rattle.ospf_failures.proofs.answer.is_large.Goals as goal
 

@@ -1,5 +1,5 @@
 use Rattle.std.proofs.Common.{rules}
-use Rattle.ospf_edges.specs.Listed.{advertisements_of}
+use Rattle.ospf_graph.specs.EdgeLists.Listed.{advertisements_of}
 use Rattle.ospf_failures.proofs.OverallLemmas.{table_more}
 use Rattle.ospf_failures.proofs.overall.add_before.Goals as goal
 

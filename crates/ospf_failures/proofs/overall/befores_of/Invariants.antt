@@ -1,5 +1,5 @@
 use Rattle.std.proofs.Common.{◌≡◌, All, map, take}
-use Rattle.ospf_edges.specs.Listed.{advertisements_of}
+use Rattle.ospf_graph.specs.EdgeLists.Listed.{advertisements_of}
 use Rattle.ospf_failures.specs.Overall.{IsTableBefore, roots_in}
 use Rattle.ospf_failures.proofs.overall.befores_of.Given as goal
 

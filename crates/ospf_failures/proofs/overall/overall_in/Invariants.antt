@@ -1,5 +1,5 @@
 use Rattle.std.proofs.Common.{◌≡◌, ◌-◌, length, take}
-use Rattle.ospf_edges.specs.Listed.{advertisements_of}
+use Rattle.ospf_graph.specs.EdgeLists.Listed.{advertisements_of}
 use Rattle.ospf_whatif.specs.Failure.{without}
 use Rattle.ospf_failures.specs.Overall.{IsSoFar}
 use Rattle.ospf_table.specs.Sums.{HasSumRoom}

@@ -1,6 +1,6 @@
 use Rattle.std.proofs.Common.{◌∙◌, List, ap, subst}
 use Rattle.std.specs.List.{All}
-use Rattle.ospf_edges.specs.Listed.{advertisements_of}
+use Rattle.ospf_graph.specs.EdgeLists.Listed.{advertisements_of}
 use Rattle.ospf_whatif.specs.Failure.{without}
 use Rattle.ospf_failures.specs.Overall.{IsSoFar, roots_in}
 use Rattle.ospf_failures.specs.declared.overall.Before.{Before}

@@ -1,6 +1,6 @@
 use Rattle.std.proofs.Common.{◌≡◌, ◌++◌, length, map}
 use Rattle.std.specs.List.{All}
-use Rattle.ospf_edges.specs.Listed.{advertisements_of}
+use Rattle.ospf_graph.specs.EdgeLists.Listed.{advertisements_of}
 use Rattle.ospf_whatif.specs.Failure.{without}
 use Rattle.ospf_failures.specs.Overall.{IsSoFar}
 use Rattle.ospf_failures.proofs.overall.overalls_of.Given as goal

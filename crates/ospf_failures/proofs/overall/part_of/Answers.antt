@@ -1,6 +1,6 @@
 use Rattle.std.proofs.Common.{◌∙◌, ap, map}
 use Rattle.rayon.proofs.ToStd.{slice-AllZip}
-use Rattle.ospf_edges.specs.Listed.{advertisements_of}
+use Rattle.ospf_graph.specs.EdgeLists.Listed.{advertisements_of}
 use Rattle.ospf_whatif.specs.Failure.{without}
 use Rattle.ospf_failures.specs.Overall.{IsOverallFound, IsSoFar}
 use Rattle.ospf_failures.proofs.FoundLemmas.{all_found}

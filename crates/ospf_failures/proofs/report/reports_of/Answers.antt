@@ -1,6 +1,6 @@
 use Rattle.std.proofs.Common.{◌∙◌, ap}
 use Rattle.rayon.proofs.ToStd.{slice-AllZip}
-use Rattle.ospf_edges.specs.Listed.{advertisements_of}
+use Rattle.ospf_graph.specs.EdgeLists.Listed.{advertisements_of}
 use Rattle.ospf_whatif.specs.Effect.{IsEffect}
 use Rattle.ospf_failures.specs.Reports.{IsReportFound}
 use Rattle.ospf_failures.proofs.FoundLemmas.{all_found}

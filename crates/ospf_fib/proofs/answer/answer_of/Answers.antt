@@ -1,7 +1,7 @@
 use Rattle.std.proofs.Common.{◌<◌, ◌%◌, length, arith, refl}
 use Rattle.std.proofs.lemmas.Option.{slice_get-get_or}
 use Rattle.ospf_graph.specs.declared.hop.NextHop.TheVariants.{Attached}
-use Rattle.ospf_index.specs.Entries.{route_of}
+use Rattle.ospf_fib.specs.PrefixIndex.Entries.{route_of}
 use Rattle.ospf_fib.proofs.answer.answer_of.Goals as goal
 
 pub returns : goal.returns

@@ -1,7 +1,7 @@
 use Rattle.std.proofs.Common.{◌≡◌, List, [], drop, ◌∷◌, ◌++◌, Bool, true, false, Result, Ok, Err, is_ok, subst, refl, ap, sym, ◌∙◌}
 use Rattle.std.specs.Result.{IfOk}
 use Rattle.left_right.specs.Sides.{view}
-use Rattle.ospf_index.specs.Known.{Known, Table}
+use Rattle.ospf_fib.specs.PrefixIndex.Known.{Known, Table}
 use Rattle.ospf_spf.specs.declared.changes.Change.{Change}
 use Rattle.ospf_fib.specs.Rule.{IsKnownBook}
 use Rattle.ospf_fib.specs.Versions.{added_unless, edited_by}

@@ -1,7 +1,7 @@
 use Rattle.std.proofs.Common.{arith, ◌≡◌, ◌+◌, [], ◌∷◌, ◌++◌, length, sym, ap, ◌∙◌, subst, length-append}
 use Rattle.std.specs.List.{All}
 use Rattle.std.proofs.lemmas.List.Elements.{All-append, All-cons, All-nil}
-use Rattle.ospf_index.specs.Known.{Known}
+use Rattle.ospf_fib.specs.PrefixIndex.Known.{Known}
 use Rattle.ospf_fib.proofs.fib.seats_of.Goals as goal
 
 pub loop-preserved : goal.loop-preserved

@@ -1,6 +1,6 @@
 use Rattle.std.proofs.Common.{ap, ◌∙◌}
 use Rattle.left_right.specs.Sides.{view}
-use Rattle.ospf_index.specs.Rule.{counter_of}
+use Rattle.ospf_fib.specs.PrefixIndex.Rule.{counter_of}
 use Rattle.ospf_fib.proofs.Kept.{swaps}
 use Rattle.ospf_fib.proofs.publisher.show.Goals as goal
 

@@ -1,7 +1,7 @@
 use Rattle.std.proofs.Common.{◌≡◌, ◌++◌, List, string_bytes}
 use Rattle.ospf_graph.specs.Advertisements.{Advertisement}
 use Rattle.ospf_graph.specs.declared.graph.Vertex.TheVariants as vertex
-use Rattle.ospf_edges.specs.Near.{AreEdgesAt}
+use Rattle.ospf_graph.specs.EdgeLists.Near.{AreEdgesAt}
 use Rattle.ospf_inspect.specs.Lines.{AreLines}
 use Rattle.ospf_inspect.specs.Lsas.{SaysOfAttached}
 use Rattle.ospf_inspect.proofs.lsas.attached_text.Given as goal

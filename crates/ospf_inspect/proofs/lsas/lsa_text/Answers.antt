@@ -2,7 +2,7 @@ use Rattle.std.proofs.Common.{◌≡◌, ◌∙◌, List, ℕ, subst, sym, strin
 use Rattle.std.proofs.lemmas.Result.{IfOk-weaker}
 use Rattle.ospf_base.specs.declared.ids.Kind.{Kind}
 use Rattle.ospf_base.specs.declared.ids.Kind.TheVariants as kind
-use Rattle.ospf_edges.specs.Listed.{advertisements_of}
+use Rattle.ospf_graph.specs.EdgeLists.Listed.{advertisements_of}
 use Rattle.ospf_lsa.specs.Lsa.{kind_of}
 use Rattle.ospf_inspect.specs.Lsas.{SaysOfLsa, SaysOfLsaKind}
 use Rattle.ospf_inspect.proofs.lsas.lsa_text.Goals as goal

@@ -1,5 +1,5 @@
 use Rattle.std.proofs.Common.{string_bytes, take}
-use Rattle.ospf_edges.specs.Listed.{advertisements_of}
+use Rattle.ospf_graph.specs.EdgeLists.Listed.{advertisements_of}
 use Rattle.ospf_inspect.specs.Lines.{AreLines}
 use Rattle.ospf_inspect.specs.Lsas.{SaysOfLsa}
 use Rattle.ospf_inspect.proofs.lsas.lsas_text.Given as goal

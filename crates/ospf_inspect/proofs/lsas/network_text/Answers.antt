@@ -1,9 +1,9 @@
 use Rattle.std.proofs.Common.{rules, ◌≡◌, ◌++◌, List, subst, sym, string_bytes}
-use Rattle.ospf_edges.specs.Given.{StandsFor}
+use Rattle.ospf_graph.specs.EdgeLists.Given.{StandsFor}
 use Rattle.ospf_graph.specs.declared.graph.Edge.{Edge}
 use Rattle.ospf_graph.specs.declared.graph.Vertex.TheVariants as vertex
-use Rattle.ospf_edges.specs.Listed.{advertisements_of}
-use Rattle.ospf_edges.specs.Near.{AreEdgesAt}
+use Rattle.ospf_graph.specs.EdgeLists.Listed.{advertisements_of}
+use Rattle.ospf_graph.specs.EdgeLists.Near.{AreEdgesAt}
 use Rattle.ospf_inspect.specs.Lsas.{unused}
 use Rattle.ospf_inspect.proofs.Marks.{mark_of}
 use Rattle.ospf_inspect.proofs.Texts.{network_said}

@@ -1,8 +1,8 @@
 use Rattle.std.proofs.Common.{rules, ◌≡◌, ◌++◌, List, subst, sym, string_bytes}
 use Rattle.ospf_graph.specs.declared.graph.Edge.{Edge}
 use Rattle.ospf_graph.specs.declared.graph.Vertex.TheVariants as vertex
-use Rattle.ospf_edges.specs.Listed.{advertisements_of}
-use Rattle.ospf_edges.specs.Near.{AreEdgesAt}
+use Rattle.ospf_graph.specs.EdgeLists.Listed.{advertisements_of}
+use Rattle.ospf_graph.specs.EdgeLists.Near.{AreEdgesAt}
 use Rattle.ospf_inspect.proofs.Texts.{router_said}
 use Rattle.ospf_inspect.proofs.lsas.router_text.Goals as goal
 

@@ -2,7 +2,7 @@ use Rattle.std.proofs.Common.{◌≡◌, ◌≤◌, List, ℕ, refl, ap, ◌∙�
 use Rattle.std.proofs.lemmas.Bool.{leb-true, le-leb}
 use Rattle.ospf_base.specs.Bytes.{number_at}
 use Rattle.ospf_base.specs.declared.ids.LsaKey.{LsaKey}
-use Rattle.ospf_edges.proofs.ListedLemmas.{stands_to, stands_from, stands_none}
+use Rattle.ospf_graph.proofs.EdgeLists.ListedLemmas.{stands_to, stands_from, stands_none}
 use Rattle.ospf_inspect.proofs.lsas.stands_for.Goals as goal
 
 pub returns-in-Some : goal.returns-in-Some

@@ -1,5 +1,5 @@
 use Rattle.std.proofs.Common.{rules, ◌≡◌, ◌-◌, ◌++◌, arith, refl, string_bytes}
-use Rattle.ospf_edges.specs.Listed.{advertisements_of}
+use Rattle.ospf_graph.specs.EdgeLists.Listed.{advertisements_of}
 use Rattle.ospf_graph.specs.declared.hop.NextHop.TheVariants as hops
 use Rattle.ospf_inspect.specs.Path.{HasNoRouteFor}
 use Rattle.ospf_inspect.proofs.Ways.{arrives_said, hop_linked, leads_on, leg_said, strays_said, takes_it, turns_said}

@@ -1,4 +1,4 @@
-use Rattle.ospf_edges.specs.Listed.{advertisements_of}
+use Rattle.ospf_graph.specs.EdgeLists.Listed.{advertisements_of}
 use Rattle.ospf_inspect.proofs.Ways.{fewer_left}
 use Rattle.ospf_inspect.proofs.path.add_way.Goals as goal
 

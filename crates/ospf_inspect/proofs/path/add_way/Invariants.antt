@@ -1,5 +1,5 @@
 use Rattle.std.proofs.Common.{string_bytes}
-use Rattle.ospf_edges.specs.Listed.{advertisements_of}
+use Rattle.ospf_graph.specs.EdgeLists.Listed.{advertisements_of}
 use Rattle.ospf_inspect.proofs.Ways.{IsUnderWay, left_of}
 use Rattle.ospf_inspect.proofs.path.add_way.Given as goal
 

@@ -1,5 +1,5 @@
 use Rattle.serde_json.specs.View.{view}
-use Rattle.ospf_edges.specs.Listed.{advertisements_of}
+use Rattle.ospf_graph.specs.EdgeLists.Listed.{advertisements_of}
 use Rattle.ospf_inspect.proofs.Floats.{of_table}
 use Rattle.ospf_inspect.proofs.tables.table_json.Goals as goal
 

@@ -1,6 +1,6 @@
 use Rattle.std.proofs.Common.{rules, ◌≡◌, ◌≤◌, ◌++◌, ℕ, List, [], length, take, subst, sym, ◌∙◌, arith, string_bytes}
 use Rattle.std.proofs.lemmas.List.{take_all}
-use Rattle.ospf_edges.specs.Listed.{advertisements_of}
+use Rattle.ospf_graph.specs.EdgeLists.Listed.{advertisements_of}
 use Rattle.ospf_inspect.specs.Lines.{AreLines, no_lines}
 use Rattle.ospf_inspect.proofs.LineLemmas.{lines_at, lines_next}
 use Rattle.ospf_inspect.specs.Tables.{SaysTableOf}

@@ -4,7 +4,7 @@ use Rattle.serde_json.proofs.Views.{view-Array}
 use Rattle.serde_json.specs.View.{view}
 use Rattle.serde_json.specs.declared.value.Value.{Value}
 use Rattle.ospf_base.specs.declared.ids.LsaKey.{LsaKey}
-use Rattle.ospf_edges.specs.Listed.{advertisements_of}
+use Rattle.ospf_graph.specs.EdgeLists.Listed.{advertisements_of}
 use Rattle.ospf_lsa.specs.Lsa.{key_of, kind_of}
 use Rattle.ospf_inspect.specs.Json.{AreValues}
 use Rattle.ospf_inspect.specs.Tables.{TellsRoot, TellsRootOf, is_router}

@@ -3,7 +3,7 @@ use Rattle.std.proofs.lemmas.Result.{IfOk-weaker}
 use Rattle.serde_json.specs.View.{view}
 use Rattle.ospf_base.specs.declared.ids.Kind.{Kind}
 use Rattle.ospf_base.specs.declared.ids.Kind.TheVariants as kind
-use Rattle.ospf_edges.specs.Listed.{advertisements_of}
+use Rattle.ospf_graph.specs.EdgeLists.Listed.{advertisements_of}
 use Rattle.ospf_lsa.specs.Lsa.{kind_of}
 use Rattle.ospf_inspect.specs.Values.{TellsLsa, TellsLsaKind}
 use Rattle.ospf_inspect.proofs.values.lsa_value.Goals as goal

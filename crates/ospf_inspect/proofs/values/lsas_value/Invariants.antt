@@ -1,6 +1,6 @@
 use Rattle.std.proofs.Common.{map, take}
 use Rattle.serde_json.specs.View.{view}
-use Rattle.ospf_edges.specs.Listed.{advertisements_of}
+use Rattle.ospf_graph.specs.EdgeLists.Listed.{advertisements_of}
 use Rattle.ospf_inspect.specs.Values.{TellsLsa}
 use Rattle.ospf_inspect.specs.Json.{AreValues}
 use Rattle.ospf_inspect.proofs.values.lsas_value.Given as goal

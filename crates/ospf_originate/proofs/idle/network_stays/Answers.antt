@@ -1,7 +1,7 @@
 use Rattle.std.proofs.Common.{◌≡◌, rules}
 use Rattle.ospf_area.specs.State.{database_entry}
 use Rattle.ospf_originate.specs.Actions.{is_due}
-use Rattle.ospf_wanted.specs.Wanted.{network_of, wanted_key}
+use Rattle.ospf_originate.specs.Wants.Wanted.{network_of, wanted_key}
 use Rattle.ospf_originate.proofs.IdleLemmas.{wanted_left_is}
 use Rattle.ospf_originate.proofs.idle.network_stays.Goals as goal
 

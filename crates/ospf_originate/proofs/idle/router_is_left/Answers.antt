@@ -2,7 +2,7 @@ use Rattle.std.proofs.Common.{◌≡◌, rules}
 use Rattle.ospf_area.specs.State.{database_entry}
 use Rattle.ospf_originate.specs.Actions.{is_due}
 use Rattle.ospf_originate.specs.Idle.{own_router}
-use Rattle.ospf_wanted.specs.Wanted.{wanted_key}
+use Rattle.ospf_originate.specs.Wants.Wanted.{wanted_key}
 use Rattle.ospf_originate.proofs.IdleLemmas.{wanted_left_is}
 use Rattle.ospf_originate.proofs.idle.router_is_left.Goals as goal
 

@@ -2,11 +2,11 @@ use Rattle.std.proofs.Common.{◌≡◌, ℤ, Option, map, rules, sym, subst}
 use Rattle.std.specs.Int.{w32}
 use mir.Val.{to_z, of_z}
 use Rattle.ospf_originate.specs.Actions.{IsUsed}
-use Rattle.ospf_wanted.specs.Made.{CanBeMadeIf}
-use Rattle.ospf_wanted.specs.Own.{wanted_value}
-use Rattle.ospf_wanted.specs.Wanted.{WantedValue, wanted_of}
+use Rattle.ospf_originate.specs.Wants.Made.{CanBeMadeIf}
+use Rattle.ospf_originate.specs.Wants.Own.{wanted_value}
+use Rattle.ospf_originate.specs.Wants.Wanted.{WantedValue, wanted_of}
 use Rattle.ospf_originate.specs.declared.action.OwnAction.{OwnAction}
-use Rattle.ospf_wanted.proofs.MakeLemmas.{found_made}
+use Rattle.ospf_originate.proofs.Wants.MakeLemmas.{found_made}
 use Rattle.ospf_originate.proofs.own.act.Goals as goal
 
 pub issue_key-requires : goal.issue_key-requires

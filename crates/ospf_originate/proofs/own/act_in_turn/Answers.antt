@@ -1,5 +1,5 @@
 use Rattle.std.proofs.Common.{map}
-use Rattle.ospf_wanted.specs.Own.{wanted_value}
+use Rattle.ospf_originate.specs.Wants.Own.{wanted_value}
 use Rattle.ospf_originate.proofs.OwnLemmas.{continues_on, continues_all}
 use Rattle.ospf_originate.proofs.own.act_in_turn.Goals as goal
 

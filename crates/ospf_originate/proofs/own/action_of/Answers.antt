@@ -2,12 +2,12 @@ use Rattle.std.proofs.Common.{◌≡◌, map, rules, subst, List, Option}
 use Rattle.std.specs.Int.{w32}
 use mir.Val.{to_z, of_z}
 use Rattle.ospf_area.specs.State.{database_entry, kept_number}
-use Rattle.ospf_wanted.specs.Made.{IsUnmadeIf}
-use Rattle.ospf_wanted.specs.Own.{wanted_value}
+use Rattle.ospf_originate.specs.Wants.Made.{IsUnmadeIf}
+use Rattle.ospf_originate.specs.Wants.Own.{wanted_value}
 use Rattle.ospf_originate.specs.Steps.{wants}
-use Rattle.ospf_wanted.specs.Wanted.{WantedValue, wanted_of}
+use Rattle.ospf_originate.specs.Wants.Wanted.{WantedValue, wanted_of}
 use Rattle.ospf_originate.proofs.DueLemmas.{action_is}
-use Rattle.ospf_wanted.proofs.MakeLemmas.{found_memory}
+use Rattle.ospf_originate.proofs.Wants.MakeLemmas.{found_memory}
 use Rattle.ospf_originate.proofs.own.action_of.Goals as goal
 
 pub want_of_memory-requires : goal.want_of_memory-requires

@@ -1,10 +1,10 @@
 use Rattle.std.proofs.Common.{◌∙◌, sym, ap, subst, List, map}
 use Rattle.std.specs.List.{AllByRecursion}
-use Rattle.ospf_wanted.specs.Made.{CanBeMade}
-use Rattle.ospf_wanted.specs.Own.{wanted_value}
-use Rattle.ospf_wanted.specs.Wanted.{WantedValue}
-use Rattle.ospf_wanted.specs.declared.wants.OwnLsa.{OwnLsa}
-use Rattle.ospf_wanted.proofs.MakeLemmas.{wanted_made}
+use Rattle.ospf_originate.specs.Wants.Made.{CanBeMade}
+use Rattle.ospf_originate.specs.Wants.Own.{wanted_value}
+use Rattle.ospf_originate.specs.Wants.Wanted.{WantedValue}
+use Rattle.ospf_originate.specs.declared.contents.wants.OwnLsa.{OwnLsa}
+use Rattle.ospf_originate.proofs.Wants.MakeLemmas.{wanted_made}
 use Rattle.ospf_area.specs.Acting.{InTurn}
 use Rattle.ospf_originate.specs.Steps.{Acts, IsDue}
 use Rattle.ospf_originate.specs.declared.action.DueAction.{DueAction}

@@ -1,7 +1,7 @@
 use Rattle.std.proofs.Common.{ℤ, subst}
 use Rattle.std.specs.Int.{w32}
 use Rattle.std.proofs.lemmas.Int.{to_z-of_z}
-use Rattle.ospf_wanted.specs.Own.{wanted_value}
+use Rattle.ospf_originate.specs.Wants.Own.{wanted_value}
 use Rattle.ospf_originate.specs.Steps.{Issues}
 use Rattle.ospf_originate.proofs.own.issue_one.Goals as goal
 

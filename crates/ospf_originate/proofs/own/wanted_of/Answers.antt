@@ -1,8 +1,8 @@
 use Rattle.std.proofs.Common.{◌∙◌, ap, Option, option_map}
 use Rattle.ospf_base.specs.Keys.{same_key}
-use Rattle.ospf_wanted.specs.Own.{wanted_value}
-use Rattle.ospf_wanted.specs.Wanted.{WantedValue, wanted_key}
-use Rattle.ospf_wanted.specs.declared.wants.OwnLsa.{OwnLsa}
+use Rattle.ospf_originate.specs.Wants.Own.{wanted_value}
+use Rattle.ospf_originate.specs.Wants.Wanted.{WantedValue, wanted_key}
+use Rattle.ospf_originate.specs.declared.contents.wants.OwnLsa.{OwnLsa}
 use Rattle.ospf_originate.proofs.OwnLemmas.{seen_lent, find_seen}
 use Rattle.ospf_originate.proofs.own.wanted_of.Goals as goal
 

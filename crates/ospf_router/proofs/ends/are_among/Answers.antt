@@ -3,7 +3,7 @@ use Rattle.std.specs.Bool.{⊤}
 use Rattle.std.specs.List.{Contains}
 use Rattle.std.proofs.lemmas.Iterator.{YieldsList-from_slice, cases_from_all}
 use Rattle.std.proofs.lemmas.List.Elements.{All-contains, All-from_all_within}
-use Rattle.ospf_edges.specs.declared.end.End.{End}
+use Rattle.ospf_graph.specs.declared.edges.end.End.{End}
 use Rattle.ospf_router.proofs.SameEnds.{end_there}
 use Rattle.ospf_router.proofs.ends.are_among.Goals as goal
 

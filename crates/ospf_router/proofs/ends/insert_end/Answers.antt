@@ -1,8 +1,8 @@
 use Rattle.std.proofs.Common.{List, rules, of_calls, leb, leb-true, subst, sym, get_or, arith}
 use Rattle.std.proofs.lemmas.List.Sorted.{IsNonDecreasingBy-insert, IsPartitionPoint-from_clause, IsPartitionedBy-leb}
-use Rattle.ospf_edges.specs.declared.end.End.{End}
+use Rattle.ospf_graph.specs.declared.edges.end.End.{End}
 use Rattle.ospf_graph.proofs.Runs.{not_upto}
-use Rattle.ospf_incremental.proofs.KeptGrowth.{inserted}
+use Rattle.ospf_spf.proofs.IncrementalSpf.KeptGrowth.{inserted}
 use Rattle.ospf_spf.specs.Spared.{AreEndsInOrder}
 use Rattle.ospf_spf.specs.Reach.{prefix_code}
 use Rattle.std.specs.List.{Contains}

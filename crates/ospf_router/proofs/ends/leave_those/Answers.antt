@@ -1,6 +1,6 @@
 use Rattle.std.proofs.Common.{List, not, subst, sym}
 use Rattle.std.proofs.lemmas.List.Kept.{IsNonDecreasingBy-filter}
-use Rattle.ospf_edges.specs.declared.end.End.{End}
+use Rattle.ospf_graph.specs.declared.edges.end.End.{End}
 use Rattle.ospf_graph.specs.Search.{vertex_eq}
 use Rattle.ospf_router.specs.Ends.{LeavesEnds}
 use Rattle.ospf_spf.specs.Spared.{AreEndsInOrder}

@@ -1,6 +1,6 @@
 use Rattle.std.proofs.Common.{◌≤◌, List, length, refl, subst, sym, inl, inr}
 use Rattle.std.proofs.lemmas.List.{take_all}
-use Rattle.ospf_edges.specs.declared.end.End.{End}
+use Rattle.ospf_graph.specs.declared.edges.end.End.{End}
 use Rattle.ospf_graph.proofs.ListLemmas.{more_members}
 use Rattle.ospf_router.specs.Growing.{HasEndOf}
 use Rattle.ospf_router.proofs.growing.touch_changed.Goals as goal

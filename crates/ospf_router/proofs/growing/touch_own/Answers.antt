@@ -1,5 +1,5 @@
 use Rattle.std.proofs.Common.{List, inr, sym, subst}
-use Rattle.ospf_edges.specs.declared.end.End.{End}
+use Rattle.ospf_graph.specs.declared.edges.end.End.{End}
 use Rattle.ospf_router.specs.Growing.{HasEndOf}
 use Rattle.ospf_router.proofs.growing.touch_own.Goals as goal
 

@@ -1,5 +1,5 @@
 use Rattle.std.proofs.Common.{take}
-use Rattle.ospf_edges.specs.Listed.{advertisements_of}
+use Rattle.ospf_graph.specs.EdgeLists.Listed.{advertisements_of}
 use Rattle.ospf_spf.proofs.TurnLemmas.{IsTurned}
 use Rattle.ospf_router.proofs.turned.turn_table.Given as goal
 

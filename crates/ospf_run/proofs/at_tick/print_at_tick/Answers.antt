@@ -3,7 +3,7 @@ use Rattle.std.specs.Io.KnownBytes.{Appends}
 use Rattle.ospf_files.proofs.Cut.{for_memory}
 use Rattle.ospf_files.proofs.Written.{both_written, front_begun, kept_written, rest_begun, whatever, whole_begun}
 use Rattle.ospf_files.specs.Streams.{IsBegun, IsOutputCut, no_room}
-use Rattle.ospf_index.specs.Known.{Table}
+use Rattle.ospf_fib.specs.PrefixIndex.Known.{Table}
 use Rattle.ospf_run.specs.Printed.{at_tick_line}
 use Rattle.ospf_files.specs.Shown.{routes_text}
 use Rattle.ospf_run.proofs.at_tick.print_at_tick.Goals as goal

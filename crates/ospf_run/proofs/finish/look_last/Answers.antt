@@ -1,7 +1,7 @@
 use Rattle.std.proofs.Common.{◌∙◌, subst}
 use mathlib.Core.List.{IsPrefix}
 use Rattle.ospf_fib.specs.Answers.{IsAnswerOfLast}
-use Rattle.ospf_index.specs.Known.{Known}
+use Rattle.ospf_fib.specs.PrefixIndex.Known.{Known}
 use Rattle.ospf_run.proofs.Ends.{all_known, told_fib}
 use Rattle.ospf_run.proofs.finish.look_last.Goals as goal
 

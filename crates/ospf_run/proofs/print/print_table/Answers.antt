@@ -3,7 +3,7 @@ use Rattle.std.specs.Io.KnownBytes.{Appends}
 use Rattle.ospf_files.proofs.Cut.{err_then, for_memory}
 use Rattle.ospf_files.proofs.Written.{front_begun, rest_begun, whatever}
 use Rattle.ospf_files.specs.Streams.{IsBegun, IsOutputCut, no_room}
-use Rattle.ospf_index.specs.Known.{Table}
+use Rattle.ospf_fib.specs.PrefixIndex.Known.{Table}
 use Rattle.ospf_run.specs.Printed.{router_id_line}
 use Rattle.ospf_files.specs.Shown.{routes_text}
 use Rattle.ospf_run.proofs.print.print_table.Goals as goal

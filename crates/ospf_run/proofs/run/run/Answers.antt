@@ -1,4 +1,4 @@
-use Rattle.ospf_udp.proofs.Planned.{passed_on, stopped_early}
+use Rattle.ospf_drive.proofs.UdpWire.Planned.{passed_on, stopped_early}
 use Rattle.ospf_run.proofs.Stops.{stop_unplanned}
 use Rattle.ospf_run.specs.Cut.{IsStop, no_memory}
 use Rattle.ospf_run.specs.Runs.{asked_of}

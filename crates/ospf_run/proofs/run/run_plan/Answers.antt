@@ -1,14 +1,14 @@
 use Rattle.std.proofs.Common.{All, ◌≡◌, ◌+◌, ◌<◌, ◌^◌, ◌∙◌, ap, length, subst, sym}
 use Rattle.ospf_drive.specs.Traffic.Carried.{Ticks}
 use Rattle.ospf_run.proofs.Lists.{all_paired, as_many}
-use Rattle.ospf_udp.proofs.Planned.{as_many_configs, passed_on, stopped_early}
+use Rattle.ospf_drive.proofs.UdpWire.Planned.{as_many_configs, passed_on, stopped_early}
 use Rattle.ospf_run.proofs.Wired.{all_counted, all_fresh}
 use Rattle.ospf_run.proofs.Stops.{early_of_plan}
 use Rattle.ospf_run.specs.Cut.{IsStop, IsStopOfPlan, no_memory}
-use Rattle.ospf_udp.specs.Plans.{HasPlan, HasPorts}
+use Rattle.ospf_drive.specs.UdpWire.Plans.{HasPlan, HasPorts}
 use Rattle.ospf_run.specs.Runs.{asked_of, floor_of, span_of}
-use Rattle.ospf_udp.specs.declared.stop.Stop.TheVariants as stop
-use Rattle.ospf_udp.specs.Wires.{UdpValue}
+use Rattle.ospf_drive.specs.declared.udp.stop.Stop.TheVariants as stop
+use Rattle.ospf_drive.specs.UdpWire.Wires.{UdpValue}
 use Rattle.ospf_run.proofs.run.run_plan.Goals as goal
 
 pub open_wires-requires-clause-files : goal.open_wires-requires-clause-files

@@ -1,6 +1,6 @@
 use Rattle.std.proofs.Common.{subst}
-use Rattle.ospf_udp.proofs.Opened.{port_in}
-use Rattle.ospf_udp.specs.Faults.{IsUnopened}
+use Rattle.ospf_drive.proofs.UdpWire.Opened.{port_in}
+use Rattle.ospf_drive.specs.UdpWire.Faults.{IsUnopened}
 use Rattle.ospf_run.proofs.Wired.{none_missing}
 use Rattle.ospf_run.proofs.wires.open_wire.Goals as goal
 

@@ -1,6 +1,6 @@
 use Rattle.std.proofs.Common.{◌<◌, arith, length}
 use Rattle.ospf_run.proofs.Lists.{all_more, one_more}
-use Rattle.ospf_udp.proofs.Planned.{stopped_early}
+use Rattle.ospf_drive.proofs.UdpWire.Planned.{stopped_early}
 use Rattle.ospf_run.proofs.Wired.{has_wire, not_opened, socketless}
 use Rattle.ospf_run.specs.Cut.{IsStopOfPlan, no_memory}
 use Rattle.ospf_run.specs.Wires.{IsFresh}

@@ -1,6 +1,6 @@
 use Rattle.std.proofs.Common.{◌≡◌, ◌∙◌, ap, sym, refl, inl, inr, arith, map, true, false, [], ◌∷◌}
 use Rattle.std.specs.Io.BufRead.{ends_with_byte}
-use Rattle.ospf_rounds.proofs.ProgressFacts.{on_further, on_nowhere}
+use Rattle.ospf_commands.proofs.Deliveries.ProgressFacts.{on_further, on_nowhere}
 use Rattle.ospf_files.proofs.Cut.{for_failure, for_memory}
 use Rattle.ospf_files.specs.Lines.{numbered_line, numbered_from}
 use Rattle.ospf_files.specs.Streams.{written_on}

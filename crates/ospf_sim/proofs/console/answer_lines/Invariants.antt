@@ -1,5 +1,5 @@
 use Rattle.ospf_files.specs.Streams.{written_on}
-use Rattle.ospf_rounds.specs.Progress.{ToldOn}
+use Rattle.ospf_commands.specs.Deliveries.Progress.{ToldOn}
 use Rattle.ospf_sim.proofs.Sessions.{IsSoFar}
 use Rattle.ospf_sim.proofs.console.answer_lines.Given as goal
 

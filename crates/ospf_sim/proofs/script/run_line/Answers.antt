@@ -2,7 +2,7 @@ use Rattle.std.proofs.Common.{[], refl, rules}
 use Rattle.ospf_files.proofs.Cut.{for_failure}
 use Rattle.ospf_files.proofs.Written.{nothing_written}
 use Rattle.ospf_files.specs.Streams.{written_on}
-use Rattle.ospf_rounds.proofs.ProgressFacts.{on_further, on_nowhere, on_word}
+use Rattle.ospf_commands.proofs.Deliveries.ProgressFacts.{on_further, on_nowhere, on_word}
 use Rattle.ospf_sim.specs.Begun.{IsLineCut, in_print, no_room_for}
 use Rattle.ospf_sim.specs.Scripts.{is_passed_over}
 use Rattle.ospf_sim.proofs.Cuts.{refusal_cut}

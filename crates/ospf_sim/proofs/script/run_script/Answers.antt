@@ -1,5 +1,5 @@
 use Rattle.std.proofs.Common.{◌≡◌, ◌≤◌, ℕ, List, ap, ◌∙◌, arith, length, map, refl, subst}
-use Rattle.ospf_rounds.proofs.ProgressFacts.{on_further, on_nowhere}
+use Rattle.ospf_commands.proofs.Deliveries.ProgressFacts.{on_further, on_nowhere}
 use Rattle.ospf_files.proofs.Cut.{for_failure, for_memory}
 use Rattle.ospf_files.specs.Lines.{numbered_line, numbered_from}
 use Rattle.ospf_script.specs.Words.{Text}

@@ -1,7 +1,7 @@
 use Rattle.std.proofs.Common.{take, map}
 use Rattle.ospf_files.specs.Lines.{numbered_line}
 use Rattle.ospf_files.specs.Streams.{written_on}
-use Rattle.ospf_rounds.specs.Progress.{ToldOn}
+use Rattle.ospf_commands.specs.Deliveries.Progress.{ToldOn}
 use Rattle.ospf_sim.specs.Scripts.{IsScriptRun}
 use Rattle.ospf_sim.proofs.script.run_script.Given as goal
 

@@ -1,6 +1,6 @@
 use Rattle.std.proofs.Common.{rules, of_calls, ap, sym, ◌∙◌, ltb, leb, arith}
 use Rattle.std.proofs.lemmas.List.Sorted.{IsPartitionPoint-from_clause, IsPartitionedBy-leb, IsPartitionedBy-ltb}
-use Rattle.ospf_edges.specs.declared.end.End.{End}
+use Rattle.ospf_graph.specs.declared.edges.end.End.{End}
 use Rattle.ospf_graph.proofs.Runs.{in_run, of_run, run_of_points}
 use Rattle.ospf_spf.specs.Reach.{prefix_code}
 use Rattle.ospf_spf.proofs.Groups.{code_same}

@@ -1,5 +1,5 @@
 use Rattle.std.proofs.Common.{◌≡◌, ◌++◌, ◌∷◌, [], take}
-use Rattle.ospf_index.specs.Known.{Table, opening}
+use Rattle.ospf_fib.specs.PrefixIndex.Known.{Table, opening}
 use Rattle.ospf_table.proofs.Written.{HasLookups}
 use Rattle.ospf_table.proofs.lookup.print_lookups.Given as goal
 

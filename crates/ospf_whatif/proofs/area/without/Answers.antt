@@ -1,5 +1,5 @@
 use Rattle.std.proofs.Common.{◌∙◌, List, subst, sym}
-use Rattle.ospf_edges.specs.Listed.{advertisements_of}
+use Rattle.ospf_graph.specs.EdgeLists.Listed.{advertisements_of}
 use Rattle.ospf_lsa.specs.declared.link.Link.{Link}
 use Rattle.ospf_whatif.specs.Failure.{inner_of}
 use Rattle.ospf_whatif.specs.Subnets.{HaveSame}

@@ -2,7 +2,7 @@ use Rattle.std.proofs.Common.{◌≡◌, ◌<◌, ◌≤◌, List, [], ap, lengt
 use Rattle.std.specs.List.{AllZip}
 use Rattle.std.proofs.lemmas.List.{take_all}
 use Rattle.ospf_graph.specs.Advertisements.{Advertisement}
-use Rattle.ospf_edges.specs.Listed.{advertisements_of}
+use Rattle.ospf_graph.specs.EdgeLists.Listed.{advertisements_of}
 use Rattle.ospf_whatif.specs.Failure.{HasLarge, IsLeftLsa}
 use Rattle.ospf_whatif.proofs.WithoutLemmas.{bytes_more, left_by_none, left_more, small_without, zip_same}
 use Rattle.ospf_whatif.proofs.area.without_all.Goals as goal

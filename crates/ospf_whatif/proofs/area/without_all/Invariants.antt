@@ -1,6 +1,6 @@
 use Rattle.std.proofs.Common.{◌≡◌, ◌≢◌, [], take}
 use Rattle.std.specs.List.{AllZip}
-use Rattle.ospf_edges.specs.Listed.{advertisements_of}
+use Rattle.ospf_graph.specs.EdgeLists.Listed.{advertisements_of}
 use Rattle.ospf_whatif.specs.Failure.{HasLarge, IsLeftLsa, without_all}
 use Rattle.ospf_whatif.proofs.area.without_all.Given as goal
 

@@ -1,5 +1,5 @@
 use Rattle.std.proofs.Common.{rules}
-use Rattle.ospf_edges.specs.Listed.{advertisements_of}
+use Rattle.ospf_graph.specs.EdgeLists.Listed.{advertisements_of}
 use Rattle.ospf_whatif.proofs.WithoutLemmas.{has_large}
 use Rattle.ospf_whatif.proofs.area.without_small.Goals as goal
 

@@ -5,7 +5,7 @@ use Rattle.std.proofs.lemmas.List.Elements.{all_zip_more}
 use Rattle.ospf_lsa.specs.Lsa.{key_of}
 use Rattle.ospf_lsa.proofs.Words.{IsRising}
 use Rattle.ospf_graph.proofs.ListLemmas.{more_members}
-use Rattle.ospf_edges.specs.Listed.{advertisement_of, advertisements_of}
+use Rattle.ospf_graph.specs.EdgeLists.Listed.{advertisement_of, advertisements_of}
 use Rattle.ospf_whatif.specs.Failure.{IsLeftBy, IsLeftLarge, kept_links, left_of_lsa}
 use Rattle.ospf_whatif.proofs.WithoutLemmas.{keys_before, keys_next, large_in, small_in, told_next}
 use Rattle.ospf_whatif.proofs.area.without_taken.Goals as goal

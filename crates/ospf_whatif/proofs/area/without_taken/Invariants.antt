@@ -1,7 +1,7 @@
 use Rattle.std.proofs.Common.{◌≡◌, ℕ, List, map, take}
 use Rattle.std.specs.List.{AllZip, Contains}
 use Rattle.ospf_lsa.specs.Lsa.{key_of}
-use Rattle.ospf_edges.specs.Listed.{advertisement_of}
+use Rattle.ospf_graph.specs.EdgeLists.Listed.{advertisement_of}
 use Rattle.ospf_whatif.specs.Failure.{IsLeftBy, IsLeftLarge, kept_links, left_of_lsa}
 use Rattle.ospf_whatif.proofs.area.without_taken.Given as goal
 

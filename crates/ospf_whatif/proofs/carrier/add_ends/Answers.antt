@@ -1,5 +1,5 @@
 use Rattle.std.proofs.Common.{◌≡◌, ◌⊎◌}
-use Rattle.ospf_edges.proofs.AddsLemmas.{adds_as, adds_both}
+use Rattle.ospf_graph.proofs.EdgeLists.AddsLemmas.{adds_as, adds_both}
 use Rattle.ospf_whatif.specs.Carrier.{EndGiven}
 use Rattle.ospf_whatif.proofs.CarrierLemmas.{given_itself, link_given}
 use Rattle.ospf_whatif.proofs.WithoutLemmas.{OnOk-map}

@@ -1,7 +1,7 @@
 use Rattle.std.proofs.Common.{◌≡◌}
 use Rattle.ospf_whatif.specs.Single.{AttachmentGiven}
 use Rattle.ospf_whatif.specs.declared.failure.AreaFailure.TheVariants.{Attachment}
-use Rattle.ospf_edges.proofs.AddsLemmas.{adds_as}
+use Rattle.ospf_graph.proofs.EdgeLists.AddsLemmas.{adds_as}
 use Rattle.ospf_whatif.proofs.SingleLemmas.{one_attachment}
 use Rattle.ospf_whatif.proofs.failures.add_attachment.Goals as goal
 

@@ -1,6 +1,6 @@
 use Rattle.ospf_whatif.specs.Single.{AttachmentGiven, LinksGiven, NetworkGiven, UnnumberedGiven}
 use Rattle.std.proofs.Common.{◌⊎◌}
-use Rattle.ospf_edges.proofs.AddsLemmas.{adds_both}
+use Rattle.ospf_graph.proofs.EdgeLists.AddsLemmas.{adds_both}
 use Rattle.ospf_whatif.proofs.failures.add_edge.Goals as goal
 
 pub returns : goal.returns

@@ -1,7 +1,7 @@
 use Rattle.std.proofs.Common.{arith}
-use Rattle.ospf_edges.specs.Listed.{advertisements_of}
+use Rattle.ospf_graph.specs.EdgeLists.Listed.{advertisements_of}
 use Rattle.ospf_whatif.specs.Single.{IsWireAt, WireGiven}
-use Rattle.ospf_edges.proofs.AddsLemmas.{adds_as}
+use Rattle.ospf_graph.proofs.EdgeLists.AddsLemmas.{adds_as}
 use Rattle.ospf_whatif.proofs.SingleLemmas.{wire_given}
 use Rattle.ospf_whatif.proofs.failures.add_edge_wire.Goals as goal
 

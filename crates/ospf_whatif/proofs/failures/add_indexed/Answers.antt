@@ -1,7 +1,7 @@
 use Rattle.std.proofs.Common.{◌≡◌}
 use Rattle.ospf_whatif.specs.Single.{IsUnnumberedAt}
 use Rattle.ospf_whatif.specs.declared.failure.AreaFailure.TheVariants.{Link}
-use Rattle.ospf_edges.proofs.AddsLemmas.{adds_as}
+use Rattle.ospf_graph.proofs.EdgeLists.AddsLemmas.{adds_as}
 use Rattle.ospf_whatif.proofs.SingleLemmas.{one_indexed}
 use Rattle.ospf_whatif.proofs.failures.add_indexed.Goals as goal
 

@@ -1,7 +1,7 @@
 use Rattle.std.proofs.Common.{◌≡◌, arith}
 use Rattle.ospf_whatif.specs.Single.{LinksGiven}
 use Rattle.ospf_whatif.specs.declared.failure.AreaFailure.TheVariants.{Links}
-use Rattle.ospf_edges.proofs.AddsLemmas.{adds_as}
+use Rattle.ospf_graph.proofs.EdgeLists.AddsLemmas.{adds_as}
 use Rattle.ospf_whatif.proofs.SingleLemmas.{one_links}
 use Rattle.ospf_whatif.proofs.failures.add_links.Goals as goal
 

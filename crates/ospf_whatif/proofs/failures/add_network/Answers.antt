@@ -1,7 +1,7 @@
 use Rattle.std.proofs.Common.{◌≡◌}
 use Rattle.ospf_whatif.specs.Single.{NetworkGiven}
 use Rattle.ospf_whatif.specs.declared.failure.AreaFailure.TheVariants.{Network}
-use Rattle.ospf_edges.proofs.AddsLemmas.{adds_as}
+use Rattle.ospf_graph.proofs.EdgeLists.AddsLemmas.{adds_as}
 use Rattle.ospf_whatif.proofs.SingleLemmas.{one_network}
 use Rattle.ospf_whatif.proofs.failures.add_network.Goals as goal
 

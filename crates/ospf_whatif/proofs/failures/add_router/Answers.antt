@@ -2,8 +2,8 @@ use Rattle.std.proofs.Common.{◌≡◌, ℕ, List, refl, ap, subst, ◌∙◌}
 use Rattle.ospf_base.specs.Bytes.{number_at}
 use Rattle.ospf_base.specs.declared.ids.LsaKey.{LsaKey}
 use Rattle.ospf_lsa.specs.Lsa.{IsRouterLsa, IsNetworkLsa, links_of}
-use Rattle.ospf_edges.proofs.AddsLemmas.{adds_none}
-use Rattle.ospf_edges.proofs.GivenLemmas.{as_router, as_network}
+use Rattle.ospf_graph.proofs.EdgeLists.AddsLemmas.{adds_none}
+use Rattle.ospf_graph.proofs.EdgeLists.GivenLemmas.{as_router, as_network}
 use Rattle.ospf_whatif.specs.Single.{RouterGiven}
 use Rattle.ospf_whatif.proofs.failures.add_router.Goals as goal
 

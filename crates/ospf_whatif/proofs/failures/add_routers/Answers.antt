@@ -1,9 +1,9 @@
 use Rattle.std.proofs.Common.{◌≤◌, length, subst, ◌∙◌, arith}
 use Rattle.std.proofs.lemmas.List.{take_all}
 use Rattle.ospf_graph.specs.Adds.{Adds}
-use Rattle.ospf_edges.proofs.AddsLemmas.{adds_next, adds_start}
+use Rattle.ospf_graph.proofs.EdgeLists.AddsLemmas.{adds_next, adds_start}
 use Rattle.ospf_whatif.specs.Single.{GivenBy, RouterGiven}
-use Rattle.ospf_edges.specs.Listed.{advertisement_of}
+use Rattle.ospf_graph.specs.EdgeLists.Listed.{advertisement_of}
 use Rattle.ospf_whatif.proofs.failures.add_routers.Goals as goal
 
 pub loop-lsa-init : goal.loop-lsa-init

@@ -1,7 +1,7 @@
 use Rattle.std.proofs.Common.{take}
 use Rattle.ospf_graph.specs.Adds.{Adds}
 use Rattle.ospf_whatif.specs.Single.{GivenBy, RouterGiven}
-use Rattle.ospf_edges.specs.Listed.{advertisement_of}
+use Rattle.ospf_graph.specs.EdgeLists.Listed.{advertisement_of}
 use Rattle.ospf_whatif.proofs.failures.add_routers.Given as goal
 
 abbrev pub invariant-loop-lsa : goal.invariant-loop-lsa

@@ -1,6 +1,6 @@
 use Rattle.std.proofs.Common.{arith}
 use Rattle.ospf_whatif.specs.Single.{IsUnnumberedAt, UnnumberedGiven}
-use Rattle.ospf_edges.proofs.AddsLemmas.{adds_as}
+use Rattle.ospf_graph.proofs.EdgeLists.AddsLemmas.{adds_as}
 use Rattle.ospf_whatif.proofs.SingleLemmas.{unnumbered_given}
 use Rattle.ospf_whatif.proofs.failures.add_unnumbered.Goals as goal
 

@@ -1,8 +1,8 @@
 use Rattle.std.proofs.Common.{◌≡◌, subst}
-use Rattle.ospf_edges.specs.Listed.{advertisements_of}
+use Rattle.ospf_graph.specs.EdgeLists.Listed.{advertisements_of}
 use Rattle.ospf_whatif.specs.Single.{IsLongestOf, IsShared, IsWireAt}
 use Rattle.ospf_whatif.specs.declared.failure.AreaFailure.TheVariants.{Link}
-use Rattle.ospf_edges.proofs.AddsLemmas.{adds_as, adds_none}
+use Rattle.ospf_graph.proofs.EdgeLists.AddsLemmas.{adds_as, adds_none}
 use Rattle.ospf_whatif.proofs.SingleLemmas.{one_wire}
 use Rattle.ospf_whatif.proofs.failures.add_wire.Goals as goal
 

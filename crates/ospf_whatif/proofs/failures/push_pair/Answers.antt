@@ -1,7 +1,7 @@
 use Rattle.std.proofs.Common.{◌≡◌, ◌∙◌, sym, arith}
 use Rattle.ospf_whatif.specs.Single.{IsPairOf}
 use Rattle.ospf_whatif.specs.declared.failure.AreaFailure.TheVariants.{Link}
-use Rattle.ospf_edges.proofs.AddsLemmas.{adds_push}
+use Rattle.ospf_graph.proofs.EdgeLists.AddsLemmas.{adds_push}
 use Rattle.ospf_graph.specs.Pairs.{pair_code}
 use Rattle.ospf_whatif.proofs.failures.push_pair.Goals as goal
 

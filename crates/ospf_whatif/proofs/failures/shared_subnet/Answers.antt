@@ -1,6 +1,6 @@
 use Rattle.std.proofs.Common.{rules}
-use Rattle.ospf_edges.specs.Given.{AreEndsAt}
-use Rattle.ospf_edges.specs.Listed.{advertisements_of}
+use Rattle.ospf_graph.specs.EdgeLists.Given.{AreEndsAt}
+use Rattle.ospf_graph.specs.EdgeLists.Listed.{advertisements_of}
 use Rattle.ospf_graph.specs.declared.graph.Vertex.TheVariants.{Router}
 use Rattle.ospf_whatif.proofs.SingleLemmas.{longest_near}
 use Rattle.ospf_whatif.proofs.failures.shared_subnet.Goals as goal

@@ -1,7 +1,7 @@
 use Rattle.std.proofs.Common.{List, [], subst, ◌∙◌}
 use Rattle.ospf_graph.specs.declared.graph.Edge.{Edge}
 use Rattle.ospf_graph.specs.Adds.{Adds}
-use Rattle.ospf_edges.specs.Listed.{advertisements_of}
+use Rattle.ospf_graph.specs.EdgeLists.Listed.{advertisements_of}
 use Rattle.ospf_whatif.specs.Single.{EdgeGiven, GivenBy, IsPairOf, WireGiven}
 use Rattle.ospf_whatif.specs.declared.failure.AreaFailure.{AreaFailure}
 use Rattle.ospf_whatif.proofs.SingleLemmas.{single_complete, single_sound}

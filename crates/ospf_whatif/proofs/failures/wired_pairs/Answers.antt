@@ -1,7 +1,7 @@
 use Rattle.std.proofs.Common.{◌≤◌, ℕ, List, [], length, subst, arith}
 use Rattle.std.proofs.lemmas.List.{take_all}
 use Rattle.ospf_graph.specs.Adds.{Adds}
-use Rattle.ospf_edges.proofs.AddsLemmas.{adds_next}
+use Rattle.ospf_graph.proofs.EdgeLists.AddsLemmas.{adds_next}
 use Rattle.ospf_whatif.specs.Single.{GivenBy, IsPairOf}
 use Rattle.ospf_whatif.specs.declared.failure.AreaFailure.{AreaFailure}
 use Rattle.ospf_whatif.proofs.SingleLemmas.{adds_sorted}

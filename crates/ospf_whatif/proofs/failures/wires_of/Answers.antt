@@ -1,7 +1,7 @@
 use Rattle.std.proofs.Common.{◌≤◌, length, subst, arith}
 use Rattle.std.proofs.lemmas.List.{take_all}
 use Rattle.ospf_graph.specs.Adds.{Adds}
-use Rattle.ospf_edges.specs.Listed.{advertisements_of}
+use Rattle.ospf_graph.specs.EdgeLists.Listed.{advertisements_of}
 use Rattle.ospf_whatif.specs.Single.{GivenBy, WireGiven}
 use Rattle.ospf_whatif.proofs.SingleLemmas.{adds_at, no_edge}
 use Rattle.ospf_whatif.proofs.failures.wires_of.Goals as goal

@@ -1,7 +1,7 @@
 use Rattle.std.proofs.Common.{◌≡◌, List, arith, subst, sym}
-use Rattle.ospf_edges.specs.Listed.{advertisements_of}
-use Rattle.ospf_edges.specs.Near.{AreEdgesAt}
-use Rattle.ospf_edges.proofs.AddsLemmas.{adds_as}
+use Rattle.ospf_graph.specs.EdgeLists.Listed.{advertisements_of}
+use Rattle.ospf_graph.specs.EdgeLists.Near.{AreEdgesAt}
+use Rattle.ospf_graph.proofs.EdgeLists.AddsLemmas.{adds_as}
 use Rattle.ospf_graph.specs.declared.graph.Edge.{Edge}
 use Rattle.ospf_graph.specs.declared.graph.Vertex.TheVariants as vertex
 use Rattle.ospf_whatif.specs.Hidden.{HiddenGiven, OtherGiven}

@@ -1,7 +1,7 @@
 use Rattle.std.proofs.Common.{◌≤◌, length, subst, arith}
 use Rattle.std.proofs.lemmas.List.{take_all}
 use Rattle.ospf_graph.specs.Adds.{Adds}
-use Rattle.ospf_edges.proofs.AddsLemmas.{adds_start}
+use Rattle.ospf_graph.proofs.EdgeLists.AddsLemmas.{adds_start}
 use Rattle.ospf_whatif.specs.Hidden.{OtherGiven}
 use Rattle.ospf_whatif.specs.Single.{GivenBy}
 use Rattle.ospf_whatif.proofs.SingleLemmas.{adds_at, no_edge}

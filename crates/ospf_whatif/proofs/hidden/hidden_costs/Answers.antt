@@ -2,8 +2,8 @@ use Rattle.std.proofs.Common.{◌≤◌, List, length, subst, sym, arith}
 use Rattle.std.proofs.lemmas.List.{take_all}
 use Rattle.ospf_graph.specs.Adds.{Adds}
 use Rattle.ospf_graph.specs.declared.graph.Edge.{Edge}
-use Rattle.ospf_edges.specs.Given.{IsEdgesOf}
-use Rattle.ospf_edges.specs.Listed.{advertisements_of}
+use Rattle.ospf_graph.specs.EdgeLists.Given.{IsEdgesOf}
+use Rattle.ospf_graph.specs.EdgeLists.Listed.{advertisements_of}
 use Rattle.ospf_whatif.specs.Hidden.{HiddenGiven}
 use Rattle.ospf_whatif.specs.Single.{GivenBy}
 use Rattle.ospf_whatif.proofs.HiddenLemmas.{are_hidden}

@@ -1,6 +1,6 @@
 use Rattle.std.proofs.Common.{take}
 use Rattle.ospf_graph.specs.Adds.{Adds}
-use Rattle.ospf_edges.specs.Listed.{advertisements_of}
+use Rattle.ospf_graph.specs.EdgeLists.Listed.{advertisements_of}
 use Rattle.ospf_whatif.specs.Hidden.{HiddenGiven}
 use Rattle.ospf_whatif.specs.Single.{GivenBy}
 use Rattle.ospf_whatif.proofs.hidden.hidden_costs.Given as goal

@@ -1,4 +1,4 @@
-use Rattle.ospf_edges.specs.Listed.{advertisements_of}
+use Rattle.ospf_graph.specs.EdgeLists.Listed.{advertisements_of}
 use Rattle.ospf_graph.proofs.SearchState.{fit_sorted}
 use Rattle.ospf_whatif.proofs.SortedLemmas.{edges_sorted}
 use Rattle.ospf_whatif.proofs.outage.edges_in_order.Goals as goal

@@ -1,4 +1,4 @@
-use Rattle.ospf_edges.specs.Listed.{advertisements_of}
+use Rattle.ospf_graph.specs.EdgeLists.Listed.{advertisements_of}
 use Rattle.ospf_whatif.proofs.LostLemmas.{end_ends_lost, no_ends_lost, router_ends_lost, wire_ends_lost}
 use Rattle.ospf_whatif.specs.declared.failure.AreaFailure.TheVariants as fails
 use Rattle.ospf_whatif.proofs.outage.ends_lost.Goals as goal

@@ -1,5 +1,5 @@
 use Rattle.std.proofs.Common.{refl}
-use Rattle.ospf_incremental.proofs.ShrinkSteps.{edge_in}
+use Rattle.ospf_spf.proofs.IncrementalSpf.ShrinkSteps.{edge_in}
 use Rattle.ospf_whatif.proofs.OutageLemmas.{from_all}
 use Rattle.ospf_whatif.proofs.outage.has_edge_in_order.Goals as goal
 

@@ -1,6 +1,6 @@
 use Rattle.std.proofs.Common.{rules, ◌≡◌, ◌↔◌, IsTrue}
 use Rattle.std.proofs.lemmas.Fn.{filter_same}
-use Rattle.ospf_edges.specs.Listed.{advertisements_of}
+use Rattle.ospf_graph.specs.EdgeLists.Listed.{advertisements_of}
 use Rattle.ospf_whatif.proofs.LostLemmas.{are_stubs_at, is_to, to_test}
 use Rattle.ospf_whatif.proofs.outage.stubs_at.Goals as goal
 

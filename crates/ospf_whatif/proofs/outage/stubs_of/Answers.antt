@@ -1,4 +1,4 @@
-use Rattle.ospf_edges.specs.Listed.{advertisements_of}
+use Rattle.ospf_graph.specs.EdgeLists.Listed.{advertisements_of}
 use Rattle.ospf_whatif.proofs.LostLemmas.{are_stubs}
 use Rattle.ospf_whatif.proofs.outage.stubs_of.Goals as goal
 

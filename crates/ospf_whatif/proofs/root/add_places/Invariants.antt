@@ -1,6 +1,6 @@
 use Rattle.std.proofs.Common.{◌≡◌, ◌<◌, ℕ, length, get_or, take}
 use Rattle.std.specs.List.{All, Contains}
-use Rattle.ospf_edges.specs.declared.end.End.{End}
+use Rattle.ospf_graph.specs.declared.edges.end.End.{End}
 use Rattle.ospf_graph.specs.declared.route.Route.{Route}
 use Rattle.ospf_whatif.proofs.root.add_places.Given as goal
 

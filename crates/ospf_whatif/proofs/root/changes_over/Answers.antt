@@ -1,4 +1,4 @@
-use Rattle.ospf_edges.specs.Listed.{advertisements_of}
+use Rattle.ospf_graph.specs.EdgeLists.Listed.{advertisements_of}
 use Rattle.ospf_whatif.proofs.EffectLemmas.{effect_made}
 use Rattle.ospf_whatif.proofs.OutageLemmas.{stays_here}
 use Rattle.std.proofs.Common.{refl}

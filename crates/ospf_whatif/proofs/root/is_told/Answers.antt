@@ -1,6 +1,6 @@
 use Rattle.std.proofs.Common.{◌≡◌, ◌≤◌, ◌∙◌, false, length, inl, inr, refl, sym, subst}
 use Rattle.std.proofs.lemmas.List.{take_all}
-use Rattle.ospf_edges.specs.declared.end.End.{End}
+use Rattle.ospf_graph.specs.declared.edges.end.End.{End}
 use Rattle.ospf_graph.proofs.ListLemmas.{more_members}
 use Rattle.ospf_whatif.specs.Outage.{left_of_area}
 use Rattle.ospf_whatif.specs.Told.{IsLive}

@@ -1,7 +1,7 @@
 use Rattle.std.proofs.Common.{◌≡◌, ◌↔◌, ℕ, List, Option, None, Some, IfNone, IfSome, sym, subst}
 use Rattle.std.specs.List.{Contains}
 use Rattle.ospf_base.specs.declared.ids.RouterId.{RouterId}
-use Rattle.ospf_edges.specs.declared.end.End.{End}
+use Rattle.ospf_graph.specs.declared.edges.end.End.{End}
 use Rattle.ospf_graph.specs.Advertisements.{Advertisement, IsListed}
 use Rattle.ospf_graph.specs.Routes.{IsEnd, IsRoute, Way}
 use Rattle.ospf_graph.specs.Search.{AtIn}

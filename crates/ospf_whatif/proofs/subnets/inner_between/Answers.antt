@@ -1,5 +1,5 @@
-use Rattle.ospf_edges.specs.Addresses.{links_by}
-use Rattle.ospf_edges.specs.Listed.{advertisements_of}
+use Rattle.ospf_graph.specs.EdgeLists.Addresses.{links_by}
+use Rattle.ospf_graph.specs.EdgeLists.Listed.{advertisements_of}
 use Rattle.ospf_whatif.proofs.SubnetLemmas.{between_as}
 use Rattle.ospf_whatif.proofs.subnets.inner_between.Goals as goal
 

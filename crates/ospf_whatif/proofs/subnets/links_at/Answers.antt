@@ -1,10 +1,10 @@
 use Rattle.std.proofs.Common.{◌≡◌, List, ℕ, sym, ap, subst, ◌∙◌}
 use Rattle.ospf_lsa.specs.declared.link.Link.{Link}
 use Rattle.ospf_lsa.specs.Lsa.{IsRouterLsa, links_of}
-use Rattle.ospf_edges.specs.Addresses.{links_by}
-use Rattle.ospf_edges.specs.Listed.{advertisements_of}
-use Rattle.ospf_edges.specs.Near.{AreLinksBy}
-use Rattle.ospf_edges.proofs.ListedLemmas.{keyed_router, router_found, router_only, router_none}
+use Rattle.ospf_graph.specs.EdgeLists.Addresses.{links_by}
+use Rattle.ospf_graph.specs.EdgeLists.Listed.{advertisements_of}
+use Rattle.ospf_graph.specs.EdgeLists.Near.{AreLinksBy}
+use Rattle.ospf_graph.proofs.EdgeLists.ListedLemmas.{keyed_router, router_found, router_only, router_none}
 use Rattle.ospf_whatif.specs.Subnets.{HaveSame}
 use Rattle.ospf_whatif.proofs.SubnetLemmas.{links_are_by, none_are_by}
 use Rattle.ospf_whatif.proofs.WithoutLemmas.{IfOk-map}

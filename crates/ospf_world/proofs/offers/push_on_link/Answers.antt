@@ -1,5 +1,5 @@
 use Rattle.std.proofs.Common.{sym, ap, ◌∙◌, ◌++◌, List}
-use Rattle.ospf_event.specs.declared.event.WorldEvent.{WorldEvent}
+use Rattle.ospf_base.specs.declared.event.event.WorldEvent.{WorldEvent}
 use Rattle.ospf_world.proofs.OfferFacts.{at_link, no_link, nothing_more}
 use Rattle.ospf_world.proofs.offers.push_on_link.Goals as goal
 

@@ -1,7 +1,7 @@
 use Rattle.std.proofs.Common.{◌≡◌, ◌∷◌, [], Ok, false, length, take, refl, ap, subst, sym, ◌∙◌, arith}
 use Rattle.std.specs.Result.{is_ok}
 use Rattle.std.proofs.lemmas.List.{take_at}
-use Rattle.ospf_event.specs.declared.event.WorldFault.TheVariants as fault
+use Rattle.ospf_base.specs.declared.event.event.WorldFault.TheVariants as fault
 use Rattle.ospf_headline.specs.Slots.{SlotSteps, SlotTakes}
 use Rattle.ospf_headline.specs.World.{WantsRoom}
 use Rattle.ospf_world.proofs.ComesFacts.{none_more}

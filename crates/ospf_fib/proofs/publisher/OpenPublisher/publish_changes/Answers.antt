@@ -2,7 +2,7 @@ use Rattle.std.proofs.Common.{◌≡◌, ◌<◌, ◌-◌, ◌++◌, ◌∷◌, 
 use Rattle.std.proofs.lemmas.Result.{IfOk-weaker}
 use Rattle.ospf_spf.specs.Changes.{edited}
 use Rattle.ospf_spf.specs.declared.changes.Change.{Change}
-use Rattle.ospf_index.specs.Known.{Table}
+use Rattle.ospf_fib.specs.PrefixIndex.Known.{Table}
 use Rattle.ospf_fib.specs.Versions.{EndsWith, found_of}
 use Rattle.ospf_fib.specs.Writing.{shown_end}
 use Rattle.ospf_fib.specs.declared.shown.HandedOver.{HandedOver}

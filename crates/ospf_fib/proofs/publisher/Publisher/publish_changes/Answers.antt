@@ -1,6 +1,6 @@
 use Rattle.std.proofs.Common.{subst}
 use Rattle.std.specs.Result.{IfOk}
-use Rattle.ospf_index.specs.Known.{Known}
+use Rattle.ospf_fib.specs.PrefixIndex.Known.{Known}
 use Rattle.ospf_fib.specs.Versions.{AddsEdited}
 use Rattle.ospf_fib.proofs.publisher.Publisher.publish_changes.Goals as goal
 

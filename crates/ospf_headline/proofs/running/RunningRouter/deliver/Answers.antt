@@ -3,8 +3,8 @@ use Rattle.std.proofs.lemmas.Result.{IfOk-weaker}
 use Rattle.ospf_area.specs.State.{AreaValue}
 use Rattle.ospf_headline.specs.declared.logs.Datagram.{Datagram}
 use Rattle.ospf_router.specs.Steps.{Steps}
-use Rattle.ospf_step.specs.Counts.{comes_on, with_dropped_on}
-use Rattle.ospf_step.specs.Drops.{dropped_by}
+use Rattle.ospf_router.specs.AreaStep.Counts.{comes_on, with_dropped_on}
+use Rattle.ospf_router.specs.AreaStep.Drops.{dropped_by}
 use Rattle.ospf_headline.proofs.RunningFacts.{fed_from, goes, needs, none_from, not_none, on_err_of, settles_nothing, silent}
 use Rattle.ospf_headline.proofs.SlotFacts.{at_place}
 use Rattle.ospf_headline.specs.Running.{Fed, delivery}

@@ -1,6 +1,6 @@
 use Rattle.std.proofs.Common.{◌≡◌, true, false, is_some, ap, ◌∙◌}
 use Rattle.std.proofs.lemmas.Result.{IfOk-weaker}
-use Rattle.ospf_step.specs.Counts.{with_dropped_on}
+use Rattle.ospf_router.specs.AreaStep.Counts.{with_dropped_on}
 use Rattle.ospf_headline.proofs.RunningFacts.{fed_from, goes, needs, none_from, not_none, on_err_of, settles_nothing, silent}
 use Rattle.ospf_headline.proofs.running.RunningRouter.feed.Goals as goal
 

@@ -1,7 +1,7 @@
 use Rattle.std.proofs.Common.{rules, ◌≡◌, ◌↔◌, ℕ, Option, Some, IfNone, IfSome, List, refl, subst, sym}
 use Rattle.std.specs.List.{Contains}
-use Rattle.ospf_edges.specs.Listed.{advertisements_of}
-use Rattle.ospf_edges.specs.declared.end.End.{End}
+use Rattle.ospf_graph.specs.EdgeLists.Listed.{advertisements_of}
+use Rattle.ospf_graph.specs.declared.edges.end.End.{End}
 use Rattle.ospf_graph.proofs.WalkLaw.{has_hop}
 use Rattle.ospf_graph.specs.Advertisements.{IsListed}
 use Rattle.ospf_graph.specs.Routes.{IsEnd, IsRoute, Way}

@@ -1,5 +1,5 @@
 use Rattle.std.proofs.Common.{List, ℕ, subst, sym}
-use Rattle.ospf_edges.specs.Listed.{advertisements_of}
+use Rattle.ospf_graph.specs.EdgeLists.Listed.{advertisements_of}
 use Rattle.ospf_graph.specs.Elsewhere.{AreSameBut}
 use Rattle.ospf_graph.specs.declared.graph.Vertex.{Vertex}
 use Rattle.ospf_lsa.specs.Listing.{IsPut}

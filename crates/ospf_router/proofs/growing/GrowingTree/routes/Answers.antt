@@ -2,9 +2,9 @@ use Rattle.std.proofs.Common.{rules, ◌↔◌, List, get_or, sym, subst}
 use Rattle.std.specs.List.{Contains}
 use Rattle.std.specs.Prelude.{IsPermutation}
 use Rattle.std.proofs.lemmas.List.Sorted.{Contains-permutation, IsPermutation-sym}
-use Rattle.ospf_edges.specs.Given.{IsEndsOf}
-use Rattle.ospf_edges.specs.Listed.{advertisements_of}
-use Rattle.ospf_edges.specs.declared.end.End.{End}
+use Rattle.ospf_graph.specs.EdgeLists.Given.{IsEndsOf}
+use Rattle.ospf_graph.specs.EdgeLists.Listed.{advertisements_of}
+use Rattle.ospf_graph.specs.declared.edges.end.End.{End}
 use Rattle.ospf_graph.proofs.WalkLaw.{has_hop}
 use Rattle.ospf_graph.specs.Graph.{IsEdge}
 use Rattle.ospf_graph.specs.Routes.{IsTable}

@@ -1,6 +1,6 @@
 use Rattle.std.proofs.Common.{◌≡◌, ◌∙◌, ℕ, List, Option, Some, IfSome, [], ap, subst, sym}
 use Rattle.ospf_base.specs.declared.ids.RouterId.{RouterId}
-use Rattle.ospf_edges.specs.Listed.{advertisements_of}
+use Rattle.ospf_graph.specs.EdgeLists.Listed.{advertisements_of}
 use Rattle.ospf_lsa.specs.Listing.{IsListing}
 use Rattle.ospf_lsdb.specs.Database.{IsDatabase, listed}
 use Rattle.ospf_router.specs.Kept.{IsGrownFrom, IsServed, kept_lsas_in}

@@ -1,7 +1,7 @@
 use Rattle.std.proofs.Common.{◌≡◌, sym, ◌∙◌, ap}
-use Rattle.ospf_edges.specs.Items.{graph_in}
-use Rattle.ospf_edges.specs.Listed.{advertisements_of}
-use Rattle.ospf_edges.proofs.ItemLemmas.{same_items}
+use Rattle.ospf_graph.specs.EdgeLists.Items.{graph_in}
+use Rattle.ospf_graph.specs.EdgeLists.Listed.{advertisements_of}
+use Rattle.ospf_graph.proofs.EdgeLists.ItemLemmas.{same_items}
 use Rattle.ospf_spf.proofs.tree.Tree.holds_for.Goals as goal
 
 pub returns : goal.returns

@@ -4,7 +4,7 @@ use Rattle.ospf_graph.specs.Search.{AtIn, StartsIn}
 use Rattle.ospf_graph.specs.Tree.{IsTree}
 use Rattle.ospf_graph.specs.declared.graph.Edge.{Edge}
 use Rattle.ospf_graph.specs.declared.graph.Vertex.TheVariants.{Router}
-use Rattle.ospf_edges.specs.Listed.{advertisements_of}
+use Rattle.ospf_graph.specs.EdgeLists.Listed.{advertisements_of}
 use Rattle.ospf_spf.proofs.KeptLemmas.{graph_is, kept}
 use Rattle.ospf_spf.proofs.tree.Tree.of.Goals as goal
 

@@ -3,9 +3,9 @@ use Rattle.ospf_base.specs.declared.ids.RouterId.{RouterId}
 use Rattle.ospf_graph.specs.declared.route.Route.{Route}
 use Rattle.ospf_graph.specs.Routes.{IsTable}
 use Rattle.ospf_graph.proofs.WalkLaw.{has_hop}
-use Rattle.ospf_edges.specs.declared.end.End.{End}
-use Rattle.ospf_edges.specs.Listed.{advertisements_of}
-use Rattle.ospf_edges.specs.Given.{IsEndsOf}
+use Rattle.ospf_graph.specs.declared.edges.end.End.{End}
+use Rattle.ospf_graph.specs.EdgeLists.Listed.{advertisements_of}
+use Rattle.ospf_graph.specs.EdgeLists.Given.{IsEndsOf}
 use Rattle.ospf_spf.proofs.KeptLemmas.{tree_for}
 use Rattle.ospf_spf.proofs.tree.Tree.routes.Goals as goal
 use Rattle.ospf_spf.proofs.tree.Tree.routes.Goals.{In_ok-routes}

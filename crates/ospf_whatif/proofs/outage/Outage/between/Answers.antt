@@ -1,6 +1,6 @@
 use Rattle.std.proofs.Common.{rules, of_calls}
 use Rattle.std.proofs.lemmas.List.Sorted.{IsNonDecreasingBy-from_sort_by_key}
-use Rattle.ospf_edges.specs.declared.end.End.{End}
+use Rattle.ospf_graph.specs.declared.edges.end.End.{End}
 use Rattle.ospf_spf.specs.Reach.{prefix_code}
 use Rattle.ospf_whatif.proofs.OutageLemmas.{lost_sorted, outage_between}
 use Rattle.ospf_whatif.proofs.outage.Outage.between.Goals as goal

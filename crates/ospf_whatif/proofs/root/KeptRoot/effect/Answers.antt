@@ -1,8 +1,8 @@
 use Rattle.std.proofs.Common.{◌∙◌, List, [], subst}
-use Rattle.ospf_edges.specs.Listed.{advertisements_of}
+use Rattle.ospf_graph.specs.EdgeLists.Listed.{advertisements_of}
 use Rattle.ospf_graph.specs.declared.graph.Edge.{Edge}
 use Rattle.ospf_graph.specs.declared.graph.Vertex.TheVariants.{Router}
-use Rattle.ospf_incremental.specs.Shrinking.{TakesEdges}
+use Rattle.ospf_spf.specs.IncrementalSpf.Shrinking.{TakesEdges}
 use Rattle.ospf_whatif.proofs.OutageLemmas.{lead_back, same_as_before, tree_left, tree_over, tree_unused}
 use Rattle.ospf_whatif.proofs.WithoutLemmas.{IfOk-map}
 use Rattle.ospf_whatif.proofs.root.KeptRoot.effect.Goals as goal

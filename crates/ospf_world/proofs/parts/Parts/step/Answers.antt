@@ -4,7 +4,7 @@ use Rattle.ospf_world.specs.Does.{Does}
 use Rattle.ospf_world.specs.Networks.{links_on}
 use Rattle.ospf_world.specs.Worlds.{place_in}
 use Rattle.ospf_headline.specs.Slots.{SlotSteps}
-use Rattle.ospf_event.specs.Events.{router_in}
+use Rattle.ospf_base.specs.Events.Events.{router_in}
 use Rattle.ospf_world.proofs.PlaceFacts.{placed, at_within}
 use Rattle.ospf_world.proofs.ComesFacts.{steps_in}
 use Rattle.ospf_world.proofs.parts.Parts.step.Goals as goal

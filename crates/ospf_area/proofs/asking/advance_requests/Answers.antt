@@ -1,0 +1,21 @@
+use Rattle.std.proofs.Common.{◌≡◌, ◌∙◌, ap, set, sym, get_or}
+use Rattle.std.proofs.lemmas.List.Edits.{map_over_more}
+use Rattle.ospf_area.specs.Asking.{turned_link, turn_requests_on}
+use Rattle.ospf_area.specs.State.{LinkValue}
+use Rattle.ospf_area.proofs.PlaceLemmas.{map_read}
+use Rattle.ospf_area.proofs.SendingLemmas.{sends_step_from}
+use Rattle.ospf_area.proofs.asking.advance_requests.Goals as goal
+
+pub loop-number-preserved : goal.loop-number-preserved
+loop-number-preserved c =
+    let f = turned_link c.args.own in
+    let xs = c.args.links.now in
+    let ys = c.loop-number.links in
+    let i = c.loop-number.number in
+    let x = c.index-links-number.result in
+    let lt = c.loop-number-test.true in
+    let read : x ≡ get_or xs i x = map_read f xs ys i x lt c.loop-number.invariant.turned c.index-links-number.is in
+    record {
+      turned = ap (λ (v : LinkValue). set ys i v) (c.in_ok-turn_link.ensures.after ∙ ap f (sym c.index-links-number.is)) ∙ map_over_more f xs ys i x lt c.loop-number.invariant.turned c.index-links-number.is;
+      sent = c.in_ok-turn_link.ensures.sent ∙ sends_step_from (turn_requests_on c.args.own) c.args.out.now c.loop-number.out xs i x (get_or ys i x) lt (sym c.index-links-number.is) read c.loop-number.invariant.sent;
+    }

@@ -1,5 +1,0 @@
-use Rattle.ospf_edges.proofs.GivenLemmas.{stub_is}
-use Rattle.ospf_edges.proofs.ends.stub_of.Goals as goal
-
-pub returns-in_ok-prefix-in-Stub : goal.returns-in_ok-prefix-in-Stub
-returns-in_ok-prefix-in-Stub c = stub_is c.args.router c.args.link c.in_ok-prefix-in-Stub.prefix c.in-Stub.is c.in_ok-prefix-in-Stub.ensures.found

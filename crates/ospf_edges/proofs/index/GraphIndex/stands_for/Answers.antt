@@ -1,4 +1,0 @@
-use Rattle.ospf_edges.proofs.index.GraphIndex.stands_for.Goals as goal
-
-pub returns : goal.returns
-returns c = rw (← c.self.view_is) c.stands_for.ensures

@@ -1,9 +1,0 @@
-use Rattle.std.proofs.Common.{◌∙◌, sym}
-use Rattle.ospf_edges.specs.Index.{NamedOn}
-use Rattle.ospf_edges.proofs.AddsLemmas.{adds_push}
-use Rattle.ospf_edges.proofs.index.push_member.Goals as goal
-
-pub returns : goal.returns
-returns c =
-    rw c.in_ok-push.ensures.items
-    (adds_push (NamedOn c.args.id c.args.member) c.args.pairs.now.items c.pair_order.result (λ q. ((λ is. c.pair_order.ensures ∙ sym is), (λ same. sym same ∙ c.pair_order.ensures))))

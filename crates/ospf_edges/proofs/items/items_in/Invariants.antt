@@ -1,7 +1,0 @@
-use Rattle.std.proofs.Common.{◌≡◌, map, take}
-use Rattle.ospf_edges.specs.Items.{items_of_all}
-use Rattle.ospf_edges.specs.Listed.{advertisement_of}
-use Rattle.ospf_edges.proofs.items.items_in.Given as goal
-
-abbrev pub invariant-loop-lsa : goal.invariant-loop-lsa
-invariant-loop-lsa l = l.items.items ≡ items_of_all (map advertisement_of (take l.lsa-index l.lsa-items))

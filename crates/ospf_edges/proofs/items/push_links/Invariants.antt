@@ -1,9 +1,0 @@
-use Rattle.std.proofs.Common.{◌≡◌, ◌++◌}
-use Rattle.ospf_edges.specs.Items.{link_items}
-use Rattle.ospf_edges.proofs.items.push_links.Given as goal
-
-abbrev pub invariant-loop-link : goal.invariant-loop-link
-invariant-loop-link l = record {
-  walked : l.fn.links ≡ l.yielded ++ l.link-iterator;
-  pushed : l.items.items ≡ l.initial.items.items ++ link_items l.yielded;
-}

@@ -1,0 +1,10 @@
+pub mod SweepLemmas
+pub mod BlockLemmas
+pub mod RangeLemmas
+pub mod SetLemmas
+pub mod CountLemmas
+pub mod Events
+pub mod Prefixes
+pub mod Steps
+pub mod ReplaceLemmas
+pub mod RoutePut

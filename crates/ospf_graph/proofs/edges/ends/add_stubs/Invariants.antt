@@ -1,0 +1,11 @@
+use Rattle.std.proofs.Common.{◌≡◌, ◌++◌}
+use Rattle.ospf_graph.specs.Adds.{Adds}
+use Rattle.ospf_graph.specs.EdgeLists.Given.{StubGives}
+use Rattle.ospf_graph.proofs.EdgeLists.AddsLemmas.{GivenBy}
+use Rattle.ospf_graph.proofs.edges.ends.add_stubs.Given as goal
+
+abbrev pub invariant-loop-link : goal.invariant-loop-link
+invariant-loop-link l = record {
+  walked : l.fn.links ≡ l.yielded ++ l.link-iterator;
+  adds : Adds (GivenBy (StubGives l.router) l.yielded) l.initial.ends.items l.ends.items;
+}

@@ -1,7 +1,0 @@
--- Parts of definitions of specs/ by names of their own, for the proofs.
-use Rattle.ospf_iface.specs.declared.candidate.Candidate.{Candidate}
-use Rattle.ospf_iface.specs.declared.candidate.Elected.{Elected}
-
--- the DR and Backup that a router declares
-abbrev pub declared : Candidate → Elected
-declared c = record { dr = c.dr; backup = c.backup }

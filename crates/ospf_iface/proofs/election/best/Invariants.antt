@@ -1,8 +1,0 @@
-use Rattle.std.proofs.Common.{map, take}
-use Rattle.ospf_iface.specs.Election.{declaring}
-use Rattle.ospf_iface.specs.Choice.{BelongsTo}
-use Rattle.ospf_iface.proofs.Choosing.{IsBestOrNone}
-use Rattle.ospf_iface.proofs.election.best.Given as goal
-
-abbrev pub invariant-loop-c : goal.invariant-loop-c
-invariant-loop-c l = IsBestOrNone (BelongsTo l.standing) (map (declaring l.me l.own) (take l.c-index l.candidates)) l.best

@@ -1,6 +1,0 @@
-use Rattle.std.proofs.Common.{refl}
-use Rattle.ospf_iface.specs.Election.IsDr.{Declared}
-use Rattle.ospf_iface.proofs.election.designated.Goals as goal
-
-pub returns-in-Some : goal.returns-in-Some
-returns-in-Some c = Declared c.in-Some.c c.in-Some.ensures.some refl

@@ -1,7 +1,0 @@
-use Rattle.ospf_iface.specs.Machine.{own_candidate}
-use Rattle.ospf_iface.proofs.Candidates.{own_distinct}
-use Rattle.ospf_iface.proofs.Members.{member_head}
-use Rattle.ospf_iface.proofs.laws.own_may_be_elected.Goals as goal
-
-pub returns : goal.returns
-returns c = λ i others rises apart. (own_distinct (own_candidate i) others rises apart, member_head (own_candidate i) others)

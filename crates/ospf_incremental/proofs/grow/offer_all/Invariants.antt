@@ -1,6 +1,0 @@
-use Rattle.std.proofs.Common.{take}
-use Rattle.ospf_incremental.specs.Growth.{OffersIn}
-use Rattle.ospf_incremental.proofs.grow.offer_all.Given as goal
-
-abbrev pub invariant-loop-edge : goal.invariant-loop-edge
-invariant-loop-edge l = OffersIn l.found (take l.edge-index l.some) l.initial.waits l.waits

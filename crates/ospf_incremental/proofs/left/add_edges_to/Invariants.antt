@@ -1,6 +1,0 @@
-use Rattle.std.proofs.Common.{take}
-use Rattle.ospf_incremental.specs.Left.{AddsEdgesTo}
-use Rattle.ospf_incremental.proofs.left.add_edges_to.Given as goal
-
-abbrev pub invariant-loop-edge : goal.invariant-loop-edge
-invariant-loop-edge l = AddsEdgesTo (take l.edge-index l.some) l.less l.gone l.initial.ends.items l.ends.items

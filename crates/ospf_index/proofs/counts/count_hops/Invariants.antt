@@ -1,7 +1,0 @@
-use Rattle.std.proofs.Common.{◌≡◌, take}
-use Rattle.ospf_index.specs.Room.{hops_in}
-use Rattle.ospf_index.proofs.counts.count_hops.Given as goal
-
--- the hops of the routes so far are counted
-abbrev pub invariant-loop-route : goal.invariant-loop-route
-invariant-loop-route l = l.hops ≡ hops_in (take l.route-index l.routes)

@@ -1,5 +1,0 @@
-use Rattle.ospf_index.proofs.RoutePut.{IsFollowed}
-use Rattle.ospf_index.proofs.index.Index.replace.Given as goal
-
-abbrev pub invariant-loop-change : goal.invariant-loop-change
-invariant-loop-change l = IsFollowed l.routes l.changes l.change-index l.initial.self l.self

@@ -1,0 +1,4 @@
+pub mod Drawn
+pub mod Names
+pub mod Ones
+pub mod WalkFacts

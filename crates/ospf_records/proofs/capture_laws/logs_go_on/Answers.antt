@@ -1,8 +1,0 @@
-use Rattle.ospf_records.proofs.WorldLogs.{logs_on, on_and_on}
-use Rattle.ospf_records.proofs.capture_laws.logs_go_on.Goals as goal
-
-pub returns-clause-once : goal.returns-clause-once
-returns-clause-once c = logs_on
-
-pub returns-clause-again : goal.returns-clause-again
-returns-clause-again c = on_and_on

@@ -1,8 +1,0 @@
-use Rattle.std.proofs.Common.{flat_map, take}
-use Rattle.std.specs.Io.KnownBytes.{Appends}
-use Rattle.ospf_records.specs.Journals.{entry_text}
-use Rattle.ospf_records.proofs.journal.write_all.Given as goal
-
-abbrev pub invariant-loop-change : goal.invariant-loop-change
-invariant-loop-change g l =
-    Appends (g.F.Write.contents l.fn.file) (g.F.Write.contents l.file) (flat_map (entry_text l.is_json l.tick l.router) (take l.change-index l.changes))

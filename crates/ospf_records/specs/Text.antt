@@ -1,9 +1,0 @@
--- What is printed where a packet was not written to a capture.
-use Rattle.std.specs.Prelude.{ℕ, List, codes}
-use Rattle.ospf_records.specs.declared.fault.CaptureFault.{CaptureFault}
-use Rattle.ospf_records.specs.declared.fault.CaptureFault.TheVariants.{TooLong, Memory}
-
--- the name of a fault
-abbrev pub capture_fault_text : CaptureFault → List ℕ
-capture_fault_text TooLong = codes "TooLong"
-capture_fault_text Memory = codes "Memory"

@@ -1,5 +1,0 @@
-use Rattle.ospf_rounds.proofs.BatchFacts.{batch_is}
-use Rattle.ospf_rounds.proofs.batches.batch.Goals as goal
-
-pub returns-clause-batch : goal.returns-clause-batch
-returns-clause-batch g c = batch_is _ _ _ c.batch_of.ensures.batch

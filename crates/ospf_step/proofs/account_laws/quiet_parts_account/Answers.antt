@@ -1,6 +1,0 @@
-use Rattle.ospf_step.proofs.NeighbourAccounts.{NeighboursGo-adjusts}
-use Rattle.ospf_step.proofs.QuietAccounts.{Adjusts-accounts}
-use Rattle.ospf_step.proofs.account_laws.quiet_parts_account.Goals as goal
-
-pub returns : goal.returns
-returns c heard before out after g = Adjusts-accounts heard before out after (NeighboursGo-adjusts heard before out after g)

@@ -1,5 +1,0 @@
-use Rattle.ospf_step.proofs.Turns.{request_puts}
-use Rattle.ospf_step.proofs.link_laws.requests_put_out.Goals as goal
-
-pub returns : goal.returns
-returns c f p entries marks s t out out' = request_puts f entries marks s t out out'

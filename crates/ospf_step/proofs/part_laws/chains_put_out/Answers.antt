@@ -1,5 +1,0 @@
-use Rattle.ospf_step.proofs.Chains.{puts_none, puts_more}
-use Rattle.ospf_step.proofs.part_laws.chains_put_out.Goals as goal
-
-pub returns : goal.returns
-returns c = record { none = puts_none; more = puts_more }

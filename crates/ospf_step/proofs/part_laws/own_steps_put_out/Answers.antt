@@ -1,5 +1,0 @@
-use Rattle.ospf_step.proofs.PutParts.{own_none, own_more, own_end}
-use Rattle.ospf_step.proofs.part_laws.own_steps_put_out.Goals as goal
-
-pub returns : goal.returns
-returns c = record { none = own_none; more = own_more; end = own_end }

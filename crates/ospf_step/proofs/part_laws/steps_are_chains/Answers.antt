@@ -1,5 +1,0 @@
-use Rattle.ospf_step.proofs.Chains.{step_from_chain}
-use Rattle.ospf_step.proofs.part_laws.steps_are_chains.Goals as goal
-
-pub returns : goal.returns
-returns c = step_from_chain

@@ -1,6 +1,0 @@
-use Rattle.ospf_step.specs.Step.{Chain}
-use Rattle.ospf_step.proofs.StepChains.{read_before}
-use Rattle.ospf_step.proofs.tick_laws.outputs_before_are_read.Goals as goal
-
-pub returns : goal.returns
-returns c rest s t out out' p read = read_before (λ o. Chain rest s o t) out out' p read

@@ -1,7 +1,0 @@
-use Rattle.std.proofs.Common.{◌≡◌, ◌<◌, ℕ, IsSome, Some, slice_get}
-use Rattle.ospf_config.specs.declared.interface.Interface.{Interface}
-use Rattle.ospf_udp.proofs.plan.portless_in.Given as goal
-
--- the interfaces so far have ports
-abbrev pub invariant-loop-number : goal.invariant-loop-number
-invariant-loop-number l = (k : ℕ) (other : Interface) → k < l.number → slice_get l.interfaces k ≡ Some other → IsSome other.port

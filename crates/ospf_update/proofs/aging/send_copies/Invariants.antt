@@ -1,7 +1,0 @@
-use Rattle.std.proofs.Common.{take}
-use Rattle.ospf_area.specs.Acting.{InTurn}
-use Rattle.ospf_update.specs.Aging.{SendsCopy}
-use Rattle.ospf_update.proofs.aging.send_copies.Given as goal
-
-abbrev pub invariant-loop-key : goal.invariant-loop-key
-invariant-loop-key l = InTurn SendsCopy (take l.key-index l.keys) l.initial.area l.initial.out l.out l.area

@@ -1,6 +1,0 @@
-use Rattle.std.proofs.Common.{◌≡◌, filter, take}
-use Rattle.ospf_update.proofs.RemovalLemmas.{leaves}
-use Rattle.ospf_update.proofs.removal.leaving_of.Given as goal
-
-abbrev pub invariant-loop-key : goal.invariant-loop-key
-invariant-loop-key l = l.keys.items ≡ filter (leaves l.links l.database) (take l.key-index l.key-items)

@@ -1,0 +1,12 @@
+pub mod Ip
+pub mod Pcap
+pub mod Datagram
+pub mod CaptureLaws
+pub mod Text
+pub mod Counts
+pub mod Captures
+pub mod Stamps
+pub mod Recorder
+pub mod Drawings
+pub mod Files
+pub mod Journals

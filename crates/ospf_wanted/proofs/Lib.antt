@@ -1,5 +1,0 @@
-mod MadeLemmas
-pub mod MakeLemmas
-pub mod SaidLemmas
-pub mod WantedLemmas
-pub mod Words
