@@ -6,10 +6,10 @@ rule:
     [9.4] Electing the Designated Router
 
     Step 2: the rule, in our own words, on one or more lines.
-      is ospf_iface IsBackup DeclaresBackup, ospf_base Addresses.nowhere
-      by ospf_iface elect
+      is ospf_neighbour IsBackup DeclaresBackup, ospf_base Addresses.nowhere
+      by ospf_neighbour elect
       test unit/machines/election.rs two_declare priority_zero
-      edit ospf_iface/old_backup_stays
+      edit ospf_neighbour/old_backup_stays
 
 `is` names definitions, `by` public calls or laws, `test` functions of a file of tests below tests/,
 or a file, and `edit` edits. A rule has a line of each kind; `test none` and `edit none` say that
@@ -25,7 +25,7 @@ import re
 import textwrap
 
 from sources import call
-from specs import TOP, Fault, closure, one_word
+from specs import TOP, Fault, closure, file_of, one_word
 
 SECTIONS = """
 8 8.1 8.2 9 9.1 9.2 9.3 9.4 9.5 9.5.1 10 10.1 10.2 10.3 10.4 10.5 10.6 10.7 10.8 10.9 10.10 11 11.1
@@ -38,6 +38,8 @@ C.2 C.3 C.4 C.5 C.6 C.7
 NAME = "rfc2328.txt"
 LIST = os.path.join(TOP, "docs", "promises", NAME)
 KINDS = ("is", "by", "test", "edit")
+# The folders of a crate that have edits.
+EDITS = ("edits", "must-fail")
 # The public call that has most of the rules under its clauses.
 STEP = ("ospf_router", "Router::step")
 NONE = "none"
@@ -91,7 +93,7 @@ def by_crates(line):
 
 def definitions(line):
     for word in (one_word(*one) for one in by_crates(line)):
-        yield Named(word.name, os.path.join("crates", word.crate, "specs", f"{word.module}.antt"))
+        yield Named(word.name, file_of(word.crate, word.module))
 
 
 def calls(line):
@@ -124,11 +126,10 @@ def edits(line):
 
 
 @functools.lru_cache(maxsize=None)
-def edit_files(crate):
-    folder = os.path.join("crates", crate, "edits")
-    here = os.path.join(TOP, folder)
-    files = sorted(os.listdir(here)) if os.path.isdir(here) else []
-    return [os.path.join(folder, file) for file in files]
+def edit_files(crate, kind="edits"):
+    """The files of a crate's edits, those of its modules in folders."""
+    found = os.walk(os.path.join(TOP, "crates", crate, kind))
+    return sorted(os.path.relpath(os.path.join(at, file), TOP) for at, _, files in found for file in files)
 
 
 def is_edit_in(name, path):

@@ -14,7 +14,9 @@ SMALL = re.compile(r"pub (const|type) ([A-Z]\w*)")
 CLAUSE = re.compile(r"\s*(requires|ensures)\b(?: (\w+))? \{")
 # A ghost value of a block, and a ghost field: what an implementation promises, and what a type says of its fields.
 GHOST, FIELD = re.compile(r"\s*(?:pub )?ghost (\w+) = \{"), re.compile(r"\s*(?:pub )?ghost (\w+)\s*: \{")
-EXPORT = re.compile(r"\bpub use (?:crate::)?(\w+)::(?:\{([^}]*)\}|(\w+));")
+EXPORT = re.compile(r"\bpub use (?:crate::)?((?:\w+::)+)(?:\{([^}]*)\}|(\w+));")
+# The modules of a file, and whether others see them.
+MODULE = re.compile(r"\b(pub )?mod (\w+);")
 
 # A public function, a type or an implementation: where its comment, its head and its body begin. `owner` is the type of a method.
 Item = collections.namedtuple("Item", "kind owner name start head end")
@@ -122,9 +124,13 @@ def cited_by(crate, path, at, text, bound=()):
 
 
 def call(crate, name):
-    """The one public function of a name: `Router::step`, `run_text`."""
-    kind, _, last = name.rpartition("::")
+    """The one public function of a name: `Router::step`, `run_text`, and of a public module `link_steps::take_request`. Of several of a
+    name it is the one that stands in no public module."""
+    *above, last = name.split("::")
+    kind = above.pop() if above and above[-1][0].isupper() else ""
     found = [(path, it) for path in rust_files(folder_of(crate)) for it in items(path) if it.kind == "fn" and (it.owner, it.name) == (kind, last)]
+    if above or len(found) > 1:
+        found = [(path, it) for path, it in found if public_above(crate, path) == above]
     if not found:
         raise Fault(f"no public function '{name}' in crates/{crate}/src")
     if len(found) > 1:
@@ -202,13 +208,48 @@ def said(lines, mark):
 
 
 def exported(crate):
-    """The names that lib.rt exports of the crate's own modules; none of a program."""
-    path = os.path.join(folder_of(crate), "lib.rt")
+    """The names that lib.rt, and the public modules of it, export of the crate's own modules; none of a program."""
+    return exported_by(os.path.join(folder_of(crate), "lib.rt"))
+
+
+def exported_by(path):
+    """The names that a file exports of its modules, and those that its public modules export."""
     if not os.path.exists(path):
         return set()
-    text = " ".join(" ".join(lines_of(path)).split())
-    own = set(re.findall(r"\bmod (\w+);", text))
-    return {name.strip() for found in EXPORT.finditer(text) if found[1] in own for name in (found[2] or found[3]).split(",") if name.strip()}
+    text, names = " ".join(" ".join(lines_of(path)).split()), set()
+    own = {found[2]: found[1] for found in MODULE.finditer(text)}
+    for found in EXPORT.finditer(text):
+        if {*found[1].split("::")} & own.keys():
+            names |= {name.strip() for name in (found[2] or found[3]).split(",") if name.strip()}
+    for name in (name for name, is_public in own.items() if is_public):
+        names |= exported_by(below(path, name))
+    return names
+
+
+def below(path, name):
+    """The file of a module that another file declares."""
+    folder = os.path.dirname(path) if os.path.basename(path) in ("lib.rt", "main.rt") else path[:-len(".rt")]
+    return os.path.join(folder, f"{name}.rt")
+
+
+@functools.lru_cache(maxsize=None)
+def public_modules(path):
+    """The files of the public modules below a file, each with its path of modules."""
+    found = {}
+    if os.path.exists(path):
+        for is_public, name in MODULE.findall("\n".join(lines_of(path))):
+            if is_public:
+                file = below(path, name)
+                found[file] = [name]
+                found.update((other, [name, *names]) for other, names in public_modules(file).items())
+    return found
+
+
+def public_above(crate, path):
+    """The path of the innermost public module that a file is of, or in; empty where it is in none."""
+    found = public_modules(os.path.join(folder_of(crate), "lib.rt"))
+    inside = [names for file, names in found.items() if path == file or path.startswith(file[:-len(".rt")] + os.sep)]
+    return max(inside, key=len, default=[])
 
 
 def ghost_texts(lines, it, pattern):
@@ -250,8 +291,9 @@ def entry(crate, path, it):
 
 @functools.lru_cache(maxsize=None)
 def entries(crate):
-    """What a crate exports, by file: its public types, functions and laws, and what it promises of its types by traits."""
-    names, files = exported(crate), []
+    """What a crate exports, by file: its public types, functions and laws, and what it promises of its types by traits. The file of a
+    public module is there for its comment."""
+    names, modules, files = exported(crate), public_modules(os.path.join(folder_of(crate), "lib.rt")), []
     for path in rust_files(folder_of(crate)):
         found = []
         for it in items(path):
@@ -260,6 +302,6 @@ def entries(crate):
             one = entry(crate, path, it)
             if one.comment or one.words or not it.kind.startswith("impl "):
                 found.append(one)
-        if found:
+        if found or path in modules:
             files.append((path, said(lines_of(path), "//!"), found))
     return files

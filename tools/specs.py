@@ -14,6 +14,7 @@ BINDER = re.compile(rf"\s*((?:{NAME}\s+)+):\s")
 LAMBDA = re.compile(rf"\s*((?:{NAME}\s*)+)\.\s")
 USE = re.compile(r"(pub )?use ([\w.]+?)(?:\.\{(.*)\}| as (\w+))?;?$")
 
+# A word of a crate. A module in a folder has the names of both, as EdgeLists.Given.
 Word = collections.namedtuple("Word", "crate module name")
 Outside = collections.namedtuple("Outside", "place name")
 Definition = collections.namedtuple("Definition", "word comment lines number")
@@ -25,12 +26,22 @@ class Fault(Exception):
 
 # ---- modules of specs/ ----
 
+def file_of(crate, name):
+    """The file of a module, from the top of the repository."""
+    return os.path.join("crates", crate, "specs", *name.split(".")) + ".antt"
+
+
+def shown_as(crate, name):
+    """How a module is named where its definitions are printed."""
+    return "/".join([crate, *name.split(".")])
+
+
 class Module:
     """A file of specs/: its head, what it uses, and its definitions in their order."""
 
     def __init__(self, crate, name):
         self.crate, self.name = crate, name
-        self.path = os.path.join("crates", crate, "specs", f"{name}.antt")
+        self.path = file_of(crate, name)
         with open(os.path.join(TOP, self.path), encoding="utf-8") as file:
             lines = file.read().split("\n")
         self.scope, self.public, self.definitions, self.constructors = {}, {}, {}, collections.defaultdict(list)
@@ -102,14 +113,29 @@ def targets(path, names, alias):
 @functools.lru_cache(maxsize=None)
 def module(crate, name):
     """A module of a crate of ours, or None. One that Lib.antt hands on is the module of the crate that it stands in."""
-    if os.path.exists(os.path.join(TOP, "crates", crate, "specs", f"{name}.antt")):
+    if os.path.exists(os.path.join(TOP, file_of(crate, name))):
         return Module(crate, name)
     library = module(crate, "Lib") if name != "Lib" else None
     handed = library.public.get(name) if library else None
     if handed and handed[0] == "module":
         parts = handed[1].split(".")
-        return module(parts[1], parts[-1])
+        return module(parts[1], ".".join(parts[3:]))
     return None
+
+
+def modules_of(crate):
+    """The names of all modules of a crate."""
+    specs = os.path.join(TOP, "crates", crate, "specs")
+    found = (os.path.relpath(os.path.join(at, file), specs) for at, _, files in os.walk(specs) for file in files if file.endswith(".antt"))
+    return sorted(path[:-len(".antt")].replace(os.sep, ".") for path in found)
+
+
+def placed(crate, names):
+    """The innermost module at the head of these names, and the names after it."""
+    for count in range(len(names), 0, -1):
+        if place := module(crate, ".".join(names[:count])):
+            return place, names[count:]
+    return None, names
 
 
 @functools.lru_cache(maxsize=None)
@@ -133,8 +159,7 @@ def looked_up(target, rest):
     if parts[3] in ("declared", "contracts"):
         at = next((n for n, part in enumerate(parts) if n > 3 and part[0].isupper()), len(parts) - 1)
         return Outside(f"crates/{parts[1]}/src/{'/'.join(parts[4:at])}.rt", parts[at])
-    place = module(parts[1], parts[3])
-    names = parts[4:] + names
+    place, names = placed(parts[1], parts[3:] + names)
     found = place.find(names[0]) if place and names else None
     if found is None:
         raise Fault(f"{path}: no word '{'.'.join(names)}' is found there")
@@ -146,9 +171,7 @@ def sought(crate, name):
     folder = os.path.join(TOP, "crates", crate)
     if not os.path.isdir(folder) or not crate:
         raise Fault(f"no crate '{crate}'")
-    specs = os.path.join(folder, "specs")
-    names = sorted(file[:-5] for file in os.listdir(specs) if file.endswith(".antt")) if os.path.isdir(specs) else []
-    found = [module(crate, one).definitions[name].word for one in names if name in module(crate, one).definitions]
+    found = [module(crate, one).definitions[name].word for one in modules_of(crate) if name in module(crate, one).definitions]
     if not found:
         raise Fault(f"no definition '{name}' in crates/{crate}/specs")
     return found
@@ -157,10 +180,10 @@ def sought(crate, name):
 def one_word(crate, name):
     """The one definition of a word; of a name that several modules have, `MODULE.WORD` names one."""
     if "." in name:
-        place, _, last = name.partition(".")
+        place, _, last = name.rpartition(".")
         found = [word for word in sought(crate, last) if word.module == place]
         if not found:
-            raise Fault(f"no definition '{last}' in crates/{crate}/specs/{place}.antt")
+            raise Fault(f"no definition '{last}' in {file_of(crate, place)}")
     else:
         found = sought(crate, name)
     if len(found) > 1:
@@ -314,8 +337,8 @@ def constructors_seen(place):
             if parts[-1] == "TheVariants":
                 known.add(name)
             elif is_ours(parts) and parts[3] not in ("declared", "contracts"):
-                home = module(parts[1], parts[3])
-                if home and (target[2] in home.constructors or len(parts) > 4):
+                home, rest = placed(parts[1], parts[3:])
+                if home and (target[2] in home.constructors or rest):
                     known.add(name)
     return known
 

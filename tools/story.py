@@ -19,7 +19,7 @@ import re
 import textwrap
 
 import matrix
-from specs import TOP, Fault, Word, citations, closure, definition, one_word
+from specs import TOP, Fault, Word, citations, closure, definition, file_of, one_word, shown_as
 from sources import call
 
 LIST = os.path.join(TOP, "docs", "promises", "headline.txt")
@@ -122,12 +122,8 @@ def checked():
 
 # ---- the parts ----
 
-def file_of(word):
-    return f"{word.crate}/{word.module}"
-
-
 def linked(word, start, shown=""):
-    path = os.path.join(TOP, "crates", word.crate, "specs", f"{word.module}.antt")
+    path = os.path.join(TOP, file_of(word.crate, word.module))
     return f"[`{shown or word.name}`]({os.path.relpath(path, start)})"
 
 
@@ -154,7 +150,7 @@ def texts(name, start):
     lines, those = [], [one for one in of_kind("clause", "read") if name in one.names]
     for word in (word for one in those for word in one.words):
         it = definition(word)
-        lines += ["", f"#### `{word.name}`", "", f"In {linked(word, start, file_of(word))}:"]
+        lines += ["", f"#### `{word.name}`", "", f"In {linked(word, start, shown_as(*word[:2]))}:"]
         lines += ["", "```text", *map(str.rstrip, it.comment + it.lines), "```"]
     if not lines:
         raise Fault(f"no definitions to read of '{name}'")

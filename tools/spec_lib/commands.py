@@ -124,9 +124,9 @@ def neighbour(library, state, event, wanted="true", requested_all="true"):
 def interface(library, state, event):
     """interface STATE EVENT: what the machine does (9.3): Start, Elect, Stop or Ignore."""
     values = ((),) if event in ("BackupSeen", "WaitTimer", "NeighborChange") else ()
-    event = variant(library, "ospf_iface", "IfaceEvent", event, values)
-    state = variant(library, "ospf_iface", "IfaceState", state)
-    return [call(library, "ospf_iface.Machine.action", state, event).name]
+    event = variant(library, "ospf_neighbour", "IfaceEvent", event, values)
+    state = variant(library, "ospf_neighbour", "IfaceState", state)
+    return [call(library, "ospf_neighbour.Interface.Machine.action", state, event).name]
 
 
 def candidate(text):
@@ -145,12 +145,12 @@ def elect(library, me, *candidates):
     """elect ROUTER CANDIDATE..: the DR and the Backup (9.4); a candidate is
     ROUTER,ADDRESS,PRIORITY,DR,BACKUP."""
     kind = library.at_path(
-        ("Rattle", "ospf_iface", "specs", "declared", "candidate", "Elected", "Elected")
+        ("Rattle", "ospf_neighbour", "specs", "declared", "iface", "candidate", "Elected", "Elected")
     )[1]
     elected = kind.fresh()
     given = tuple(map(candidate, candidates))
     found = all_solutions(
-        [lambda: call(library, "ospf_iface.Election.IsElected", given, identity(me), elected)],
+        [lambda: call(library, "ospf_neighbour.Interface.Election.IsElected", given, identity(me), elected)],
         [elected]
     )
     return [
@@ -162,7 +162,7 @@ def acknowledge(library, case, state, sender):
     """acknowledge CASE STATE SENDER: how an LSA is acknowledged (13.5, table 19)."""
     given = [
         variant(library, "ospf_flood", "AcknowledgementCase", case),
-        variant(library, "ospf_iface", "IfaceState", state),
+        variant(library, "ospf_neighbour", "IfaceState", state),
         variant(library, "ospf_flood", "Sender", sender)
     ]
     return [call(library, "ospf_flood.Acknowledgements.acknowledgement", *given).name]

@@ -112,9 +112,11 @@ class Library:
         crates = os.path.join(self.top, "crates")
         for crate in sorted(os.listdir(crates)):
             specs = os.path.join(crates, crate, "specs")
-            if os.path.isdir(specs):
-                files = sorted(os.listdir(specs))
-                out.extend(f"{crate}.{name[:-5]}" for name in files if name.endswith(".antt"))
+            files = (
+                os.path.relpath(os.path.join(place, name), specs)
+                for place, _, names in os.walk(specs) for name in names if name.endswith(".antt")
+            )
+            out.extend(f"{crate}.{file[:-5].replace(os.sep, '.')}" for file in sorted(files))
         return out
 
     def module(self, name):

@@ -20,7 +20,7 @@ def in_order(library, name, items, key=lambda item: item):
 
 def advertisements(library, lsas):
     """What the route calculation reads of a listing."""
-    return resolve(apply(library.definition("ospf_edges.Listed.advertisements_of"), [lsas]))
+    return resolve(apply(library.definition("ospf_graph.EdgeLists.Listed.advertisements_of"), [lsas]))
 
 
 def prefixes(library, adverts, root):

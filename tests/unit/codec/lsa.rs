@@ -98,7 +98,7 @@ fn tells_the_first_fault(rt: HostRuntime) -> Result<(), Fail> {
             None,
             "a stub that costs nothing",
         ),
-        (&[(0, 0xff), (1, 0xff)], None, "an age above the max_seq"),
+        (&[(0, 0xff), (1, 0xff)], None, "an age above the greatest"),
     ];
     for (changes, fault, name) in cases {
         let bytes = changed(changes);

@@ -236,7 +236,7 @@ fn tells_the_first_fault(rt: HostRuntime) -> Result<(), Fail> {
         (
             &[(24, 0xff), (25, 0xff), (26, 0xff), (27, 0xff), (13, 0x31)],
             PacketFault::Body,
-            "the max_seq count",
+            "the greatest count",
         ),
         (
             &[(47, 0x13), (13, 0x4d)],
@@ -246,7 +246,7 @@ fn tells_the_first_fault(rt: HostRuntime) -> Result<(), Fail> {
         (
             &[(46, 0xff), (47, 0xff), (13, 0x60)],
             PacketFault::Body,
-            "the max_seq length field",
+            "the greatest length field",
         ),
         (&[(0, 3)], PacketFault::Version, "version 3"),
         (&[(1, 6)], PacketFault::Kind, "type 6"),

@@ -49,14 +49,14 @@ fn told(alloc: Global, floor: &str, files: &[NamedFile]) -> Result<(Vec<u8>, Sta
 fn floors_are_told(rt: HostRuntime) -> Result<(), Fail> {
     let alloc = rt.alloc();
     let no_number = "floor: not a number\n  eight hexadecimal digits wanted\n";
-    let max_seq = "floor: S2 Floor\n  no number is above 7fffffff\n";
+    let greatest = "floor: S2 Floor\n  no number is above 7fffffff\n";
     for (floor, expected) in [
         ("", no_number),
         ("8000000", no_number),
         ("800000000", no_number),
         ("8000000g", no_number),
-        ("7fffffff", max_seq),
-        ("7FFFFFFF", max_seq),
+        ("7fffffff", greatest),
+        ("7FFFFFFF", greatest),
     ] {
         let (lines, status) = told(alloc, floor, &[])?;
         assert_eq!(rt; lines.as_slice(), expected.as_bytes());

@@ -27,7 +27,7 @@ struct Case {
 // Input that has a table.
 static TABLES: [Case; 21] = [
     Case {
-        name: "age above the max_seq",
+        name: "age above the greatest",
         words: "table 1.1.1.1",
         input: "ffff0201010101010101010180000001e22c003000000002020202020a0000010100000a0a000000fffffffc0300000a\n",
         out: "",
@@ -83,7 +83,7 @@ static TABLES: [Case; 21] = [
         status: 0,
     },
     Case {
-        name: "max_seq metric",
+        name: "greatest metric",
         words: "table 2.2.2.2",
         input: "00000201010101010101010180000001c00a004800000004020202020a0000010100ffff0a000000fffffffc0300000a030303030a0000050100ffff0a000004fffffffc0300000a\n000002010202020202020202800000018287003000000002010101010a0000020100000a0a000000fffffffc0300000a\n00000201030303030303030380000001dcf8003c00000003010101010a0000060100000a0a000004fffffffc0300000a0a090000ffff000003000001\n",
         out: "10.0.0.0/30 10 attached\n10.0.0.4/30 20 10.0.0.2>1.1.1.1\n10.9.0.0/16 65546 10.0.0.2>1.1.1.1\n",
