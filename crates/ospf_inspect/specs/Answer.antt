@@ -1,30 +1,25 @@
--- What is printed of the LSAs that the lines of an input are, and how that ends.
-use Rattle.std.specs.Prelude.{◌≡◌, ◌⊎◌, ◌∷◌, ◌++◌, ℕ, List, [], IfSome, Option, length, string_bytes, vec_items}
-use Rattle.std.specs.Io.KnownBytes.{Appends}
+-- What is printed of the LSAs that the lines of an input are.
+use Rattle.std.specs.Prelude.{◌≡◌, ◌∷◌, ◌++◌, ℕ, List, [], IfSome, Option, Result, Ok, Err, length, string_bytes, vec_items}
 use Rattle.ospf_base.specs.declared.ids.Addr.{Addr}
 use Rattle.ospf_base.specs.declared.ids.RouterId.{RouterId}
 use Rattle.ospf_graph.specs.EdgeLists.Listed.{advertisements_of}
-use Rattle.ospf_files.specs.Status.{failure_line, failure_status}
-use Rattle.ospf_files.specs.Streams.{IsBegun, IsErrorFailed, IsOfError, IsOfInput, IsOfOutput, IsOutputFailed, IsTold, Written}
+use Rattle.ospf_files.specs.Report.{IsPrinted}
+use Rattle.ospf_files.specs.Streams.{IsOfInput, Written}
+use Rattle.ospf_files.specs.declared.report.Report.{Report}
 use Rattle.ospf_files.specs.declared.status.Failure.{Failure}
-use Rattle.ospf_files.specs.declared.status.Status.{Status}
-use Rattle.ospf_files.specs.declared.status.Status.TheVariants as status
-use Rattle.ospf_files.specs.declared.streams.FailedStreams.{FailedStreams}
 use Rattle.ospf_inspect.specs.AreaDrawing.Graph.{graph_text}
 use Rattle.ospf_graph.specs.Routes.{IsTable}
 use Rattle.ospf_graph.specs.declared.route.Route.{Route}
 use Rattle.ospf_table.specs.Line.{LeavesOut, Reads, Refuses, left_out_text}
 use Rattle.ospf_table.specs.Output.{IsTableWarning, IsWarning}
 use Rattle.ospf_table.specs.Refusal.{refusal_line}
+use Rattle.ospf_table.specs.Report.{Shows}
 use Rattle.ospf_table.specs.declared.table.EntryFault.{EntryFault}
 use Rattle.ospf_inspect.specs.Lines.{AreLines}
 use Rattle.ospf_inspect.specs.Lsas.{SaysOfLsa}
 use Rattle.ospf_inspect.specs.Path.{SaysPath}
 use Rattle.ospf_inspect.specs.Tables.{SaysTableInJson, SaysTableOf, SaysTablesInJson}
 use Rattle.ospf_inspect.specs.Values.{SaysLsasInJson}
-use Rattle.ospf_inspect.specs.declared.answer.InspectAnswer.{InspectAnswer}
-use Rattle.ospf_inspect.specs.declared.answer.Unanswered.{Unanswered}
-use Rattle.ospf_inspect.specs.declared.answer.Unanswered.TheVariants as fault
 use Rattle.ospf_inspect.specs.declared.answer.Form.{Form}
 use Rattle.ospf_inspect.specs.declared.answer.Form.TheVariants as form
 use Rattle.ospf_inspect.specs.declared.answer.InspectJob.{InspectJob}
@@ -71,109 +66,29 @@ abbrev pub Warns : InspectJob → List (List ℕ) → ℕ → List ℕ → Type 
 Warns job listing left_out text =
     (more : List ℕ) × WarnsOfJob job listing more × (text ≡ left_out_text left_out ++ more)
 
--- the answer for the LSAs that the lines of the input are, and its warning
-pub record IsInspectAnswer (job : InspectJob) (text warning input : List ℕ) : Type 0 where
-  pub listing : List (List ℕ)
-  pub reads : Reads input [] listing
-  pub left_out : ℕ
-  pub counted : LeavesOut input left_out
-  pub warns : Warns job listing left_out warning
-  pub says : Says job listing text
+-- the answer for a listing, of which so many LSAs were left out
+pub record IsInspectAnswer (job : InspectJob) (listing : List (List ℕ)) (left_out : ℕ)
+    (report : Report) : Type 0 where
+  pub warns : Warns job listing left_out (string_bytes report.warnings)
+  pub says : Says job listing (string_bytes report.text)
+  pub is_done : report.status ≡ 0
 
--- the answer is written to standard output, and its warning to standard error
-pub record IsInspectAnswered (job : InspectJob) (old new : Written) (input : List ℕ) : Type 0 where
-  pub text : List ℕ
-  pub warning : List ℕ
-  pub is : IsInspectAnswer job text warning input
-  pub out : Appends old.out new.out text
-  pub err : Appends old.err new.err warning
+-- the report of the lines of an input: of the listing that they are, or of the first line that is
+-- refused
+pub data IsInspectReport (job : InspectJob) (input : List ℕ) (report : Report) : Type 0 where
+  of_line : (number : ℕ) (fault : EntryFault) → Refuses input [] number fault
+      → Shows report (refusal_line number fault) [] 3 → IsInspectReport job input report
+  of_listing : (listing : List (List ℕ)) (left_out : ℕ) → Reads input [] listing
+      → LeavesOut input left_out → IsInspectAnswer job listing left_out report
+      → IsInspectReport job input report
 
--- the text about an input that is refused: about its first refused line
-pub record IsInspectRefusal (text input : List ℕ) : Type 0 where
-  pub number : ℕ
-  pub fault : EntryFault
-  pub refused : Refuses input [] number fault
-  pub text_is : text ≡ refusal_line number fault
+-- the report of the job, or why there is none
+abbrev pub IsInspectResult : InspectJob → Option (List ℕ) → Result Report Failure → Type 0
+IsInspectResult job input (Ok report) = IfSome input (λ bytes. IsInspectReport job bytes report)
+IsInspectResult job input (Err failure) = IsOfInput failure
 
--- the refusal is written to standard error
-pub record IsInspectRefusalTold (err_old err_new : Option (List ℕ)) (input : List ℕ) : Type 0 where
-  pub text : List ℕ
-  pub is : IsInspectRefusal text input
-  pub told : Appends err_old err_new text
-
--- ---- what stands written where it ends early
-
--- a beginning of the refusal
-pub record IsInspectRefusalBegun (err_old err_new : Option (List ℕ)) (input : List ℕ) : Type 0 where
-  pub text : List ℕ
-  pub is : IsInspectRefusal text input
-  pub begun : IsBegun err_old err_new text
-
--- a beginning of the warning
-pub record IsInspectWarningBegun (job : InspectJob) (err_old err_new : Option (List ℕ))
-    (input : List ℕ) : Type 0 where
-  pub text : List ℕ
-  pub warning : List ℕ
-  pub is : IsInspectAnswer job text warning input
-  pub begun : IsBegun err_old err_new warning
-
--- the warning, and a beginning of the answer
-pub record IsInspectAnswerBegun (job : InspectJob) (old new : Written) (input : List ℕ)
-    : Type 0 where
-  pub text : List ℕ
-  pub warning : List ℕ
-  pub is : IsInspectAnswer job text warning input
-  pub err : Appends old.err new.err warning
-  pub begun : IsBegun old.out new.out text
-
--- it ended by a failure: before anything was written; at the refusal;
--- at the warning; or at the answer
-pub data InspectEndsBy (input : Option (List ℕ)) (job : InspectJob) (failed : FailedStreams)
-    (old new : Written) : Failure → Type 0 where
-  unwritten : {f : Failure} → IsOfInput f → new.out ≡ old.out → new.err ≡ old.err
-      → InspectEndsBy input job failed old new f
-  in_refusal : {f : Failure} → IsOfError f → IsErrorFailed failed
-      → new.out ≡ old.out → IfSome input (IsInspectRefusalBegun old.err new.err)
-      → InspectEndsBy input job failed old new f
-  in_warning : {f : Failure} → IsOfError f → IsErrorFailed failed
-      → new.out ≡ old.out → IfSome input (IsInspectWarningBegun job old.err new.err)
-      → InspectEndsBy input job failed old new f
-  in_answer : {f : Failure} → IsOfOutput f → IsOutputFailed failed
-      → IfSome input (IsInspectAnswerBegun job old new)
-      → InspectEndsBy input job failed old new f
-
--- it ended by a failure, which was reported last, as far as that could be written
-pub record IsInspectCutShort (input : Option (List ℕ)) (job : InspectJob) (failed : FailedStreams)
-    (old new : Written) (end : Status) : Type 0 where
-  pub cause : Failure
-  pub failed_then : FailedStreams
-  pub err_then : Option (List ℕ)
-  pub ends : InspectEndsBy input job failed_then old (record new { err = err_then }) cause
-  pub last : IsTold failed_then failed err_then new.err (failure_line cause)
-  pub end_is : end ≡ failure_status cause
-
--- ---- on the way
-
--- why there is no answer
-abbrev pub IsUnanswered : Option (List ℕ) → Unanswered → Type 0
-IsUnanswered input (fault.Refused text) = IfSome input (IsInspectRefusal (string_bytes text))
-IsUnanswered input (fault.Failure f) = IsOfInput f
-
--- the answer for the input
-abbrev pub IsInspectAnswerOf : InspectJob → InspectAnswer → List ℕ → Type 0
-IsInspectAnswerOf job answer input =
-    IsInspectAnswer job (string_bytes answer.text) (string_bytes answer.warning) input
-
--- the answer is printed, or the refusal is reported
-pub data IsInspectSaid (input : Option (List ℕ)) (job : InspectJob) (old new : Written)
-    : Status → Type 0 where
-  is_answered : IfSome input (IsInspectAnswered job old new)
-      → IsInspectSaid input job old new status.Done
-  is_refused : new.out ≡ old.out → IfSome input (IsInspectRefusalTold old.err new.err)
-      → IsInspectSaid input job old new status.Refused
-
--- one of these, or it ended early
-abbrev pub IsInspectEnding : Option (List ℕ) → InspectJob → FailedStreams → Written → Written
-    → Status → Type 0
-IsInspectEnding input job failed old new end =
-    IsInspectSaid input job old new end ⊎ IsInspectCutShort input job failed old new end
+-- there is a report of the job, or a failure in its place, and it is printed so
+abbrev pub IsInspectPrinted : InspectJob → Option (List ℕ) → Written → Written → ℕ → Type 0
+IsInspectPrinted job input old new status =
+    (report : Result Report Failure) × IsInspectResult job input report
+    × IsPrinted report old new status

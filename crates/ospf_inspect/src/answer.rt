@@ -1,12 +1,9 @@
 //! What the LSAs of an area say, for LSAs that are read as lines of text.
 
-ghost use Rattle.std.specs.Prelude.{◌≡◌, ◌≢◌, ◌⊎◌, List, [], Option, ℕ, IfErr, IfOk, IfSome, string_bytes};
+ghost use Rattle.std.specs.Prelude.{◌≡◌, [], IfOk, string_bytes};
 ghost use Rattle.ospf_files.specs.Streams.{written_on};
-ghost use Rattle.ospf_files.specs.declared.streams.FailedStreams.{FailedStreams};
 ghost use Rattle.ospf_inspect.specs.AreaDrawing.Graph.{graph_text};
-ghost use Rattle.ospf_table.specs.Line.{LeavesOut, Reads, Refuses};
-ghost use Rattle.ospf_inspect.specs.Answer.{InspectEndsBy, IsInspectAnswerOf, IsInspectAnswered, IsInspectCutShort, IsInspectEnding, IsUnanswered, IsInspectRefusal, IsInspectRefusalTold, IsInspectSaid, Says, Warns, WarnsOfJob, WarnsOfWay};
-ghost use Rattle.ospf_inspect.specs.declared.answer.InspectJob.{InspectJob};
+ghost use Rattle.ospf_inspect.specs.Answer.{IsInspectAnswer, IsInspectPrinted, IsInspectResult, Says, Warns, WarnsOfJob, WarnsOfWay};
 
 use crate::drawing::Graph;
 use crate::lsas::lsas_text;
@@ -14,12 +11,11 @@ use crate::path::path_text;
 use crate::tables::{table_json, tables_json, tables_text};
 use crate::values::lsas_json;
 use ospf_base::{Addr, RouterId};
-use ospf_files::{FailedStreams, Failure, Status};
+use ospf_files::{Failure, Report, Status, print_report};
 use ospf_lsa::Listing;
 use ospf_spf::RouteTable;
 use ospf_table::{
-    CountedListing, EntryFault, TableFault, left_out_text, read_counted, unlisted_text,
-    warning_text,
+    TableFault, left_out_text, line_refused, read_counted, unlisted_text, warning_text,
 };
 use std::alloc::{AllocError, Global};
 use std::io::{BufRead, Write};
@@ -52,152 +48,69 @@ pub enum InspectJob {
     },
 }
 
-// Why nothing is printed: the input is refused, with this text, or something failed.
-#[derive(Drop)]
-pub(crate) enum Unanswered {
-    Refused(String),
-    Failure(Failure),
-}
-
-impl From<AllocError> for Unanswered {
-    ghost use Rattle.std.specs.Prelude.{◌≡◌};
-    ghost use Rattle.ospf_files.specs.declared.status.Failure.TheVariants as failure;
-    ghost use Rattle.ospf_inspect.specs.declared.answer.Unanswered.TheVariants as fault;
-
-    ghost from_gives = { λ _ f. f ≡ fault.Failure failure.Memory };
-
-    fn from(_error: AllocError) -> Unanswered {
-        Unanswered::Failure(Failure::Memory)
-    }
-}
-
 /// Reads LSAs, one per line in hexadecimal as `ospf_table::table_text` does, and prints what the
 /// job asks for: each LSA in words or as JSON, a drawing of all, the routing table of each router
-/// or of one, or the path from a router to an address.
+/// or of one, or the path from a router to an address. The result is the exit status.
 ///
 /// `err` says how many LSAs were left out at `MAX_AGE`, if any were. If LSAs are listed, but not
 /// the router-LSA of the table's router or of the path's first router, it says so. If the first
 /// router of a path has no route to the address, it names the routers at the border of the area
 /// (`ospf_table::warning_text`). The first refused line is reported on `err`; then nothing is
-/// printed, with status `Refused`. Status `Memory` says that memory ran out, and `Stream` that a
-/// read or a write failed. The cause is reported on `err`, as far as that can be written. Then no
-/// more than a beginning is printed.
+/// printed, with status 3. Status 4 says that memory ran out, and 5 that a read or a write failed,
+/// as `ospf_files::print_report` does.
 pub fn inspect_text<R: BufRead + Drop, O: Write, E: Write>(
     alloc: Global,
     job: &InspectJob,
     input: R,
     out: &mut O,
     err: &mut E,
-) -> Status
-    // All is printed; or the refusal is reported, and nothing is printed.
-    ensures answered { let old = written_on (O.contents out.old) (E.contents err.old) in
-        let new = written_on (O.contents out.new) (E.contents err.new) in
-        result ≡ Status.Done → IfSome (R.remaining input) (IsInspectAnswered job.now old new) }
-    ensures refused { result ≡ Status.Refused →
-        IfSome (R.remaining input) (IsInspectRefusalTold (E.contents err.old)
-        (E.contents err.new)) }
-    ensures unwritten { result ≡ Status.Refused → O.contents out.new ≡ O.contents out.old }
-    // Or memory or a stream failed, which is reported last, as far as it can be. There is no other
-    // end.
-    ensures cut { let old = written_on (O.contents out.old) (E.contents err.old) in
-        let new = written_on (O.contents out.new) (E.contents err.new) in
-        (result ≡ Status.Memory) ⊎ (result ≡ Status.Stream) →
-        (failed : FailedStreams)
-        × IsInspectCutShort (R.remaining input) job.now failed old new result }
-    ensures not_words { result ≢ Status.Words }
+) -> u8
+    ensures { IsInspectPrinted job.now (R.remaining input)
+        (written_on (O.contents out.old) (E.contents err.old))
+        (written_on (O.contents out.new) (E.contents err.new)) result }
 {
-    inspect_noted(alloc, job, input, out, err, &mut FailedStreams::none())
+    print_report(inspect_report(alloc, job, input), out, err)
 }
 
-// What will be printed.
-#[derive(Drop)]
-struct InspectAnswer {
-    warning: String,
-    text: String,
-}
-
-// Prints what is asked of LSAs, as `inspect_text`, and notes which streams fail.
-fn inspect_noted<R: BufRead + Drop, O: Write, E: Write>(
+/// What `inspect_text` prints, and the status that it ends with.
+///
+/// `Memory` where memory ran out, or `Input` where a read failed.
+pub fn inspect_report<R: BufRead + Drop>(
     alloc: Global,
     job: &InspectJob,
     input: R,
-    out: &mut O,
-    err: &mut E,
-    streams: &mut FailedStreams,
-) -> Status
-    ensures { let old = written_on (O.contents out.old) (E.contents err.old) in
-        let new = written_on (O.contents out.new) (E.contents err.new) in
-        IsInspectEnding (R.remaining input) job.now streams.new old new result }
-{
-    match answer_or_refuse(alloc, job, input, out, err, streams) {
-        Ok(status) => status,
-        Err(failure) => failure.tell(err, streams),
-    }
-}
-
-// Prints the answer, or reports what is refused. Returns the status to end with.
-fn answer_or_refuse<R: BufRead + Drop, O: Write, E: Write>(
-    alloc: Global,
-    job: &InspectJob,
-    input: R,
-    out: &mut O,
-    err: &mut E,
-    streams: &mut FailedStreams,
-) -> Result<Status, Failure>
-    ensures said { let old = written_on (O.contents out.old) (E.contents err.old) in
-        let new = written_on (O.contents out.new) (E.contents err.new) in
-        IfOk result (IsInspectSaid (R.remaining input) job.now old new) }
-    ensures cut { let old = written_on (O.contents out.old) (E.contents err.old) in
-        let new = written_on (O.contents out.new) (E.contents err.new) in
-        IfErr result (InspectEndsBy (R.remaining input) job.now streams.new old new) }
-{
-    match answer_of(alloc, job, input) {
-        Ok(answer) => print(job, &answer, out, err, streams),
-        Err(Unanswered::Refused(text)) => refuse(&text, err, streams),
-        Err(Unanswered::Failure(failure)) => Err(failure),
-    }
-}
-
-// What to print about the LSAs in the lines of an input.
-fn answer_of<R: BufRead + Drop>(
-    alloc: Global,
-    job: &InspectJob,
-    input: R,
-) -> Result<InspectAnswer, Unanswered>
-    ensures answer { IfOk result (λ answer. IfSome (R.remaining input)
-        (IsInspectAnswerOf job.now answer)) }
-    ensures fault { IfErr result (IsUnanswered (R.remaining input)) }
-{
-    let read = listing_of(alloc, input)?;
-    let warning = warning_of(alloc, job, &read.listing, read.left_out)?;
-    let text = text_of(alloc, job, &read.listing)?;
-    Ok(InspectAnswer { warning, text })
-}
-
-// The listing of the lines of an input, and how many LSAs were left out.
-fn listing_of<R: BufRead + Drop>(alloc: Global, input: R) -> Result<CountedListing, Unanswered>
-    ensures whole { IfOk result (λ read. IfSome (R.remaining input)
-        (λ bytes. Reads bytes [] read.listing)) }
-    ensures counted { IfOk result (λ read. IfSome (R.remaining input)
-        (λ bytes. LeavesOut bytes read.left_out)) }
-    ensures fault { IfErr result (IsUnanswered (R.remaining input)) }
+) -> Result<Report, Failure>
+    ensures { IsInspectResult job.now (R.remaining input) result }
 {
     match read_counted(alloc, input) {
-        Ok(read) => Ok(read),
-        Err(TableFault::Entry { number, fault }) => Err(line_refused(alloc, number, fault)),
-        Err(TableFault::Failure(failure)) => Err(Unanswered::Failure(failure)),
+        Ok(read) => {
+            let report = answer_of(alloc, job, &read.listing, read.left_out)?;
+            Ok(report)
+        }
+        Err(TableFault::Entry { number, fault }) => {
+            let report = line_refused(alloc, number, fault)?;
+            Ok(report)
+        }
+        Err(TableFault::Failure(failure)) => Err(failure),
     }
 }
 
-// The refusal of a line.
-fn line_refused(alloc: Global, number: u64, fault: EntryFault) -> Unanswered
-    ensures { (input : Option (List ℕ)) → IfSome input (λ bytes. Refuses bytes [] number fault) →
-        IsUnanswered input result }
+// The answer for a listing, of which so many LSAs were left out.
+fn answer_of(
+    alloc: Global,
+    job: &InspectJob,
+    listing: &Listing,
+    left_out: u64,
+) -> Result<Report, AllocError>
+    ensures { IfOk result (IsInspectAnswer job.now listing.now left_out) }
 {
-    match format!(in alloc; "line {number}: {}\n", fault.text()) {
-        Ok(text) => Unanswered::Refused(text),
-        Err(error) => Unanswered::from(error),
-    }
+    let warnings = warning_of(alloc, job, listing, left_out)?;
+    let text = text_of(alloc, job, listing)?;
+    Ok(Report {
+        warnings,
+        text,
+        status: Status::Done.code(),
+    })
 }
 
 // The warning about the LSAs that were left out, and about what the job asks for.
@@ -268,46 +181,4 @@ fn drawing_text(alloc: Global, listing: &Listing) -> Result<String, AllocError>
         walked: &[],
     };
     format!(in alloc; "{graph}")
-}
-
-// Prints an answer, behind its warning.
-fn print<O: Write, E: Write>(
-    job: &InspectJob,
-    answer: &InspectAnswer,
-    out: &mut O,
-    err: &mut E,
-    streams: &mut FailedStreams,
-) -> Result<Status, Failure>
-    ensures said { let old = written_on (O.contents out.old) (E.contents err.old) in
-        let new = written_on (O.contents out.new) (E.contents err.new) in
-        (input : Option (List ℕ)) → IfSome input (IsInspectAnswerOf job.now answer.now) →
-        IfOk result (IsInspectSaid input job.now old new) }
-    ensures cut { let old = written_on (O.contents out.old) (E.contents err.old) in
-        let new = written_on (O.contents out.new) (E.contents err.new) in
-        (input : Option (List ℕ)) → IfSome input (IsInspectAnswerOf job.now answer.now) →
-        IfErr result (InspectEndsBy input job.now streams.new old new) }
-{
-    match streams.tell(err, &answer.warning) {
-        Ok(()) => {}
-        Err(failure) => return Err(failure),
-    }
-    match streams.print(out, &answer.text) {
-        Ok(()) => Ok(Status::Done),
-        Err(failure) => Err(failure),
-    }
-}
-
-// Reports a refusal.
-fn refuse<E: Write>(text: &str, err: &mut E, streams: &mut FailedStreams) -> Result<Status, Failure>
-    ensures said { (input : Option (List ℕ)) (job : InspectJob) (out : Option (List ℕ)) →
-        IfSome input (IsInspectRefusal text.now) → IfOk result (IsInspectSaid input job
-        (written_on out (E.contents err.old)) (written_on out (E.contents err.new))) }
-    ensures cut { (input : Option (List ℕ)) (job : InspectJob) (out : Option (List ℕ)) →
-        IfSome input (IsInspectRefusal text.now) → IfErr result (InspectEndsBy input job streams.new
-        (written_on out (E.contents err.old)) (written_on out (E.contents err.new))) }
-{
-    match streams.tell(err, text) {
-        Ok(()) => Ok(Status::Refused),
-        Err(failure) => Err(failure),
-    }
 }

@@ -10,3 +10,4 @@ pub mod Changes
 pub mod Objects
 pub mod Named
 pub mod Sums
+pub mod Report

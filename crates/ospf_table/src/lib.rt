@@ -12,6 +12,7 @@ mod named;
 mod objects;
 mod output;
 mod outside;
+mod report;
 mod sums;
 mod table;
 mod totals;
@@ -23,6 +24,7 @@ pub use crate::named::find_failure;
 pub use crate::objects::{add_changes, counted_members, objects_line};
 pub use crate::output::output_text;
 pub use crate::outside::{Outside, is_nowhere, outside_of, outside_text, reasons_text};
+pub use crate::report::{line_refused, refusal};
 pub use crate::sums::{Sums, sums_line};
 pub use crate::table::{
     CountedListing, EntryFault, TableFault, TableJob, left_out_text, read_counted, read_listing,

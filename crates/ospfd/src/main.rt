@@ -81,7 +81,8 @@ where
         }
         Ok(Job::Inspect(inspect)) => {
             let input = BufReader::new(alloc, rt.reader())?;
-            inspect_text(alloc, &inspect, input, &mut out, err)
+            let status = inspect_text(alloc, &inspect, input, &mut out, err);
+            return Ok(ExitCode::from(status));
         }
         Ok(Job::Check(check)) => run_check(rt, check, &mut out, err)?,
         Ok(Job::Sim(sim)) => {

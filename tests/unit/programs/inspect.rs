@@ -106,7 +106,7 @@ fn expect(
     let status = inspect_text(alloc, job, input.as_bytes(), &mut out, &mut err);
     assert_eq!(rt; str::from_utf8(&out)?, wanted.1);
     assert_eq!(rt; str::from_utf8(&err)?, wanted.2);
-    assert_eq!(rt; status, wanted.0);
+    assert_eq!(rt; status, wanted.0.code());
     Ok(())
 }
 
@@ -422,7 +422,7 @@ fn output_that_fails_is_told(rt: HostRuntime) -> Result<(), Fail> {
         let (mut out, mut err) = (Failing { left }, Vec::new(alloc));
         let job = InspectJob::Lsas(Form::Text);
         let status = inspect_text(alloc, &job, input.as_bytes(), &mut out, &mut err);
-        assert_eq!(rt; status, Status::Stream);
+        assert_eq!(rt; status, Status::Stream.code());
         assert_eq!(rt; str::from_utf8(&err)?, "standard output: not written\n");
     }
     Ok(())

@@ -403,7 +403,7 @@ fn status_of<R: AllocGlobal + Threads + Wait + Sync, O: Write, E: Write>(
         Ok(Job::Failures(failures)) => {
             return Ok(failures_text(rt, &failures, input, out, err, &mut Nobody).code());
         }
-        Ok(Job::Inspect(inspect)) => inspect_text(alloc, &inspect, input, out, err),
+        Ok(Job::Inspect(inspect)) => return Ok(inspect_text(alloc, &inspect, input, out, err)),
         Ok(Job::Check(check)) => {
             let CheckJob {
                 files,

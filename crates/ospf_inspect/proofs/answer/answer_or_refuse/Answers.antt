@@ -1,7 +1,0 @@
-use Rattle.std.proofs.Common.{refl, subst}
-use Rattle.ospf_inspect.specs.Answer.{IsUnanswered, unwritten}
-use Rattle.ospf_inspect.proofs.answer.answer_or_refuse.Goals as goal
-
-pub returns-in-Err-Failure-clause-cut : goal.returns-in-Err-Failure-clause-cut
-returns-in-Err-Failure-clause-cut g c =
-    unwritten (subst (IsUnanswered (g.R.Read.remaining c.args.input)) c.in-Err-Failure.field-0-is c.in-Err-Failure.ensures.fault) refl refl
