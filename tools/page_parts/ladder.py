@@ -81,16 +81,20 @@ class Sent:
         if packet.kind in (DESCRIPTION, REQUEST):
             same = self.last.get((*ends, packet.kind)) == packet.content
             self.last[(*ends, packet.kind)] = packet.content
+            if packet.kind == DESCRIPTION and "I" in packet.flags() and not same:
+                # A new exchange begins, in which nothing was requested yet.
+                self.last.pop((*ends, REQUEST), None)
             if packet.kind == REQUEST:
                 self.asked.update((packet.to, packet.source, key) for key in packet.requests())
             return same
         return packet.kind == UPDATE and any([self.is_old(packet, it) for it in packet.lsas()])
 
     def is_old(self, packet, lsa):
-        """Whether this sender has sent an instance there before: to the same address, or to all."""
+        """Whether this sender has sent an instance there before: to the same address, or to all.
+        At MaxAge it is another one, as it is newer then (section 13.1)."""
         request, instance = (packet.source, packet.to, lsa.key), (packet.source, lsa.key)
         known = self.instances.setdefault(instance, {})
-        before = known.setdefault((lsa.number, lsa.sum), set())
+        before = known.setdefault((lsa.number, lsa.sum, lsa.age >= lsas.MAX_AGE), set())
         is_answer = self.asked[request] > 0
         self.asked[request] -= is_answer
         old = not is_answer and bool(before & {packet.to, ALL_ROUTERS, ALL_DESIGNATED})
