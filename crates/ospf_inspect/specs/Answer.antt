@@ -3,7 +3,7 @@ use Rattle.std.specs.Prelude.{◌≡◌, ◌∷◌, ◌++◌, ℕ, List, [], IfS
 use Rattle.ospf_base.specs.declared.ids.Addr.{Addr}
 use Rattle.ospf_base.specs.declared.ids.RouterId.{RouterId}
 use Rattle.ospf_graph.specs.EdgeLists.Listed.{advertisements_of}
-use Rattle.ospf_files.specs.Report.{IsPrinted}
+use Rattle.ospf_files.specs.Report.{IsReportPrinted}
 use Rattle.ospf_files.specs.Streams.{IsOfInput, Written}
 use Rattle.ospf_files.specs.declared.report.Report.{Report}
 use Rattle.ospf_files.specs.declared.status.Failure.{Failure}
@@ -91,4 +91,4 @@ IsInspectResult job input (Err failure) = IsOfInput failure
 abbrev pub IsInspectPrinted : InspectJob → Option (List ℕ) → Written → Written → ℕ → Type 0
 IsInspectPrinted job input old new status =
     (report : Result Report Failure) × IsInspectResult job input report
-    × IsPrinted report old new status
+    × IsReportPrinted report old new status

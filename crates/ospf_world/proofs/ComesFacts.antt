@@ -6,14 +6,12 @@ use Rattle.ospf_base.specs.declared.ids.RouterId.{RouterId}
 use Rattle.ospf_area.specs.Outputs.{OutputsValue}
 use Rattle.ospf_router.specs.AreaStep.Step.{Event}
 use Rattle.ospf_router.specs.declared.step.counts.DropCounts.{DropCounts}
-use Rattle.ospf_headline.specs.Headline.{IsReached}
 use Rattle.ospf_headline.specs.World.{RouterBecomes, Comes, LogsGrow, Running, SameLogs, World, member, of_member, refusal, router_at, stepped_by, IsRunningStarted}
 use Rattle.ospf_base.specs.declared.event.event.WorldEvent.{WorldEvent}
 use Rattle.ospf_base.specs.declared.event.event.WorldEvent.TheVariants.{Start, Stop, Tick, LinkUp, LinkDown, Deliver}
 use Rattle.ospf_base.specs.declared.event.event.WorldFault.{WorldFault}
 use Rattle.ospf_base.specs.declared.event.event.WorldFault.TheVariants as fault
 use Rattle.ospf_headline.specs.declared.logs.Datagram.{Datagram}
-use Rattle.ospf_headline.proofs.RunFacts.{Runs-append}
 use Rattle.ospf_headline.specs.Logs.{LogsTake, LogsValue}
 use Rattle.ospf_headline.specs.Running.{delivery}
 use Rattle.ospf_headline.specs.Slots.{SlotGoesOn, SlotSteps, SlotTakes, SlotValue, fed_by, member_of, refused_by, with_running}
@@ -169,9 +167,3 @@ does_tick event w w' result (Does.NoRouter none is same) =
     ap (λ (v : WorldValue). v.ticks) same ∙ none_more event fault.NoRouter (length w.logs.datagrams) w.ticks
     ∙ ap (λ (r : Result (Unit {0}) WorldFault). w.ticks ++ ticked_by event r (length w.logs.datagrams)) (sym is)
 does_tick event w w' result (Does.AtRouter s s' changes steps ticks offered) = ticks
-
--- ---- what is reached
-
--- a world that was reached goes on to one that was reached
-pub reaches : (event : WorldEvent) (w w' : World) (result : Result (Unit {0}) WorldFault) → Comes is_dropped event w result w' → IsReached is_dropped w → IsReached is_dropped w'
-reaches event w w' result c (events, by) = (events ++ event ∷ [], record { start = by.start; new = by.new; runs = Runs-append is_dropped events (event ∷ []) by.start w w' by.runs (w', (result, c), refl) })

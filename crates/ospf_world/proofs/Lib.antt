@@ -7,6 +7,7 @@ pub mod ComesFacts
 pub mod RunFacts
 pub mod LendFacts
 pub mod NewFacts
+pub mod ExactFacts
 pub mod ListFacts
 pub mod RandomFacts
 pub mod RoundFacts

@@ -9,13 +9,11 @@ use Rattle.std.proofs.lemmas.Bool.{cond-false, cond-true}
 use Rattle.std.proofs.lemmas.Option.{same_Some}
 use Rattle.ospf_base.specs.declared.ids.RouterId.{RouterId}
 use Rattle.ospf_config.specs.declared.config.Config.{Config}
-use Rattle.ospf_headline.specs.Headline.{IsReached}
 use Rattle.ospf_headline.specs.World.{IsNewWorld}
 use Rattle.ospf_base.specs.declared.event.event.WorldFault.{WorldFault}
 use Rattle.ospf_base.specs.declared.event.event.WorldFault.TheVariants as fault
 use Rattle.ospf_router.proofs.AreaStep.StateFacts.{slice_get-append_cases}
 use Rattle.ospf_headline.specs.Slots.{SlotValue}
-use Rattle.ospf_router.specs.Steps.{is_dropped}
 use Rattle.ospf_config.specs.Configs.{ShareRouter}
 use Rattle.ospf_world.specs.Worlds.{AddsConfig, AreSlotPlaces, Opens, WorldValue, is_slot_of, new_world, place_from, place_in, place_of, stopped_slot, world_of}
 use Rattle.ospf_world.proofs.PlaceFacts.{IsAt, placed}
@@ -162,18 +160,14 @@ none_runs (c ∷ configs) r = go (c.router_id.0 == r) (none_runs configs r)
     go true rest = refl
     go false rest = rest
 
-is_new : (configs : List Config) → IsNewWorld (world_of (new_world configs))
+pub is_new : (configs : List Config) → IsNewWorld (world_of (new_world configs))
 is_new configs = record { none_runs = λ r. router_at-is (new_world configs) r ∙ none_runs configs r.0; no_datagrams = refl; none_issued = refl; none_held = refl }
 
--- no event led there
-pub new_reached : (configs : List Config) → IsReached is_dropped (world_of (new_world configs))
-new_reached configs = ([], record { start = world_of (new_world configs); new = is_new configs; runs = refl })
-
--- a world that opens is reached
-pub opened_reached : (configs : List Config) (result : Result WorldValue WorldFault) (w : WorldValue) → Opens configs result → result ≡ Ok w → IsReached is_dropped (world_of w)
-opened_reached configs result w (Opens.Begins apart ok) at = subst (λ w. IsReached is_dropped (world_of w)) (ap (ok_or w) (sym ok ∙ at)) (new_reached configs)
-opened_reached configs result w (Opens.SameRouter shared err) at = absurd (let e = sym err ∙ at in cc e)
-opened_reached configs result w (Opens.NoMemory err) at = absurd (let e = sym err ∙ at in cc e)
+-- a world that opens is the new one of its configurations
+pub opened_new : (configs : List Config) (result : Result WorldValue WorldFault) (w : WorldValue) → Opens configs result → result ≡ Ok w → new_world configs ≡ w
+opened_new configs result w (Opens.Begins apart ok) at = ap (ok_or w) (sym ok ∙ at)
+opened_new configs result w (Opens.SameRouter shared err) at = absurd (let e = sym err ∙ at in cc e)
+opened_new configs result w (Opens.NoMemory err) at = absurd (let e = sym err ∙ at in cc e)
 
 -- a walk goes on by one
 pub walked_on : (configs yielded rest rest' : List Config) (config : Config) → configs ≡ yielded ++ rest → rest ≡ config ∷ rest' → configs ≡ (yielded ++ config ∷ []) ++ rest'

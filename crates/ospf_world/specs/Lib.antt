@@ -5,6 +5,7 @@ pub mod Ticks
 pub mod Sounds
 pub mod Worlds
 pub mod Does
+pub mod Exact
 pub mod Watching
 pub mod Random
 pub mod Rounds

@@ -4,6 +4,7 @@ ghost use Rattle.std.specs.Prelude.{◌≡◌, ◌≤◌, ℕ, OnErr, OnOk, Some
 ghost use Rattle.ospf_world.specs.Draws.{drawn, drawn_past};
 ghost use Rattle.ospf_headline.specs.Headline.{Headline, IsReached};
 ghost use Rattle.ospf_router.specs.Steps.{is_dropped};
+ghost use Rattle.ospf_world.specs.Exact.{IsReachedExactly};
 ghost use Rattle.ospf_world.specs.Random.{IsRandom, Meets};
 ghost use Rattle.ospf_world.specs.Sounds.{IsSoundBetween};
 ghost use Rattle.ospf_world.specs.Ticks.{TicksGoOn};
@@ -40,6 +41,7 @@ impl World {
         ensures same { SameSettings self.old self.new }
         // What holds for every network still holds for this one, and its log of ticks continues.
         ensures reached { IsReached is_dropped (world_of self.new) }
+        ensures exact { IsReachedExactly self.new }
         ensures headline { Headline (world_of self.old) (world_of self.new) }
         ensures sound { IsSoundBetween (world_of self.old) (world_of self.new) }
         ensures ticks { TicksGoOn self.old self.new }
@@ -66,6 +68,7 @@ impl World {
         ensures same { SameSettings self.old self.new }
         // What holds for every network still holds for this one, and its log of ticks continues.
         ensures reached { IsReached is_dropped (world_of self.new) }
+        ensures exact { IsReachedExactly self.new }
         ensures headline { Headline (world_of self.old) (world_of self.new) }
         ensures sound { IsSoundBetween (world_of self.old) (world_of self.new) }
         ensures ticks { TicksGoOn self.old self.new }
@@ -74,6 +77,7 @@ impl World {
         headline();
         soundness();
         self.reached();
+        self.reached_exactly();
         for i in 0..count {
             let words = draw(generator);
             let event = self.draw_event(&words);
@@ -95,6 +99,7 @@ impl World {
         ensures same { SameSettings self.old self.new }
         // What holds for every network still holds for this one, and its log of ticks continues.
         ensures reached { IsReached is_dropped (world_of self.new) }
+        ensures exact { IsReachedExactly self.new }
         ensures headline { Headline (world_of self.old) (world_of self.new) }
         ensures sound { IsSoundBetween (world_of self.old) (world_of self.new) }
         ensures ticks { TicksGoOn self.old self.new }

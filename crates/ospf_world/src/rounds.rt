@@ -3,6 +3,7 @@
 ghost use Rattle.std.specs.Prelude.{◌≡◌, ◌≢◌, ◌++◌, [], IfOk, OnErr, OnOk, option_map};
 ghost use Rattle.ospf_headline.specs.Headline.{Headline, IsReached};
 ghost use Rattle.ospf_router.specs.Steps.{is_dropped};
+ghost use Rattle.ospf_world.specs.Exact.{IsReachedExactly};
 ghost use Rattle.ospf_world.specs.Rounds.{AreNextOffers, AreOffered, HasNext, IsRound, IsRoundOf, OffersNext, slot_ticks, ticks};
 ghost use Rattle.ospf_world.specs.Sounds.{IsSoundBetween};
 ghost use Rattle.ospf_world.specs.Ticks.{TicksGoOn};
@@ -31,6 +32,7 @@ impl World {
         ensures round { IsRound self.old result self.new }
         // What holds for every network still holds for this one, and its log of ticks continues.
         ensures reached { IsReached is_dropped (world_of self.new) }
+        ensures exact { IsReachedExactly self.new }
         ensures headline { Headline (world_of self.old) (world_of self.new) }
         ensures sound { IsSoundBetween (world_of self.old) (world_of self.new) }
         ensures ticks { TicksGoOn self.old self.new }
@@ -48,6 +50,7 @@ impl World {
         ensures round { IsRoundOf most self.old result self.new }
         // What holds for every network still holds for this one, and its log of ticks continues.
         ensures reached { IsReached is_dropped (world_of self.new) }
+        ensures exact { IsReachedExactly self.new }
         ensures headline { Headline (world_of self.old) (world_of self.new) }
         ensures sound { IsSoundBetween (world_of self.old) (world_of self.new) }
         ensures ticks { TicksGoOn self.old self.new }
@@ -69,6 +72,7 @@ impl World {
         ensures told { Told W.comes_gives W.came_gives (self.old, watch.old) (self.new, watch.new) }
         // What holds for every network still holds for this one, and its log of ticks continues.
         ensures reached { IsReached is_dropped (world_of self.new) }
+        ensures exact { IsReachedExactly self.new }
         ensures headline { Headline (world_of self.old) (world_of self.new) }
         ensures sound { IsSoundBetween (world_of self.old) (world_of self.new) }
         ensures ticks { TicksGoOn self.old self.new }
@@ -78,6 +82,7 @@ impl World {
         soundness();
         runs_lead_on();
         self.reached();
+        self.reached_exactly();
         let Ok(ticks) = ticks_of(self.slots(), alloc) else {
             return Err(WorldFault::Memory { stopped: false });
         };

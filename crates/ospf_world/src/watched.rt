@@ -7,6 +7,7 @@ ghost use Rattle.ospf_headline.specs.Sound.{IsSoundAcknowledgement};
 ghost use Rattle.ospf_headline.specs.World.{Comes};
 ghost use Rattle.ospf_router.specs.Steps.{is_dropped};
 ghost use Rattle.ospf_world.specs.Does.{Does};
+ghost use Rattle.ospf_world.specs.Exact.{IsReachedExactly};
 ghost use Rattle.ospf_world.specs.Sounds.{IsSoundBetween};
 ghost use Rattle.ospf_world.specs.Ticks.{TicksGoOn, ticked_by};
 ghost use Rattle.ospf_world.specs.Watching.{DoesTold};
@@ -37,6 +38,7 @@ impl World {
         ensures same { SameSettings self.old self.new }
         // What holds for every network still holds for this one, and its log of ticks continues.
         ensures reached { IsReached is_dropped (world_of self.new) }
+        ensures exact { IsReachedExactly self.new }
         ensures headline { Headline (world_of self.old) (world_of self.new) }
         ensures sound { IsSoundAcknowledgement event (world_of self.old) (world_of self.new) }
         ensures ticks { self.new.ticks ≡ self.old.ticks
@@ -64,6 +66,7 @@ impl World {
         ensures same { SameSettings self.old self.new }
         // What holds for every network still holds for this one, and its log of ticks continues.
         ensures reached { IsReached is_dropped (world_of self.new) }
+        ensures exact { IsReachedExactly self.new }
         ensures headline { Headline (world_of self.old) (world_of self.new) }
         ensures sound { IsSoundBetween (world_of self.old) (world_of self.new) }
         ensures ticks { TicksGoOn self.old self.new }
@@ -73,6 +76,7 @@ impl World {
         soundness();
         runs_lead_on();
         self.reached();
+        self.reached_exactly();
         let mut refused = 0;
         for event in events {
             match self.step_watched(*event, watch, alloc) {

@@ -7,6 +7,7 @@ ghost use Rattle.ospf_headline.specs.Sound.{IsSoundAcknowledgement};
 ghost use Rattle.ospf_headline.specs.World.{Comes};
 ghost use Rattle.ospf_router.specs.Steps.{is_dropped};
 ghost use Rattle.ospf_world.specs.Does.{Does};
+ghost use Rattle.ospf_world.specs.Exact.{IsReachedExactly};
 ghost use Rattle.ospf_world.specs.Rounds.{offers_of, sending_address};
 ghost use Rattle.ospf_world.specs.Sounds.{IsSoundBetween};
 ghost use Rattle.ospf_world.specs.Ticks.{TicksGoOn, ticked_by};
@@ -27,22 +28,21 @@ use std::marker::Model;
 /// that they sent, issued and held.
 ///
 /// Every world results from one in which nothing ran and nothing had
-/// happened, by some list of events.
+/// happened, by some list of events, each of which did exactly what `Does` says.
 #[derive(Drop)]
 pub struct World {
     parts: Parts,
 }
 
 impl Model for World {
-    ghost use Rattle.ospf_headline.specs.Headline.{IsReached};
-    ghost use Rattle.ospf_router.specs.Steps.{is_dropped};
-    ghost use Rattle.ospf_world.specs.Worlds.{WorldValue, world_of};
+    ghost use Rattle.ospf_world.specs.Exact.{IsReachedExactly};
+    ghost use Rattle.ospf_world.specs.Worlds.{WorldValue};
 
     ghost Value = { WorldValue };
 
     ghost view = { λ w. w.parts };
 
-    ghost invariant = { λ w. IsReached is_dropped (world_of w.parts) };
+    ghost invariant = { λ w. IsReachedExactly w.parts };
 }
 
 impl World {
@@ -72,6 +72,7 @@ impl World {
         ensures same { SameSettings self.old self.new }
         // What holds for every network still holds for this one, and its log of ticks continues.
         ensures reached { IsReached is_dropped (world_of self.new) }
+        ensures exact { IsReachedExactly self.new }
         ensures headline { Headline (world_of self.old) (world_of self.new) }
         ensures sound { IsSoundAcknowledgement event (world_of self.old) (world_of self.new) }
         ensures ticks { self.new.ticks ≡ self.old.ticks
@@ -93,6 +94,7 @@ impl World {
         ensures same { SameSettings self.old self.new }
         // What holds for every network still holds for this one, and its log of ticks continues.
         ensures reached { IsReached is_dropped (world_of self.new) }
+        ensures exact { IsReachedExactly self.new }
         ensures headline { Headline (world_of self.old) (world_of self.new) }
         ensures sound { IsSoundBetween (world_of self.old) (world_of self.new) }
         ensures ticks { TicksGoOn self.old self.new }
@@ -156,6 +158,14 @@ impl World {
     /// What the type guarantees: some list of events led here.
     pub fn reached(&self)
         ensures { IsReached is_dropped (world_of self.now) }
+    {
+        let _ = &self.parts;
+    }
+
+    /// What the type guarantees: some events led here, and each of them did exactly what `Does`
+    /// says, so that each step of a router on the way keeps the laws of a step (`StepLaws`).
+    pub fn reached_exactly(&self)
+        ensures { IsReachedExactly self.now }
     {
         let _ = &self.parts;
     }

@@ -1,12 +1,12 @@
 use Rattle.ospf_inspect.proofs.AnswerLemmas.{line_answered, listing_answered}
 use Rattle.ospf_inspect.proofs.answer.inspect_report.Goals as goal
 
-pub returns-in-Ok : goal.returns-in-Ok
-returns-in-Ok g c =
-    listing_answered (g.R.Read.remaining c.args.input) c.args.job.now c.in-Ok.read.listing c.in-Ok.read.left_out c.in_ok-report.report
-    c.in-Ok.ensures.whole c.in-Ok.ensures.counted c.in_ok-report.ensures
+pub returns-in_ok-report-in-Ok : goal.returns-in_ok-report-in-Ok
+returns-in_ok-report-in-Ok g c =
+    listing_answered (g.R.Read.remaining c.args.input) c.args.job.now c.in-Ok.read.listing c.in-Ok.read.left_out c.in_ok-report-in-Ok.report
+    c.in-Ok.ensures.whole c.in-Ok.ensures.counted c.in_ok-report-in-Ok.ensures
 
-pub returns-in-Err-Entry : goal.returns-in-Err-Entry
-returns-in-Err-Entry g c =
-    line_answered (g.R.Read.remaining c.args.input) c.args.job.now c.in-Err-Entry.number c.in-Err-Entry.fault c.in_ok-report-2.report
-    (c.in-Err-Entry.ensures.refused c.in-Err-Entry.number c.in-Err-Entry.fault (cc)) c.in_ok-report-2.ensures
+pub returns-in_ok-report-in-Err-Entry : goal.returns-in_ok-report-in-Err-Entry
+returns-in_ok-report-in-Err-Entry g c =
+    line_answered (g.R.Read.remaining c.args.input) c.args.job.now c.in-Err-Entry.number c.in-Err-Entry.fault c.in_ok-report-in-Err-Entry.report
+    (c.in-Err-Entry.ensures.refused c.in-Err-Entry.number c.in-Err-Entry.fault (cc)) c.in_ok-report-in-Err-Entry.ensures

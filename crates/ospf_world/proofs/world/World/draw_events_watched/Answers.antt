@@ -1,6 +1,7 @@
 use Rattle.std.proofs.Common.{Err, Ok, ◌+◌, refl, rules, arith}
 use Rattle.ospf_router.specs.Steps.{is_dropped}
 use Rattle.ospf_world.specs.Worlds.{world_of}
+use Rattle.ospf_world.proofs.ExactFacts.{told_exact}
 use Rattle.ospf_world.proofs.RandomFacts.{drawn_all, drawn_more, random_done, random_ends, random_leads, random_more, reached_on, same_on}
 use Rattle.ospf_world.proofs.TickFacts.{sound_between, ticks_further, ticks_nowhere}
 use Rattle.ospf_world.proofs.ToldFacts.{told_further, told_nowhere}
@@ -74,3 +75,9 @@ returns-in-Err-clause-stopped g c =
 
 pub returns-in-Err-clause-told : goal.returns-in-Err-clause-told
 returns-in-Err-clause-told g c = told_further _ _ _ _ _ c.loop-i.invariant.told c.meet.ensures.told
+
+pub returns-in-Err-clause-exact : goal.returns-in-Err-clause-exact
+returns-in-Err-clause-exact g c = told_exact _ _ _ _ (returns-in-Err-clause-told g c) c.reached_exactly.ensures
+
+pub returns-clause-exact : goal.returns-clause-exact
+returns-clause-exact g c = told_exact _ _ _ _ c.loop-i.invariant.told c.reached_exactly.ensures

@@ -2,8 +2,10 @@ use Rattle.std.proofs.Common.{refl, rules, sym, ◌∙◌, arith}
 use Rattle.ospf_router.specs.Steps.{is_dropped}
 use Rattle.ospf_world.specs.Does.{Does}
 use Rattle.ospf_world.specs.Watching.{DoesTold}
+use Rattle.ospf_world.proofs.ExactFacts.{told_exact}
 use Rattle.ospf_world.proofs.RunFacts.{done, ends_early, goes_err, goes_ok, run_comes, run_headline, run_reached, same_on}
 use Rattle.ospf_world.proofs.TickFacts.{sound_between, ticks_further, ticks_nowhere, ticks_once}
+use Rattle.ospf_world.proofs.ToldFacts.{run_told}
 use Rattle.ospf_world.proofs.world.World.run_watched.Goals.{in-Ok, in-Err+else-is_memory}
 use Rattle.ospf_world.proofs.world.World.run_watched.Goals as goal
 
@@ -58,3 +60,9 @@ returns-clause-ticks g c = c.loop-event.invariant.3
 
 pub loop-event-init : goal.loop-event-init
 loop-event-init g c = ((refl, refl), omega arith, record { configs = refl; offered = refl }, ticks_nowhere _ _ _ _ refl refl, (refl, refl))
+
+pub returns-then-is_memory-clause-exact : goal.returns-then-is_memory-clause-exact
+returns-then-is_memory-clause-exact g c = told_exact _ _ _ _ (run_told _ _ _ _ _ _ (returns-then-is_memory-clause-told g c)) c.reached_exactly.ensures
+
+pub returns-clause-exact : goal.returns-clause-exact
+returns-clause-exact g c = told_exact _ _ _ _ (run_told _ _ _ _ _ _ (returns-clause-told g c)) c.reached_exactly.ensures
