@@ -23,7 +23,7 @@ import shutil
 import sys
 import tempfile
 
-from kit import command, look_for
+from kit import command, look_for, read_verdict, write_verdict
 
 TOP = os.path.dirname(os.path.dirname(os.path.dirname(os.path.abspath(__file__))))
 
@@ -109,8 +109,13 @@ def hand_over(store, earlier):
     """Gives the machine's store what was proved from nothing, for the runs after this one."""
     os.makedirs(earlier, 0o700, exist_ok=True)
     for name in os.listdir(store):
-        if name.startswith(("proof-", "tests-")) and not os.path.exists(os.path.join(earlier, name)):
-            os.rename(os.path.join(store, name), os.path.join(earlier, name))
+        made, there = os.path.join(store, name), os.path.join(earlier, name)
+        if not name.startswith(("proof-", "tests-")):
+            continue
+        if not os.path.exists(there):
+            os.rename(made, there)
+        elif verdict := read_verdict(os.path.join(made, "verdict")):
+            write_verdict(os.path.join(there, "verdict"), verdict)
 
 
 if __name__ == "__main__":

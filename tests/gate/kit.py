@@ -11,12 +11,18 @@ it has made, for as long as it lasts; the next one makes its own. So every stamp
 the estimate is what each crate was measured to take (bench/costs.txt) and a quarter more. Where COSTS names a file each check is noted
 there (tests/gate/noted). What is proved, and in which order, stays as it is.
 
+`rt ci` prints the verdict of a proof that it makes, and none of one that an earlier run made. So here what is kept of a proof has its
+verdict as well, in a file `verdict`: the prover's last line, and the lines that say what it rests on. Where VERDICTS names a file, a line
+is added for each proof that counts in this run, made now or kept: CRATE proof|tests: LINE; LINE ..
+
 Other scripts that lean on the inside of the toolchain, which no document promises, ask for it here. Where something of it is not there
 they end with a line that tells so; with any toolchain that has it all they go on.
 """
+import contextlib
 import importlib.machinery
 import importlib.util
 import os
+import re
 import shutil
 import subprocess
 import sys
@@ -28,6 +34,9 @@ MEASURED = os.path.join(os.path.dirname(os.path.dirname(HERE)), "bench", "costs.
 # A check may take a quarter more than the measured one.
 ROOM = 1.25
 MB = 1 << 20
+# What of a check's output is its verdict: the last line, and those that say what it rests on. How they stand in one line.
+OF_VERDICT, JOINT = re.compile(r"logic[= ]|statements |by-macro: |axioms |hides "), "; "
+NO_VERDICT = "kept from an earlier run, which kept no verdict"
 # The toolchains that these scripts were tried with, as `rt version` tells them.
 TRIED = "rattle-kit-13b and rattle-kit-13f, logic dac8208d650f15bf"
 
@@ -110,6 +119,65 @@ def note_costs(module):
         module.rtlib.RATTLE = os.path.join(HERE, "noted")
 
 
+def verdict_in(said):
+    """The verdict in what a check printed, in one line."""
+    return JOINT.join(line.strip() for line in said.splitlines() if OF_VERDICT.match(line))
+
+
+def note_verdict(crate, tests, verdict):
+    """Adds the verdict of a proof to the run's, in a single write, since several proofs end side by side."""
+    if os.environ.get("VERDICTS"):
+        file = os.open(os.environ["VERDICTS"], os.O_WRONLY | os.O_APPEND | os.O_CREAT, 0o644)
+        os.write(file, f"{crate.name} {'tests' if tests else 'proof'}: {verdict or NO_VERDICT}\n".encode())
+        os.close(file)
+
+
+def write_verdict(path, verdict):
+    """Puts a verdict beside what is kept of its proof: whole, or not at all."""
+    with contextlib.suppress(OSError):
+        with open(f"{path}.{os.getpid()}", "w", encoding="utf-8") as file:
+            file.write(verdict)
+        os.replace(f"{path}.{os.getpid()}", path)
+
+
+def read_verdict(path):
+    """The verdict that is kept beside a proof; nothing where an earlier run kept none."""
+    try:
+        with open(path, encoding="utf-8") as file:
+            return file.read()
+    except (OSError, UnicodeDecodeError):
+        return ""
+
+
+def keep_verdicts(crate_type, kept_type):
+    """Has a check leave its verdict at the crate, and what is kept of a proof have it too."""
+    plain_prove, plain_keep, plain_give = crate_type.prove, kept_type.keep, kept_type.give
+
+    def prove(crate, *commands):
+        begin = crate.out.seek(0, os.SEEK_END) if crate.out.readable() and crate.out.seekable() else None
+        status = plain_prove(crate, *commands)
+        crate.verdict = ""
+        if begin is not None and not status:
+            crate.out.seek(begin)
+            crate.verdict = verdict_in(crate.out.read())
+        return status
+
+    def keep(kept, crate, tests, key):
+        plain_keep(kept, crate, tests, key)
+        verdict, place = getattr(crate, "verdict", ""), kept.place(crate, tests, key)
+        note_verdict(crate, tests, verdict)
+        if verdict and os.path.isdir(place):
+            write_verdict(os.path.join(place, "verdict"), verdict)
+
+    def give(kept, crate, tests, key):
+        is_given = plain_give(kept, crate, tests, key)
+        if is_given:
+            note_verdict(crate, tests, read_verdict(os.path.join(kept.place(crate, tests, key), "verdict")))
+        return is_given
+
+    crate_type.prove, kept_type.keep, kept_type.give = prove, keep, give
+
+
 def know_below(crate_type):
     """Has each crate find once which crates it needs. `rt` goes every way between two crates anew: 51 million calls for this repository,
     a minute of processor time before the first proof."""
@@ -142,6 +210,10 @@ def command():
     look_for(module.rtlib, "rtlib", "RATTLE")
     know_needs(module)
     note_costs(module)
+    look_for(module, "rt", "Crate", "Kept")
+    look_for(module.Crate, "rt.Crate", "prove")
+    look_for(module.Kept, "rt.Kept", "give", "keep", "place")
+    keep_verdicts(module.Crate, module.Kept)
     return module
 
 

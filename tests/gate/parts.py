@@ -8,6 +8,7 @@ TOP = os.path.dirname(os.path.dirname(os.path.dirname(os.path.abspath(__file__))
 UNITS = ["tests/unit/units"]
 # These start no program of ours.
 WITHOUT_PROGRAM = [["tests/gate/english"], ["tests/gate/layout"], ["tests/gate/unused"], ["tests/edits", "--check"], ["tools/promise", "--check", "docs/promises"]]
+WITHOUT_PROGRAM += [["tools/trust", "--check", "docs/TRUST.md"]]
 WITHOUT_PROGRAM += [["tests/gate/stand-ins"], ["tests/peers/bridge"]]
 # The longest first, so that the others run beside them.
 OF_PROGRAM = ["captures/compare-spec", "captures/compare-failures", "captures/compare-changes", "simulations/claims", "simulations/simulate", "captures/compare-inspect"]
