@@ -12,7 +12,8 @@ use Rattle.ospf_files.specs.declared.streams.FailedStreams.{FailedStreams}
 use Rattle.ospf_table.proofs.Lines.{map_some}
 use Rattle.ospf_table.specs.Line.{Reads}
 use Rattle.ospf_whatif.specs.Failure.{HasLarge}
-use Rattle.ospf_whatif.specs.Hidden.{AreHidden}
+use Rattle.ospf_whatif.specs.Carrier.{AreHiddenBy}
+use Rattle.ospf_whatif.specs.declared.carrier.Carrier.{Carrier}
 use Rattle.ospf_whatif.specs.declared.hidden.HiddenCost.{HiddenCost}
 use Rattle.std.proofs.lemmas.Result.{IfOk-weaker}
 use Rattle.ospf_graph.specs.Advertisements.{Advertisement}
@@ -21,10 +22,11 @@ use Rattle.std.specs.Prelude.{IfOk, String}
 use Rattle.std.specs.declared.alloc.AllocError.{AllocError}
 use Rattle.std.specs.declared.alloc.Global.{Global}
 use Rattle.std.specs.declared.result.Result.{Result}
-use Rattle.ospf_failures.specs.Answer.{FailuresEndsBy, IsFailuresAnswerBegun, IsFailuresAnswerOf, IsFailuresAnswered, IsFailuresCutShort, IsFailuresEnding, IsUnreported, IsFailuresRefusal, IsFailuresRefusalBegun, IsRefusalOf, IsFailuresRefusalTold, IsFailuresSaid, IsUnserved, IsFailuresWarningBegun, IsEndBy, IsAllPrinted, SaysOf, TellsHidden, WarnsOfAll, end_by, in_answer, in_refusal, in_warning, is_answered, is_refused, names_of, of_name}
+use Rattle.ospf_failures.specs.Answer.{FailuresEndsBy, IsFailuresAnswerBegun, IsFailuresAnswerOf, IsFailuresAnswered, IsFailuresCutShort, IsFailuresEnding, IsUnreported, IsFailuresRefusal, IsFailuresRefusalBegun, IsRefusalOf, IsFailuresRefusalTold, IsFailuresSaid, IsUnserved, IsFailuresWarningBegun, IsEndBy, IsAllPrinted, IsRebuilding, SaysOf, TellsHidden, WarnsOfAll, end_by, in_answer, in_refusal, in_warning, is_answered, is_refused, names_of, of_name}
 use Rattle.ospf_failures.specs.Without.{IsFaultOfNames, IsFirstUnnamed}
 use Rattle.ospf_failures.specs.declared.answer.FailuresAnswer.{FailuresAnswer}
 use Rattle.ospf_failures.specs.declared.answer.FailuresJob.{FailuresJob}
+use Rattle.ospf_failures.specs.declared.answer.FailuresJob.TheVariants.{All, Root, Without}
 use Rattle.ospf_failures.specs.declared.answer.FailuresStatus.{FailuresStatus}
 use Rattle.ospf_failures.specs.declared.answer.FailuresStatus.TheVariants.{Ended, Unmet}
 use Rattle.ospf_failures.specs.declared.answer.Unreported.{Unreported}
@@ -46,15 +48,15 @@ end_is P Q true false false cuts is = (refl, inr (λ q. let t : false ≡ true =
 end_is P Q false cut listed cuts is = (refl, λ e unmet. cc)
 
 pub answer_made : (input : Option (List ℕ)) (job : FailuresJob) (answer : FailuresAnswer) (listing : List (List ℕ)) → IfSome input (λ bytes. Reads bytes [] listing)
-    → (names_of job ≢ [] → HasLarge (advertisements_of listing) → ⊥) → WarnsOfAll job listing (string_bytes answer.warning)
+    → (IsRebuilding job → HasLarge (advertisements_of listing) → ⊥) → WarnsOfAll job listing (string_bytes answer.warning)
     → SaysOf job (advertisements_of listing) (string_bytes answer.said.text) answer.said.end → IfSome input (IsFailuresAnswerOf job answer)
 answer_made input job answer listing reads small warned says =
     map_some input (λ bytes. Reads bytes [] listing) (IsFailuresAnswerOf job answer)
     (λ bytes read. record { listing = listing; reads = read; small = small; warned = warned; says = says }) reads
 
-pub told_hidden : (adverts : List Advertisement) (hidden seen : List HiddenCost) (found : Result (String Global) AllocError) → seen ≡ hidden → AreHidden adverts hidden
-    → IfOk found (λ text. string_bytes text ≡ hidden_text seen) → IfOk found (λ text. TellsHidden adverts (string_bytes text))
-told_hidden adverts hidden seen found same are told =
+pub told_hidden : (carrier : Carrier) (adverts : List Advertisement) (hidden seen : List HiddenCost) (found : Result (String Global) AllocError) → seen ≡ hidden
+    → AreHiddenBy carrier adverts hidden → IfOk found (λ text. string_bytes text ≡ hidden_text seen) → IfOk found (λ text. TellsHidden carrier adverts (string_bytes text))
+told_hidden carrier adverts hidden seen found same are told =
     IfOk-weaker found _ _ (λ text is. (hidden, are, is ∙ ap hidden_text same)) told
 
 module _ (input : Option (List ℕ)) (job : FailuresJob) (answer : FailuresAnswer) (is : IfSome input (IsFailuresAnswerOf job answer)) where
@@ -133,14 +135,20 @@ some_name : {A : Type 0} (xs ys : List A) (x : A) → xs ++ x ∷ ys ≡ [] → 
 some_name [] ys x e = cc e
 some_name (y ∷ xs) ys x e = cc e
 
+-- without parts that are named router-LSAs are made again
+named_rebuilds : (job : FailuresJob) → names_of job ≢ [] → IsRebuilding job
+named_rebuilds (Root root each strict form carrier) named = absurd (named refl)
+named_rebuilds (All each strict form carrier) named = absurd (named refl)
+named_rebuilds (Without root names addresses) named = named
+
 pub names_refused : (input : Option (List ℕ)) (job : FailuresJob) (listing : List (List ℕ)) (f : Unreported) → IfSome input (λ bytes. Reads bytes [] listing)
-    → (names_of job ≢ [] → HasLarge (advertisements_of listing) → ⊥) → IsFaultOfNames (IsFirstUnnamed (advertisements_of listing) (names_of job)) f → IsUnreported input job f
+    → (IsRebuilding job → HasLarge (advertisements_of listing) → ⊥) → IsFaultOfNames (IsFirstUnnamed (advertisements_of listing) (names_of job)) f → IsUnreported input job f
 names_refused input job listing (fault.Refused text) reads small is = absurd is
 names_refused input job listing (fault.Unnamed text) reads small is =
     let named : names_of job ≢ [] = λ none. some_name is.1.first.before is.1.first.after is.0 (sym is.1.first.names_are ∙ none) in (
       named,
       map_some input (λ bytes. Reads bytes [] listing) (λ bytes. IsFailuresRefusal job bytes (string_bytes text) status.Words)
-          (λ bytes read. of_name listing is.0 read (small named) is.1 is.2) reads,
+          (λ bytes read. of_name listing is.0 read (small (named_rebuilds job named)) is.1 is.2) reads,
     )
 names_refused input job listing (fault.Failure f) reads small is = inl is
 

@@ -1,6 +1,6 @@
 -- What a failure changes in the tables of all routers, one after the other.
 use Rattle.std.proofs.Common.{◌≡◌, ◌∙◌, ◌+◌, ◌<◌, ◌≤◌, ◌^◌, ◌↔◌, ℕ, Bool, true, false, cond, not, List, [], ◌∷◌, ◌++◌, All, map, filter, take, length, get_or, ap, sym, refl, subst, inl, inr, arith, string_bytes}
-use Rattle.std.specs.List.{AllPairs, AllWithin, Any, Contains, HoldsAt}
+use Rattle.std.specs.List.{AllPairs, AllWithin, AllZip, Any, Contains, HoldsAt}
 use Rattle.std.specs.List.Sorted.{IsSorted}
 use Rattle.std.specs.Prelude.{IsPermutation, IsTrue, MatchBool, count_by}
 use Rattle.std.proofs.lemmas.List.{append-nil, append_assoc, map-append, map_push, take_more}
@@ -14,15 +14,19 @@ use Rattle.ospf_graph.proofs.ListLemmas.{member_cases, member_head, member_later
 use Rattle.ospf_graph.proofs.TableLemmas.{head_before, pairs_tail}
 use Rattle.ospf_graph.specs.Advertisements.{Advertisement, IsListed}
 use Rattle.ospf_graph.specs.Routes.{IsTable}
+use Rattle.ospf_whatif.specs.Carrier.{IsFailureBy, together}
 use Rattle.ospf_whatif.specs.Effect.{IsEffectIn}
-use Rattle.ospf_whatif.specs.Failure.{without}
-use Rattle.ospf_whatif.specs.Single.{AreFailures, IsFailure, IsFailureBefore}
+use Rattle.ospf_whatif.specs.Failure.{without_all}
+use Rattle.ospf_whatif.specs.Single.{IsFailureBefore}
+use Rattle.ospf_whatif.specs.declared.carrier.Breakdown.{Breakdown}
+use Rattle.ospf_whatif.specs.declared.carrier.Carrier.{Carrier}
 use Rattle.ospf_whatif.specs.declared.effect.RouteChange.{RouteChange}
 use Rattle.ospf_whatif.specs.declared.failure.AreaFailure.{AreaFailure}
 use Rattle.ospf_whatif.specs.declared.failure.AreaFailure.TheVariants.{Attachment, End, Link, Links, Network, Router}
 use Rattle.ospf_whatif.proofs.LessLemmas.{kept_of, of_kept}
+use Rattle.ospf_failures.proofs.FoundLemmas.{all_seen, effect_by, same_failures}
 use Rattle.ospf_failures.proofs.ReportLemmas.{other_from, other_to}
-use Rattle.ospf_failures.specs.Overall.{AreOveralls, IsTableBefore, IsOverall, IsSight, IsSightFrom, IsSoFar, Sees, SeesMore, failing_router, lines_kept, overall_cmp, roots_in, sight_lines, sights_kept, sums_of}
+use Rattle.ospf_failures.specs.Overall.{AreOveralls, IsOverall, IsOverallOf, IsTableBefore, IsSight, IsSightFrom, IsSoFar, Sees, SeesMore, failing_router, lines_kept, overall_cmp, roots_in, sight_lines, sights_kept, sums_of}
 use Rattle.ospf_table.specs.Sums.{HasSumRoom, has_changes, one_if, sums_plus}
 use Rattle.ospf_failures.specs.Reports.{SightValue, is_of}
 use Rattle.ospf_failures.specs.declared.overall.Before.{Before}
@@ -30,6 +34,7 @@ use Rattle.ospf_failures.specs.declared.overall.RouteDetail.{RouteDetail}
 use Rattle.ospf_failures.specs.declared.overall.RouteDetail.TheVariants as detail
 use Rattle.ospf_failures.specs.declared.overall.Overall.{Overall}
 use Rattle.ospf_table.specs.declared.sums.Sums.{Sums}
+use Rattle.ospf_failures.specs.Together.{AreSingle}
 
 -- ---- the routers of an area, by its failures
 
@@ -84,34 +89,37 @@ other_than f r = not (is_of r f)
 abbrev pub roots_of : List Before → List RouterId
 roots_of befores = map (λ b. b.root) befores
 
-module _ (A : List Advertisement) (fs : List AreaFailure) (all : AreFailures A fs) (rising : AllPairs IsFailureBefore fs) (befores : List Before) (roots : roots_of befores ≡ roots_in fs)
-    (tables : All (IsTableBefore A) befores) (wanted : RouteDetail) (o : Overall) (so_far : IsSoFar (without o.failure A) befores wanted (roots_of befores) o) where
+module _ (carrier : Carrier) (A : List Advertisement) (fs : List AreaFailure) (are : AreSingle A fs) (befores : List Before) (roots : roots_of befores ≡ roots_in fs)
+    (tables : All (IsTableBefore A) befores) (wanted : RouteDetail) (o : Overall)
+    (so_far : IsSoFar (without_all (together carrier fs o.failure) A) befores wanted (roots_of befores) o) where
   routers_are : map (λ s. s.0) so_far.sights ≡ filter (other_than o.failure) (roots_in fs)
   routers_are = so_far.routers ∙ ap (filter (other_than o.failure)) roots
 
   whole_to : (r : RouterId) → Contains (map (λ s. s.0) so_far.sights) r → IsListed A r × (o.failure ≡ Router r → ⊥)
   whole_to r c =
       let k = kept_of (other_than o.failure) (roots_in fs) r (subst (λ (l : List RouterId). Contains l r) routers_are c) in
-      ((all (Router r)).0 (root_to fs r k.0), other_to r o.failure k.1)
+      ((are.all (Router r)).0 (root_to fs r k.0), other_to r o.failure k.1)
 
   whole_from : (r : RouterId) → IsListed A r × (o.failure ≡ Router r → ⊥) → Contains (map (λ s. s.0) so_far.sights) r
   whole_from r h =
       subst (λ (l : List RouterId). Contains l r) (sym routers_are)
-      (of_kept (other_than o.failure) (roots_in fs) r (root_from fs r ((all (Router r)).1 h.0)) (other_from r o.failure h.1))
+      (of_kept (other_than o.failure) (roots_in fs) r (root_from fs r ((are.all (Router r)).1 h.0)) (other_from r o.failure h.1))
 
-  sight_is : (s : SightValue) → IsSightFrom (without o.failure A) befores s → IsSight A o.failure s
+  sight_is : (s : SightValue) → IsSightFrom (without_all (together carrier fs o.failure) A) befores s → IsSight carrier fs A o.failure s
   sight_is s from = record {
     table = from.0.table;
     is_table = subst (λ (r : RouterId). IsTable A r from.0.table) from.2 (All-contains (IsTableBefore A) befores from.0 tables from.1).table;
-    effect = subst (λ (r : RouterId). IsEffectIn (without o.failure A) r from.0.table s.1) from.2 from.3;
+    effect =
+        effect_by carrier fs A s.0 o.failure from.0.table s.1
+        (subst (λ (r : RouterId). IsEffectIn (without_all (together carrier fs o.failure) A) r from.0.table s.1) from.2 from.3);
   }
 
-  pub overall_is : IsOverall A wanted o
+  pub overall_is : IsOverall carrier fs A wanted o
   overall_is = record {
     sights = so_far.sights;
     are_sights = record {
       whole = λ r. (whole_to r, whole_from r);
-      rising = subst (AllPairs is_before) (sym routers_are) (AllPairs-filter is_before (other_than o.failure) (roots_in fs) (roots_rise fs rising));
+      rising = subst (AllPairs is_before) (sym routers_are) (AllPairs-filter is_before (other_than o.failure) (roots_in fs) (roots_rise fs are.in_order));
       seen = λ k d lt. sight_is (get_or so_far.sights k d) (so_far.seen k d lt);
     };
     sums_are = so_far.sums_are;
@@ -236,18 +244,27 @@ room_after left b wanted old new n m (inr more) is room =
 
 -- ---- all failures
 
-pub overalls_are : (A : List Advertisement) (wanted : RouteDetail) (fs : List AreaFailure) (befores : List Before) (overalls printed : List Overall) → AreFailures A fs
-    → AllPairs IsFailureBefore fs → roots_of befores ≡ roots_in fs → All (IsTableBefore A) befores → map (λ o. o.failure) overalls ≡ fs
-    → All (λ o. IsSoFar (without o.failure A) befores wanted (roots_of befores) o) overalls → IsPermutation overalls printed → IsSorted overall_cmp printed
-    → AreOveralls A wanted printed
-overalls_are A wanted fs befores overalls printed all rising roots tables names seen permuted in_order = record {
-  overalls = overalls;
-  whole = λ f. subst (λ (l : List AreaFailure). Contains l f ↔ IsFailure A f) (sym names) (all f);
-  rising = subst (AllPairs IsFailureBefore) (sym names) rising;
-  seen = λ k d lt. overall_is A fs all rising befores roots tables wanted (get_or overalls k d) (seen k d lt);
-  permuted = permuted;
-  in_order = in_order;
-}
+pub overalls_are : (carrier : Carrier) (A : List Advertisement) (wanted : RouteDetail) (single failures : List AreaFailure) (bs : List Breakdown) (befores : List Before)
+    (overalls printed : List Overall) → AreSingle A single → ((f : AreaFailure) → Contains failures f ↔ IsFailureBy carrier A f) → AllPairs IsFailureBefore failures
+    → map (λ b. b.failure) bs ≡ failures → All (λ b. b.parts.items ≡ together carrier single b.failure) bs
+    → roots_of befores ≡ roots_in single → All (IsTableBefore A) befores → AllZip (IsOverallOf A befores wanted) bs overalls
+    → IsPermutation overalls printed → IsSorted overall_cmp printed → AreOveralls carrier A wanted printed
+overalls_are carrier A wanted single failures bs befores overalls printed are all rising names parts roots tables found permuted in_order =
+    let R = IsOverallOf A befores wanted in
+    let failure_of = λ (o : Overall). o.failure in
+    let named : map failure_of overalls ≡ failures = same_failures failure_of R (λ b o is. is.failure_is) bs overalls found ∙ names in
+    let seen = all_seen failure_of R (λ b o is. is.failure_is) (λ gone o. IsSoFar (without_all gone A) befores wanted (roots_of befores) o) (together carrier single)
+    (λ b o is. is.so_far) bs overalls parts found in
+    record {
+      single = single;
+      are_single = are;
+      overalls = overalls;
+      whole = λ f. subst (λ (l : List AreaFailure). Contains l f ↔ IsFailureBy carrier A f) (sym named) (all f);
+      rising = subst (AllPairs IsFailureBefore) (sym named) rising;
+      seen = λ k d lt. overall_is carrier A single are befores roots tables wanted (get_or overalls k d) (seen k d lt);
+      permuted = permuted;
+      in_order = in_order;
+    }
 
 no_lines : (f : AreaFailure) (d : RouteDetail) → [] ≡ lines_kept d f []
 no_lines f detail.Sums = refl
@@ -292,13 +309,3 @@ pub cuts_by : {X : Type 0} (f : X → ℕ) (r : Bool) (xs : List X) → MatchBoo
 cuts_by f true [] h = absurd (let low = h.1 in omega arith)
 cuts_by f true (x ∷ xs) h = let here = Contains-get_or (x ∷ xs) h.0 x h.1 in ((λ yes. (here.0, get_or (x ∷ xs) h.0 x, here.1, here.2, h.2 x)), (λ some. refl))
 cuts_by f false xs h = ((λ no. cc), (λ some. absurd (let none = subst (λ y. f y ≤ 0) some.3 (h some.0 some.1 (omega arith) some.2) in omega (arith, none, some.4))))
-
--- what was found of some failures, and of a part of the rest
-pub more_failures : {X : Type 0} (failure_of : X → AreaFailure) (all rest part behind : List AreaFailure) (before found : List X)
-    → map failure_of before ++ rest ≡ all → rest ≡ part ++ behind → map failure_of found ≡ part
-    → map failure_of (before ++ found) ++ behind ≡ all
-more_failures failure_of all rest part behind before found h split is =
-    ap (λ fs. fs ++ behind) (map-append failure_of before found)
-    ∙ append_assoc (map failure_of before) (map failure_of found) behind
-    ∙ ap (λ fs. map failure_of before ++ (fs ++ behind)) is
-    ∙ ap (λ fs. map failure_of before ++ fs) (sym split) ∙ h

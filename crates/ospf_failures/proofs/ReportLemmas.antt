@@ -1,16 +1,22 @@
 -- Reports of failures, one after the other.
-use Rattle.std.proofs.Common.{◌≡◌, ◌↔◌, ◌==◌, ℕ, Bool, true, false, not, List, map, filter, ap, sym, refl, subst, eq-eqb, eqb-true, All}
+use Rattle.std.proofs.Common.{◌≡◌, ◌∙◌, ◌↔◌, ◌==◌, ℕ, Bool, true, false, not, List, map, filter, ap, sym, refl, subst, get_or, eq-eqb, eqb-true, All}
 use Rattle.std.proofs.lemmas.List.Kept.{AllPairs-filter}
-use Rattle.std.specs.List.{AllPairs, Contains}
+use Rattle.std.specs.List.{AllPairs, AllZip, Contains}
 use Rattle.ospf_base.specs.declared.ids.RouterId.{RouterId}
 use Rattle.ospf_graph.specs.Advertisements.{Advertisement}
-use Rattle.ospf_whatif.specs.Single.{IsFailure, IsFailureBefore}
+use Rattle.ospf_whatif.specs.Carrier.{IsFailureBy, together}
+use Rattle.ospf_whatif.specs.Effect.{IsEffectIn}
+use Rattle.ospf_whatif.specs.Failure.{without_all}
+use Rattle.ospf_whatif.specs.Single.{IsFailureBefore}
+use Rattle.ospf_whatif.specs.declared.carrier.Breakdown.{Breakdown}
+use Rattle.ospf_whatif.specs.declared.carrier.Carrier.{Carrier}
 use Rattle.ospf_whatif.specs.declared.failure.AreaFailure.{AreaFailure}
 use Rattle.ospf_whatif.specs.declared.failure.AreaFailure.TheVariants.{Attachment, End, Link, Links, Network, Router}
 use Rattle.ospf_whatif.proofs.LessLemmas.{kept_of, of_kept}
-use Rattle.ospf_failures.specs.Reports.{AreReports, IsOtherFailure, ReportValue, is_of}
+use Rattle.ospf_failures.proofs.FoundLemmas.{all_seen, effect_by, same_failures}
+use Rattle.ospf_failures.specs.Reports.{AreReports, IsOtherFailure, IsReportOf, ReportValue, is_of}
 use Rattle.ospf_graph.specs.declared.route.Route.{Route}
-use Rattle.ospf_whatif.specs.Effect.{IsEffect}
+use Rattle.ospf_failures.specs.Together.{AreSingle}
 
 -- ---- failures but that of the root
 
@@ -36,9 +42,9 @@ other_from root (Router gone) differs = go (gone.0 == root.0) refl
     go false e = refl
     go true e = absurd (differs (ap (λ (n : ℕ). let r : RouterId = record { 0 = n } in Router r) (eqb-true gone.0 root.0 e)))
 
-pub others_are : (adverts : List Advertisement) (root : RouterId) (all kept : List AreaFailure) → kept ≡ filter (λ f. not (is_of root f)) all
-    → ((f : AreaFailure) → Contains all f ↔ IsFailure adverts f) → (f : AreaFailure) → Contains kept f ↔ IsOtherFailure adverts root f
-others_are adverts root all kept is are f = (
+pub others_are : (carrier : Carrier) (adverts : List Advertisement) (root : RouterId) (all kept : List AreaFailure) → kept ≡ filter (λ f. not (is_of root f)) all
+    → ((f : AreaFailure) → Contains all f ↔ IsFailureBy carrier adverts f) → (f : AreaFailure) → Contains kept f ↔ IsOtherFailure carrier adverts root f
+others_are carrier adverts root all kept is are f = (
   λ m. let k = kept_of (is_other root) all f (subst (λ (l : List AreaFailure). Contains l f) is m) in ((are f).0 k.0, other_to root f k.1),
   λ o. subst (λ (l : List AreaFailure). Contains l f) (sym is) (of_kept (is_other root) all f ((are f).1 o.0) (other_from root f o.1)),
 )
@@ -48,11 +54,20 @@ others_rise root all kept is rise = subst (AllPairs IsFailureBefore) (sym is) (A
 
 -- ---- all reports
 
-pub reports_are : (adverts : List Advertisement) (root : RouterId) (table : List Route) (failures : List AreaFailure) (reports : List ReportValue)
-    → map (λ r. r.0) reports ≡ failures → ((f : AreaFailure) → Contains failures f ↔ IsOtherFailure adverts root f) → AllPairs IsFailureBefore failures
-    → All (λ r. IsEffect adverts root r.0 table r.1) reports → AreReports adverts root table reports
-reports_are adverts root table failures reports named all rising changed = record {
-  whole = subst (λ (l : List AreaFailure). (f : AreaFailure) → Contains l f ↔ IsOtherFailure adverts root f) (sym named) all;
-  rising = subst (AllPairs IsFailureBefore) (sym named) rising;
-  changed = changed;
-}
+pub reports_are : (carrier : Carrier) (adverts : List Advertisement) (root : RouterId) (table : List Route) (single failures : List AreaFailure) (bs : List Breakdown)
+    (reports : List ReportValue) → AreSingle adverts single → ((f : AreaFailure) → Contains failures f ↔ IsOtherFailure carrier adverts root f)
+    → AllPairs IsFailureBefore failures → map (λ b. b.failure) bs ≡ failures → All (λ b. b.parts.items ≡ together carrier single b.failure) bs
+    → AllZip (IsReportOf adverts root table) bs reports → AreReports carrier adverts root table reports
+reports_are carrier adverts root table single failures bs reports are_single all rising names parts found =
+    let R = IsReportOf adverts root table in
+    let failure_of = λ (r : ReportValue). r.0 in
+    let named : map failure_of reports ≡ failures = same_failures failure_of R (λ b r is. is.failure_is) bs reports found ∙ names in
+    let seen = all_seen failure_of R (λ b r is. is.failure_is) (λ gone r. IsEffectIn (without_all gone adverts) root table r.1) (together carrier single)
+    (λ b r is. is.effect) bs reports parts found in
+    record {
+      single = single;
+      are_single = are_single;
+      whole = subst (λ (l : List AreaFailure). (f : AreaFailure) → Contains l f ↔ IsOtherFailure carrier adverts root f) (sym named) all;
+      rising = subst (AllPairs IsFailureBefore) (sym named) rising;
+      changed = λ k d lt. effect_by carrier single adverts root (get_or reports k d).0 table (get_or reports k d).1 (seen k d lt);
+    }

@@ -22,7 +22,9 @@ use Rattle.ospf_table.specs.Outside.{reasons_text}
 use Rattle.ospf_table.specs.Refusal.{refusal_line}
 use Rattle.ospf_table.specs.declared.table.EntryFault.{EntryFault}
 use Rattle.ospf_whatif.specs.Failure.{HasLarge, IsLarge}
-use Rattle.ospf_whatif.specs.Hidden.{AreHidden}
+use Rattle.ospf_whatif.specs.Carrier.{AreHiddenBy}
+use Rattle.ospf_whatif.specs.declared.carrier.Carrier.{Carrier}
+use Rattle.ospf_whatif.specs.declared.carrier.Carrier.TheVariants.{Direct}
 use Rattle.ospf_whatif.specs.declared.hidden.HiddenCost.{HiddenCost}
 use Rattle.ospf_failures.specs.Json.{overalls_json, reports_json}
 use Rattle.ospf_failures.specs.Overall.{AreOveralls, CutsSomewhere, overalls_text}
@@ -81,9 +83,16 @@ IsAllPrinted end = (end ≡ Ended status.Done) ⊎ (end ≡ Unmet)
 
 -- the names of the parts to leave out
 abbrev pub names_of : FailuresJob → List (String Global)
-names_of (Root root each strict form) = []
-names_of (All each strict form) = []
+names_of (Root root each strict form carrier) = []
+names_of (All each strict form carrier) = []
 names_of (Without root names addresses) = vec_items names
+
+-- router-LSAs are rebuilt: if parts are named, and on direct cables, where some failures happen
+-- together
+abbrev pub IsRebuilding : FailuresJob → Type 0
+IsRebuilding (Root root each strict form carrier) = carrier ≡ Direct
+IsRebuilding (All each strict form carrier) = carrier ≡ Direct
+IsRebuilding (Without root names addresses) = vec_items names ≢ []
 
 -- ---- what is refused
 
@@ -103,14 +112,14 @@ abbrev pub large_line : RouterId → List ℕ
 large_line router = number_text router.0 ++ codes ": more than 1361 links\n"
 
 -- the text of a refusal. If the input is refused, it is about the first refused line or, where
--- parts are named, about the first router with too many links; if the words are refused, about the
--- first name that is not in the area
+-- router-LSAs are rebuilt, about the first router with too many links; if the words are refused,
+-- about the first name that is not in the area
 pub data IsFailuresRefusal (job : FailuresJob) (input : List ℕ) (text : List ℕ)
     : Status → Type 0 where
   of_line : (number : ℕ) (fault : EntryFault) → Refuses input [] number fault
       → text ≡ refusal_line number fault → IsFailuresRefusal job input text status.Refused
   of_router : (listing : List (List ℕ)) (router : RouterId) → Reads input [] listing
-      → names_of job ≢ [] → IsFirstLarge listing router → text ≡ large_line router
+      → IsRebuilding job → IsFirstLarge listing router → text ≡ large_line router
       → IsFailuresRefusal job input text status.Refused
   of_name : (listing : List (List ℕ)) (name : String Global) → Reads input [] listing
       → (HasLarge (advertisements_of listing) → ⊥)
@@ -129,15 +138,16 @@ abbrev pub changes_text
 changes_text form.Text each root hidden printed = reports_text each printed
 changes_text form.Json each root hidden printed = reports_json each root hidden printed
 
--- the reports of the area at the root, in a form
-pub record SaysChanges (adverts : List Advertisement) (root : RouterId) (each strict : Bool)
-    (form : FailuresForm) (text : List ℕ) (end : FailuresStatus) : Type 0 where
+-- the reports of the area whose links are carried so at the root, in a form
+pub record SaysChanges (carrier : Carrier) (adverts : List Advertisement) (root : RouterId)
+    (each strict : Bool) (form : FailuresForm) (text : List ℕ) (end : FailuresStatus)
+    : Type 0 where
   pub table : List Route
   pub is_table : IsTable adverts root table
   pub printed : List ReportValue
-  pub reported : IsReported adverts root table printed
+  pub reported : IsReported carrier adverts root table printed
   pub hidden : List HiddenCost
-  pub are_hidden : AreHidden adverts hidden
+  pub are_hidden : AreHiddenBy carrier adverts hidden
   pub text_is : text ≡ changes_text form each root hidden printed
   pub ends : IsEndBy strict (IsUnmetAt adverts root printed) end
 
@@ -152,21 +162,22 @@ abbrev pub added_text : FailuresForm → Bool → List HiddenCost → List Overa
 added_text form.Text each hidden printed = overalls_text printed
 added_text form.Json each hidden printed = overalls_json each hidden printed
 
--- what each failure changes at all routers, in a form
-pub record SaysOverall (adverts : List Advertisement) (each strict : Bool) (form : FailuresForm)
-    (text : List ℕ) (end : FailuresStatus) : Type 0 where
+-- what each failure changes at all routers where links are carried so, in a form
+pub record SaysOverall (carrier : Carrier) (adverts : List Advertisement) (each strict : Bool)
+    (form : FailuresForm) (text : List ℕ) (end : FailuresStatus) : Type 0 where
   pub printed : List Overall
-  pub are : AreOveralls adverts (detail_of each form) printed
+  pub are : AreOveralls carrier adverts (detail_of each form) printed
   pub hidden : List HiddenCost
-  pub are_hidden : AreHidden adverts hidden
+  pub are_hidden : AreHiddenBy carrier adverts hidden
   pub text_is : text ≡ added_text form each hidden printed
   pub ends : IsEndBy strict (IsUnmetSomewhere adverts printed) end
 
 -- what is asked of the area, and the status that it ends with
 abbrev pub SaysOf : FailuresJob → List Advertisement → List ℕ → FailuresStatus → Type 0
-SaysOf (Root root each strict form) adverts text end =
-    SaysChanges adverts root each strict form text end
-SaysOf (All each strict form) adverts text end = SaysOverall adverts each strict form text end
+SaysOf (Root root each strict form carrier) adverts text end =
+    SaysChanges carrier adverts root each strict form text end
+SaysOf (All each strict form carrier) adverts text end =
+    SaysOverall carrier adverts each strict form text end
 SaysOf (Without root names addresses) adverts text end =
     IsTableWithout adverts (vec_items names) root (vec_items addresses) text
     × (end ≡ Ended status.Done)
@@ -177,24 +188,24 @@ TellsOfRoot adverts root text =
     ((IsListed adverts root → ⊥) × (text ≡ unlisted_line root))
     ⊎ (IsListed adverts root × (text ≡ []))
 
--- the warning about costs that no LSA contains: a line each
-abbrev pub TellsHidden : List Advertisement → List ℕ → Type 0
-TellsHidden adverts text =
-    (hidden : List HiddenCost) × AreHidden adverts hidden × (text ≡ hidden_text hidden)
+-- the warning about costs that no LSA contains, for this carrier of the links: a line each
+abbrev pub TellsHidden : Carrier → List Advertisement → List ℕ → Type 0
+TellsHidden carrier adverts text =
+    (hidden : List HiddenCost) × AreHiddenBy carrier adverts hidden × (text ≡ hidden_text hidden)
 
 -- the warning about the root, if there is one, and then about such costs after failures
 abbrev pub WarnsOf : FailuresJob → List Advertisement → List ℕ → Type 0
-WarnsOf (Root root each strict form) adverts text =
-    (own more : List ℕ) × TellsOfRoot adverts root own × TellsHidden adverts more
+WarnsOf (Root root each strict form carrier) adverts text =
+    (own more : List ℕ) × TellsOfRoot adverts root own × TellsHidden carrier adverts more
     × (text ≡ own ++ more)
-WarnsOf (All each strict form) adverts text = TellsHidden adverts text
+WarnsOf (All each strict form carrier) adverts text = TellsHidden carrier adverts text
 WarnsOf (Without root names addresses) adverts text = TellsOfRoot adverts root text
 
 -- why routes may be missing, over failures: routes outside the area are not computed, or a part of
 -- the area is not reached, as far as the LSAs show
 abbrev pub reasons_of : FailuresJob → List (List ℕ) → List ℕ
-reasons_of (Root root each strict form) listing = reasons_text listing
-reasons_of (All each strict form) listing = reasons_text listing
+reasons_of (Root root each strict form carrier) listing = reasons_text listing
+reasons_of (All each strict form carrier) listing = reasons_text listing
 reasons_of (Without root names addresses) listing = []
 
 -- all that it warns of
@@ -204,12 +215,12 @@ WarnsOfAll job listing text =
     × (text ≡ own ++ reasons_of job listing)
 
 -- the answer of the area whose LSAs the lines of the input are, none of whose routers has too many
--- links where parts are named; and what it warns of
+-- links where router-LSAs are made again; and what it warns of
 pub record IsFailuresAnswer (job : FailuresJob) (end : FailuresStatus) (input text warning : List ℕ)
     : Type 0 where
   pub listing : List (List ℕ)
   pub reads : Reads input [] listing
-  pub small : names_of job ≢ [] → HasLarge (advertisements_of listing) → ⊥
+  pub small : IsRebuilding job → HasLarge (advertisements_of listing) → ⊥
   pub warned : WarnsOfAll job listing warning
   pub says : SaysOf job (advertisements_of listing) text end
 

@@ -1,3 +1,4 @@
+pub mod Together
 pub mod Reports
 pub mod Overall
 pub mod Json

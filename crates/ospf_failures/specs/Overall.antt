@@ -1,29 +1,30 @@
 -- What each failure of an area changes in the tables of all its routers.
-use Rattle.std.specs.Prelude.{◌≡◌, ◌↔◌, ◌<◌, ◌^◌, ℕ, true, false, List, [], ◌∷◌, ◌++◌, ◌⊎◌, All, AllPairs, Any, Contains, IfOk, IsPermutation, Vec, codes, count_by, filter, flat_map, length, map, not, string_bytes, sum_by}
+use Rattle.std.specs.Prelude.{◌≡◌, ◌↔◌, ◌<◌, ◌^◌, ℕ, true, false, List, [], ◌∷◌, ◌++◌, ◌⊎◌, All, AllPairs, Any, Contains, IsPermutation, codes, count_by, filter, flat_map, length, map, not, string_bytes, sum_by}
 use Rattle.std.specs.Cmp.Lexicographic.{slice_cmp}
 use Rattle.std.specs.List.Sorted.{IsSorted}
 use Rattle.std.specs.Ordering.{nat_cmp, ordering_then}
 use Rattle.std.specs.declared.cmp.Ordering.{Ordering}
 use Rattle.std.specs.declared.cmp.Reverse.{Reverse}
-use Rattle.std.specs.declared.alloc.AllocError.{AllocError}
-use Rattle.std.specs.declared.alloc.Global.{Global}
-use Rattle.std.specs.declared.result.Result.{Result}
 use Rattle.ospf_base.specs.Text.{number_text}
 use Rattle.ospf_base.specs.declared.ids.RouterId.{RouterId}
 use Rattle.ospf_graph.specs.Advertisements.{Advertisement, IsListed}
 use Rattle.ospf_graph.specs.Routes.{IsTable}
 use Rattle.ospf_graph.specs.declared.route.Route.{Route}
-use Rattle.ospf_whatif.specs.Effect.{IsEffect, IsEffectIn}
-use Rattle.ospf_whatif.specs.Failure.{without}
+use Rattle.ospf_whatif.specs.Carrier.{IsFailureBy}
+use Rattle.ospf_whatif.specs.Effect.{IsEffectIn}
+use Rattle.ospf_whatif.specs.Failure.{without_all}
 use Rattle.ospf_whatif.specs.Outage.{IsKeptRoot}
-use Rattle.ospf_whatif.specs.Single.{IsFailure, IsFailureBefore}
+use Rattle.ospf_whatif.specs.Single.{IsFailureBefore}
+use Rattle.ospf_whatif.specs.declared.carrier.Breakdown.{Breakdown}
+use Rattle.ospf_whatif.specs.declared.carrier.Carrier.{Carrier}
 use Rattle.ospf_whatif.specs.declared.effect.RouteChange.{RouteChange}
 use Rattle.ospf_whatif.specs.declared.failure.AreaFailure.{AreaFailure}
 use Rattle.ospf_whatif.specs.declared.failure.AreaFailure.TheVariants.{Router}
 use Rattle.ospf_table.specs.Changes.{change_line, totals_of}
 use Rattle.ospf_table.specs.Sums.{has_changes, sums_line, sums_plus}
 use Rattle.ospf_table.specs.declared.sums.Sums.{Sums}
-use Rattle.ospf_failures.specs.Reports.{IsFailureFound, SightValue, is_of, failure_place}
+use Rattle.ospf_failures.specs.Reports.{SightValue, is_of, failure_place}
+use Rattle.ospf_failures.specs.Together.{AreSingle, IsEffectBy}
 use Rattle.ospf_failures.specs.declared.overall.Before.{Before}
 use Rattle.ospf_failures.specs.declared.overall.RouteDetail.{RouteDetail}
 use Rattle.ospf_failures.specs.declared.overall.RouteDetail.TheVariants as detail
@@ -31,22 +32,23 @@ use Rattle.ospf_failures.specs.declared.overall.Overall.{Overall}
 
 -- ---- at each router
 
--- what the failure changes in the table of the router
-pub record IsSight (adverts : List Advertisement) (failure : AreaFailure) (sight : SightValue)
-    : Type 0 where
+-- what the failure and all that fails with it change in the table of the router; `single` is all
+-- that may fail in the area
+pub record IsSight (carrier : Carrier) (single : List AreaFailure) (adverts : List Advertisement)
+    (failure : AreaFailure) (sight : SightValue) : Type 0 where
   pub table : List Route
   pub is_table : IsTable adverts sight.0 table
-  pub effect : IsEffect adverts sight.0 failure table sight.1
+  pub effect : IsEffectBy carrier single adverts sight.0 failure table sight.1
 
--- what it changes in the table of each router of the area but the one that
+-- what they change in the table of each router of the area but the one that
 -- fails, in the order of Router IDs
-pub record AreSights (adverts : List Advertisement) (failure : AreaFailure)
-    (sights : List SightValue) : Type 0 where
+pub record AreSights (carrier : Carrier) (single : List AreaFailure) (adverts : List Advertisement)
+    (failure : AreaFailure) (sights : List SightValue) : Type 0 where
   pub whole : (router : RouterId)
       → Contains (map (λ s. s.0) sights) router
       ↔ (IsListed adverts router × (failure ≡ Router router → ⊥))
   pub rising : AllPairs (λ r s. r.0 < s.0) (map (λ s. s.0) sights)
-  pub seen : All (IsSight adverts failure) sights
+  pub seen : All (IsSight carrier single adverts failure) sights
 
 -- ---- over all routers
 
@@ -76,10 +78,10 @@ sights_kept detail.Routes sights = sights
 sights_kept _ sights = []
 
 -- what is reported for a failure, with the lines or the routes where they are wanted
-pub record IsOverall (adverts : List Advertisement) (wanted : RouteDetail) (o : Overall)
-    : Type 0 where
+pub record IsOverall (carrier : Carrier) (single : List AreaFailure) (adverts : List Advertisement)
+    (wanted : RouteDetail) (o : Overall) : Type 0 where
   pub sights : List SightValue
-  pub are_sights : AreSights adverts o.failure sights
+  pub are_sights : AreSights carrier single adverts o.failure sights
   pub sums_are : o.sums ≡ sums_of sights
   pub lines_are : string_bytes o.lines ≡ lines_kept wanted o.failure sights
   pub sights_are : o.sights.items ≡ sights_kept wanted sights
@@ -100,14 +102,17 @@ overall_cmp a b =
 abbrev pub overall_rank : Overall → Reverse (List ℕ) × List ℕ
 overall_rank o = (record { 0 = sum_counts o.sums }, failure_place o.failure)
 
--- what is printed over all roots: of each failure of the area what it changes, in order
-pub record AreOveralls (adverts : List Advertisement) (wanted : RouteDetail)
+-- what is printed over all roots: for each failure of the area, with this carrier of the links,
+-- what it changes, in order
+pub record AreOveralls (carrier : Carrier) (adverts : List Advertisement) (wanted : RouteDetail)
     (printed : List Overall) : Type 0 where
+  pub single : List AreaFailure
+  pub are_single : AreSingle adverts single
   pub overalls : List Overall
   pub whole : (failure : AreaFailure)
-      → Contains (map (λ o. o.failure) overalls) failure ↔ IsFailure adverts failure
+      → Contains (map (λ o. o.failure) overalls) failure ↔ IsFailureBy carrier adverts failure
   pub rising : AllPairs IsFailureBefore (map (λ o. o.failure) overalls)
-  pub seen : All (IsOverall adverts wanted) overalls
+  pub seen : All (IsOverall carrier single adverts wanted) overalls
   pub permuted : IsPermutation overalls printed
   pub in_order : IsSorted overall_cmp printed
 
@@ -136,7 +141,7 @@ pub record IsTableBefore (adverts : List Advertisement) (b : Before) : Type 0 wh
   pub kept : IsKeptRoot adverts b.kept
   pub root_is : b.kept.root ≡ b.root
 
--- what a failure that leaves this of the area changes in the table of one of these routers
+-- what failures that leave this of the area change in the table of one of these routers
 abbrev pub IsSightFrom : List Advertisement → List Before → SightValue → Type 0
 IsSightFrom left befores sight =
     (b : Before) × Contains befores b × (b.root ≡ sight.0) × IsEffectIn left b.root b.table sight.1
@@ -151,22 +156,12 @@ pub record IsSoFar (left : List Advertisement) (befores : List Before) (wanted :
   pub lines_are : string_bytes o.lines ≡ lines_kept wanted o.failure sights
   pub sights_are : o.sights.items ≡ sights_kept wanted sights
 
--- the result for one failure: what is reported for all routers, unless memory runs out
-abbrev pub IsOverallFound : List Advertisement → List Before → RouteDetail → AreaFailure
-    → Result Overall AllocError → Type 0
-IsOverallFound adverts befores wanted failure found =
-    IsFailureFound (λ o. o.failure)
-    (λ f o. IsSoFar (without f adverts) befores wanted (map (λ b. b.root) befores) o) failure found
-
--- what is found of these failures: each of them, in their order, unless memory runs out
-pub record AreOverallsFound (adverts : List Advertisement) (befores : List Before)
-    (wanted : RouteDetail) (failures : List AreaFailure)
-    (found : Result (Vec Overall Global) AllocError) : Type 0 where
-  pub failures_are : IfOk found (λ overalls. map (λ o. o.failure) overalls.items ≡ failures)
-  pub seen : IfOk found
-      (λ overalls. All
-      (λ o. IsSoFar (without o.failure adverts) befores wanted (map (λ b. b.root) befores) o)
-      overalls.items)
+-- what a failure and all that fails with it change in the tables of these routers
+pub record IsOverallOf (adverts : List Advertisement) (befores : List Before) (wanted : RouteDetail)
+    (b : Breakdown) (o : Overall) : Type 0 where
+  pub failure_is : o.failure ≡ b.failure
+  pub so_far :
+      IsSoFar (without_all b.parts.items adverts) befores wanted (map (λ r. r.root) befores) o
 
 -- what is kept of one router more
 pub record KeepsMore (wanted : RouteDetail) (sight : SightValue) (old new : Overall) : Type 0 where

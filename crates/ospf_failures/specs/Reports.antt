@@ -1,22 +1,25 @@
 -- What each failure of an area changes in a router's table, and the order in which that is printed.
-use Rattle.std.specs.Prelude.{◌≡◌, ◌↔◌, ◌<◌, ◌==◌, ℕ, Bool, false, List, [], ◌∷◌, All, AllPairs, Any, Contains, IfOk, IsPermutation, flat_map, map}
+use Rattle.std.specs.Prelude.{◌≡◌, ◌↔◌, ◌<◌, ◌==◌, ℕ, Bool, false, List, [], ◌∷◌, All, AllPairs, Any, Contains, IsPermutation, flat_map, map}
 use Rattle.std.specs.Cmp.Lexicographic.{slice_cmp}
 use Rattle.std.specs.List.Sorted.{IsSorted}
 use Rattle.std.specs.Ordering.{nat_cmp, ordering_then}
 use Rattle.std.specs.declared.cmp.Ordering.{Ordering}
 use Rattle.std.specs.declared.cmp.Reverse.{Reverse}
-use Rattle.std.specs.declared.alloc.AllocError.{AllocError}
-use Rattle.std.specs.declared.result.Result.{Result}
 use Rattle.ospf_base.specs.declared.ids.RouterId.{RouterId}
 use Rattle.ospf_graph.specs.Advertisements.{Advertisement}
 use Rattle.ospf_graph.specs.declared.route.Route.{Route}
-use Rattle.ospf_whatif.specs.Effect.{IsEffect}
-use Rattle.ospf_whatif.specs.Single.{IsFailure, IsFailureBefore}
+use Rattle.ospf_whatif.specs.Carrier.{IsFailureBy}
+use Rattle.ospf_whatif.specs.Effect.{IsEffectIn}
+use Rattle.ospf_whatif.specs.Failure.{without_all}
+use Rattle.ospf_whatif.specs.Single.{IsFailureBefore}
+use Rattle.ospf_whatif.specs.declared.carrier.Breakdown.{Breakdown}
+use Rattle.ospf_whatif.specs.declared.carrier.Carrier.{Carrier}
 use Rattle.ospf_whatif.specs.declared.failure.AreaFailure.{AreaFailure}
 use Rattle.ospf_whatif.specs.declared.failure.AreaFailure.TheVariants.{Attachment, End, Link, Links, Network, Router}
 use Rattle.ospf_whatif.specs.declared.effect.RouteChange.{RouteChange}
 use Rattle.ospf_table.specs.Changes.{failure_lines, totals_of}
 use Rattle.ospf_table.specs.declared.totals.Totals.{Totals}
+use Rattle.ospf_failures.specs.Together.{AreSingle, IsEffectBy}
 
 -- a failure, and what it changes
 abbrev pub ReportValue : Type 0
@@ -37,17 +40,21 @@ is_of router (Links a b) = false
 is_of router (Attachment attached network) = false
 is_of router (Network network) = false
 
--- a failure of the area, which is not the root's own
-abbrev pub IsOtherFailure : List Advertisement → RouterId → AreaFailure → Type 0
-IsOtherFailure adverts root failure = IsFailure adverts failure × (failure ≡ Router root → ⊥)
+-- a failure of the area, with this carrier of the links, which is not the root's own
+abbrev pub IsOtherFailure : Carrier → List Advertisement → RouterId → AreaFailure → Type 0
+IsOtherFailure carrier adverts root failure =
+    IsFailureBy carrier adverts failure × (failure ≡ Router root → ⊥)
 
--- each of these once, in their order, with what it changes in the root's table
-pub record AreReports (adverts : List Advertisement) (root : RouterId) (table : List Route)
-    (reports : List ReportValue) : Type 0 where
+-- each of these once, in their order, with what it and all that fails with it change in the root's
+-- table
+pub record AreReports (carrier : Carrier) (adverts : List Advertisement) (root : RouterId)
+    (table : List Route) (reports : List ReportValue) : Type 0 where
+  pub single : List AreaFailure
+  pub are_single : AreSingle adverts single
   pub whole : (failure : AreaFailure)
-      → Contains (map (λ r. r.0) reports) failure ↔ IsOtherFailure adverts root failure
+      → Contains (map (λ r. r.0) reports) failure ↔ IsOtherFailure carrier adverts root failure
   pub rising : AllPairs IsFailureBefore (map (λ r. r.0) reports)
-  pub changed : All (λ r. IsEffect adverts root r.0 table r.1) reports
+  pub changed : All (λ r. IsEffectBy carrier single adverts root r.0 table r.1) reports
 
 -- ---- in order
 
@@ -78,10 +85,10 @@ abbrev pub rank_of : ReportValue → Reverse (List ℕ) × List ℕ
 rank_of r = (record { 0 = counts_of (totals_of r.1) }, failure_place r.0)
 
 -- what is printed for the root: of each other failure of the area what it changes, in order
-pub record IsReported (adverts : List Advertisement) (root : RouterId) (table : List Route)
-    (printed : List ReportValue) : Type 0 where
+pub record IsReported (carrier : Carrier) (adverts : List Advertisement) (root : RouterId)
+    (table : List Route) (printed : List ReportValue) : Type 0 where
   pub reports : List ReportValue
-  pub are_reports : AreReports adverts root table reports
+  pub are_reports : AreReports carrier adverts root table reports
   pub permuted : IsPermutation reports printed
   pub in_order : IsSorted report_cmp printed
 
@@ -95,15 +102,8 @@ HasCut reports = Any (λ r. 0 < (totals_of r.1).cut) reports
 
 -- ---- on the way
 
--- the result for one failure: what is reported for it, which satisfies P, unless memory runs out
-pub record IsFailureFound {X : Type 0} (failure_of : X → AreaFailure)
-    (P : AreaFailure → X → Type 0) (failure : AreaFailure) (found : Result X AllocError)
-    : Type 0 where
-  pub same : IfOk found (λ x. failure_of x ≡ failure)
-  pub seen : IfOk found (P failure)
-
--- what it changes in the root's table
-abbrev pub IsReportFound : List Advertisement → RouterId → List Route → AreaFailure
-    → Result ReportValue AllocError → Type 0
-IsReportFound adverts root table failure found =
-    IsFailureFound (λ r. r.0) (λ f r. IsEffect adverts root f table r.1) failure found
+-- what a failure and all that fails with it change in the root's table
+pub record IsReportOf (adverts : List Advertisement) (root : RouterId) (table : List Route)
+    (b : Breakdown) (report : ReportValue) : Type 0 where
+  pub failure_is : report.0 ≡ b.failure
+  pub effect : IsEffectIn (without_all b.parts.items adverts) root table report.1

@@ -7,7 +7,8 @@ ghost use Rattle.ospf_files.specs.declared.status.Status.{Status};
 ghost use Rattle.ospf_files.specs.declared.streams.FailedStreams.{FailedStreams};
 ghost use Rattle.ospf_table.specs.Line.{Reads, Refuses};
 ghost use Rattle.ospf_whatif.specs.Failure.{HasLarge, IsLarge};
-ghost use Rattle.ospf_failures.specs.Answer.{FailuresEndsBy, IsFailuresAnswerOf, IsFailuresAnswered, IsFailuresCutShort, IsFailuresEnding, IsUnreported, HasRouter, IsFirstLarge, IsRefusalOf, IsFailuresRefusalTold, IsFailuresSaid, IsUnserved, IsAllPrinted, SaysChanges, SaysOf, SaysOverall, TellsHidden, TellsOfRoot, WarnsOf, WarnsOfAll, added_text, changes_text, detail_of, end_by, names_of, reasons_of};
+ghost use Rattle.ospf_whatif.specs.declared.carrier.Carrier.{Carrier};
+ghost use Rattle.ospf_failures.specs.Answer.{FailuresEndsBy, IsFailuresAnswerOf, IsRebuilding, IsFailuresAnswered, IsFailuresCutShort, IsFailuresEnding, IsUnreported, HasRouter, IsFirstLarge, IsRefusalOf, IsFailuresRefusalTold, IsFailuresSaid, IsUnserved, IsAllPrinted, SaysChanges, SaysOf, SaysOverall, TellsHidden, TellsOfRoot, WarnsOf, WarnsOfAll, added_text, changes_text, detail_of, end_by, names_of, reasons_of};
 ghost use Rattle.ospf_failures.specs.declared.answer.FailuresJob.{FailuresJob};
 ghost use Rattle.ospf_graph.specs.Routes.{IsTable};
 ghost use Rattle.ospf_graph.specs.declared.route.Route.{Route};
@@ -27,7 +28,7 @@ use ospf_graph::edges::is_listed;
 use ospf_lsa::{Links, Listing, LsaView};
 use ospf_spf::RouteTable;
 use ospf_table::{EntryFault, TableFault, read_listing, reasons_text};
-use ospf_whatif::{HiddenCost, hidden_costs};
+use ospf_whatif::{Carrier, HiddenCost, hidden_costs_by};
 use std::alloc::{AllocError, Global};
 use std::io::{BufRead, Write};
 use std::process::ExitCode;
@@ -57,6 +58,8 @@ pub enum FailuresJob {
         strict: bool,
         /// How it is printed.
         form: FailuresForm,
+        /// What carries the links: it decides what fails together. `Process` is the default.
+        carrier: Carrier,
     },
     /// What each failure changes in the tables of all routers but the one that fails.
     All {
@@ -67,6 +70,8 @@ pub enum FailuresJob {
         strict: bool,
         /// How it is printed.
         form: FailuresForm,
+        /// What carries the links: it decides what fails together. `Process` is the default.
+        carrier: Carrier,
     },
     /// The routing table of a router in the area without some of its parts.
     Without {
@@ -79,16 +84,16 @@ pub enum FailuresJob {
 }
 
 impl FailuresJob {
-    ghost use Rattle.std.specs.Prelude.{◌≡◌, ◌≢◌, ◌↔◌, [], IsTrue};
-    ghost use Rattle.ospf_failures.specs.Answer.{names_of};
+    ghost use Rattle.std.specs.Prelude.{◌↔◌, IsTrue};
+    ghost use Rattle.ospf_failures.specs.Answer.{IsRebuilding};
 
-    // Whether parts to leave out are named.
-    fn has_names(&self) -> bool
-        ensures { IsTrue result ↔ (names_of self.now ≢ []) }
+    // Whether router-LSAs are rebuilt.
+    fn is_rebuilding(&self) -> bool
+        ensures { IsTrue result ↔ IsRebuilding self.now }
     {
         match self {
-            FailuresJob::Root { .. } => false,
-            FailuresJob::All { .. } => false,
+            FailuresJob::Root { carrier, .. } => *carrier == Carrier::Direct,
+            FailuresJob::All { carrier, .. } => *carrier == Carrier::Direct,
             FailuresJob::Without { names, .. } => !names.is_empty(),
         }
     }
@@ -160,6 +165,11 @@ impl From<FailuresStatus> for ExitCode {
 /// `overalls_json`). The third job prints the root's table in the area without the named parts,
 /// with lookups, as `table_text` does.
 ///
+/// The carrier decides what may fail and what fails together (`ospf_whatif::Carrier`). With
+/// `Process` each failure happens alone. With `Switch` the two ends of a link fail separately, each
+/// named `ROUTER:OTHER@SUBNET`. With `Direct` a failed router takes the subnets of its links with
+/// it, and a network of two routers fails as a whole.
+///
 /// If the root's router-LSA is not listed, `err` says so. Over failures it also names the stub
 /// routers that a failure leaves as the only router on a network, at a cost that no LSA contains,
 /// and why routes may be missing (`ospf_table::reasons_text`).
@@ -167,9 +177,9 @@ impl From<FailuresStatus> for ExitCode {
 /// The status is `Ended(Done)`. With `strict` it is `Unmet` if some failure cuts a prefix off, or
 /// if the root's router-LSA is not listed, or over all routers if none is. If a line is refused,
 /// the first such line is reported on `err`, with status `Ended(Refused)`. Otherwise, where parts
-/// are named, the LSAs of their routers are rebuilt: the first router whose router-LSA has more
-/// than 1,361 links is reported, also with `Ended(Refused)`, or else the first name that is not in
-/// the area, with status `Ended(Words)`. In these cases nothing is printed.
+/// are named or the carrier is `Direct`, router-LSAs are rebuilt: the first router whose router-LSA
+/// has more than 1,361 links is reported, also with `Ended(Refused)`, or else the first name that
+/// is not in the area, with status `Ended(Words)`. In these cases nothing is printed.
 ///
 /// `Ended(Memory)` says that memory ran out, and `Ended(Stream)` that a read or a write failed. The
 /// cause is reported on `err`, as far as that can be written, and no more than a beginning is
@@ -286,8 +296,8 @@ fn answer_of<R: BufRead + Drop, P: Progress>(
     }
 }
 
-// The listing of the lines of an input, none of whose routers has too many links where parts are
-// named.
+// The listing of the lines of an input, none of whose routers has too many links where router-LSAs
+// are rebuilt.
 fn listing_of<R: BufRead + Drop>(
     alloc: Global,
     job: &FailuresJob,
@@ -295,7 +305,7 @@ fn listing_of<R: BufRead + Drop>(
 ) -> Result<Listing, Unreported>
     ensures whole { IfOk result (λ listing. IfSome (R.remaining input)
         (λ bytes. Reads bytes [] listing)) }
-    ensures small { IfOk result (λ listing. names_of job.now ≢ [] →
+    ensures small { IfOk result (λ listing. IsRebuilding job.now →
         HasLarge (advertisements_of listing) → ⊥) }
     ensures fault { IfErr result (IsUnreported (R.remaining input) job.now) }
 {
@@ -306,7 +316,7 @@ fn listing_of<R: BufRead + Drop>(
         }
         Err(TableFault::Failure(failure)) => return Err(Unreported::Failure(failure)),
     };
-    if !job.has_names() {
+    if !job.is_rebuilding() {
         return Ok(listing);
     }
     match first_large(&listing) {
@@ -390,7 +400,7 @@ fn reasons_of(alloc: Global, listing: &Listing, job: &FailuresJob) -> Result<Str
 // The refusal of a router of too many links.
 fn router_refused(alloc: Global, router: RouterId) -> Unreported
     ensures { (input : Option (List ℕ)) (job : FailuresJob) (listing : List (List ℕ)) →
-        IfSome input (λ bytes. Reads bytes [] listing) → names_of job ≢ [] →
+        IfSome input (λ bytes. Reads bytes [] listing) → IsRebuilding job →
         IsFirstLarge listing router → IsUnreported input job result }
 {
     match format!(in alloc; "{router}: more than 1361 links\n") {
@@ -405,22 +415,22 @@ fn warning_of(alloc: Global, listing: &Listing, job: &FailuresJob) -> Result<Str
         (string_bytes text)) }
 {
     match job {
-        FailuresJob::Root { root, .. } => {
+        FailuresJob::Root { root, carrier, .. } => {
             let mut text = root_warning(alloc, listing, *root)?;
-            text.push_str(&hidden_warning(alloc, listing)?)?;
+            text.push_str(&hidden_warning(alloc, listing, *carrier)?)?;
             Ok(text)
         }
-        FailuresJob::All { .. } => hidden_warning(alloc, listing),
+        FailuresJob::All { carrier, .. } => hidden_warning(alloc, listing, *carrier),
         FailuresJob::Without { root, .. } => root_warning(alloc, listing, *root),
     }
 }
 
 // The warning about costs after failures that no LSA contains.
-fn hidden_warning(alloc: Global, listing: &Listing) -> Result<String, AllocError>
-    ensures { IfOk result (λ text. TellsHidden (advertisements_of listing.now)
+fn hidden_warning(alloc: Global, listing: &Listing, carrier: Carrier) -> Result<String, AllocError>
+    ensures { IfOk result (λ text. TellsHidden carrier (advertisements_of listing.now)
         (string_bytes text)) }
 {
-    let hidden = hidden_costs(alloc, listing)?;
+    let hidden = hidden_costs_by(alloc, carrier, listing)?;
     hidden_text(alloc, &hidden)
 }
 
@@ -436,7 +446,8 @@ fn root_warning(alloc: Global, listing: &Listing, root: RouterId) -> Result<Stri
     Ok(text)
 }
 
-// What is asked of a listing none of whose routers has too many links where parts are named.
+// What is asked of a listing none of whose routers has too many links where router-LSAs are
+// rebuilt.
 fn said_of<P: Progress>(
     alloc: Global,
     rt: &(impl Threads + Sync),
@@ -444,7 +455,7 @@ fn said_of<P: Progress>(
     listing: Listing,
     progress: &mut P,
 ) -> Result<PrintedText, Unreported>
-    requires { names_of job.now ≢ [] → HasLarge (advertisements_of listing) → ⊥ }
+    requires { IsRebuilding job.now → HasLarge (advertisements_of listing) → ⊥ }
     ensures said { IfOk result (λ said. SaysOf job.now (advertisements_of listing)
         (string_bytes said.text) said.end) }
     ensures whole { IfOk result (λ said. IsAllPrinted said.end) }
@@ -457,12 +468,20 @@ fn said_of<P: Progress>(
             each,
             strict,
             form,
+            carrier,
         } => {
-            let said = changes_said(alloc, rt, &listing, *root, *each, *strict, *form)?;
+            let at = (&listing, *carrier);
+            let said = changes_said(alloc, rt, at, *root, *each, *strict, *form)?;
             Ok(said)
         }
-        FailuresJob::All { each, strict, form } => {
-            let said = overalls_said(alloc, rt, &listing, *each, *strict, *form, progress)?;
+        FailuresJob::All {
+            each,
+            strict,
+            form,
+            carrier,
+        } => {
+            let at = (&listing, *carrier);
+            let said = overalls_said(alloc, rt, at, *each, *strict, *form, progress)?;
             Ok(said)
         }
         FailuresJob::Without {
@@ -479,24 +498,25 @@ fn said_of<P: Progress>(
     }
 }
 
-// What each failure changes at a root.
+// What each failure changes at a root, for a listing and the carrier of its links.
 fn changes_said(
     alloc: Global,
     rt: &(impl Threads + Sync),
-    listing: &Listing,
+    at: (&Listing, Carrier),
     root: RouterId,
     each: bool,
     strict: bool,
     form: FailuresForm,
 ) -> Result<PrintedText, AllocError>
-    ensures said { IfOk result (λ said. SaysChanges (advertisements_of listing.now) root each strict
-        form (string_bytes said.text) said.end) }
+    requires small { at.1 ≡ Carrier.Direct → HasLarge (advertisements_of at.0.now) → ⊥ }
+    ensures said { IfOk result (λ said. SaysChanges at.entry.1 (advertisements_of at.entry.0.now)
+        root each strict form (string_bytes said.text) said.end) }
     ensures whole { IfOk result (λ said. IsAllPrinted said.end) }
 {
-    let printed = reports_at(alloc, rt, listing, root)?;
-    let hidden = hidden_costs(alloc, listing)?;
+    let printed = reports_at(alloc, rt, at.0, at.1, root)?;
+    let hidden = hidden_costs_by(alloc, at.1, at.0)?;
     let text = changes_text(alloc, &printed, root, each, form, &hidden)?;
-    let end = end_of(strict, has_cut(&printed), is_listed(listing, root));
+    let end = end_of(strict, has_cut(&printed), is_listed(at.0, root));
     Ok(PrintedText { text, end })
 }
 
@@ -505,34 +525,37 @@ fn reports_at(
     alloc: Global,
     rt: &(impl Threads + Sync),
     listing: &Listing,
+    carrier: Carrier,
     root: RouterId,
 ) -> Result<Vec<Report>, AllocError>
+    requires { carrier ≡ Carrier.Direct → HasLarge (advertisements_of listing.now) → ⊥ }
     ensures { IfOk result (λ printed. (table : List Route)
         × IsTable (advertisements_of listing.now) root table
-        × IsReported (advertisements_of listing.now) root table printed.items) }
+        × IsReported carrier (advertisements_of listing.now) root table printed.items) }
 {
     let table = RouteTable::of(alloc, listing, root)?;
-    reports(alloc, rt, listing, root, &table)
+    reports(alloc, rt, listing, carrier, root, &table)
 }
 
-// What each failure changes at all routers.
+// What each failure changes at all routers, for a listing and the carrier of its links.
 fn overalls_said<P: Progress>(
     alloc: Global,
     rt: &(impl Threads + Sync),
-    listing: &Listing,
+    at: (&Listing, Carrier),
     each: bool,
     strict: bool,
     form: FailuresForm,
     progress: &mut P,
 ) -> Result<PrintedText, AllocError>
-    ensures said { IfOk result (λ said. SaysOverall (advertisements_of listing.now) each strict form
-        (string_bytes said.text) said.end) }
+    requires small { at.1 ≡ Carrier.Direct → HasLarge (advertisements_of at.0.now) → ⊥ }
+    ensures said { IfOk result (λ said. SaysOverall at.entry.1 (advertisements_of at.entry.0.now)
+        each strict form (string_bytes said.text) said.end) }
     ensures whole { IfOk result (λ said. IsAllPrinted said.end) }
 {
-    let printed = overalls(alloc, rt, listing, detail_of(each, form), progress)?;
-    let hidden = hidden_costs(alloc, listing)?;
+    let printed = overalls(alloc, rt, at.0, at.1, detail_of(each, form), progress)?;
+    let hidden = hidden_costs_by(alloc, at.1, at.0)?;
     let text = added_text(alloc, &printed, each, form, &hidden)?;
-    let end = end_of(strict, cuts_somewhere(&printed), has_router(listing));
+    let end = end_of(strict, cuts_somewhere(&printed), has_router(at.0));
     Ok(PrintedText { text, end })
 }
 

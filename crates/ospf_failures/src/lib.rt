@@ -17,3 +17,4 @@ pub use crate::overall::{
 pub use crate::progress::Progress;
 pub use crate::report::{Report, has_cut, reports, reports_json, reports_text};
 pub use ospf_table::Sums;
+pub use ospf_whatif::Carrier;

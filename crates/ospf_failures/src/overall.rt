@@ -1,17 +1,20 @@
 //! What each failure of an area changes in the tables of all its routers.
 
 ghost use Rattle.std.specs.Prelude.{◌≡◌, ◌↔◌, ◌++◌, ◌∷◌, [], All, IfOk, IsPermutation, IsTrue, OnOk, codes, flat_map, map, string_bytes};
+ghost use Rattle.std.specs.List.{AllZip};
 ghost use Rattle.std.specs.List.Sorted.{IsSorted};
 ghost use Rattle.ospf_base.specs.Text.{number_text};
 ghost use Rattle.ospf_graph.specs.EdgeLists.Listed.{advertisements_of};
 ghost use Rattle.ospf_whatif.specs.Effect.{IsEffectIn};
-ghost use Rattle.ospf_whatif.specs.Failure.{without, without_all};
+ghost use Rattle.ospf_whatif.specs.Failure.{HasLarge, without_all};
 ghost use Rattle.ospf_whatif.specs.Outage.{IsAreaGraph, IsOutage};
+ghost use Rattle.ospf_whatif.specs.declared.carrier.Carrier.{Carrier};
 ghost use Rattle.ospf_table.specs.Changes.{change_line};
 ghost use Rattle.serde_json.specs.Data.{array, no_members};
 ghost use Rattle.serde_json.specs.View.{items_of, members_view, view};
 ghost use Rattle.ospf_failures.specs.Json.{overall_data, overall_members, overalls_json, sight_data};
-ghost use Rattle.ospf_failures.specs.Overall.{AreOveralls, AreOverallsFound, CutsSomewhere, IsTableBefore, IsOverallFound, IsSoFar, KeepsMore, Sees, failing_router, overall_cmp, overall_rank, overalls_text, roots_in, sight_lines, sums_of};
+ghost use Rattle.ospf_failures.specs.Overall.{AreOveralls, CutsSomewhere, IsOverallOf, IsTableBefore, IsSoFar, KeepsMore, Sees, failing_router, overall_cmp, overall_rank, overalls_text, roots_in, sight_lines, sums_of};
+ghost use Rattle.ospf_failures.specs.Together.{IsComputable};
 ghost use Rattle.ospf_table.specs.Sums.{HasSumRoom};
 
 use crate::progress::Progress;
@@ -22,7 +25,8 @@ use ospf_lsa::Listing;
 use ospf_spf::RouteTable;
 use ospf_table::{Sums, add_changes, change_line, counted_members, objects_line, sums_line};
 use ospf_whatif::{
-    AreaFailure, AreaGraph, HiddenCost, KeptRoot, Outage, RouteChange, single_failures,
+    AreaFailure, AreaGraph, Breakdown, Carrier, HiddenCost, KeptRoot, Outage, RouteChange,
+    breakdowns, failures_by, single_failures,
 };
 use rayon::prelude::*;
 use serde_json::{Map, Value, put};
@@ -71,24 +75,29 @@ pub struct Overall {
 
 /// What each failure of an area changes in the tables of all its routers but the one that fails, in
 /// the order in which it is printed. As `reports` does for one root, with sums over the routers and
-/// with the routes that `detail` asks for. `progress` receives how many failures are done.
+/// with the routes that `detail` asks for. `progress` receives how many failures are done. With
+/// `Direct` no router-LSA may have more than 1,361 links.
 ///
 /// `AllocError` where memory runs out.
 pub fn overalls<P: Progress>(
     alloc: Global,
     rt: &(impl Threads + Sync),
     listing: &Listing,
+    carrier: Carrier,
     detail: RouteDetail,
     progress: &mut P,
 ) -> Result<Vec<Overall>, AllocError>
-    ensures { IfOk result (λ printed. AreOveralls (advertisements_of listing.now) detail
+    requires { carrier ≡ Carrier.Direct → HasLarge (advertisements_of listing.now) → ⊥ }
+    ensures { IfOk result (λ printed. AreOveralls carrier (advertisements_of listing.now) detail
         printed.items) }
 {
-    let failures = single_failures(alloc, listing)?;
+    let single = single_failures(alloc, listing)?;
+    let failures = failures_by(alloc, carrier, &single)?;
+    let breakdowns = breakdowns(alloc, carrier, &single, &failures)?;
     let area = AreaGraph::of(alloc, listing)?;
-    let befores = befores_of(alloc, listing, &area, &failures)?;
+    let befores = befores_of(alloc, listing, &area, &single)?;
     let at = (listing, &area);
-    let mut overalls = overalls_of(alloc, rt, at, &failures, &befores, detail, progress)?;
+    let mut overalls = overalls_of(alloc, rt, at, &breakdowns, &befores, detail, progress)?;
     sort(&mut overalls);
     Ok(overalls)
 }
@@ -192,29 +201,32 @@ fn add_before(
     }
 }
 
-// What each of these failures changes in the tables of all routers, part by part.
+// What each of these failures changes in the tables of all routers, with all that fails together
+// with it, part by part.
 fn overalls_of<P: Progress>(
     alloc: Global,
     rt: &(impl Threads + Sync),
     at: (&Listing, &AreaGraph),
-    failures: &[AreaFailure],
+    breakdowns: &[Breakdown],
     befores: &[Before],
     detail: RouteDetail,
     progress: &mut P,
 ) -> Result<Vec<Overall>, AllocError>
     requires graph { IsAreaGraph (advertisements_of at.0.now) at.1.now }
     requires tables { All (IsTableBefore (advertisements_of at.0.now)) befores.now }
-    ensures { AreOverallsFound (advertisements_of at.entry.0.now) befores.now detail failures.now
-        result }
+    requires small { All (IsComputable (advertisements_of at.0.now)) breakdowns.now }
+    ensures { IfOk result (λ overalls.
+        AllZip (IsOverallOf (advertisements_of at.entry.0.now) befores.now detail) breakdowns.now
+        overalls.items) }
 {
-    let most = failures.len() / PARTS + 1;
+    let most = breakdowns.len() / PARTS + 1;
     let mut overalls = Vec::new(alloc);
-    let mut rest = failures;
+    let mut rest = breakdowns;
     while !rest.is_empty() {
         let (part, behind) = rest.split_at(most.min(rest.len()));
         let mut found = part_of(alloc, rt, at.0, at.1, part, befores, detail)?;
         overalls.append(&mut found)?;
-        progress.comes(overalls.len(), failures.len());
+        progress.comes(overalls.len(), breakdowns.len());
         rest = behind;
     }
     Ok(overalls)
@@ -226,45 +238,57 @@ fn part_of(
     rt: &(impl Threads + Sync),
     listing: &Listing,
     area: &AreaGraph,
-    failures: &[AreaFailure],
+    breakdowns: &[Breakdown],
     befores: &[Before],
     detail: RouteDetail,
 ) -> Result<Vec<Overall>, AllocError>
     requires graph { IsAreaGraph (advertisements_of listing.now) area.now }
     requires tables { All (IsTableBefore (advertisements_of listing.now)) befores.now }
-    ensures { AreOverallsFound (advertisements_of listing.now) befores.now detail failures.now
-        result }
+    requires small { All (IsComputable (advertisements_of listing.now)) breakdowns.now }
+    ensures { IfOk result (λ overalls.
+        AllZip (IsOverallOf (advertisements_of listing.now) befores.now detail) breakdowns.now
+        overalls.items) }
 {
-    failures
+    breakdowns
         .par_iter()
         .with_min_len(1)
         .map(
-            |failure: &AreaFailure| -> Result<Overall, AllocError>
+            |breakdown: &Breakdown| -> Result<Overall, AllocError>
                 requires graph { IsAreaGraph (advertisements_of listing.now) area.now }
                 requires tables { All (IsTableBefore (advertisements_of listing.now)) befores.now }
-                ensures { IsOverallFound (advertisements_of listing.entry.now) befores.entry.now
-                    detail
-                    failure.now result }
-            { overall_of(alloc, listing, area, failure, befores, detail) },
+                requires small { IsComputable (advertisements_of listing.now) breakdown.now }
+                ensures { IfOk result (IsOverallOf (advertisements_of listing.entry.now)
+                    befores.entry.now detail breakdown.now) }
+            { overall_of(alloc, listing, area, breakdown, befores, detail) },
         )
         .collect::<Result<Vec<Overall>, AllocError>>(rt, alloc)?
 }
 
-// What a failure changes in the tables of all routers.
+// What a failure changes in the tables of all routers, with all that fails together with it.
 fn overall_of(
     alloc: Global,
     listing: &Listing,
     area: &AreaGraph,
-    failure: &AreaFailure,
+    breakdown: &Breakdown,
     befores: &[Before],
     detail: RouteDetail,
 ) -> Result<Overall, AllocError>
     requires graph { IsAreaGraph (advertisements_of listing.now) area.now }
     requires tables { All (IsTableBefore (advertisements_of listing.now)) befores.now }
-    ensures { IsOverallFound (advertisements_of listing.now) befores.now detail failure.now result }
+    requires small { IsComputable (advertisements_of listing.now) breakdown.now }
+    ensures { IfOk result (IsOverallOf (advertisements_of listing.now) befores.now detail
+        breakdown.now) }
 {
-    let outage = Outage::of(alloc, listing, failure)?;
-    let overall = overall_in(alloc, listing, area, &outage, *failure, befores, detail)?;
+    let outage = Outage::of_all(alloc, listing, area, &breakdown.parts)?;
+    let overall = overall_in(
+        alloc,
+        listing,
+        area,
+        &outage,
+        breakdown.failure,
+        befores,
+        detail,
+    )?;
     Ok(overall)
 }
 
@@ -280,12 +304,12 @@ fn overall_in(
 ) -> Result<Overall, AllocError>
     requires graph { IsAreaGraph (advertisements_of listing.now) area.now }
     requires outage { IsOutage (advertisements_of listing.now) outage.now }
-    requires failures { outage.now.failures.items ≡ failure ∷ [] }
     requires tables { All (IsTableBefore (advertisements_of listing.now)) befores.now }
-    // What the failure does to each of these tables, added up.
+    // What the outage does to each of these tables, added up.
     ensures failure { IfOk result (λ overall. overall.failure ≡ failure) }
-    ensures seen { IfOk result (IsSoFar (without failure (advertisements_of listing.now))
-        befores.now detail (map (λ b. b.root) befores.now)) }
+    ensures seen { IfOk result (IsSoFar
+        (without_all outage.now.failures.items (advertisements_of listing.now)) befores.now detail
+        (map (λ b. b.root) befores.now)) }
 {
     let mut overall = Overall::none(alloc, failure);
     for before in befores {

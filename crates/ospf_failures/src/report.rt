@@ -1,15 +1,19 @@
 //! What the failures of an area change in a router's table.
 
-ghost use Rattle.std.specs.Prelude.{◌≡◌, ◌↔◌, All, AllPairs, Contains, IfOk, IsPermutation, IsTrue, map, string_bytes};
+ghost use Rattle.std.specs.Prelude.{◌≡◌, ◌↔◌, List, All, AllPairs, Contains, IfOk, IsPermutation, IsTrue, string_bytes};
+ghost use Rattle.std.specs.List.{AllZip};
 ghost use Rattle.std.specs.List.Sorted.{IsSorted};
+ghost use Rattle.ospf_graph.specs.Advertisements.{Advertisement};
 ghost use Rattle.ospf_graph.specs.Routes.{IsTable};
 ghost use Rattle.ospf_graph.specs.EdgeLists.Listed.{advertisements_of};
-ghost use Rattle.ospf_whatif.specs.Effect.{IsEffect};
+ghost use Rattle.ospf_whatif.specs.Failure.{HasLarge};
 ghost use Rattle.ospf_whatif.specs.Outage.{IsAreaGraph, IsKeptRoot};
-ghost use Rattle.ospf_whatif.specs.Single.{IsFailureBefore};
+ghost use Rattle.ospf_whatif.specs.Single.{AreFailures, IsFailureBefore};
+ghost use Rattle.ospf_whatif.specs.declared.carrier.Carrier.{Carrier};
 ghost use Rattle.ospf_whatif.specs.declared.failure.AreaFailure.{AreaFailure};
 ghost use Rattle.ospf_failures.specs.Json.{reports_json};
-ghost use Rattle.ospf_failures.specs.Reports.{HasCut, IsOtherFailure, IsReportFound, IsReported, is_of, failure_place, report_cmp, reports_text};
+ghost use Rattle.ospf_failures.specs.Reports.{HasCut, IsOtherFailure, IsReportOf, IsReported, is_of, failure_place, report_cmp, reports_text};
+ghost use Rattle.ospf_failures.specs.Together.{IsComputable};
 
 use crate::warnings::put_hidden;
 use ospf_base::RouterId;
@@ -17,7 +21,8 @@ use ospf_lsa::Listing;
 use ospf_spf::RouteTable;
 use ospf_table::{Totals, add_changes, counted_members, failure_lines, objects_line};
 use ospf_whatif::{
-    AreaFailure, AreaGraph, HiddenCost, KeptRoot, Outage, RouteChange, single_failures,
+    AreaFailure, AreaGraph, Breakdown, Carrier, HiddenCost, KeptRoot, Outage, RouteChange,
+    breakdowns, failures_by, single_failures,
 };
 use rayon::prelude::*;
 use serde_json::{Map, Value, put};
@@ -139,25 +144,34 @@ impl Report {
 
 /// What each failure of an area but that of the root changes in the root's table, in the order in
 /// which it is printed: first what cuts off most, then what takes most with it, then what makes
-/// most dearer, then what moves most; where these are equal, links in subnets, other links,
-/// attachments, networks and routers, each by Router IDs and addresses.
+/// most dearer, then what moves most; where these are equal, links in subnets, ends of links, other
+/// links, attachments, networks and routers, each by Router IDs and addresses.
+///
+/// The carrier decides which failures there are and what fails together (`ospf_whatif::Carrier`).
+/// With `Process` each failure happens alone. With `Direct` no router-LSA may have more than 1,361
+/// links.
 ///
 /// `AllocError` where memory runs out.
 pub fn reports(
     alloc: Global,
     rt: &(impl Threads + Sync),
     listing: &Listing,
+    carrier: Carrier,
     root: RouterId,
     table: &RouteTable,
 ) -> Result<Vec<Report>, AllocError>
-    requires { IsTable (advertisements_of listing.now) root table.now }
-    ensures { IfOk result (λ reports. IsReported (advertisements_of listing.now) root
+    requires table { IsTable (advertisements_of listing.now) root table.now }
+    requires small { carrier ≡ Carrier.Direct →
+        HasLarge (advertisements_of listing.now) → ⊥ }
+    ensures { IfOk result (λ reports. IsReported carrier (advertisements_of listing.now) root
         table.now reports.items) }
 {
-    let failures = other_failures(alloc, listing, root)?;
+    let single = single_failures(alloc, listing)?;
+    let failures = other_failures(alloc, carrier, &single, root)?;
+    let breakdowns = breakdowns(alloc, carrier, &single, &failures)?;
     let area = AreaGraph::of(alloc, listing)?;
     let kept = KeptRoot::of(alloc, &area, root)?;
-    let mut reports = reports_of(alloc, rt, listing, &area, &kept, table, &failures)?;
+    let mut reports = reports_of(alloc, rt, listing, &area, &kept, table, &breakdowns)?;
     sort(&mut reports);
     Ok(reports)
 }
@@ -236,17 +250,20 @@ pub(crate) fn place_of(failure: AreaFailure) -> [u32; 5]
     }
 }
 
-// The failures of an area, but that of the root.
+// The failures of an area except that of the root, from all that may fail in it.
 fn other_failures(
     alloc: Global,
-    listing: &Listing,
+    carrier: Carrier,
+    single: &[AreaFailure],
     root: RouterId,
 ) -> Result<Vec<AreaFailure>, AllocError>
-    ensures all { IfOk result (λ failures. (f : AreaFailure) →
-        Contains failures.items f ↔ IsOtherFailure (advertisements_of listing.now) root f) }
+    requires { AllPairs IsFailureBefore single.now }
+    ensures all { IfOk result (λ failures. (adverts : List Advertisement) →
+        AreFailures adverts single.now → (f : AreaFailure) →
+        Contains failures.items f ↔ IsOtherFailure carrier adverts root f) }
     ensures rising { IfOk result (λ failures. AllPairs IsFailureBefore failures.items) }
 {
-    let mut failures = single_failures(alloc, listing)?;
+    let mut failures = failures_by(alloc, carrier, single)?;
     failures.retain(|failure| !is_of(failure, root));
     Ok(failures)
 }
@@ -265,7 +282,7 @@ pub(crate) fn is_of(failure: &AreaFailure, router: RouterId) -> bool
     }
 }
 
-// What each of these failures changes in the root's table.
+// What each of these failures changes in the root's table, with all that fails together with it.
 fn reports_of(
     alloc: Global,
     rt: &(impl Threads + Sync),
@@ -273,49 +290,53 @@ fn reports_of(
     area: &AreaGraph,
     kept: &KeptRoot,
     table: &RouteTable,
-    failures: &[AreaFailure],
+    breakdowns: &[Breakdown],
 ) -> Result<Vec<Report>, AllocError>
     requires graph { IsAreaGraph (advertisements_of listing.now) area.now }
     requires kept { IsKeptRoot (advertisements_of listing.now) kept.now }
     requires table { IsTable (advertisements_of listing.now) kept.now.root table.now }
+    requires small { All (IsComputable (advertisements_of listing.now)) breakdowns.now }
     // One report a failure, in their order, each with what that changes in the table.
-    ensures failures { IfOk result (λ reports. map (λ r. r.0) reports.items ≡ failures.now) }
-    ensures changed { IfOk result (λ reports. All (λ r. IsEffect (advertisements_of listing.now)
-        kept.now.root r.0 table.now r.1) reports.items) }
+    ensures { IfOk result (λ reports.
+        AllZip (IsReportOf (advertisements_of listing.now) kept.now.root table.now) breakdowns.now
+        reports.items) }
 {
-    failures
+    breakdowns
         .par_iter()
         .with_min_len(1)
         .map(
-            |failure: &AreaFailure| -> Result<Report, AllocError>
+            |breakdown: &Breakdown| -> Result<Report, AllocError>
                 requires graph { IsAreaGraph (advertisements_of listing.now) area.now }
                 requires kept { IsKeptRoot (advertisements_of listing.now) kept.now }
                 requires table { IsTable (advertisements_of listing.now) kept.now.root table.now }
-                ensures { IsReportFound (advertisements_of listing.entry.now) kept.entry.now.root
-                    table.entry.now failure.now result }
-            { report_of(alloc, listing, area, kept, table, failure) },
+                requires small { IsComputable (advertisements_of listing.now) breakdown.now }
+                ensures { IfOk result (IsReportOf (advertisements_of listing.entry.now)
+                    kept.entry.now.root table.entry.now breakdown.now) }
+            { report_of(alloc, listing, area, kept, table, breakdown) },
         )
         .collect::<Result<Vec<Report>, AllocError>>(rt, alloc)?
 }
 
-// What a failure changes in the root's table.
+// What a failure changes in the root's table, with all that fails together with it.
 fn report_of(
     alloc: Global,
     listing: &Listing,
     area: &AreaGraph,
     kept: &KeptRoot,
     table: &RouteTable,
-    failure: &AreaFailure,
+    breakdown: &Breakdown,
 ) -> Result<Report, AllocError>
     requires graph { IsAreaGraph (advertisements_of listing.now) area.now }
     requires kept { IsKeptRoot (advertisements_of listing.now) kept.now }
     requires table { IsTable (advertisements_of listing.now) kept.now.root table.now }
-    ensures { IsReportFound (advertisements_of listing.now) kept.now.root table.now failure.now
-        result }
+    requires small { IsComputable (advertisements_of listing.now) breakdown.now }
+    // The report names the failure, and has what all its parts change in the table.
+    ensures { IfOk result (IsReportOf (advertisements_of listing.now) kept.now.root table.now
+        breakdown.now) }
 {
-    let outage = Outage::of(alloc, listing, failure)?;
+    let outage = Outage::of_all(alloc, listing, area, &breakdown.parts)?;
     let changes = kept.effect(alloc, listing, area, &outage, table)?;
-    Ok(Report::of(*failure, changes))
+    Ok(Report::of(breakdown.failure, changes))
 }
 
 // Puts reports into order.

@@ -4,7 +4,7 @@ use super::failing::Failing;
 use super::made::{FIRST, FIRST_NUMBER, SECOND, THIRD, link, router_bytes, stub, to};
 use super::program::Nobody;
 use ospf_base::{Addr, RouterId};
-use ospf_failures::{FailuresForm, FailuresJob, FailuresStatus, Progress, failures_text};
+use ospf_failures::{Carrier, FailuresForm, FailuresJob, FailuresStatus, Progress, failures_text};
 use ospf_files::Status;
 use ospf_lsa::{Link, LinkKind, Listing, Lsa};
 use ospf_table::find_failure;
@@ -213,6 +213,7 @@ fn expect(rt: &(impl Abort + AllocGlobal + Threads + Sync), alloc: Global, case:
         each: case.each,
         strict: case.strict,
         form: FailuresForm::Text,
+        carrier: Carrier::Process,
     };
     expect_of(rt, alloc, &job, case)
 }
@@ -470,6 +471,7 @@ fn no_router_is_told_by_the_status(rt: HostRuntime) -> Result<(), Fail> {
                     each: false,
                     strict,
                     form,
+                    carrier: Carrier::Process,
                 };
                 expect_of(&rt, alloc, &job, &Case::over(input, status, out, ""))?;
             }
@@ -568,6 +570,7 @@ fn failures_over_all_routers(rt: HostRuntime) -> Result<(), Fail> {
         each: false,
         strict: true,
         form: FailuresForm::Text,
+        carrier: Carrier::Process,
     };
     expect_all(&rt, alloc, &lsas, job, DONE, sums)?;
     let each = "1.1.1.1 2.2.2.2-3.3.3.3@10.0.0.4/30 gone 10.0.0.4/30\n\
@@ -603,6 +606,7 @@ fn failures_over_all_routers(rt: HostRuntime) -> Result<(), Fail> {
         each: true,
         strict: false,
         form: FailuresForm::Text,
+        carrier: Carrier::Process,
     };
     expect_all(&rt, alloc, &lsas, job, DONE, each)
 }
@@ -620,6 +624,7 @@ fn expect_json(
         each,
         strict: true,
         form: FailuresForm::Json,
+        carrier: Carrier::Process,
     };
     expect_all(rt, alloc, lsas, job, DONE, out)
 }
@@ -683,6 +688,7 @@ fn cost_of_a_stub_router_left_alone_is_unknown(rt: HostRuntime) -> Result<(), Fa
             each: false,
             strict: false,
             form,
+            carrier: Carrier::Process,
         };
         expect_of(&rt, alloc, &job, &Case::over(&input, DONE, out, err))?;
     }
@@ -714,6 +720,7 @@ fn failures_over_all_routers_are_told_as_json(rt: HostRuntime) -> Result<(), Fai
             each: wants_each,
             strict: true,
             form: FailuresForm::Json,
+            carrier: Carrier::Process,
         };
         expect_all(&rt, alloc, &lsas, job, FailuresStatus::Unmet, out)?;
     }
@@ -779,6 +786,7 @@ fn failed_stream_is_told(rt: HostRuntime) -> Result<(), Fail> {
         each: false,
         strict: true,
         form: FailuresForm::Text,
+        carrier: Carrier::Process,
     };
     let mut err = Vec::new(alloc);
     let mut out = Failing { left: 0 };
@@ -859,6 +867,7 @@ fn each_part_is_told(rt: HostRuntime) -> Result<(), Fail> {
         each: false,
         strict: false,
         form: FailuresForm::Text,
+        carrier: Carrier::Process,
     };
     let (mut out, mut err) = (Vec::new(alloc), Vec::new(alloc));
     let mut told = Told {

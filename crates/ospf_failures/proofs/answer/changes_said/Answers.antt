@@ -10,7 +10,7 @@ use Rattle.ospf_failures.proofs.answer.changes_said.Goals as goal
 pub returns-clause-said : goal.returns-clause-said
 returns-clause-said g c =
     let printed = c.in_ok-printed.printed.items in
-    let adverts = advertisements_of c.args.listing.now in
+    let adverts = advertisements_of c.args.at.0.now in
     let cuts : IsTrue c.has_cut.result ↔ HasCut printed = subst (λ (l : List ReportValue). IsTrue c.has_cut.result ↔ HasCut l) c.deref-3.ensures.value c.has_cut.ensures in
     record {
       table = c.in_ok-printed.ensures.0;

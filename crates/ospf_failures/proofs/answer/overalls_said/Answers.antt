@@ -11,12 +11,12 @@ use Rattle.ospf_failures.proofs.answer.overalls_said.Goals as goal
 pub returns-clause-said : goal.returns-clause-said
 returns-clause-said g c =
     let printed = c.in_ok-printed.printed.items in
-    let adverts = advertisements_of c.args.listing.now in
+    let adverts = advertisements_of c.args.at.0.now in
     let cuts : IsTrue c.cuts_somewhere.result ↔ CutsSomewhere printed =
     subst (λ (l : List Overall). IsTrue c.cuts_somewhere.result ↔ CutsSomewhere l) c.deref-3.ensures.value c.cuts_somewhere.ensures in
     record {
       printed = printed;
-      are = subst (λ (d : RouteDetail). AreOveralls adverts d printed) c.detail_of.ensures c.in_ok-printed.ensures;
+      are = subst (λ (d : RouteDetail). AreOveralls c.args.at.1 adverts d printed) c.detail_of.ensures c.in_ok-printed.ensures;
       hidden = c.in_ok-hidden.hidden.items;
       are_hidden = c.in_ok-hidden.ensures;
       text_is = c.in_ok-text.ensures ∙ (λ i. added_text c.args.form c.args.each (c.deref-2.ensures.value i) (c.deref.ensures.value i));

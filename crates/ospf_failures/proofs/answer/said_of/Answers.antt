@@ -1,7 +1,7 @@
 use Rattle.std.proofs.Common.{◌∙◌, ◌≢◌, [], List, String, ap, subst, sym}
 use Rattle.std.specs.declared.alloc.Global.{Global}
 use Rattle.ospf_graph.specs.EdgeLists.Listed.{advertisements_of}
-use Rattle.ospf_failures.specs.Answer.{names_of}
+use Rattle.ospf_failures.specs.Answer.{IsRebuilding, names_of}
 use Rattle.ospf_failures.specs.Without.{IsFaultOfNames, IsFirstUnnamed}
 use Rattle.ospf_failures.proofs.answer.said_of.Goals as goal
 
@@ -12,4 +12,10 @@ returns-in-Err-clause-fault g c =
 
 pub text_without-requires : goal.text_without-requires
 text_without-requires g c = λ some.
-    c.requires (subst (λ (ns : List (String Global)). ns ≢ []) (c.deref.ensures.value ∙ sym (ap names_of c.in-Without.is)) some)
+    c.requires (subst IsRebuilding (sym c.in-Without.is) (subst (λ (ns : List (String Global)). ns ≢ []) c.deref.ensures.value some))
+
+pub changes_said-requires-clause-small : goal.changes_said-requires-clause-small
+changes_said-requires-clause-small g c κs within = λ direct. c.requires (subst IsRebuilding (sym c.in-Root.is) direct)
+
+pub overalls_said-requires-clause-small : goal.overalls_said-requires-clause-small
+overalls_said-requires-clause-small g c κs within = λ direct. c.requires (subst IsRebuilding (sym c.in-All.is) direct)

@@ -1,9 +1,8 @@
 use Rattle.std.proofs.Common.{◌∙◌, ◌≤◌, List, arith, length, subst, sym}
 use Rattle.std.proofs.lemmas.List.{take_all}
 use Rattle.ospf_graph.specs.EdgeLists.Listed.{advertisements_of}
-use Rattle.ospf_whatif.specs.Failure.{without, without_all}
-use Rattle.ospf_whatif.specs.declared.failure.AreaFailure.{AreaFailure}
-use Rattle.ospf_failures.specs.Overall.{IsSoFar, IsTableBefore, Sees}
+use Rattle.ospf_whatif.specs.Failure.{without_all}
+use Rattle.ospf_failures.specs.Overall.{IsSoFar, IsTableBefore}
 use Rattle.ospf_failures.specs.declared.overall.Before.{Before}
 use Rattle.ospf_failures.proofs.OverallLemmas.{none_yet, room_after, room_at_start, room_for_one, roots_of, sees_on, still_it}
 use Rattle.ospf_failures.proofs.overall.overall_in.Goals as goal
@@ -11,7 +10,7 @@ use Rattle.ospf_failures.proofs.overall.overall_in.Goals as goal
 pub loop-before-init : goal.loop-before-init
 loop-before-init c = record {
   failure = c.none-overall.ensures.failure;
-  so_far = none_yet (without c.args.failure (advertisements_of c.args.listing.now)) c.args.befores.now c.args.detail c.none-overall.result c.none-overall.ensures.sums
+  so_far = none_yet (without_all c.args.outage.now.failures.items (advertisements_of c.args.listing.now)) c.args.befores.now c.args.detail c.none-overall.result c.none-overall.ensures.sums
       c.none-overall.ensures.lines c.none-overall.ensures.sights;
   room = room_at_start _ c.none-overall.result.sums (omega arith) c.none-overall.ensures.sums;
 }
@@ -25,9 +24,8 @@ see-requires-clause-room c = room_for_one _ c.loop-before.overall.sums (omega ar
 
 pub loop-before-preserved : goal.loop-before-preserved
 loop-before-preserved c =
-    let A = advertisements_of c.args.listing.now in
-    let left = without c.args.failure A in
-    let sees = subst (λ (fs : List AreaFailure). Sees (without_all fs A) c.before-item.result c.args.detail c.loop-before.overall c.see.new.self) c.requires.failures c.in_ok-see.ensures in
+    let left = without_all c.args.outage.now.failures.items (advertisements_of c.args.listing.now) in
+    let sees = c.in_ok-see.ensures in
     record {
       failure = still_it left c.args.befores.now c.args.detail c.loop-before.before-index c.before-item.result c.loop-before-test.true c.before-item.is c.loop-before.overall
           c.see.new.self c.loop-before.invariant.so_far sees ∙ c.loop-before.invariant.failure;
@@ -39,5 +37,5 @@ loop-before-preserved c =
 pub returns-clause-seen : goal.returns-clause-seen
 returns-clause-seen c =
     let end : length c.args.befores.now ≤ c.loop-before.before-index = omega (arith, c.loop-before-test.false) in
-    subst (λ (l : List Before). IsSoFar (without c.args.failure (advertisements_of c.args.listing.now)) c.args.befores.now c.args.detail (roots_of l) c.loop-before.overall)
+    subst (λ (l : List Before). IsSoFar (without_all c.args.outage.now.failures.items (advertisements_of c.args.listing.now)) c.args.befores.now c.args.detail (roots_of l) c.loop-before.overall)
     (take_all c.loop-before.before-index c.args.befores.now end) c.loop-before.invariant.so_far

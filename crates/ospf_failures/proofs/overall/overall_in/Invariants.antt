@@ -1,6 +1,6 @@
 use Rattle.std.proofs.Common.{◌≡◌, ◌-◌, length, take}
 use Rattle.ospf_graph.specs.EdgeLists.Listed.{advertisements_of}
-use Rattle.ospf_whatif.specs.Failure.{without}
+use Rattle.ospf_whatif.specs.Failure.{without_all}
 use Rattle.ospf_failures.specs.Overall.{IsSoFar}
 use Rattle.ospf_table.specs.Sums.{HasSumRoom}
 use Rattle.ospf_failures.proofs.OverallLemmas.{roots_of}
@@ -10,6 +10,6 @@ use Rattle.ospf_failures.proofs.overall.overall_in.Given as goal
 abbrev pub invariant-loop-before : goal.invariant-loop-before
 invariant-loop-before l = record {
   failure : l.overall.failure ≡ l.fn.failure;
-  so_far : IsSoFar (without l.fn.failure (advertisements_of l.listing)) l.befores l.detail (roots_of (take l.before-index l.befores)) l.overall;
+  so_far : IsSoFar (without_all l.outage.failures.items (advertisements_of l.listing)) l.befores l.detail (roots_of (take l.before-index l.befores)) l.overall;
   room : HasSumRoom (length l.befores - l.before-index) l.overall.sums;
 }

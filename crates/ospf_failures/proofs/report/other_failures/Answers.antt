@@ -1,15 +1,15 @@
 use Rattle.std.proofs.Common.{rules, not}
 use Rattle.std.proofs.lemmas.Fn.{filter_same}
-use Rattle.ospf_graph.specs.EdgeLists.Listed.{advertisements_of}
 use Rattle.ospf_whatif.specs.declared.failure.AreaFailure.{AreaFailure}
 use Rattle.ospf_failures.specs.Reports.{is_of}
 use Rattle.ospf_failures.proofs.ReportLemmas.{others_rise, others_are}
 use Rattle.ospf_failures.proofs.report.other_failures.Goals as goal
 
 pub returns-clause-all : goal.returns-clause-all
-returns-clause-all c =
-    others_are (advertisements_of c.args.listing.now) c.args.root _ _ (filter_same _ (λ (f : AreaFailure). not (is_of c.args.root f)) _ (λ x b f' k. search rules) _ _ c.retain.ensures.filtered)
-    c.in_ok-failures.ensures.all
+returns-clause-all c = λ adverts are.
+    others_are c.args.carrier adverts c.args.root _ _
+    (filter_same _ (λ (f : AreaFailure). not (is_of c.args.root f)) _ (λ x b f' k. search rules) _ _ c.retain.ensures.filtered)
+    (c.in_ok-failures.ensures.all adverts are)
 
 pub returns-clause-rising : goal.returns-clause-rising
 returns-clause-rising c =
