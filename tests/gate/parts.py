@@ -13,7 +13,7 @@ WITHOUT_PROGRAM += [["tests/gate/stand-ins"], ["tests/peers/bridge"]]
 # The longest first, so that the others run beside them.
 OF_PROGRAM = ["captures/compare-spec", "captures/compare-failures", "captures/compare-changes", "simulations/claims", "simulations/simulate", "captures/compare-inspect"]
 OF_PROGRAM += ["captures/read-captures", "captures/page", "captures/click-page", "simulations/ladder", "simulations/report"]
-OF_PROGRAM += ["captures/compare-captures", "captures/read-shown", "captures/import", "gate/shown", "gate/streams"]
+OF_PROGRAM += ["captures/compare-captures", "captures/read-shown", "captures/import", "captures/json-schemas", "gate/shown", "gate/streams"]
 # These look at the clock while routers run, so nothing else runs beside them.
 ALONE = [["tests/peers/run"]]
 # Tests that are proved, in which each allocation is refused in turn.

@@ -1,0 +1,247 @@
+"""The JSON that the program prints: of captured databases, examples, areas made here, simulations,
+a run, and configurations with faults. `json-schemas` validates it.
+"""
+import glob
+import json
+import os
+import socket
+import struct
+import subprocess
+import sys
+import tempfile
+
+HERE = os.path.dirname(os.path.abspath(__file__))
+TOP = os.path.dirname(os.path.dirname(HERE))
+sys.path.append(os.path.join(TOP, "bench"))
+import area  # noqa: E402
+
+VIRTUAL = 4
+# How many routers the areas have that are made at random, with the number that makes each.
+AT_RANDOM = ((6, 1), (12, 2), (20, 3))
+MOST_TICKS = "25"
+DEFAULTS = {"kind": "point-to-point", "cost": 10}
+
+
+def number_of(text):
+    return struct.unpack(">I", socket.inet_aton(text))[0]
+
+
+# ---- databases
+
+
+def router_lsa(router, flags, *links):
+    """A router-LSA; a link is its type, Link ID, Link Data and metric."""
+    spelled = [struct.pack(">IIBBH", number_of(to), number_of(data), kind, 0, metric)
+               for kind, to, data, metric in links]
+    body = struct.pack(">BBH", flags, 0, len(links)) + b"".join(spelled)
+    return area.lsa(1, number_of(router), number_of(router), body)
+
+
+def network_lsa(address, router, *attached):
+    members = sorted(map(number_of, attached))
+    return area.network_lsa(number_of(address), number_of(router), members)
+
+
+def odd_area():
+    """An area with what no other one here has: all flags, a virtual link, links that only one end
+    lists, links without a subnet, an LSA that is not used, and a stub router on a LAN of two."""
+    return [
+        router_lsa("1.1.1.1", 0x0F, (area.POINT_TO_POINT, "2.2.2.2", "0.0.0.5", 7),
+                   (area.POINT_TO_POINT, "9.9.9.9", "10.0.0.1", 1),
+                   (VIRTUAL, "2.2.2.2", "10.0.0.1", 3),
+                   (area.TRANSIT, "10.1.0.1", "10.1.0.1", 4),
+                   (area.STUB, "172.16.0.1", "255.255.255.255", 0)),
+        router_lsa("2.2.2.2", 0, (area.POINT_TO_POINT, "1.1.1.1", "0.0.0.6", 7),
+                   (area.POINT_TO_POINT, "3.3.3.3", "10.0.1.2", 65535),
+                   (area.STUB, "10.9.0.0", "255.255.0.0", 65535)),
+        router_lsa("3.3.3.3", 0, (area.TRANSIT, "10.1.0.1", "10.1.0.3", 65535),
+                   (area.POINT_TO_POINT, "2.2.2.2", "10.0.1.3", 1)),
+        network_lsa("10.1.0.1", "1.1.1.1", "1.1.1.1", "3.3.3.3", "8.8.8.8"),
+        network_lsa("10.1.0.1", "0.0.0.9", "1.1.1.1"),
+        network_lsa("10.2.0.1", "7.7.7.7"),
+    ]
+
+
+def databases():
+    """LSAs in hexadecimal, each database with its name."""
+    captured = os.path.join(HERE, "databases", "*", "*.hex")
+    examples = os.path.join(TOP, "examples", "*.hex")
+    for path in sorted(glob.glob(captured)) + sorted(glob.glob(examples)):
+        with open(path, encoding="ascii") as file:
+            yield os.path.relpath(path, TOP), file.read()
+    for count, seed in AT_RANDOM:
+        yield f"bench/area.py {count} {seed}", area.text(count, seed)
+    yield "the odd area", "".join(lsa.hex() + "\n" for lsa in odd_area())
+    yield "no LSAs", ""
+
+
+# ---- configurations
+
+
+def config(number, *interfaces, of_area="0.0.0.0"):
+    """The text of a configuration: of an interface what is not as in the defaults."""
+    named = f"{number}.{number}.{number}.{number}"
+    text = f'router_id = "{named}"\narea = "{of_area}"\n'
+    for keys in interfaces:
+        lines = [f"{key} = {json.dumps(value)}" for key, value in {**DEFAULTS, **keys}.items()]
+        text += "\n".join(["", "[[interface]]", *lines, ""])
+    return text
+
+
+def pair(*, one=(), other=(), both=()):
+    """Two routers on a link, where these keys differ from the defaults."""
+    return [config(1, {"address": "10.0.0.1/30", **dict(both), **dict(one)}),
+            config(2, {"address": "10.0.0.2/30", **dict(both), **dict(other)})]
+
+
+def lan(*priorities):
+    """A broadcast network with routers of these priorities."""
+    return [config(at, {"address": f"10.1.0.{at}/24", "kind": "broadcast", "priority": priority})
+            for at, priority in enumerate(priorities, 1)]
+
+
+def areas_with_faults():
+    """Configurations of areas, with a fault or a note of each kind (docs/CONFIGURATION.md)."""
+    yield "nothing wrong", pair()
+    yield "A1", [pair()[0], config(1, {"address": "10.0.0.2/30"})]
+    yield "A2", pair(other={"address": "10.0.0.1/30"})
+    yield "A3", [pair()[0], config(2, {"address": "10.0.0.2/30"}, of_area="0.0.0.7")]
+    yield "A4", pair(other={"kind": "broadcast"})
+    yield "A5", pair(other={"hello": 5})
+    yield "A6", pair(other={"dead": 41})
+    yield "A7", pair(other={"mtu": 1400})
+    yield "A8", pair(other={"address": "10.0.0.2/24"})
+    yield "A9", [config(at, {"address": f"10.0.0.{at}/29"}) for at in (1, 2, 3)]
+    yield "A10", lan(0, 0)
+    yield "A11", pair(one={"port": 17001, "peers": [17002]}, other={"port": 17002})
+    yield "A11, no port", pair(one={"peers": [17002]}, other={"port": 17002, "peers": [17001]})
+    yield "A12", pair(other={"cost": 11})
+    yield "A13", [config(1, {"address": "10.0.0.1/30"})]
+    yield "A14", pair(both={"transmit_delay": 1000})
+    yield "A15", pair(both={"port": 17001})
+    yield "A16", [*pair(one={"port": 17001, "peers": [17003]}, other={"port": 17002}),
+                  config(3, {"address": "10.0.1.1/30", "port": 17003})]
+    yield "A17", pair(one={"port": 17001, "peers": [17009]})
+    yield "A18", [*pair(), config(3, {"address": "10.0.1.1/30"})]
+    yield "A19", pair(one={"port": 17001}, other={"port": 17002})
+    yield "A20", lan(1, 0, 0)
+
+
+# ---- scripts of the simulator
+
+
+def strange_deliveries(routers, links, packets):
+    """A script that delivers each of these packets to each link of each router again, late."""
+    lines = ["start all", "up all", "round 30"]
+    ends = [(router, link) for router in routers for link in range(links)]
+    for number in range(packets):
+        lines += [f"deliver {number} {router} {link}" for router, link in ends]
+    lines += ["down 1.1.1.1 0", "deliver 0 1.1.1.1 0", "round 60", "stop 1.1.1.1", ""]
+    return "\n".join(lines)
+
+
+def simulations():
+    """Scripts and configurations, with a name: the examples, and simulations of what those lack."""
+    for script in sorted(glob.glob(os.path.join(TOP, "examples", "*", "script"))):
+        folder = os.path.dirname(script)
+        yield os.path.relpath(folder, TOP), script, sorted(glob.glob(f"{folder}/*.toml"))
+    three = [config(at, {"address": f"10.0.0.{at}/29"},
+                    {"address": f"10.1.0.{at}/24", "kind": "broadcast"}) for at in (1, 2, 3)]
+    yield "three routers", strange_deliveries(["1.1.1.1", "2.2.2.2", "3.3.3.3"], 2, 60), three
+    apart = [pair()[0], config(2, {"address": "10.0.0.2/30"}, of_area="0.0.0.7")]
+    yield "two areas on one link", "start all\nup all\nround 30\n", apart
+
+
+# ---- what is printed
+
+
+class Printed:
+    """What a program prints: of each schema by its name, the values with their origins. A text that
+    was printed before is left out."""
+
+    def __init__(self, program):
+        self.program, self.values, self.seen, self.commands = program, {}, set(), 0
+
+    def keep(self, schema, origin, text):
+        value = json.loads(text)
+        if (schema, text) not in self.seen:
+            self.seen.add((schema, text))
+            self.values.setdefault(schema, []).append((origin, value))
+        return value
+
+    def run(self, words, text="", statuses=(0,)):
+        self.commands += 1
+        ended = subprocess.run([self.program, *words], input=text, capture_output=True, text=True,
+                               check=False)
+        if ended.returncode not in statuses:
+            sys.exit(f"ospfd {' '.join(words)}: status {ended.returncode}\n{ended.stderr}")
+        return ended.stdout
+
+    def ask(self, schema, origin, words, text="", statuses=(0,)):
+        """One value on one line."""
+        said = self.run(words, text, statuses)
+        if said.count("\n") != 1 or not said.endswith("\n"):
+            sys.exit(f"ospfd {' '.join(words)}: not one line, of {origin}:\n{said}")
+        return self.keep(schema, f"ospfd {' '.join(words)}, of {origin}", said)
+
+    def look_at_database(self, name, text):
+        self.ask("lsas-1", name, ["lsas", "--json"], text)
+        tables = self.ask("table-all-1", name, ["table", "--json", "all"], text)
+        roots = [it["root"] for it in tables] or ["1.1.1.1"]
+        for root in [*roots, "99.99.99.99"]:
+            self.ask("table-1", name, ["table", "--json", root], text)
+        for each in [], ["--each"]:
+            self.ask("failures-1", name, ["failures", "--json", *each, roots[0]], text)
+            self.ask("failures-all-1", name, ["failures", "--json", *each, "all"], text)
+
+    def write_configs(self, place, texts):
+        paths = [os.path.join(place, f"{at}.toml") for at in range(1, len(texts) + 1)]
+        for path, text in zip(paths, texts):
+            with open(path, "w", encoding="utf-8") as file:
+                file.write(text)
+        return paths
+
+    def check(self, name, paths):
+        self.ask("check-1", name, ["check", "--json", *paths], statuses=(0, 3))
+
+    def log(self, name, place, words):
+        """The journal of a command, line by line."""
+        journal = os.path.join(place, "journal")
+        self.run([words[0], "--log", journal, "--json", *words[1:]])
+        with open(journal, encoding="utf-8") as file:
+            for line in file:
+                self.keep("journal-1", f"ospfd {words[0]} --log, {name}", line)
+
+    def simulate(self, name, script, configs):
+        with tempfile.TemporaryDirectory() as place:
+            if not os.path.exists(script):
+                configs = self.write_configs(place, configs)
+                path = os.path.join(place, "script")
+                with open(path, "w", encoding="utf-8") as file:
+                    file.write(script)
+                script = path
+            self.check(name, configs)
+            self.log(name, place, ["sim", script, *configs])
+
+    def run_routers(self):
+        """Two routers over UDP, on ports that are free."""
+        with socket.socket(socket.AF_INET, socket.SOCK_DGRAM) as one, \
+                socket.socket(socket.AF_INET, socket.SOCK_DGRAM) as other:
+            for it in one, other:
+                it.bind(("127.0.0.1", 0))
+            a, b = one.getsockname()[1], other.getsockname()[1]
+        with tempfile.TemporaryDirectory() as place:
+            paths = self.write_configs(place, pair(one={"port": a, "peers": [b]},
+                                                   other={"port": b, "peers": [a]}))
+            self.log("two routers", place, ["run", "--tick", "20", MOST_TICKS, *paths])
+
+    def take_all(self):
+        for name, text in databases():
+            self.look_at_database(name, text)
+        for name, texts in areas_with_faults():
+            with tempfile.TemporaryDirectory() as place:
+                self.check(name, self.write_configs(place, texts))
+        for name, script, configs in simulations():
+            self.simulate(name, script, configs)
+        self.run_routers()
+        return self.values
