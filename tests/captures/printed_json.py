@@ -193,6 +193,8 @@ class Printed:
         for each in [], ["--each"]:
             self.ask("failures-1", name, ["failures", "--json", *each, roots[0]], text)
             self.ask("failures-all-1", name, ["failures", "--json", *each, "all"], text)
+            self.ask("failures-1", name, ["failures", "--json", *each, "--carrier", "switch", roots[0]], text)
+            self.ask("failures-all-1", name, ["failures", "--json", *each, "--carrier", "switch", "all"], text)
 
     def write_configs(self, place, texts):
         paths = [os.path.join(place, f"{at}.toml") for at in range(1, len(texts) + 1)]

@@ -30,7 +30,7 @@ FAILURES = [
     ("failure", {"kind": "attachment"}, [*SUBNETS, "1.1.1.1", "@1.1.1.1"]),
     ("failure", {"kind": "network"}, [*SUBNETS, "1.1.1.1", "1.1.1.1@1.1.1.1"]),
     ("failure", {"kind": "router"}, [*SUBNETS, "@1.1.1.1", "1.1.1.1@1.1.1.1"]),
-    ("kind", {"kind": "link"}, ["links", "network", "end"]),
+    ("kind", {"kind": "link"}, ["links", "network", "end", "ends"]),
     ("kind", {"kind": "router"}, ["link"]),
     ("unknown_costs", {}, INTERFACES),
     ("routes", {}, [[1], [[]], {}]),
@@ -185,6 +185,9 @@ def wrong_values(schema, samples):
         for path, it in objects(sample):
             for what, changed in [*changed_members(schema, it), *out_of_range(schema, it, used)]:
                 yield what, with_object(sample, path, changed)
+            if path and isinstance(path[-1], int):
+                yield from ((f"{other!r} at {path}", with_object(sample, path, other))
+                            for other in OF_EACH_TYPE)
     left = [WRONG[schema][row][:2] for row in range(len(WRONG[schema])) if row not in used]
     if left:
         sys.exit(f"{schema}: no sample has {left}")

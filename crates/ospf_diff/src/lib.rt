@@ -1,0 +1,19 @@
+//! What changed between two link-state databases of an area, and what that did to routing.
+//!
+//! `differences` compares two routing tables, `missing_elements` the elements of two areas, and
+//! `cost_changes` the costs of interfaces. `diff_report` reads two databases and says all of it.
+#![tactic(auto)]
+
+mod costs;
+mod difference;
+mod elements;
+mod report;
+mod roots;
+mod sights;
+mod sums;
+
+pub use crate::costs::{CostChange, Interface, cost_changes};
+pub use crate::difference::{RouteDifference, differences};
+pub use crate::elements::missing_elements;
+pub use crate::report::{DiffJob, DiffNames, diff_report, diff_text};
+pub use crate::sums::DifferenceSums;
