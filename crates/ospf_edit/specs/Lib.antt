@@ -1,0 +1,5 @@
+pub mod Change
+pub mod Large
+pub mod Words
+pub mod Answer
+pub mod Wanted

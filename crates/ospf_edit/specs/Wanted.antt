@@ -1,0 +1,63 @@
+-- What routers want after a change (RFC 2328, section 12.4.1; RFC 6987).
+use Rattle.std.specs.Prelude.{◌≡◌, ◌≢◌, ◌⊎◌, ◌++◌, ◌∷◌, Bool, true, false, List}
+use Rattle.std.specs.List.{AllByRecursion, list_any}
+use Rattle.ospf_base.specs.Prefixes.{IsPrefixOf}
+use Rattle.ospf_base.specs.declared.ids.RouterId.{RouterId}
+use Rattle.ospf_base.specs.declared.interface.InterfaceKind.TheVariants as kind
+use Rattle.ospf_base.specs.declared.prefix.Prefix.{Prefix}
+use Rattle.ospf_lsa.specs.declared.link.Link.{Link}
+use Rattle.ospf_area.specs.State.{LinkValue}
+use Rattle.ospf_neighbour.specs.Interface.Machine.{is_down}
+use Rattle.ospf_originate.specs.Wants.Wanted.{is_full, subnet_link}
+use Rattle.ospf_whatif.specs.Subnets.{is_address}
+use Rattle.ospf_whatif.specs.Wanted.{IsOnTransit, wanted_links}
+use Rattle.ospf_edit.specs.Change.{gets_cost, is_longer_subnet, priced_links}
+use Rattle.ospf_edit.specs.declared.change.Change.{Change}
+use Rattle.ospf_edit.specs.declared.change.Change.TheVariants.{Cost, Drain}
+
+-- as a stub router a router wants the drained links of those that it wants otherwise
+abbrev pub DrainsAreWanted : Type 0
+DrainsAreWanted =
+    (router : RouterId) (links : List LinkValue) →
+    wanted_links true links ≡ priced_links (Drain router) router (wanted_links false links)
+
+-- the interface is as it was, but for its cost
+pub record HasOtherCost (before after : LinkValue) : Type 0 where
+  pub iface : after.iface ≡ before.iface
+  pub neighbours : after.neighbours ≡ before.neighbours
+
+-- an interface of a point-to-point link that is up, in this subnet of more than one host, with a
+-- neighbour that is fully adjacent
+pub record IsWired (l : LinkValue) (subnet : Prefix) : Type 0 where
+  pub up : is_down l.iface.state ≡ false
+  pub kind_is : l.iface.settings.kind ≡ kind.PointToPoint
+  pub adjacent : list_any is_full l.neighbours ≡ true
+  pub in_subnet : IsPrefixOf l.iface.settings.address.0 l.iface.settings.mask subnet
+  pub no_host : l.iface.settings.mask ≢ 0xFFFFFFFF
+  pub numbered : is_address l.iface.settings.address.0 ≡ true
+
+-- the subnet of the interface is the longest that holds its address, of all in these links of the
+-- router
+abbrev pub IsLongest : List Link → LinkValue → Type 0
+IsLongest all l =
+    list_any (is_longer_subnet l.iface.settings.address.0 (subnet_link l)) all ≡ false
+
+-- an interface that leads on: on a point-to-point link or on a transit network
+abbrev pub LeadsOn : List Link → LinkValue → Type 0
+LeadsOn all l = ((subnet : Prefix) × IsWired l subnet × IsLongest all l) ⊎ IsOnTransit l
+
+-- of all links of a router the change gives none of those that these interfaces make another cost
+abbrev pub AreSparedFrom : Change → List Link → List LinkValue → Type 0
+AreSparedFrom c all links =
+    AllByRecursion (λ l. gets_cost c all l ≡ false) (wanted_links false links)
+
+-- the cost of an interface changes, whose address the router has but once: it wants the links of
+-- before at the new cost
+abbrev pub CostsAreWanted : Type 0
+CostsAreWanted =
+    (router : RouterId) (front back : List LinkValue) (before after : LinkValue) →
+    HasOtherCost before after →
+    let all = wanted_links false (front ++ before ∷ back) in
+    let change = Cost router before.iface.settings.address after.settings.cost in
+    LeadsOn all before → AreSparedFrom change all front → AreSparedFrom change all back →
+    wanted_links false (front ++ after ∷ back) ≡ priced_links change router all
