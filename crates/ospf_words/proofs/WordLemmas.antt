@@ -1,5 +1,5 @@
 -- Texts that spell addresses.
-use Rattle.std.proofs.Common.{Any, Bool, true, false, ◌≡◌, ◌⊎◌, ◌∙◌, ◌+◌, ◌<◌, ◌^◌, ◌++◌, ℕ, suc, zero, List, [], ◌∷◌, Ok, Err, Result, IsErrAnd, IfErr, IfNone, IfOk, IfSome, Bor, map, take, length, drop, get_or, subst, refl, ap, ap₂, sym, Option, Some, None, Contains, option_map, unwrap_or, inl, inr, is_some, not, arith, codes, slice_index, slice_index_or, string_bytes}
+use Rattle.std.proofs.Common.{Any, Bool, true, false, ◌≡◌, ◌⊎◌, ◌∙◌, ◌+◌, ◌<◌, ◌^◌, ◌++◌, ℕ, suc, zero, List, [], ◌∷◌, Ok, Err, Result, IsErrAnd, IfErr, IfNone, IfOk, IfSome, Bor, map, take, length, drop, get_or, subst, refl, ap, ap₂, sym, Option, Some, None, Contains, option_map, unwrap_or, inl, inr, is_some, not, arith, codes, slice_index_or, string_bytes}
 use Rattle.std.proofs.lemmas.List.{map-append, take_more}
 use Rattle.std.proofs.lemmas.Option.{none-some}
 use Rattle.std.specs.Cmp.Lexicographic.{bytes_decides}
@@ -13,8 +13,8 @@ use Rattle.ospf_base.specs.Text.{IsDottedNumber, ReadsAddress, ReadsRouterId}
 use Rattle.ospf_base.specs.declared.ids.RouterId.{RouterId}
 use Rattle.ospf_base.specs.declared.ids.Addr.{Addr}
 use Rattle.ospf_words.specs.Job.{IsFaultOfNoValue, IsFaultOfValue, IsFaultOfWords}
-use Rattle.ospf_words.specs.Unasked.{HasForever, IsAllInJson, IsFirstWrong, IsForeverIn, IsJobIfAny, IsMoreInJson, IsMoreOfAll, IsNoAddress, IsNoJob, IsNoNumber, IsUnasked, IsUncounted, IsUnending, IsUnendingRun, IsWrongValue, LacksInPath, LacksInRun, LacksInSim}
-use Rattle.ospf_words.specs.Words.{AreChoices, IsFailuresForm, IsFlag, IsInspectJob, IsNumber, IsNumberIfAny, IsRunWith, IsTelling, Spell, command_app, endless_app, failures_form, lsas_asked, telling_of}
+use Rattle.ospf_words.specs.Unasked.{HasForever, IsFirstWrong, IsForeverIn, IsJobIfAny, IsNoAddress, IsNoJob, IsNoNumber, IsNoRouter, IsUnasked, IsUncounted, IsUnending, IsUnendingRun, IsWrongValue, LacksInRun, in_lsas, in_run}
+use Rattle.ospf_words.specs.Words.{AreChoices, HasChange, IsFailuresForm, IsFlag, IsInspectJob, IsNumber, IsNumberIfAny, IsRunWith, IsTelling, Spell, command_app, endless_app, failures_form, lsas_asked, telling_of, words_for}
 use Rattle.ospf_files.specs.declared.telling.Telling.TheVariants as telling
 use Rattle.ospf_failures.specs.declared.answer.FailuresForm.{FailuresForm}
 use Rattle.ospf_inspect.specs.declared.answer.Form.TheVariants as form
@@ -37,10 +37,6 @@ spell_suc (w ∷ words) zero d (b ∷ rest) a below spelled reads = absurd spell
 spell_suc (w ∷ words) (suc i) d [] a below spelled reads = absurd spelled
 spell_suc (w ∷ words) (suc i) d (b ∷ rest) a below spelled reads =
     (spelled.0, spell_suc words i d rest a (omega arith) spelled.1 reads)
-
--- what is asked for by a name, which is this one
-pub named : {A : Type 0} (f : List ℕ → A) (x : A) (m n : List ℕ) → m ≡ n → x ≡ f m → x ≡ f n
-named f x m n same is = is ∙ ap f same
 
 -- one more word, and its text
 pub more_texts : {S : Type 0} (text : S → List ℕ) (words : List (Bor (List ℕ))) (i : ℕ) (d : Bor (List ℕ)) (texts : List S) (t : S) → i < length words
@@ -90,10 +86,15 @@ pub second_half : {X Y : Type 0} (o : Option (X × Y)) (x : X) (y z : Y) → o �
 second_half {X} {Y} o x y z e h = ap (λ q. unwrap_or q z) (ap (option_map (λ (p : X × Y). p.1)) (sym e) ∙ h)
 
 -- the texts of the words, or none where there are no words
-pub texts_or_none : (words : Option (Bor (List (Bor (List ℕ))))) (none : Bor (List (Bor (List ℕ)))) → none.now ≡ []
+texts_or_none : (words : Option (Bor (List (Bor (List ℕ))))) (none : Bor (List (Bor (List ℕ)))) → none.now ≡ []
     → texts_of (unwrap_or words none).now ≡ unwrap_or (option_map (λ w. texts_of w.now) words) []
 texts_or_none (Some words) none is_empty = refl
 texts_or_none None none is_empty = ap texts_of is_empty
+
+-- the words that are found, as texts
+pub words_found : (words : Option (Bor (List (Bor (List ℕ))))) (none found : Bor (List (Bor (List ℕ)))) (texts : Option (List (List ℕ))) → none.now ≡ []
+    → found ≡ unwrap_or words none → option_map (λ w. texts_of w.now) words ≡ texts → texts_of found.now ≡ unwrap_or texts []
+words_found words none found texts is_empty is same = ap (λ a. texts_of a.now) is ∙ texts_or_none words none is_empty ∙ ap (λ o. unwrap_or o []) same
 
 -- where there are words there are texts of them
 pub some_texts : {S : Type 0} (text : S → List ℕ) (texts : List S) (words : List (Bor (List ℕ))) → map text texts ≡ texts_of words → (words ≡ [] → ⊥) → texts ≡ [] → ⊥
@@ -108,6 +109,26 @@ no_names (w ∷ words) some none = let e : w.now ∷ texts_of words ≡ [] = non
 pub some_words : (words : List (Bor (List ℕ))) → 0 < length words → texts_of words ≡ [] → ⊥
 some_words [] some none = omega (arith, some)
 some_words (w ∷ words) some none = let e : w.now ∷ texts_of words ≡ [] = none in cc
+
+-- ---- changes
+
+-- words that go down, that are costs, or that are drained, and their texts
+pub changed : (rows : List Row) (down costs drains : List (Bor (List ℕ))) → texts_of down ≡ words_for (codes "down") rows → texts_of costs ≡ words_for (codes "cost") rows
+    → texts_of drains ≡ words_for (codes "drain") rows → (down ≡ [] → ⊥) ⊎ (costs ≡ [] → ⊥) ⊎ (drains ≡ [] → ⊥) → HasChange rows
+changed rows down costs drains at_down at_costs at_drains some = elim some [
+  | inl h ↦ inl (λ none. no_names down h (at_down ∙ none))
+  | inr (inl h) ↦ inr (inl (λ none. no_names costs h (at_costs ∙ none)))
+  | inr (inr h) ↦ inr (inr (λ none. no_names drains h (at_drains ∙ none)))
+]
+
+-- and the other way round
+pub changing : (rows : List Row) (down costs drains : List (Bor (List ℕ))) → texts_of down ≡ words_for (codes "down") rows → texts_of costs ≡ words_for (codes "cost") rows
+    → texts_of drains ≡ words_for (codes "drain") rows → HasChange rows → (down ≡ [] → ⊥) ⊎ (costs ≡ [] → ⊥) ⊎ (drains ≡ [] → ⊥)
+changing rows down costs drains at_down at_costs at_drains change = elim change [
+  | inl h ↦ inl (λ none. h (sym at_down ∙ ap texts_of none))
+  | inr (inl h) ↦ inr (inl (λ none. h (sym at_costs ∙ ap texts_of none)))
+  | inr (inr h) ↦ inr (inr (λ none. h (sym at_drains ∙ ap texts_of none)))
+]
 
 -- ---- words that ask for no job
 
@@ -179,7 +200,11 @@ wrong_value rows root w is_root one first = inl (record { rows = rows; table = r
 
 -- what a run is to look up spells no address
 pub wrong_lookup : (rows : List Row) (w : List ℕ) → first_of (codes "lookup") rows ≡ Some w → IsNoAddress w → IsWrongValue (Some (codes "run", rows)) w
-wrong_lookup rows w has wrong = inr (inr (inr (record { rows = rows; run = refl; has_lookup = has; wrong = wrong })))
+wrong_lookup rows w has wrong = inr (inr (inr (inr (record { rows = rows; run = refl; has_lookup = has; wrong = wrong }))))
+
+-- the router whose tables are compared spells no Router ID
+pub wrong_compared : (rows : List Row) (w : List ℕ) → first_of (codes "root") rows ≡ Some w → IsNoRouter w → IsWrongValue (Some (codes "diff", rows)) w
+wrong_compared rows w has wrong = inr (inr (inr (inl (record { rows = rows; diff = refl; has_root = has; wrong = wrong }))))
 
 -- the first wrong word is the first wrong value of `path`
 wrong_end : (rows : List Row) (from to w : List ℕ) → first_of (codes "from") rows ≡ Some from → first_of (codes "address") rows ≡ Some to
@@ -215,59 +240,6 @@ wrong_failing_root rows root w has h = inr (inl (record {
 
 -- ---- words that make no job
 
--- the first letter of the command that is entered
-abbrev letter_of : Option (List ℕ × List Row) → ℕ
-letter_of entered = slice_index (unwrap_or (option_map (λ (p : List ℕ × List Row). p.0) entered) []) 0
-
-abbrev entered_of : List ℕ → List Row → Option (List ℕ × List Row)
-entered_of name rows = Some (name, rows)
-
--- no two commands have one first letter
-other : {A : Type 0} (m n : List ℕ) (rows others : List Row) → (slice_index m 0 ≡ slice_index n 0 → ⊥) → entered_of m rows ≡ entered_of n others → A
-other m n rows others apart same = absurd (apart (ap letter_of same))
-
-same_rows : (name : List ℕ) (rows others : List Row) → entered_of name rows ≡ entered_of name others → rows ≡ others
-same_rows name rows others same = ap (λ entered. unwrap_or (option_map (λ (p : List ℕ × List Row). p.1) entered) rows) same
-
--- why `table` makes no job
-abbrev NoTable : List Row → Type 0
-NoTable rows = (first_of (codes "root") rows ≡ None) ⊎ IsMoreInJson rows ⊎ IsMoreOfAll rows
-
-no_table_job : (rows : List Row) → NoTable rows → IsNoJob (Some (codes "table", rows))
-no_table_job rows is = record {
-  no_table = λ others same. subst NoTable (same_rows (codes "table") rows others same) is;
-  no_failures = λ others same. other (codes "table") (codes "failures") rows others (λ (e : 116 ≡ 102). omega (arith, e)) same;
-  no_lsas = λ others same. other (codes "table") (codes "lsas") rows others (λ (e : 116 ≡ 108). omega (arith, e)) same;
-  no_path = λ others same. other (codes "table") (codes "path") rows others (λ (e : 116 ≡ 112). omega (arith, e)) same;
-  no_check = λ others same. other (codes "table") (codes "check") rows others (λ (e : 116 ≡ 99). omega (arith, e)) same;
-  no_sim = λ others same. other (codes "table") (codes "sim") rows others (λ (e : 116 ≡ 115). omega (arith, e)) same;
-  no_run = λ others same. other (codes "table") (codes "run") rows others (λ (e : 116 ≡ 114). omega (arith, e)) same;
-}
-
--- `table` without a root
-pub no_root : (rows : List Row) → first_of (codes "root") rows ≡ None → IsNoJob (Some (codes "table", rows))
-no_root rows none = no_table_job rows (inl none)
-
--- a table as JSON, and more
-pub more_in_json : (rows : List Row) → IsMoreInJson rows → IsNoJob (Some (codes "table", rows))
-more_in_json rows is = no_table_job rows (inr (inl is))
-
--- all tables, and more
-pub more_of_all : (rows : List Row) → IsMoreOfAll rows → IsNoJob (Some (codes "table", rows))
-more_of_all rows is = no_table_job rows (inr (inr is))
-
--- both flags of `lsas`
-pub both_flags : (rows : List Row) → IsFlag (one_of (codes "dot") rows) true → IsFlag (one_of (codes "json") rows) true → IsNoJob (Some (codes "lsas", rows))
-both_flags rows drawn json = record {
-  no_table = λ others same. other (codes "lsas") (codes "table") rows others (λ (e : 108 ≡ 116). omega (arith, e)) same;
-  no_failures = λ others same. other (codes "lsas") (codes "failures") rows others (λ (e : 108 ≡ 102). omega (arith, e)) same;
-  no_lsas = λ others same. subst (λ rs. IsFlag (one_of (codes "dot") rs) true × IsFlag (one_of (codes "json") rs) true) (same_rows (codes "lsas") rows others same) (drawn, json);
-  no_path = λ others same. other (codes "lsas") (codes "path") rows others (λ (e : 108 ≡ 112). omega (arith, e)) same;
-  no_check = λ others same. other (codes "lsas") (codes "check") rows others (λ (e : 108 ≡ 99). omega (arith, e)) same;
-  no_sim = λ others same. other (codes "lsas") (codes "sim") rows others (λ (e : 108 ≡ 115). omega (arith, e)) same;
-  no_run = λ others same. other (codes "lsas") (codes "run") rows others (λ (e : 108 ≡ 114). omega (arith, e)) same;
-}
-
 -- and what one of them asks for
 pub is_asked : (rows : List Row) (drawn json : Bool) (asked : InspectJob) → IsFlag (one_of (codes "dot") rows) drawn → IsFlag (one_of (codes "json") rows) json
     → Some asked ≡ lsas_asked drawn json → IsInspectJob (Some (codes "lsas", rows)) asked
@@ -278,46 +250,10 @@ is_asked rows false false asked d j e = let same : Lsas form.Text ≡ asked = cc
 
 pub none_asked : (rows : List Row) (drawn json : Bool) → IsFlag (one_of (codes "dot") rows) drawn → IsFlag (one_of (codes "json") rows) json
     → None ≡ lsas_asked drawn json → IsNoJob (Some (codes "lsas", rows))
-none_asked rows true true d j e = both_flags rows d j
+none_asked rows true true d j e = in_lsas rows refl (d, j)
 none_asked rows true false d j e = absurd (none-some Drawing e)
 none_asked rows false true d j e = absurd (none-some (Lsas form.Json) e)
 none_asked rows false false d j e = absurd (none-some (Lsas form.Text) e)
-
--- `failures` without a root
-pub no_failing_root : (rows : List Row) → first_of (codes "root") rows ≡ None → IsNoJob (Some (codes "failures", rows))
-no_failing_root rows none = record {
-  no_table = λ others same. other (codes "failures") (codes "table") rows others (λ (e : 102 ≡ 116). omega (arith, e)) same;
-  no_failures = λ others same. ap (first_of (codes "root")) (sym (same_rows (codes "failures") rows others same)) ∙ none;
-  no_lsas = λ others same. other (codes "failures") (codes "lsas") rows others (λ (e : 102 ≡ 108). omega (arith, e)) same;
-  no_path = λ others same. other (codes "failures") (codes "path") rows others (λ (e : 102 ≡ 112). omega (arith, e)) same;
-  no_check = λ others same. other (codes "failures") (codes "check") rows others (λ (e : 102 ≡ 99). omega (arith, e)) same;
-  no_sim = λ others same. other (codes "failures") (codes "sim") rows others (λ (e : 102 ≡ 115). omega (arith, e)) same;
-  no_run = λ others same. other (codes "failures") (codes "run") rows others (λ (e : 102 ≡ 114). omega (arith, e)) same;
-}
-
--- `path` without one of its ends, or a choice
-pub no_way : (rows : List Row) → LacksInPath rows → IsNoJob (Some (codes "path", rows))
-no_way rows lacks = record {
-  no_table = λ others same. other (codes "path") (codes "table") rows others (λ (e : 112 ≡ 116). omega (arith, e)) same;
-  no_failures = λ others same. other (codes "path") (codes "failures") rows others (λ (e : 112 ≡ 102). omega (arith, e)) same;
-  no_lsas = λ others same. other (codes "path") (codes "lsas") rows others (λ (e : 112 ≡ 108). omega (arith, e)) same;
-  no_path = λ others same. subst LacksInPath (same_rows (codes "path") rows others same) lacks;
-  no_check = λ others same. other (codes "path") (codes "check") rows others (λ (e : 112 ≡ 99). omega (arith, e)) same;
-  no_sim = λ others same. other (codes "path") (codes "sim") rows others (λ (e : 112 ≡ 115). omega (arith, e)) same;
-  no_run = λ others same. other (codes "path") (codes "run") rows others (λ (e : 112 ≡ 114). omega (arith, e)) same;
-}
-
--- `check` without files, or with both flags
-pub no_check_job : (rows : List Row) → (all_of (codes "files") rows ≡ None) ⊎ IsAllInJson rows → IsNoJob (Some (codes "check", rows))
-no_check_job rows none = record {
-  no_table = λ others same. other (codes "check") (codes "table") rows others (λ (e : 99 ≡ 116). omega (arith, e)) same;
-  no_failures = λ others same. other (codes "check") (codes "failures") rows others (λ (e : 99 ≡ 102). omega (arith, e)) same;
-  no_lsas = λ others same. other (codes "check") (codes "lsas") rows others (λ (e : 99 ≡ 108). omega (arith, e)) same;
-  no_path = λ others same. other (codes "check") (codes "path") rows others (λ (e : 99 ≡ 112). omega (arith, e)) same;
-  no_check = λ others same. subst (λ rs. (all_of (codes "files") rs ≡ None) ⊎ IsAllInJson rs) (same_rows (codes "check") rows others same) none;
-  no_sim = λ others same. other (codes "check") (codes "sim") rows others (λ (e : 99 ≡ 115). omega (arith, e)) same;
-  no_run = λ others same. other (codes "check") (codes "run") rows others (λ (e : 99 ≡ 114). omega (arith, e)) same;
-}
 
 -- how much the flags of `check` ask for
 pub is_telling : (rows : List Row) (explain all : Bool) → IsFlag (one_of (codes "explain") rows) explain → IsFlag (one_of (codes "all") rows) all
@@ -345,39 +281,11 @@ pub no_text : {T : Type 0} (text : T → List ℕ) (log : Option T) (found : Opt
 no_text text None found none known is same = sym same
 no_text text (Some x) found none known is same = absurd (let wrong : true ≡ false = known ∙ ap not is in cc)
 
--- `sim` without a script, without files, or without the journal that is to be JSON
-pub no_simulation : (rows : List Row) → LacksInSim rows → IsNoJob (Some (codes "sim", rows))
-no_simulation rows lacks = record {
-  no_table = λ others same. other (codes "sim") (codes "table") rows others (λ (e : 115 ≡ 116). omega (arith, e)) same;
-  no_failures = λ others same. other (codes "sim") (codes "failures") rows others (λ (e : 115 ≡ 102). omega (arith, e)) same;
-  no_lsas = λ others same. other (codes "sim") (codes "lsas") rows others (λ (e : 115 ≡ 108). omega (arith, e)) same;
-  no_path = λ others same. other (codes "sim") (codes "path") rows others (λ (e : 115 ≡ 112). omega (arith, e)) same;
-  no_check = λ others same. other (codes "sim") (codes "check") rows others (λ (e : 115 ≡ 99). omega (arith, e)) same;
-  no_sim = λ others same. subst LacksInSim (same_rows (codes "sim") rows others same) lacks;
-  no_run = λ others same. other (codes "sim") (codes "run") rows others (λ (e : 115 ≡ 114). omega (arith, e)) same;
-}
-
--- what `run` wants: its ticks, and more
-abbrev RunWants : List Row → Type 0
-RunWants rows = IsNoNumber (one_of (codes "ticks") rows) ⊎ LacksInRun rows
-
--- `run` without one of them
-pub no_running : (rows : List Row) → RunWants rows → IsNoJob (Some (codes "run", rows))
-no_running rows none = record {
-  no_table = λ others same. other (codes "run") (codes "table") rows others (λ (e : 114 ≡ 116). omega (arith, e)) same;
-  no_failures = λ others same. other (codes "run") (codes "failures") rows others (λ (e : 114 ≡ 102). omega (arith, e)) same;
-  no_lsas = λ others same. other (codes "run") (codes "lsas") rows others (λ (e : 114 ≡ 108). omega (arith, e)) same;
-  no_path = λ others same. other (codes "run") (codes "path") rows others (λ (e : 114 ≡ 112). omega (arith, e)) same;
-  no_check = λ others same. other (codes "run") (codes "check") rows others (λ (e : 114 ≡ 99). omega (arith, e)) same;
-  no_sim = λ others same. other (codes "run") (codes "sim") rows others (λ (e : 114 ≡ 115). omega (arith, e)) same;
-  no_run = λ others same. subst RunWants (same_rows (codes "run") rows others same) none;
-}
-
 -- what `run` reads behind its ticks
 pub run_read : (rows : List Row) (ticks : Option ℕ) (r : Result (Option Job) JobFault) → IfOk r (λ found. IfSome found (IsRunWith rows ticks))
     → IfOk r (λ found. IfNone found (LacksInRun rows)) → IfOk r (IsJobIfAny (Some (codes "run", rows)))
 run_read rows ticks (Err f) some none = tt
-run_read rows ticks (Ok None) some none = no_running rows (inr none)
+run_read rows ticks (Ok None) some none = in_run rows refl (inr none)
 run_read rows ticks (Ok (Some (job.Run r))) some none = (rows, refl, some.0)
 run_read rows ticks (Ok (Some j)) some none = absurd some
 

@@ -1,18 +1,24 @@
 -- Why the program's words ask for no job.
-use Rattle.std.specs.Prelude.{◌≡◌, ◌≢◌, true, ◌<◌, ◌^◌, ◌⊎◌, ℕ, List, [], ◌∷◌, ◌++◌, Option, Some, None, Any, Contains, ⊤, codes, unwrap_or, string_bytes}
+use Rattle.std.specs.Prelude.{◌≡◌, ◌≢◌, true, ◌<◌, ◌^◌, ◌⊎◌, ℕ, List, [], ◌∷◌, ◌++◌, Option, Some, None, Any, Contains, ⊤, codes, string_bytes}
 use Rattle.ospf_base.specs.Text.{IsDottedNumber}
 use Rattle.ospf_base.specs.declared.ids.Addr.{Addr}
+use Rattle.ospf_base.specs.declared.ids.RouterId.{RouterId}
 use Rattle.clap.specs.Kinds.{IsAmong}
 use Rattle.clap.specs.Words.{Row, Text, all_of, first_of, kind_of, one_of, subcommand_of}
 use Rattle.clap.specs.Faults.{fault_of}
+use Rattle.ospf_whatif.specs.declared.carrier.Carrier.{Carrier}
 use Rattle.ospf_words.specs.declared.jobs.Job.{Job}
 use Rattle.ospf_words.specs.declared.jobs.JobFault.{JobFault}
 use Rattle.ospf_words.specs.declared.jobs.JobFault.TheVariants as fault
-use Rattle.ospf_words.specs.Words.{HasTicks, IsFlag, IsJobOf, IsNumber, Spell, command_app, endless_app}
+use Rattle.ospf_words.specs.Words.{HasChange, HasTicks, IsCarrier, IsFlag, IsJobOf, IsNumber, Spell, command_app, endless_app, words_for}
 
 -- the text spells no address
 abbrev pub IsNoAddress : Text → Type 0
 IsNoAddress text = (address : Addr) → IsDottedNumber text address.0 → ⊥
+
+-- the text spells no Router ID
+abbrev pub IsNoRouter : Text → Type 0
+IsNoRouter text = (router : RouterId) → IsDottedNumber text router.0 → ⊥
 
 -- this text spells no address, and each before it spells one
 pub record IsFirstWrong (texts : List Text) (word : Text) : Type 0 where
@@ -30,7 +36,7 @@ pub record IsWrongInTable (entered : Option (Text × List Row)) (word : Text) : 
   pub root : Text
   pub has_root : first_of (codes "root") rows ≡ Some root
   pub one : root ≢ codes "all"
-  pub first : IsFirstWrong (root ∷ unwrap_or (all_of (codes "addresses") rows) []) word
+  pub first : IsFirstWrong (root ∷ words_for (codes "addresses") rows) word
 
 -- the root after `failures` spells no address
 pub record IsWrongInFailures (entered : Option (Text × List Row)) (word : Text) : Type 0 where
@@ -49,6 +55,13 @@ pub record IsWrongInPath (entered : Option (Text × List Row)) (word : Text) : T
   pub has_address : first_of (codes "address") rows ≡ Some address
   pub first : IsFirstWrong (from ∷ address ∷ []) word
 
+-- the router whose tables `diff` compares is no Router ID
+pub record IsWrongInDiff (entered : Option (Text × List Row)) (word : Text) : Type 0 where
+  pub rows : List Row
+  pub diff : entered ≡ Some (codes "diff", rows)
+  pub has_root : first_of (codes "root") rows ≡ Some word
+  pub wrong : IsNoRouter word
+
 -- the lookup of a run is not an address
 pub record IsWrongInRun (entered : Option (Text × List Row)) (word : Text) : Type 0 where
   pub rows : List Row
@@ -60,7 +73,7 @@ pub record IsWrongInRun (entered : Option (Text × List Row)) (word : Text) : Ty
 abbrev pub IsWrongValue : Option (Text × List Row) → Text → Type 0
 IsWrongValue entered word =
     IsWrongInTable entered word ⊎ IsWrongInFailures entered word ⊎ IsWrongInPath entered word
-    ⊎ IsWrongInRun entered word
+    ⊎ IsWrongInDiff entered word ⊎ IsWrongInRun entered word
 
 -- there is no text that is read as a number of 64 bits
 abbrev pub IsNoNumber : Option Text → Type 0
@@ -72,11 +85,20 @@ HasNoChoice texts =
     (text : Text) × Contains texts text
     × ((number : ℕ) → IsNumber text number → number < 2 ^ 32 → ⊥)
 
+-- the word is that of no carrier
+abbrev pub IsNoCarrier : Option Text → Type 0
+IsNoCarrier text = (carrier : Carrier) → IsCarrier text carrier → ⊥
+
+-- what `failures` lacks: a root, or a carrier by its word
+abbrev pub LacksInFailures : List Row → Type 0
+LacksInFailures rows =
+    (first_of (codes "root") rows ≡ None) ⊎ IsNoCarrier (first_of (codes "carrier") rows)
+
 -- what `path` lacks: one of its ends, or a choice
 abbrev pub LacksInPath : List Row → Type 0
 LacksInPath rows =
     (first_of (codes "from") rows ≡ None) ⊎ (first_of (codes "address") rows ≡ None)
-    ⊎ HasNoChoice (unwrap_or (all_of (codes "choices") rows) [])
+    ⊎ HasNoChoice (words_for (codes "choices") rows)
 
 -- the lines of a journal are wanted as JSON, and there is no journal
 abbrev pub IsJsonAlone : List Row → Type 0
@@ -95,11 +117,23 @@ LacksInSim rows =
     (first_of (codes "script") rows ≡ None) ⊎ (all_of (codes "files") rows ≡ None)
     ⊎ IsJsonAlone rows
 
+-- both files of `diff` are standard input
+abbrev pub AreBothInput : List Row → Type 0
+AreBothInput rows =
+    (first_of (codes "before") rows ≡ Some (codes "-"))
+    × (first_of (codes "after") rows ≡ Some (codes "-"))
+
+-- what `diff` lacks: a file, or another file than standard input
+abbrev pub LacksInDiff : List Row → Type 0
+LacksInDiff rows =
+    (first_of (codes "before") rows ≡ None) ⊎ (first_of (codes "after") rows ≡ None)
+    ⊎ AreBothInput rows
+
 -- a table is wanted with lookups or with parts left out
 abbrev pub IsMoreInTable : List Row → Type 0
 IsMoreInTable rows =
-    (unwrap_or (all_of (codes "addresses") rows) [] ≢ [])
-    ⊎ (unwrap_or (all_of (codes "without") rows) [] ≢ [])
+    (words_for (codes "addresses") rows ≢ [])
+    ⊎ (words_for (codes "without") rows ≢ [])
 
 -- a table is wanted as JSON, and also lookups or parts left out
 abbrev pub IsMoreInJson : List Row → Type 0
@@ -114,23 +148,53 @@ abbrev pub IsAllInJson : List Row → Type 0
 IsAllInJson rows =
     IsFlag (one_of (codes "all") rows) true × IsFlag (one_of (codes "json") rows) true
 
--- what the words enter is no `table` with a root, but one with `--json` or `all` and more, no
--- `failures` with a root, no `lsas` but one with both flags, no `path` with both ends and
--- choices, no `check` with files but one with `--all` and `--json`, no `sim` with both but one
--- with `--json` and no journal, and no `run` with numbers and files but such a one
-pub record IsNoJob (entered : Option (Text × List Row)) : Type 0 where
-  pub no_table : (rows : List Row) → entered ≡ Some (codes "table", rows)
-      → (first_of (codes "root") rows ≡ None) ⊎ IsMoreInJson rows ⊎ IsMoreOfAll rows
-  pub no_failures : (rows : List Row) → entered ≡ Some (codes "failures", rows)
-      → first_of (codes "root") rows ≡ None
-  pub no_lsas : (rows : List Row) → entered ≡ Some (codes "lsas", rows)
-      → IsFlag (one_of (codes "dot") rows) true × IsFlag (one_of (codes "json") rows) true
-  pub no_path : (rows : List Row) → entered ≡ Some (codes "path", rows) → LacksInPath rows
-  pub no_check : (rows : List Row) → entered ≡ Some (codes "check", rows)
-      → (all_of (codes "files") rows ≡ None) ⊎ IsAllInJson rows
-  pub no_sim : (rows : List Row) → entered ≡ Some (codes "sim", rows) → LacksInSim rows
-  pub no_run : (rows : List Row) → entered ≡ Some (codes "run", rows)
-      → IsNoNumber (one_of (codes "ticks") rows) ⊎ LacksInRun rows
+-- why `table` asks for nothing: it has no root, or `--json` or `all` and more
+abbrev pub LacksInTable : List Row → Type 0
+LacksInTable rows =
+    (first_of (codes "root") rows ≡ None) ⊎ IsMoreInJson rows ⊎ IsMoreOfAll rows
+
+-- `lsas` has both its flags
+abbrev pub AreBothForms : List Row → Type 0
+AreBothForms rows =
+    IsFlag (one_of (codes "dot") rows) true × IsFlag (one_of (codes "json") rows) true
+
+-- why `check` asks for nothing: it has no files, or all faults as JSON
+abbrev pub LacksInCheck : List Row → Type 0
+LacksInCheck rows = (all_of (codes "files") rows ≡ None) ⊎ IsAllInJson rows
+
+-- the words enter none of the commands
+pub record IsNoCommand (entered : Option (Text × List Row)) : Type 0 where
+  pub no_table : (rows : List Row) → entered ≢ Some (codes "table", rows)
+  pub no_failures : (rows : List Row) → entered ≢ Some (codes "failures", rows)
+  pub no_lsas : (rows : List Row) → entered ≢ Some (codes "lsas", rows)
+  pub no_path : (rows : List Row) → entered ≢ Some (codes "path", rows)
+  pub no_edit : (rows : List Row) → entered ≢ Some (codes "edit", rows)
+  pub no_diff : (rows : List Row) → entered ≢ Some (codes "diff", rows)
+  pub no_check : (rows : List Row) → entered ≢ Some (codes "check", rows)
+  pub no_sim : (rows : List Row) → entered ≢ Some (codes "sim", rows)
+  pub no_run : (rows : List Row) → entered ≢ Some (codes "run", rows)
+
+-- why the words ask for nothing: the command that they enter lacks something, or they enter none
+pub data IsNoJob (entered : Option (Text × List Row)) : Type 0 where
+  in_table : (rows : List Row) → entered ≡ Some (codes "table", rows) → LacksInTable rows
+      → IsNoJob entered
+  in_failures : (rows : List Row) → entered ≡ Some (codes "failures", rows)
+      → LacksInFailures rows → IsNoJob entered
+  in_lsas : (rows : List Row) → entered ≡ Some (codes "lsas", rows) → AreBothForms rows
+      → IsNoJob entered
+  in_path : (rows : List Row) → entered ≡ Some (codes "path", rows) → LacksInPath rows
+      → IsNoJob entered
+  in_edit : (rows : List Row) → entered ≡ Some (codes "edit", rows) → (HasChange rows → ⊥)
+      → IsNoJob entered
+  in_diff : (rows : List Row) → entered ≡ Some (codes "diff", rows) → LacksInDiff rows
+      → IsNoJob entered
+  in_check : (rows : List Row) → entered ≡ Some (codes "check", rows) → LacksInCheck rows
+      → IsNoJob entered
+  in_sim : (rows : List Row) → entered ≡ Some (codes "sim", rows) → LacksInSim rows
+      → IsNoJob entered
+  in_run : (rows : List Row) → entered ≡ Some (codes "run", rows)
+      → IsNoNumber (one_of (codes "ticks") rows) ⊎ LacksInRun rows → IsNoJob entered
+  in_none : IsNoCommand entered → IsNoJob entered
 
 -- the job, or none where there is none
 abbrev pub IsJobIfAny : Option (Text × List Row) → Option Job → Type 0

@@ -10,9 +10,13 @@ use Rattle.clap.specs.Words.{App, Row, Rule, Text, all_of, first_of, one_of, new
 use Rattle.clap.specs.declared.builder.action.ArgAction.TheVariants.{Append, SetTrue}
 use Rattle.clap.specs.declared.builder.value_parser.ValueParser.TheVariants.{Unsigned}
 use Rattle.ospf_words.specs.declared.jobs.CheckJob.{CheckJob}
+use Rattle.ospf_words.specs.declared.jobs.DiffWords.{DiffWords}
+use Rattle.ospf_words.specs.declared.jobs.EditWords.{EditWords}
 use Rattle.ospf_base.specs.declared.ids.RouterId.{RouterId}
 use Rattle.ospf_files.specs.declared.telling.Telling.{Telling}
 use Rattle.ospf_files.specs.declared.telling.Telling.TheVariants as telling
+use Rattle.ospf_whatif.specs.declared.carrier.Carrier.{Carrier}
+use Rattle.ospf_whatif.specs.declared.carrier.Carrier.TheVariants as carrier
 use Rattle.ospf_failures.specs.declared.answer.FailuresForm.{FailuresForm}
 use Rattle.ospf_failures.specs.declared.answer.FailuresForm.TheVariants as told
 use Rattle.ospf_failures.specs.declared.answer.FailuresJob.{FailuresJob}
@@ -43,11 +47,14 @@ addresses_rule = record (new_rule (codes "addresses")) {
   value_names = 1;
 }
 
--- an option that may be given more than once, with a word each time
-abbrev pub without_rule : Rule
-without_rule =
-    record (new_rule (codes "without"))
-    { long = Some (codes "without"); action = Some Append; value_names = 1 }
+-- an option of this name that may be given more than once, with a word each time
+abbrev pub repeated_rule : Text → Rule
+repeated_rule name =
+    record (new_rule name) { long = Some name; action = Some Append; value_names = 1 }
+
+-- an option of this name, with a word
+abbrev pub option_rule : Text → Rule
+option_rule name = record (new_rule name) { long = Some name; value_names = 1 }
 
 -- a flag of this name
 abbrev pub flag_rule : Text → Rule
@@ -59,7 +66,7 @@ table_app =
     with_rule (with_rule (with_rule (with_rule (new_app (codes "table"))
     root_rule)
     addresses_rule)
-    without_rule)
+    (repeated_rule (codes "without")))
     (flag_rule (codes "json"))
 
 -- one word or more
@@ -81,14 +88,15 @@ check_app =
     (flag_rule (codes "json")))
     files_rule
 
--- the command `failures`: a root, and three flags
+-- the command `failures`: a root, three flags, and what carries the links
 abbrev pub failures_app : App
 failures_app =
-    with_rule (with_rule (with_rule (with_rule (new_app (codes "failures"))
+    with_rule (with_rule (with_rule (with_rule (with_rule (new_app (codes "failures"))
     root_rule)
     (flag_rule (codes "each")))
     (flag_rule (codes "strict")))
-    (flag_rule (codes "json"))
+    (flag_rule (codes "json")))
+    (option_rule (codes "carrier"))
 
 -- the word for the file of a script
 abbrev pub script_rule : Rule
@@ -117,9 +125,21 @@ path_app =
     (one_rule (codes "address")))
     choices_rule
 
--- an option of this name, with a word
-abbrev pub option_rule : Text → Rule
-option_rule name = record (new_rule name) { long = Some name; value_names = 1 }
+-- the command `edit`: what goes down, new costs, and routers to drain
+abbrev pub edit_app : App
+edit_app =
+    with_rule (with_rule (with_rule (new_app (codes "edit"))
+    (repeated_rule (codes "down")))
+    (repeated_rule (codes "cost")))
+    (repeated_rule (codes "drain"))
+
+-- the command `diff`: two files, and a router
+abbrev pub diff_app : App
+diff_app =
+    with_rule (with_rule (with_rule (new_app (codes "diff"))
+    (one_rule (codes "before")))
+    (one_rule (codes "after")))
+    (option_rule (codes "root"))
 
 -- the command `sim`: a script, files, the options of what to write, and whether refused lines count
 abbrev pub sim_app : App
@@ -181,12 +201,14 @@ ospfd_app = record (new_app (codes "ospfd")) {
 -- the program and its commands, where the ticks of a run are of this rule
 abbrev pub app_with : Rule → App
 app_with ticks =
-    with_subcommand (with_subcommand (with_subcommand
+    with_subcommand (with_subcommand (with_subcommand (with_subcommand (with_subcommand
     (with_subcommand (with_subcommand (with_subcommand (with_subcommand ospfd_app
     table_app.top)
     failures_app.top)
     lsas_app.top)
     path_app.top)
+    edit_app.top)
+    diff_app.top)
     check_app.top)
     sim_app.top)
     (run_app ticks).top
@@ -211,13 +233,29 @@ pub record IsFlag (text : Option Text) (given : Bool) : Type 0 where
   pub set : text ≡ Some (codes "true") → given ≡ true
   pub unset : text ≡ Some (codes "false") → given ≡ false
 
+-- the words that `clap` reads for an option or an argument, of all its uses
+abbrev pub words_for : Text → List Row → List Text
+words_for name rows = unwrap_or (all_of name rows) []
+
+-- the words of `edit` have a change
+abbrev pub HasChange : List Row → Type 0
+HasChange rows =
+    (words_for (codes "down") rows ≢ []) ⊎ (words_for (codes "cost") rows ≢ [])
+    ⊎ (words_for (codes "drain") rows ≢ [])
+
+-- the router that a text spells, if there is one
+abbrev pub IsRouterIfAny : Option Text → Option RouterId → Type 0
+IsRouterIfAny (Some text) (Some router) = ReadsRouterId text (Ok router)
+IsRouterIfAny None None = ⊤
+IsRouterIfAny _ _ = ⊥
+
 -- the root and the addresses that `clap` reads after `table`, if nothing is left out
 pub record IsTableJob (rows : List Row) (t : TableJob) : Type 0 where
   pub text : Text
   pub has_root : first_of (codes "root") rows ≡ Some text
   pub root : ReadsRouterId text (Ok t.root)
-  pub addresses : Spell (unwrap_or (all_of (codes "addresses") rows) []) t.addresses.items
-  pub whole : unwrap_or (all_of (codes "without") rows) [] ≡ []
+  pub addresses : Spell (words_for (codes "addresses") rows) t.addresses.items
+  pub whole : words_for (codes "without") rows ≡ []
   pub plain : IsFlag (one_of (codes "json") rows) false
 
 -- the root and the addresses that `clap` reads after `table`, and the names of what is left out
@@ -226,8 +264,8 @@ pub record IsWithoutJob (rows : List Row) (root : RouterId) (names : List (Strin
   pub text : Text
   pub has_root : first_of (codes "root") rows ≡ Some text
   pub root_is : ReadsRouterId text (Ok root)
-  pub addresses_are : Spell (unwrap_or (all_of (codes "addresses") rows) []) addresses
-  pub names_are : map string_bytes names ≡ unwrap_or (all_of (codes "without") rows) []
+  pub addresses_are : Spell (words_for (codes "addresses") rows) addresses
+  pub names_are : map string_bytes names ≡ words_for (codes "without") rows
   pub some : names ≢ []
   pub plain : IsFlag (one_of (codes "json") rows) false
 
@@ -237,8 +275,8 @@ pub record IsTableInJson (rows : List Row) (root : RouterId) : Type 0 where
   pub text : Text
   pub has_root : first_of (codes "root") rows ≡ Some text
   pub root_is : ReadsRouterId text (Ok root)
-  pub alone : unwrap_or (all_of (codes "addresses") rows) [] ≡ []
-  pub whole : unwrap_or (all_of (codes "without") rows) [] ≡ []
+  pub alone : words_for (codes "addresses") rows ≡ []
+  pub whole : words_for (codes "without") rows ≡ []
   pub json : IsFlag (one_of (codes "json") rows) true
 
 -- the form in which it is printed
@@ -256,31 +294,42 @@ abbrev pub failures_form : Bool → FailuresForm
 failures_form true = told.Json
 failures_form false = told.Text
 
--- the root that `clap` reads after `failures`, and the flags
+-- what carries the links, by its word: any carrier, of which a process alone fails, where no word
+-- is given
+abbrev pub IsCarrier : Option Text → Carrier → Type 0
+IsCarrier text carrier.Direct = text ≡ Some (codes "direct")
+IsCarrier text carrier.Switch = text ≡ Some (codes "switch")
+IsCarrier text carrier.Process = (text ≡ Some (codes "process")) ⊎ (text ≡ None)
+
+-- the root that `clap` reads after `failures`, the flags, and what carries the links
 pub record IsRootJob (rows : List Row) (root : RouterId) (each strict : Bool) (f : FailuresForm)
-    : Type 0 where
+    (carrier : Carrier) : Type 0 where
   pub text : Text
   pub has_root : first_of (codes "root") rows ≡ Some text
   pub root_is : ReadsRouterId text (Ok root)
   pub each_is : IsFlag (one_of (codes "each") rows) each
   pub strict_is : IsFlag (one_of (codes "strict") rows) strict
   pub form_is : IsFailuresForm (one_of (codes "json") rows) f
+  pub carrier_is : IsCarrier (first_of (codes "carrier") rows) carrier
 
--- the flags that `clap` reads after `failures`, and `all` as its root
-pub record IsAllJob (rows : List Row) (each strict : Bool) (f : FailuresForm) : Type 0 where
+-- the same with `all` as its root
+pub record IsAllJob (rows : List Row) (each strict : Bool) (f : FailuresForm) (carrier : Carrier)
+    : Type 0 where
   pub has_all : first_of (codes "root") rows ≡ Some (codes "all")
   pub each_is : IsFlag (one_of (codes "each") rows) each
   pub strict_is : IsFlag (one_of (codes "strict") rows) strict
   pub form_is : IsFailuresForm (one_of (codes "json") rows) f
+  pub carrier_is : IsCarrier (first_of (codes "carrier") rows) carrier
 
 -- what is asked of failures: by `failures` at a root, or with `all` as its root at all routers, and
 -- by `table` the table without what is named
 abbrev pub IsFailuresJob : Option (Text × List Row) → FailuresJob → Type 0
-IsFailuresJob entered (Root root each strict f) =
+IsFailuresJob entered (Root root each strict f carrier) =
     (rows : List Row) × (entered ≡ Some (codes "failures", rows))
-    × IsRootJob rows root each strict f
-IsFailuresJob entered (All each strict f) =
-    (rows : List Row) × (entered ≡ Some (codes "failures", rows)) × IsAllJob rows each strict f
+    × IsRootJob rows root each strict f carrier
+IsFailuresJob entered (All each strict f carrier) =
+    (rows : List Row) × (entered ≡ Some (codes "failures", rows))
+    × IsAllJob rows each strict f carrier
 IsFailuresJob entered (Without root names addresses) =
     (rows : List Row) × (entered ≡ Some (codes "table", rows))
     × IsWithoutJob rows root (vec_items names) (vec_items addresses)
@@ -306,7 +355,7 @@ pub record IsPathJob (rows : List Row) (from : RouterId) (address : Addr) (choic
   pub address_text : Text
   pub has_address : first_of (codes "address") rows ≡ Some address_text
   pub address_is : ReadsAddress address_text (Ok address)
-  pub choices_are : AreChoices (unwrap_or (all_of (codes "choices") rows) []) choices
+  pub choices_are : AreChoices (words_for (codes "choices") rows) choices
 
 -- what is printed about LSAs: by `lsas` each in words, or with its flags as a drawing or as JSON;
 -- by `table` with `all` as its root, no addresses and nothing left out, all tables, or with its
@@ -321,13 +370,29 @@ IsInspectJob entered Drawing =
 IsInspectJob entered (Tables f) =
     (rows : List Row) × (entered ≡ Some (codes "table", rows))
     × (first_of (codes "root") rows ≡ Some (codes "all"))
-    × (unwrap_or (all_of (codes "addresses") rows) [] ≡ [])
-    × (unwrap_or (all_of (codes "without") rows) [] ≡ []) × IsForm (one_of (codes "json") rows) f
+    × (words_for (codes "addresses") rows ≡ [])
+    × (words_for (codes "without") rows ≡ []) × IsForm (one_of (codes "json") rows) f
 IsInspectJob entered (Table root) =
     (rows : List Row) × (entered ≡ Some (codes "table", rows)) × IsTableInJson rows root
 IsInspectJob entered (Path from address choices) =
     (rows : List Row) × (entered ≡ Some (codes "path", rows))
     × IsPathJob rows from address (vec_items choices)
+
+-- what goes down, the new costs and the routers to drain that `clap` reads after `edit`: there is
+-- one change at least
+pub record IsEditJob (rows : List Row) (e : EditWords) : Type 0 where
+  pub down : map string_bytes e.down.items ≡ words_for (codes "down") rows
+  pub costs : map string_bytes e.costs.items ≡ words_for (codes "cost") rows
+  pub drains : map string_bytes e.drains.items ≡ words_for (codes "drain") rows
+  pub some : HasChange rows
+
+-- the two files and the router that `clap` reads after `diff`; one of the files at most is standard
+-- input
+pub record IsDiffJob (rows : List Row) (d : DiffWords) : Type 0 where
+  pub has_before : first_of (codes "before") rows ≡ Some (string_bytes d.before)
+  pub has_after : first_of (codes "after") rows ≡ Some (string_bytes d.after)
+  pub apart : string_bytes d.before ≡ codes "-" → string_bytes d.after ≢ codes "-"
+  pub root : IsRouterIfAny (first_of (codes "root") rows) d.root
 
 -- what `lsas` is asked for by its flags, of which one at the most is given
 abbrev pub lsas_asked : Bool → Bool → Option InspectJob
@@ -430,6 +495,10 @@ IsJobOf entered (job.Failures f) = IsFailuresJob entered f
 IsJobOf entered (job.Inspect i) = IsInspectJob entered i
 IsJobOf entered (job.Check c) =
     (rows : List Row) × (entered ≡ Some (codes "check", rows)) × IsCheckJob rows c
+IsJobOf entered (job.Edit e) =
+    (rows : List Row) × (entered ≡ Some (codes "edit", rows)) × IsEditJob rows e
+IsJobOf entered (job.Diff d) =
+    (rows : List Row) × (entered ≡ Some (codes "diff", rows)) × IsDiffJob rows d
 IsJobOf entered (job.Sim s) =
     (rows : List Row) × (entered ≡ Some (codes "sim", rows)) × IsSimJob rows s
 IsJobOf entered (job.Run r) =

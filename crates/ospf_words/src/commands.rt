@@ -2,11 +2,12 @@
 
 ghost use Rattle.std.specs.Prelude.{◌≡◌, false, codes, Ok, IfOk};
 ghost use Rattle.clap.specs.Words.{app_of, rule_of, with_subcommand};
-ghost use Rattle.ospf_words.specs.Words.{addresses_rule, check_app, choices_rule, failures_app, files_rule, flag_rule, lsas_app, one_rule, option_rule, ospfd_app, path_app, root_rule, run_app, script_rule, sim_app, table_app, tick_rule, ticks_rule, without_rule, app_with, every_rule};
+ghost use Rattle.ospf_words.specs.Words.{addresses_rule, check_app, choices_rule, diff_app, edit_app, failures_app, files_rule, flag_rule, lsas_app, one_rule, option_rule, ospfd_app, path_app, repeated_rule, root_rule, run_app, script_rule, sim_app, table_app, tick_rule, ticks_rule, app_with, every_rule};
 
 use crate::build::VERSION;
 use crate::help::{
-    CHECK_HELP, FAILURES_HELP, HELP, LSAS_HELP, PATH_HELP, RUN_HELP, SIM_HELP, TABLE_HELP,
+    CHECK_HELP, DIFF_HELP, EDIT_HELP, FAILURES_HELP, HELP, LSAS_HELP, PATH_HELP, RUN_HELP,
+    SIM_HELP, TABLE_HELP,
 };
 use clap::builder::ValueParser;
 use clap::{Arg, ArgAction, Command};
@@ -32,6 +33,8 @@ pub(crate) fn command<'a>(alloc: Global, ticks: Arg<'a>) -> Result<Command<'a>, 
     let program = with_failures(program, alloc)?;
     let program = with_lsas(program, alloc)?;
     let program = with_path(program, alloc)?;
+    let program = with_edit(program, alloc)?;
+    let program = with_diff(program, alloc)?;
     let program = with_check(program, alloc)?;
     let program = with_sim(program, alloc)?;
     with_run(program, ticks, alloc)
@@ -90,7 +93,7 @@ fn addresses_arg<'a>(alloc: Global) -> Arg<'a>
 
 // The parts of the area that are left out.
 fn without_arg<'a>(alloc: Global) -> Arg<'a>
-    ensures rule { rule_of result ≡ without_rule }
+    ensures rule { rule_of result ≡ repeated_rule (codes "without") }
     ensures local { result.global ≡ false }
 {
     Arg::new(alloc, "without")
@@ -122,7 +125,8 @@ fn with_failures<'a>(program: Command<'a>, alloc: Global) -> Result<Command<'a>,
         .arg(root_arg(alloc))?
         .arg(each_arg(alloc))?
         .arg(strict_arg(alloc))?
-        .arg(value_arg(alloc))?;
+        .arg(value_arg(alloc))?
+        .arg(carrier_arg(alloc))?;
     program.subcommand(failures)
 }
 
@@ -146,6 +150,17 @@ fn strict_arg<'a>(alloc: Global) -> Arg<'a>
         .long("strict")
         .action(ArgAction::SetTrue)
         .help("Exits with status 1 if a failure cuts off a prefix, or ROOT has no router-LSA")
+}
+
+// What carries the links.
+fn carrier_arg<'a>(alloc: Global) -> Arg<'a>
+    ensures rule { rule_of result ≡ option_rule (codes "carrier") }
+    ensures local { result.global ≡ false }
+{
+    Arg::new(alloc, "carrier")
+        .long("carrier")
+        .value_name("CARRIER")
+        .help("What carries the links, as `direct`; also `switch`, or `process` if not given")
 }
 
 // Adds the command `lsas` and its words.
@@ -217,6 +232,101 @@ fn choices_arg<'a>(alloc: Global) -> Arg<'a>
         .num_args(0..)
         .action(ArgAction::Append)
         .value_parser(ValueParser::unsigned(0, MOST_CHOICE))
+}
+
+// Adds the command `edit` and its words.
+fn with_edit<'a>(program: Command<'a>, alloc: Global) -> Result<Command<'a>, AllocError>
+    ensures { IfOk result (λ c. app_of c ≡ with_subcommand (app_of program.entry) edit_app.top) }
+{
+    let edit = Command::new(alloc, "edit")
+        .about("Changes the LSAs of an area on standard input, and prints them as LSAs again")
+        .after_help(EDIT_HELP)
+        .arg(down_arg(alloc))?
+        .arg(cost_arg(alloc))?
+        .arg(drain_arg(alloc))?;
+    program.subcommand(edit)
+}
+
+// What goes down.
+fn down_arg<'a>(alloc: Global) -> Arg<'a>
+    ensures rule { rule_of result ≡ repeated_rule (codes "down") }
+    ensures local { result.global ≡ false }
+{
+    Arg::new(alloc, "down")
+        .long("down")
+        .value_name("NAME")
+        .action(ArgAction::Append)
+        .help("Takes a part of the area down, by its name in `failures`, as 10.0.0.0/30")
+}
+
+// The new costs.
+fn cost_arg<'a>(alloc: Global) -> Arg<'a>
+    ensures rule { rule_of result ≡ repeated_rule (codes "cost") }
+    ensures local { result.global ≡ false }
+{
+    Arg::new(alloc, "cost")
+        .long("cost")
+        .value_name("CHANGE")
+        .action(ArgAction::Append)
+        .help("Sets the cost of an interface, as 1.1.1.1@10.0.0.1=20 or 1.1.1.1-2.2.2.2=20")
+}
+
+// The routers to drain.
+fn drain_arg<'a>(alloc: Global) -> Arg<'a>
+    ensures rule { rule_of result ≡ repeated_rule (codes "drain") }
+    ensures local { result.global ≡ false }
+{
+    Arg::new(alloc, "drain")
+        .long("drain")
+        .value_name("ROUTER")
+        .action(ArgAction::Append)
+        .help("Drains a router: its links to routers and networks cost 65535, as 2.2.2.2")
+}
+
+// Adds the command `diff` and its words.
+fn with_diff<'a>(program: Command<'a>, alloc: Global) -> Result<Command<'a>, AllocError>
+    ensures { IfOk result (λ c. app_of c ≡ with_subcommand (app_of program.entry) diff_app.top) }
+{
+    let diff = Command::new(alloc, "diff")
+        .about("Compares two files of LSAs: links, costs and the routes of all routers")
+        .after_help(DIFF_HELP)
+        .arg(before_arg(alloc))?
+        .arg(after_arg(alloc))?
+        .arg(compared_arg(alloc))?;
+    program.subcommand(diff)
+}
+
+// The file of the area as it was.
+fn before_arg<'a>(alloc: Global) -> Arg<'a>
+    ensures rule { rule_of result ≡ one_rule (codes "before") }
+    ensures local { result.global ≡ false }
+{
+    Arg::new(alloc, "before")
+        .value_name("BEFORE")
+        .help("The file of LSAs before, or `-` for standard input")
+        .required(true)
+}
+
+// The file of the area as it became.
+fn after_arg<'a>(alloc: Global) -> Arg<'a>
+    ensures rule { rule_of result ≡ one_rule (codes "after") }
+    ensures local { result.global ≡ false }
+{
+    Arg::new(alloc, "after")
+        .value_name("AFTER")
+        .help("The file of LSAs after, or `-` for standard input")
+        .required(true)
+}
+
+// The router whose tables are compared.
+fn compared_arg<'a>(alloc: Global) -> Arg<'a>
+    ensures rule { rule_of result ≡ option_rule (codes "root") }
+    ensures local { result.global ≡ false }
+{
+    Arg::new(alloc, "root")
+        .long("root")
+        .value_name("ROUTER")
+        .help("Compares the routing tables of this router only, as 1.1.1.1")
 }
 
 // Adds the command `check` and its words.

@@ -3,8 +3,8 @@
 // What `--help` says below the commands.
 pub(crate) const HELP: &str = "Exit status:
   0  done
-  1  `failures --strict` found a failure that cuts off a prefix, an `expect` of a
-     script was not met, or `sim --strict` refused a line
+  1  `failures --strict` found a failure that cuts off a prefix, `diff` a route that
+     is lost, an `expect` of a script was not met, or `sim --strict` refused a line
   2  usage error
   3  the input was refused
   4  memory ran out
@@ -14,6 +14,8 @@ Examples:
   ospfd lsas < lsas.txt
   ospfd table 1.1.1.1 192.168.2.9 < lsas.txt
   ospfd path 1.1.1.1 192.168.2.9 < lsas.txt
+  ospfd edit --down 2.2.2.2 < lsas.txt > after.txt
+  ospfd diff lsas.txt after.txt
   ospfd check first.toml second.toml
   ospfd sim script first.toml second.toml
   ospfd run 60 first.toml second.toml
@@ -114,22 +116,88 @@ routers where anything changes, and the line of a route begins with its router.
 With --json it is one array, with an object for each failure.
 A failure is one of
   R-S@SUBNET                  a link between two routers
+  R:S@SUBNET                  the end of such a link at R, with --carrier switch
   R-S                         all links between two routers, if none has a subnet
   R@NETWORK                   a router's interface to a network
   @NETWORK                    a network
   R                           a router
+CARRIER says what fails together:
+  direct                      cables: a router takes down its links at both ends, and a
+                              network of two routers is one cable
+  switch                      a switch in each link: its two ends fail one by one
+  process                     only the OSPF process of a router stops; if not given
 
 Exit status:
   0  done
   1  with --strict: a failure cuts off a prefix, or there is no router-LSA of ROOT
   2  usage error, or ROOT is not an address
-  3  a line was refused: its number and fault are on standard error
+  3  a line was refused, or with `direct` a router has too many links: its number and
+     fault, or the router, are on standard error
   4  memory ran out
   5  standard input was not read, or standard output not written
 
 Examples:
   ospfd failures 1.1.1.1 < lsas.txt
   ospfd failures --strict all < lsas.txt
+  ospfd failures --carrier direct all < lsas.txt
+";
+
+// What `edit --help` says below its words.
+pub(crate) const EDIT_HELP: &str = "Output:
+  LSA                         a line in hexadecimal for each LSA of the area after the
+                              changes, as `table`, `lsas` and `diff` read them
+Each option can be given more than once, and at least one is needed. All names are of
+the area as it is read. Parts go down first, then costs change, then routers drain.
+A NAME is one of
+  R-S@SUBNET or SUBNET        a link between two routers
+  R-S                         all links between two routers, if none has a subnet
+  R@NETWORK, @NETWORK, R      an interface to a network, a network, or a router
+A CHANGE is one of
+  R@ADDRESS=COST              the cost of the interface of R with this address
+  R-S=COST                    the cost of the links from R to S, but not back
+and COST is 1 to 65535. The links of a drained ROUTER to routers and networks cost
+65535 (RFC 6987): others send packets through it only if there is no other path.
+
+Exit status:
+  0  done
+  2  usage error, or a word that names nothing in the area
+  3  a line was refused, or a router has too many links to change: standard error says
+     which
+  4  memory ran out
+  5  standard input was not read, or standard output not written
+
+Examples:
+  ospfd edit --down 10.0.0.0/30 --drain 3.3.3.3 < lsas.txt > after.txt
+  ospfd edit --cost 1.1.1.1@10.0.0.1=20 --cost 2.2.2.2-1.1.1.1=20 < lsas.txt
+";
+
+// What `diff --help` says below its words.
+pub(crate) const DIFF_HELP: &str = "Output:
+  - NAME, + NAME              what went and what came, by its name in `failures`
+  cost R ADDRESS to S: OLD -> NEW
+                              an interface at another cost
+  R lost PREFIX cost N via HOPS
+                              a route of R that AFTER does not have
+  R gained PREFIX cost N via HOPS
+                              a route of R that BEFORE does not have
+  R longer PREFIX cost N via HOPS -> cost N via HOPS
+                              a route of R that costs more; also `shorter`
+  R rerouted PREFIX cost N via HOPS -> via HOPS
+                              a route of R with other next hops at the same cost
+  routes: N lost, N gained, N longer, N shorter, N rerouted, at N routers
+                              how many these are, as the last line
+
+Exit status:
+  0  done, and no route is lost
+  1  a route is lost
+  2  usage error, or ROUTER is not an address
+  3  a line was refused: its file, number and fault are on standard error
+  4  memory ran out
+  5  a file or standard input was not read, or standard output not written
+
+Examples:
+  ospfd diff before.txt after.txt
+  ospfd edit --down 2.2.2.2 < lsas.txt | ospfd diff --root 1.1.1.1 lsas.txt -
 ";
 
 // What `check --help` says below its words.

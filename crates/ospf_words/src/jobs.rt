@@ -5,7 +5,7 @@ ghost use Rattle.std.specs.Io.KnownBytes.{Appends};
 ghost use Rattle.ospf_words.specs.Job.{address_line};
 
 use clap::error::ErrorKind;
-use ospf_base::Addr;
+use ospf_base::{Addr, RouterId};
 use ospf_failures::FailuresJob;
 use ospf_files::{FailedStreams, Failure, Status, Telling};
 use ospf_inspect::InspectJob;
@@ -23,12 +23,38 @@ pub enum Job {
     Failures(FailuresJob),
     /// Prints what the LSAs on standard input say.
     Inspect(InspectJob),
+    /// Prints the LSAs on standard input after changes.
+    Edit(EditWords),
+    /// Compares two files of LSAs.
+    Diff(DiffWords),
     /// Checks configurations.
     Check(CheckJob),
     /// Runs a script in a world of routers.
     Sim(SimJob),
     /// Runs routers over UDP.
     Run(RunJob),
+}
+
+/// Changes of an area, by words; at least one.
+#[derive(Debug, Drop)]
+pub struct EditWords {
+    /// The names of what goes down.
+    pub down: Vec<String>,
+    /// The new costs of interfaces, each as `ROUTER@ADDRESS=COST` or `ROUTER-ROUTER=COST`.
+    pub costs: Vec<String>,
+    /// The Router IDs of the routers that are drained.
+    pub drains: Vec<String>,
+}
+
+/// Two files of LSAs to compare. The name `-` means standard input; at most one of them has it.
+#[derive(Debug, Drop)]
+pub struct DiffWords {
+    /// The name of the file of the area as it was.
+    pub before: String,
+    /// The name of the file of the area as it became.
+    pub after: String,
+    /// The router whose tables are compared; `None` for all routers.
+    pub root: Option<RouterId>,
 }
 
 /// Configurations to check.

@@ -7,5 +7,5 @@ mod help;
 mod jobs;
 mod words;
 
-pub use jobs::{CheckJob, Job, JobFault, RunJob, SimJob};
+pub use jobs::{CheckJob, DiffWords, EditWords, Job, JobFault, RunJob, SimJob};
 pub use words::{job, not_text};

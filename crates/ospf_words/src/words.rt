@@ -1,18 +1,18 @@
 //! The words of the command line.
 
 ghost use Rattle.clap.specs.Faults.{fault_of};
-ghost use Rattle.std.specs.Prelude.{OnOk, true, false, [], ◌≡◌, ◌≢◌, map, option_map, unwrap_or, codes, string_bytes, Ok, Err, Some, Any, IsTrue, ◌↔◌, IfNone, IfOk, IfErr, IfSome};
-ghost use Rattle.clap.specs.Words.{all_of, found_of, one_of, rows_of, subcommand_rows_of, subcommand_of};
+ghost use Rattle.std.specs.Prelude.{OnOk, true, false, [], ◌≡◌, ◌≢◌, map, option_map, unwrap_or, codes, string_bytes, Ok, Err, Some, Any, IsTrue, ◌↔◌, ◌⊎◌, IfNone, IfOk, IfErr, IfSome};
+ghost use Rattle.clap.specs.Words.{all_of, first_of, found_of, one_of, rows_of, subcommand_rows_of, subcommand_of};
 ghost use Rattle.ospf_words.specs.Job.{IsFaultOfNoValue, IsFaultOfValue, IsHelp};
-ghost use Rattle.ospf_words.specs.Unasked.{IsFirstWrong, IsJobIfAny, IsNoAddress, IsUnasked, HasNoChoice, IsWrongValue, IsForeverIn, IsNoneUnending, IsUncounted, IsUnending, LacksInRun};
-ghost use Rattle.ospf_words.specs.Words.{AreChoices, IsAddressIfAny, IsAsked, IsFlag, Spell, command_app, failures_form, lsas_asked, telling_of, HasTicks, IsEndless, IsJobOf, IsRunWith, endless_app};
+ghost use Rattle.ospf_words.specs.Unasked.{IsFirstWrong, IsJobIfAny, IsNoAddress, IsNoCarrier, IsNoRouter, IsUnasked, HasNoChoice, IsWrongValue, IsForeverIn, IsNoneUnending, IsUncounted, IsUnending, LacksInRun};
+ghost use Rattle.ospf_words.specs.Words.{AreChoices, IsAddressIfAny, IsAsked, IsCarrier, IsFlag, IsRouterIfAny, Spell, command_app, failures_form, lsas_asked, telling_of, HasTicks, IsEndless, IsJobOf, IsRunWith, endless_app};
 
 use crate::commands::{any_ticks_arg, command, ticks_arg};
-use crate::jobs::{CheckJob, Job, JobFault, RunJob, SimJob};
+use crate::jobs::{CheckJob, DiffWords, EditWords, Job, JobFault, RunJob, SimJob};
 use clap::error::ErrorKind;
 use clap::{ArgMatches, Command};
-use ospf_base::Addr;
-use ospf_failures::{FailuresForm, FailuresJob};
+use ospf_base::{Addr, RouterId};
+use ospf_failures::{Carrier, FailuresForm, FailuresJob};
 use ospf_files::Telling;
 use ospf_inspect::{Form, InspectJob};
 use ospf_table::TableJob;
@@ -21,6 +21,9 @@ use std::str::FromStr;
 
 // The word that means all roots.
 const ALL: &str = "all";
+
+// The word for standard input, in place of a file's name.
+const STANDARD_INPUT: &str = "-";
 
 // The word in place of the ticks of a run without a last one.
 const FOREVER: &str = "forever";
@@ -125,6 +128,12 @@ fn entered_job(alloc: Global, matches: &ArgMatches<'_>) -> Result<Option<Job>, J
     if let Some(values) = matches.subcommand_matches("path") {
         return path_job(alloc, values);
     }
+    if let Some(values) = matches.subcommand_matches("edit") {
+        return Ok(edit_job(alloc, values)?);
+    }
+    if let Some(values) = matches.subcommand_matches("diff") {
+        return diff_job(alloc, values);
+    }
     if let Some(values) = matches.subcommand_matches("check") {
         return Ok(check_job(alloc, values)?);
     }
@@ -147,10 +156,32 @@ fn endless_values<'m, 'a>(matches: &'m ArgMatches<'a>) -> Option<&'m ArgMatches<
     let Some(values) = matches.subcommand_matches("run") else {
         return None;
     };
-    match values.get_str("ticks") {
+    match word_of(values, "ticks") {
         Some(word) if word == FOREVER => Some(values),
         _ => None,
     }
+}
+
+// Whether a flag is given.
+fn has_flag(values: &ArgMatches<'_>, name: &str) -> bool
+    ensures { IsFlag (one_of name.now (rows_of (found_of values.now))) result }
+{
+    values.get_flag(name)
+}
+
+// The word of an option or an argument, if it has one.
+fn word_of<'a>(values: &ArgMatches<'a>, name: &str) -> Option<&'a str>
+    ensures { option_map (λ w. w.now) result ≡ first_of name.now (rows_of (found_of values.now)) }
+{
+    values.get_str(name)
+}
+
+// The words of an option or an argument, of all its uses, if it has any.
+fn all_of<'m, 'a>(values: &'m ArgMatches<'a>, name: &str) -> Option<&'m [&'a str]>
+    ensures { option_map (λ words. map (λ w. w.now) words.now) result
+        ≡ all_of name.now (rows_of (found_of values.now)) }
+{
+    values.get_strs(name)
 }
 
 // The values of `table`: its job, if they have a root.
@@ -159,10 +190,10 @@ fn table_job(alloc: Global, values: &ArgMatches<'_>) -> Result<Option<Job>, JobF
     ensures fault { IfErr result (IsFaultOfValue
         (IsWrongValue (Some (codes "table", rows_of (found_of values.now))))) }
 {
-    if values.get_flag("json") {
+    if has_flag(values, "json") {
         return json_job(alloc, values);
     }
-    let names = values.get_strs("without").unwrap_or(&[]);
+    let names = all_of(values, "without").unwrap_or(&[]);
     if names.is_empty() {
         whole_job(alloc, values)
     } else {
@@ -179,10 +210,10 @@ fn whole_job(alloc: Global, values: &ArgMatches<'_>) -> Result<Option<Job>, JobF
     ensures fault { IfErr result (IsFaultOfValue
         (IsWrongValue (Some (codes "table", rows_of (found_of values.now))))) }
 {
-    let Some(root) = values.get_str("root") else {
+    let Some(root) = word_of(values, "root") else {
         return Ok(None);
     };
-    let addresses = values.get_strs("addresses").unwrap_or(&[]);
+    let addresses = all_of(values, "addresses").unwrap_or(&[]);
     if root == ALL {
         if !addresses.is_empty() {
             return Ok(None);
@@ -211,13 +242,13 @@ fn without_job(
     ensures fault { IfErr result (IsFaultOfValue
         (IsWrongValue (Some (codes "table", rows_of (found_of values.now))))) }
 {
-    let Some(root) = values.get_str("root") else {
+    let Some(root) = word_of(values, "root") else {
         return Ok(None);
     };
     if root == ALL {
         return Ok(None);
     }
-    let addresses = values.get_strs("addresses").unwrap_or(&[]);
+    let addresses = all_of(values, "addresses").unwrap_or(&[]);
     let root = parsed(alloc, root)?;
     let addresses = parsed_addresses(alloc, addresses)?;
     let names = owned(alloc, names)?;
@@ -236,14 +267,14 @@ fn json_job(alloc: Global, values: &ArgMatches<'_>) -> Result<Option<Job>, JobFa
     ensures fault { IfErr result (IsFaultOfValue
         (IsWrongValue (Some (codes "table", rows_of (found_of values.now))))) }
 {
-    let Some(root) = values.get_str("root") else {
+    let Some(root) = word_of(values, "root") else {
         return Ok(None);
     };
-    let addresses = values.get_strs("addresses").unwrap_or(&[]);
+    let addresses = all_of(values, "addresses").unwrap_or(&[]);
     if !addresses.is_empty() {
         return Ok(None);
     }
-    let names = values.get_strs("without").unwrap_or(&[]);
+    let names = all_of(values, "without").unwrap_or(&[]);
     if !names.is_empty() {
         return Ok(None);
     }
@@ -283,20 +314,28 @@ fn parsed_addresses(alloc: Global, words: &[&str]) -> Result<Vec<Addr>, JobFault
     Ok(addresses)
 }
 
-// The values of `failures`: its job, if they have a root.
+// The values of `failures`: its job, if they have a root and no word but that of a carrier.
 fn failures_job(alloc: Global, values: &ArgMatches<'_>) -> Result<Option<Job>, JobFault>
     ensures ok { IfOk result (IsJobIfAny (Some (codes "failures", rows_of (found_of values.now)))) }
     ensures fault { IfErr result (IsFaultOfValue
         (IsWrongValue (Some (codes "failures", rows_of (found_of values.now))))) }
 {
-    let Some(word) = values.get_str("root") else {
+    let Some(word) = word_of(values, "root") else {
         return Ok(None);
     };
-    let each = values.get_flag("each");
-    let strict = values.get_flag("strict");
-    let form = failures_form(values.get_flag("json"));
+    let each = has_flag(values, "each");
+    let strict = has_flag(values, "strict");
+    let form = failures_form(has_flag(values, "json"));
+    let Some(carrier) = carrier_of(word_of(values, "carrier")) else {
+        return Ok(None);
+    };
     if word == ALL {
-        return Ok(Some(Job::Failures(FailuresJob::All { each, strict, form })));
+        return Ok(Some(Job::Failures(FailuresJob::All {
+            each,
+            strict,
+            form,
+            carrier,
+        })));
     }
     let root = parsed(alloc, word)?;
     Ok(Some(Job::Failures(FailuresJob::Root {
@@ -304,7 +343,28 @@ fn failures_job(alloc: Global, values: &ArgMatches<'_>) -> Result<Option<Job>, J
         each,
         strict,
         form,
+        carrier,
     })))
+}
+
+// What carries the links, by its word, if that is one.
+fn carrier_of(word: Option<&str>) -> Option<Carrier>
+    ensures some { IfSome result (IsCarrier (option_map (λ w. w.now) word.entry)) }
+    ensures none { IfNone result (IsNoCarrier (option_map (λ w. w.now) word.entry)) }
+{
+    let Some(name) = word else {
+        return Some(Carrier::Process);
+    };
+    if name == "direct" {
+        return Some(Carrier::Direct);
+    }
+    if name == "switch" {
+        return Some(Carrier::Switch);
+    }
+    if name == "process" {
+        return Some(Carrier::Process);
+    }
+    None
 }
 
 // In which form failures are printed.
@@ -324,13 +384,13 @@ fn path_job(alloc: Global, values: &ArgMatches<'_>) -> Result<Option<Job>, JobFa
     ensures fault { IfErr result (IsFaultOfValue
         (IsWrongValue (Some (codes "path", rows_of (found_of values.now))))) }
 {
-    let Some(from) = values.get_str("from") else {
+    let Some(from) = word_of(values, "from") else {
         return Ok(None);
     };
-    let Some(address) = values.get_str("address") else {
+    let Some(address) = word_of(values, "address") else {
         return Ok(None);
     };
-    let words = values.get_strs("choices").unwrap_or(&[]);
+    let words = all_of(values, "choices").unwrap_or(&[]);
     let Some(choices) = choices_of(alloc, words)? else {
         return Ok(None);
     };
@@ -364,8 +424,8 @@ fn choices_of(alloc: Global, words: &[&str]) -> Result<Option<Vec<u32>>, AllocEr
 fn lsas_job(values: &ArgMatches<'_>) -> Option<Job>
     ensures { IsJobIfAny (Some (codes "lsas", rows_of (found_of values.now))) result }
 {
-    let drawn = values.get_flag("dot");
-    let json = values.get_flag("json");
+    let drawn = has_flag(values, "dot");
+    let json = has_flag(values, "json");
     match lsas_asked(drawn, json) {
         Some(asked) => Some(Job::Inspect(asked)),
         None => None,
@@ -384,21 +444,92 @@ fn lsas_asked(drawn: bool, json: bool) -> Option<InspectJob>
     }
 }
 
+// The values of `edit`: its job, if they have a change.
+fn edit_job(alloc: Global, values: &ArgMatches<'_>) -> Result<Option<Job>, AllocError>
+    ensures { IfOk result (IsJobIfAny (Some (codes "edit", rows_of (found_of values.now)))) }
+{
+    let down = all_of(values, "down").unwrap_or(&[]);
+    let costs = all_of(values, "cost").unwrap_or(&[]);
+    let drains = all_of(values, "drain").unwrap_or(&[]);
+    if !has_change(down, costs, drains) {
+        return Ok(None);
+    }
+    let down = owned(alloc, down)?;
+    let costs = owned(alloc, costs)?;
+    let drains = owned(alloc, drains)?;
+    Ok(Some(Job::Edit(EditWords {
+        down,
+        costs,
+        drains,
+    })))
+}
+
+// Whether anything goes down, gets another cost or is drained.
+fn has_change(down: &[&str], costs: &[&str], drains: &[&str]) -> bool
+    ensures { IsTrue result ↔ ((down.now ≢ []) ⊎ (costs.now ≢ []) ⊎ (drains.now ≢ [])) }
+{
+    !down.is_empty() || !costs.is_empty() || !drains.is_empty()
+}
+
+// The values of `diff`: its job, if they have both files, which are not both standard input.
+fn diff_job(alloc: Global, values: &ArgMatches<'_>) -> Result<Option<Job>, JobFault>
+    ensures ok { IfOk result (IsJobIfAny (Some (codes "diff", rows_of (found_of values.now)))) }
+    ensures fault { IfErr result (IsFaultOfValue
+        (IsWrongValue (Some (codes "diff", rows_of (found_of values.now))))) }
+{
+    let Some(before) = word_of(values, "before") else {
+        return Ok(None);
+    };
+    let Some(after) = word_of(values, "after") else {
+        return Ok(None);
+    };
+    if are_both_input(before, after) {
+        return Ok(None);
+    }
+    let root = router_if_any(alloc, word_of(values, "root"))?;
+    let before = String::from_str(alloc, before)?;
+    let after = String::from_str(alloc, after)?;
+    Ok(Some(Job::Diff(DiffWords {
+        before,
+        after,
+        root,
+    })))
+}
+
+// Whether both names mean standard input.
+fn are_both_input(before: &str, after: &str) -> bool
+    ensures { IsTrue result ↔ ((before.now ≡ codes "-") × (after.now ≡ codes "-")) }
+{
+    before == STANDARD_INPUT && after == STANDARD_INPUT
+}
+
+// The router that a word spells, if there is one.
+fn router_if_any(alloc: Global, word: Option<&str>) -> Result<Option<RouterId>, JobFault>
+    ensures value { IfOk result (IsRouterIfAny (option_map (λ w. w.now) word.entry)) }
+    ensures fault { IfErr result (IsFaultOfValue
+        (λ w. (option_map (λ t. t.now) word.entry ≡ Some w) × IsNoRouter w)) }
+{
+    match word {
+        Some(text) => Ok(Some(parsed(alloc, text)?)),
+        None => Ok(None),
+    }
+}
+
 // The values of `check`: its job, if they have files and not both flags that do not go together.
 fn check_job(alloc: Global, values: &ArgMatches<'_>) -> Result<Option<Job>, AllocError>
     ensures { IfOk result (IsJobIfAny (Some (codes "check", rows_of (found_of values.now)))) }
 {
-    let Some(files) = values.get_strs("files") else {
+    let Some(files) = all_of(values, "files") else {
         return Ok(None);
     };
-    let all = values.get_flag("all");
-    let json = values.get_flag("json");
+    let all = has_flag(values, "all");
+    let json = has_flag(values, "json");
     if all && json {
         return Ok(None);
     }
     let files = owned(alloc, files)?;
-    let explain = values.get_flag("explain");
-    let area = values.get_flag("area");
+    let explain = has_flag(values, "explain");
+    let area = has_flag(values, "area");
     let how = telling_of(explain, all);
     Ok(Some(Job::Check(CheckJob {
         files,
@@ -437,18 +568,18 @@ fn owned(alloc: Global, words: &[&str]) -> Result<Vec<String>, AllocError>
 fn sim_job(alloc: Global, values: &ArgMatches<'_>) -> Result<Option<Job>, AllocError>
     ensures { IfOk result (IsJobIfAny (Some (codes "sim", rows_of (found_of values.now)))) }
 {
-    let Some(script) = values.get_str("script") else {
+    let Some(script) = word_of(values, "script") else {
         return Ok(None);
     };
-    let Some(files) = values.get_strs("files") else {
+    let Some(files) = all_of(values, "files") else {
         return Ok(None);
     };
     let script = String::from_str(alloc, script)?;
     let files = owned(alloc, files)?;
-    let dot = owned_if_any(alloc, values.get_str("dot"))?;
-    let pcap = owned_if_any(alloc, values.get_str("pcap"))?;
-    let log = owned_if_any(alloc, values.get_str("log"))?;
-    let json = values.get_flag("json");
+    let dot = owned_if_any(alloc, word_of(values, "dot"))?;
+    let pcap = owned_if_any(alloc, word_of(values, "pcap"))?;
+    let log = owned_if_any(alloc, word_of(values, "log"))?;
+    let json = has_flag(values, "json");
     if json && log.is_none() {
         return Ok(None);
     }
@@ -459,7 +590,7 @@ fn sim_job(alloc: Global, values: &ArgMatches<'_>) -> Result<Option<Job>, AllocE
         pcap,
         log,
         json,
-        strict: values.get_flag("strict"),
+        strict: has_flag(values, "strict"),
     })))
 }
 
@@ -503,20 +634,20 @@ fn run_with(
     let Some(milliseconds) = values.get_one::<u64>("tick") else {
         return Ok(None);
     };
-    let Some(files) = values.get_strs("files") else {
+    let Some(files) = all_of(values, "files") else {
         return Ok(None);
     };
     let files = owned(alloc, files)?;
-    let lookup = parsed_if_any(alloc, values.get_str("lookup"))?;
-    let floor = owned_if_any(alloc, values.get_str("floor"))?;
-    let pcap = owned_if_any(alloc, values.get_str("pcap"))?;
-    let log = owned_if_any(alloc, values.get_str("log"))?;
+    let lookup = parsed_if_any(alloc, word_of(values, "lookup"))?;
+    let floor = owned_if_any(alloc, word_of(values, "floor"))?;
+    let pcap = owned_if_any(alloc, word_of(values, "pcap"))?;
+    let log = owned_if_any(alloc, word_of(values, "log"))?;
     let every = values.get_one::<u64>("every");
-    let until_eof = values.get_flag("until-eof");
-    let neighbours = values.get_flag("neighbours");
-    let listing = values.get_flag("listing");
-    let drops = values.get_flag("drops");
-    let json = values.get_flag("json");
+    let until_eof = has_flag(values, "until-eof");
+    let neighbours = has_flag(values, "neighbours");
+    let listing = has_flag(values, "listing");
+    let drops = has_flag(values, "drops");
+    let json = has_flag(values, "json");
     if json && log.is_none() {
         return Ok(None);
     }
@@ -563,7 +694,10 @@ fn no_job(command: &mut Command<'_>, matches: &ArgMatches<'_>) -> JobFault
 fn apart(matches: &ArgMatches<'_>) -> &'static str {
     match matches.subcommand_name() {
         Some("table") => "neither `all` nor --json can be combined with ADDRESS or --without",
+        Some("failures") => "CARRIER is `direct`, `switch` or `process`",
         Some("lsas") => "--json cannot be combined with --dot",
+        Some("edit") => "at least one of --down, --cost and --drain is needed",
+        Some("diff") => "only one of BEFORE and AFTER can be `-`",
         Some("check") => "--json cannot be combined with --all",
         Some("sim") | Some("run") => "--json needs --log",
         _ => "these arguments cannot be combined",

@@ -1,12 +1,14 @@
 //! A routing daemon of OSPF version 2 (RFC 2328), and the tables that it computes.
 #![tactic(auto)]
 
+mod areas;
 mod names;
 mod outputs;
 mod routers;
 mod screen;
 mod simulation;
 
+use crate::areas::{run_diff, run_edit};
 use crate::routers::run_routers;
 use crate::screen::FailuresLine;
 use crate::simulation::run_sim;
@@ -84,6 +86,8 @@ where
             let status = inspect_text(alloc, &inspect, input, &mut out, err);
             return Ok(ExitCode::from(status));
         }
+        Ok(Job::Edit(edit)) => return run_edit(rt, edit, &mut out, err),
+        Ok(Job::Diff(diff)) => return run_diff(rt, diff, &mut out, err),
         Ok(Job::Check(check)) => run_check(rt, check, &mut out, err)?,
         Ok(Job::Sim(sim)) => {
             let is_typed = console.1.is_terminal();

@@ -2,12 +2,13 @@
 
 use super::failing::Failing;
 use ospf_check::{check_area_json, check_area_text, check_text};
+use ospf_edit::{EditJob, edit_text};
 use ospf_failures::{Progress, failures_text};
-use ospf_files::{FailedStreams, Failure, NamedFile, Status};
+use ospf_files::{FailedStreams, Failure, NamedFile, Status, tell_unread};
 use ospf_inspect::inspect_text;
 use ospf_sim::{EventWatch, Watch, World, WorldEvent, WorldFault, sim_text};
 use ospf_table::table_text;
-use ospf_words::{CheckJob, Job, JobFault, job, not_text};
+use ospf_words::{CheckJob, EditWords, Job, JobFault, job, not_text};
 use std::alloc::{AllocError, AllocGlobal, Global};
 use std::io::{self, BufReader, BufWriter, ErrorKind, Read, Write};
 use std::sync::Wait;
@@ -388,6 +389,29 @@ impl Watch for Nobody {
     fn ends_line(&mut self) {}
 }
 
+// The changes that words ask for.
+fn changes(words: EditWords) -> EditJob {
+    let EditWords {
+        down,
+        costs,
+        drains,
+    } = words;
+    EditJob {
+        down,
+        costs,
+        drains,
+    }
+}
+
+// What is said of the first of two files that cannot be read.
+fn unread_area<E: Write>(alloc: Global, name: String, err: &mut E) -> Status {
+    let mut streams = FailedStreams::none();
+    match tell_unread(alloc, &unread_file(name), err, &mut streams) {
+        Ok(()) => Status::Stream,
+        Err(failure) => failure.tell(err, &mut streams),
+    }
+}
+
 // Does what words say, where no file can be read.
 fn status_of<R: AllocGlobal + Threads + Wait + Sync, O: Write, E: Write>(
     rt: &R,
@@ -404,6 +428,8 @@ fn status_of<R: AllocGlobal + Threads + Wait + Sync, O: Write, E: Write>(
             return Ok(failures_text(rt, &failures, input, out, err, &mut Nobody).code());
         }
         Ok(Job::Inspect(inspect)) => return Ok(inspect_text(alloc, &inspect, input, out, err)),
+        Ok(Job::Edit(edit)) => return Ok(edit_text(alloc, &changes(edit), input, out, err)),
+        Ok(Job::Diff(diff)) => unread_area(alloc, diff.before, err),
         Ok(Job::Check(check)) => {
             let CheckJob {
                 files,

@@ -1,14 +1,15 @@
 //! The words of the program: what they ask for, and what is said of those that ask for nothing.
 
 use super::program::outcome_of;
-use ospf_base::Addr;
+use ospf_base::{Addr, RouterId};
+use ospf_failures::{Carrier, FailuresJob};
 use ospf_files::Telling;
 use ospf_words::{Job, RunJob, job};
 use std::alloc::Global;
 use std::test::Fail;
 
 // Words by name, the exit status, and how standard output and standard error begin.
-static WORDS: [(&str, &str, u8, &str, &str); 52] = [
+static WORDS: [(&str, &str, u8, &str, &str); 80] = [
     ("help", "--help", 0, "OSPF version 2 for one area\n", ""),
     ("help word", "help", 0, "OSPF version 2 for one area\n", ""),
     ("help of table", "table --help", 0, "Computes a routing", ""),
@@ -48,6 +49,12 @@ static WORDS: [(&str, &str, u8, &str, &str); 52] = [
         "",
         "1.1.1.1: no router-LSA of this router\n",
     ),
+    ("a carrier of no name", "failures all --carrier", 2, "", "error: a value is required for '--carrier <CARRIER>'"),
+    ("an unknown carrier", "failures --carrier cable all", 2, "", "error: CARRIER is `direct`, `switch` or `process`\n"),
+    ("an unknown carrier at no address", "failures --carrier Direct 1.1.1", 2, "", "error: CARRIER is `direct`, `switch` or `process`\n"),
+    ("a carrier without a letter", "failures --carrier= all", 2, "", "error: CARRIER is `direct`, `switch` or `process`\n"),
+    ("two carriers", "failures --carrier direct --carrier switch all", 2, "", "error: the argument '--carrier <CARRIER>' cannot be used multiple times"),
+    ("a carrier at no address", "failures --carrier direct 1.1.1", 2, "", "1.1.1: not an address\n"),
     ("no file of an area", "check --area", 2, "", "error: "),
     (
         "unread file of an area",
@@ -79,6 +86,28 @@ static WORDS: [(&str, &str, u8, &str, &str); 52] = [
     ("a run without end of no file", "run forever", 2, "", "error: the following required arguments were not provided"),
     ("help of a run without end", "run forever --help", 0, "Runs a router", ""),
     ("a run of a word", "run never a.toml", 2, "", "error: invalid value 'never'"),
+    ("help of edit", "edit --help", 0, "Changes the LSAs of an area", ""),
+    ("help of diff", "diff --help", 0, "Compares two files of LSAs", ""),
+    ("no change", "edit", 2, "", "error: at least one of --down, --cost and --drain is needed\n"),
+    ("what goes down without a name", "edit --down", 2, "", "error: a value is required for '--down <NAME>'"),
+    ("a cost without a word", "edit --drain 1.1.1.1 --cost", 2, "", "error: a value is required for '--cost <CHANGE>'"),
+    ("a drained router without a name", "edit --drain", 2, "", "error: a value is required for '--drain <ROUTER>'"),
+    ("a change behind no option", "edit 1.1.1.1", 2, "", "error: unexpected argument '1.1.1.1'"),
+    ("unknown option of edit", "edit --up 1.1.1.1", 2, "", "error: unexpected argument '--up'"),
+    ("what goes down in no area", "edit --down 1.1.1.1", 2, "", "1.1.1.1: not in this area\n"),
+    ("a cost in no area", "edit --cost x", 2, "", "x: not in this area\n"),
+    ("a drained router in no area", "edit --drain 1.1.1.1", 2, "", "1.1.1.1: not in this area\n"),
+    ("the first of several words", "edit --drain x --cost y --down z", 2, "", "z: not in this area\n"),
+    ("no files to compare", "diff", 2, "", "error: the following required arguments were not provided"),
+    ("one file to compare", "diff a", 2, "", "error: the following required arguments were not provided"),
+    ("three files to compare", "diff a b c", 2, "", "error: unexpected argument 'c'"),
+    ("an unread file to compare", "diff a b", 5, "", "a: not read\n"),
+    ("standard input twice", "diff - -", 2, "", "error: only one of BEFORE and AFTER can be `-`\n"),
+    ("standard input twice at no router", "diff - - --root x", 2, "", "error: only one of BEFORE and AFTER can be `-`\n"),
+    ("files compared at no address", "diff --root 1.1.1 a b", 2, "", "1.1.1: not an address\n"),
+    ("files compared at all routers by name", "diff a b --root all", 2, "", "all: not an address\n"),
+    ("two routers of a comparison", "diff a b --root 1.1.1.1 --root 2.2.2.2", 2, "", "error: the argument '--root <ROUTER>' cannot be used multiple times"),
+    ("a router without a name", "diff a b --root", 2, "", "error: a value is required for '--root <ROUTER>'"),
     ("help of sim", "sim --help", 0, "Simulates an area", ""),
     ("help of run", "run --help", 0, "Runs a router", ""),
     ("no configuration of a run", "run 60", 2, "", "error: "),
@@ -167,7 +196,7 @@ fn says(help: &[u8], text: &str) -> bool {
 #[test]
 fn help_tells_commands(rt: HostRuntime) -> Result<(), Fail> {
     let help = outcome_of(&rt, rt.alloc(), "--help", b"")?;
-    for text in ["  table ", "  check ", "  sim ", "  run "] {
+    for text in ["  table ", "  edit ", "  diff ", "  check ", "  sim ", "  run "] {
         assert!(rt; says(&help.out, text), "{text}");
     }
     Ok(())
@@ -178,6 +207,8 @@ fn help_tells_statuses_and_an_example(rt: HostRuntime) -> Result<(), Fail> {
     for words in [
         "--help",
         "table --help",
+        "edit --help",
+        "diff --help",
         "check --help",
         "sim --help",
         "run --help",
@@ -222,6 +253,82 @@ fn names_files(rt: HostRuntime) -> Result<(), Fail> {
         return Err(Fail::from("words"));
     };
     assert_eq!(rt; both.how, Telling::AllExplained);
+    Ok(())
+}
+
+// Whether texts are these words, in their order.
+fn are(texts: &[String], words: &[&str]) -> bool {
+    texts.len() == words.len() && texts.iter().zip(words).all(|(text, word)| text.as_str() == *word)
+}
+
+#[test]
+fn reads_changes(rt: HostRuntime) -> Result<(), Fail> {
+    let words = [
+        "edit",
+        "--down",
+        "1.1.1.1-2.2.2.2@10.0.0.0/30",
+        "--drain",
+        "3.3.3.3",
+        "--down",
+        "@10.1.0.2",
+        "--cost",
+        "1.1.1.1@10.0.0.1=20",
+        "--drain=",
+    ];
+    let Ok(Job::Edit(edit)) = job(rt.alloc(), &words) else {
+        return Err(Fail::from("words"));
+    };
+    assert!(rt; are(&edit.down, &["1.1.1.1-2.2.2.2@10.0.0.0/30", "@10.1.0.2"]));
+    assert!(rt; are(&edit.costs, &["1.1.1.1@10.0.0.1=20"]));
+    assert!(rt; are(&edit.drains, &["3.3.3.3", ""]));
+    for (option, counts) in [("--down", [1, 0, 0]), ("--cost", [0, 1, 0]), ("--drain", [0, 0, 1])] {
+        let Ok(Job::Edit(edit)) = job(rt.alloc(), &["edit", option, "x"]) else {
+            return Err(Fail::from("words"));
+        };
+        assert_eq!(rt; [edit.down.len(), edit.costs.len(), edit.drains.len()], counts, "{option}");
+    }
+    Ok(())
+}
+
+// Standard input is one of two files, and the router comes before them, between them or after them.
+#[test]
+fn reads_files_to_compare(rt: HostRuntime) -> Result<(), Fail> {
+    let root = Some("1.1.1.1".parse::<RouterId>()?);
+    for (words, before, after, wanted) in [
+        (["diff", "a", "b", "--root=1.1.1.1"], "a", "b", root),
+        (["diff", "--root=1.1.1.1", "a", "-"], "a", "-", root),
+        (["diff", "-", "--root=1.1.1.1", "b"], "-", "b", root),
+        (["diff", "--", "--root", "-"], "--root", "-", None),
+    ] {
+        let Ok(Job::Diff(diff)) = job(rt.alloc(), &words) else {
+            return Err(Fail::from("words"));
+        };
+        assert_eq!(rt; diff.before.as_str(), before);
+        assert_eq!(rt; diff.after.as_str(), after);
+        assert!(rt; diff.root == wanted, "{before} {after}");
+    }
+    Ok(())
+}
+
+// A process alone fails where no carrier is given.
+#[test]
+fn reads_what_carries_links(rt: HostRuntime) -> Result<(), Fail> {
+    for (words, wanted) in [
+        (["failures", "all", "--strict", "--each"], Carrier::Process),
+        (["failures", "--carrier", "process", "all"], Carrier::Process),
+        (["failures", "all", "--carrier", "direct"], Carrier::Direct),
+        (["failures", "--carrier=switch", "all", "--each"], Carrier::Switch),
+    ] {
+        let Ok(Job::Failures(FailuresJob::All { carrier, .. })) = job(rt.alloc(), &words) else {
+            return Err(Fail::from("words"));
+        };
+        assert!(rt; carrier == wanted);
+    }
+    let words = ["failures", "--carrier", "switch", "1.1.1.1"];
+    let Ok(Job::Failures(FailuresJob::Root { carrier, .. })) = job(rt.alloc(), &words) else {
+        return Err(Fail::from("words"));
+    };
+    assert!(rt; carrier == Carrier::Switch);
     Ok(())
 }
 

@@ -1,22 +1,27 @@
 use Rattle.std.specs.Cmp.Lexicographic.{bytes_decides}
-use Rattle.std.proofs.Common.{rules, ◌≡◌, ◌∙◌, ap, sym, refl, subst, codes, Some}
-use Rattle.clap.specs.Words.{first_of, found_of, rows_of}
-use Rattle.clap.proofs.WalkLemmas.{first_value-rows, one_text-rows}
+use Rattle.std.proofs.Common.{◌≡◌, ◌∙◌, ap, inl, inr, sym, refl, subst, codes, Some}
+use Rattle.clap.specs.Words.{found_of, rows_of}
 use Rattle.ospf_words.specs.Job.{IsFaultOfValue}
-use Rattle.ospf_words.specs.Unasked.{IsWrongValue}
-use Rattle.ospf_words.proofs.WordLemmas.{err_kept, named, no_failing_root, told_by, value_weaker, wrong_failing_root}
+use Rattle.ospf_words.specs.Unasked.{IsNoCarrier, IsWrongValue, in_failures}
+use Rattle.ospf_words.specs.Words.{IsCarrier}
+use Rattle.ospf_words.proofs.WordLemmas.{err_kept, told_by, value_weaker, wrong_failing_root}
 use Rattle.ospf_words.proofs.words.failures_job.Goals as goal
 
 pub returns-in_default-clause-ok : goal.returns-in_default-clause-ok
 returns-in_default-clause-ok c =
     let found = found_of c.args.values.now in
-    no_failing_root (rows_of found) (sym (c.in_default.ensures ∙ first_value-rows found (codes "root")))
+    in_failures (rows_of found) refl (inl (sym c.in_default.ensures))
+
+pub returns-in_default-carrier_of-clause-ok : goal.returns-in_default-carrier_of-clause-ok
+returns-in_default-carrier_of-clause-ok c =
+    let found = found_of c.args.values.now in
+    in_failures (rows_of found) refl (inr (subst IsNoCarrier c.word_of-2.ensures c.in_default-carrier_of.ensures.none))
 
 pub returns-in_err-root-clause-fault : goal.returns-in_err-root-clause-fault
 returns-in_err-root-clause-fault c =
     let found = found_of c.args.values.now in
     let rows = rows_of found in
-    let is_root = sym (c.in-Some.ensures ∙ first_value-rows found (codes "root")) in
+    let is_root = sym c.in-Some.ensures in
     let wrong = IsFaultOfValue (IsWrongValue (Some (codes "failures", rows))) in
     err_kept c.from_residual.result (λ f. f ≡ c.in_err-root.field-0.0) wrong c.from_residual.ensures.1 (λ f is. subst wrong (sym is)
     (value_weaker _ _ c.in_err-root.field-0.0 (λ w h. wrong_failing_root rows c.in-Some.word.now w is_root h)
@@ -29,22 +34,11 @@ returns-then-eq-clause-ok c =
       rows_of found,
       refl,
       record {
-        has_all = sym (named (λ n. first_of n (rows_of found)) _ _ (codes "root") (search rules) (c.in-Some.ensures ∙ first_value-rows found _)) ∙ ap Some all;
-        each_is = record {
-          none = λ e. c.get_flag-each.ensures.none (one_text-rows found (codes "each") ∙ e);
-          set = λ e. c.get_flag-each.ensures.value (one_text-rows found (codes "each") ∙ e);
-          unset = λ e. c.get_flag-each.ensures.other (one_text-rows found (codes "each") ∙ e);
-        };
-        strict_is = record {
-          none = λ e. c.get_flag-strict.ensures.none (one_text-rows found (codes "strict") ∙ e);
-          set = λ e. c.get_flag-strict.ensures.value (one_text-rows found (codes "strict") ∙ e);
-          unset = λ e. c.get_flag-strict.ensures.other (one_text-rows found (codes "strict") ∙ e);
-        };
-        form_is = told_by _ c.get_flag.result c.failures_form-form.result c.failures_form-form.ensures (record {
-          none = λ e. c.get_flag.ensures.none (one_text-rows found (codes "json") ∙ e);
-          set = λ e. c.get_flag.ensures.value (one_text-rows found (codes "json") ∙ e);
-          unset = λ e. c.get_flag.ensures.other (one_text-rows found (codes "json") ∙ e);
-        });
+        has_all = sym c.in-Some.ensures ∙ ap Some all;
+        each_is = c.has_flag-each.ensures;
+        strict_is = c.has_flag-strict.ensures;
+        form_is = told_by _ c.has_flag.result c.failures_form-form.result c.failures_form-form.ensures c.has_flag.ensures;
+        carrier_is = subst (λ o. IsCarrier o c.in-Some-carrier_of.carrier) c.word_of-2.ensures c.in-Some-carrier_of.ensures.some;
       },
     )
 
@@ -55,22 +49,11 @@ returns-clause-ok c =
       refl,
       record {
         text = c.in-Some.word.now;
-        has_root = sym (named (λ n. first_of n (rows_of found)) _ _ (codes "root") (search rules) (c.in-Some.ensures ∙ first_value-rows found _));
+        has_root = sym c.in-Some.ensures;
         root_is = search (c.in_ok-root.ensures.value);
-        each_is = record {
-          none = λ e. c.get_flag-each.ensures.none (one_text-rows found (codes "each") ∙ e);
-          set = λ e. c.get_flag-each.ensures.value (one_text-rows found (codes "each") ∙ e);
-          unset = λ e. c.get_flag-each.ensures.other (one_text-rows found (codes "each") ∙ e);
-        };
-        strict_is = record {
-          none = λ e. c.get_flag-strict.ensures.none (one_text-rows found (codes "strict") ∙ e);
-          set = λ e. c.get_flag-strict.ensures.value (one_text-rows found (codes "strict") ∙ e);
-          unset = λ e. c.get_flag-strict.ensures.other (one_text-rows found (codes "strict") ∙ e);
-        };
-        form_is = told_by _ c.get_flag.result c.failures_form-form.result c.failures_form-form.ensures (record {
-          none = λ e. c.get_flag.ensures.none (one_text-rows found (codes "json") ∙ e);
-          set = λ e. c.get_flag.ensures.value (one_text-rows found (codes "json") ∙ e);
-          unset = λ e. c.get_flag.ensures.other (one_text-rows found (codes "json") ∙ e);
-        });
+        each_is = c.has_flag-each.ensures;
+        strict_is = c.has_flag-strict.ensures;
+        form_is = told_by _ c.has_flag.result c.failures_form-form.result c.failures_form-form.ensures c.has_flag.ensures;
+        carrier_is = subst (λ o. IsCarrier o c.in-Some-carrier_of.carrier) c.word_of-2.ensures c.in-Some-carrier_of.ensures.some;
       },
     )

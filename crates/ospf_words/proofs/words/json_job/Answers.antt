@@ -1,45 +1,43 @@
-use Rattle.std.proofs.Common.{rules, arith, ◌≡◌, ◌<◌, ◌∙◌, ap, inl, inr, length, sym, refl, subst, codes, [], Some, unwrap_or}
+use Rattle.std.proofs.Common.{arith, ◌≡◌, ◌<◌, ◌∙◌, ap, inl, inr, length, sym, refl, subst, codes, Some}
 use Rattle.std.specs.Cmp.Lexicographic.{bytes_decides}
 use Rattle.std.proofs.lemmas.Bool.Decides.{nat_tests}
 use Rattle.std.proofs.lemmas.List.{nil_from_length}
-use Rattle.clap.specs.Words.{all_of, first_of, found_of, rows_of}
-use Rattle.clap.proofs.WalkLemmas.{first_value-rows, raw_values-rows}
+use Rattle.clap.specs.Words.{found_of, rows_of}
 use Rattle.ospf_words.specs.Job.{IsFaultOfValue}
-use Rattle.ospf_words.specs.Unasked.{IsWrongValue}
-use Rattle.ospf_words.proofs.WordLemmas.{err_kept, more_in_json, named, no_root, not_word, root_wrong, some_words, texts_of, texts_or_none, value_weaker, wrong_value}
+use Rattle.ospf_words.specs.Unasked.{IsWrongValue, in_table}
+use Rattle.ospf_words.specs.Words.{words_for}
+use Rattle.ospf_words.proofs.WordLemmas.{err_kept, not_word, root_wrong, some_words, texts_of, value_weaker, wrong_value, words_found}
 use Rattle.ospf_words.proofs.words.json_job.Goals as goal
 
 pub returns-in_default-clause-ok : goal.returns-in_default-clause-ok
 returns-in_default-clause-ok c =
     let found = found_of c.args.values.now in
-    no_root (rows_of found) (sym (c.in_default.ensures ∙ first_value-rows found (codes "root")))
+    in_table (rows_of found) refl (inl (sym c.in_default.ensures))
 
 pub returns-then-not-is_empty-clause-ok : goal.returns-then-not-is_empty-clause-ok
 returns-then-not-is_empty-clause-ok c =
     let found = found_of c.args.values.now in
     let rows = rows_of found in
-    let addresses : texts_of c.unwrap_or-addresses.result.now ≡ unwrap_or (all_of (codes "addresses") rows) [] =
-    ap (λ a. texts_of a.now) c.unwrap_or-addresses.ensures ∙ texts_or_none c.get_strs.result _ refl
-    ∙ ap (λ o. unwrap_or o []) (named (λ n. all_of n (rows_of found)) _ _ (codes "addresses") (search rules) (c.get_strs.ensures ∙ raw_values-rows found _)) in
+    let addresses : texts_of c.unwrap_or-addresses.result.now ≡ words_for (codes "addresses") rows =
+    (words_found c.all_of.result _ c.unwrap_or-addresses.result _ refl c.unwrap_or-addresses.ensures c.all_of.ensures) in
     let some : 0 < length c.unwrap_or-addresses.result.now = grind (arith, nat_tests, c.if-not-is_empty.true, c.is_empty.ensures) in
-    more_in_json rows (c.requires, inl (λ none. some_words c.unwrap_or-addresses.result.now some (addresses ∙ none)))
+    in_table rows refl (inr (inl (c.requires, inl (λ none. some_words c.unwrap_or-addresses.result.now some (addresses ∙ none)))))
 
 pub returns-then-not-is_empty-2-clause-ok : goal.returns-then-not-is_empty-2-clause-ok
 returns-then-not-is_empty-2-clause-ok c =
     let found = found_of c.args.values.now in
     let rows = rows_of found in
-    let names : texts_of c.unwrap_or-names.result.now ≡ unwrap_or (all_of (codes "without") rows) [] =
-    ap (λ a. texts_of a.now) c.unwrap_or-names.ensures ∙ texts_or_none c.get_strs-2.result _ refl
-    ∙ ap (λ o. unwrap_or o []) (named (λ n. all_of n (rows_of found)) _ _ (codes "without") (search rules) (c.get_strs-2.ensures ∙ raw_values-rows found _)) in
+    let names : texts_of c.unwrap_or-names.result.now ≡ words_for (codes "without") rows =
+    (words_found c.all_of-2.result _ c.unwrap_or-names.result _ refl c.unwrap_or-names.ensures c.all_of-2.ensures) in
     let some : 0 < length c.unwrap_or-names.result.now = grind (arith, nat_tests, c.if-not-is_empty-2.true, c.is_empty-2.ensures) in
-    more_in_json rows (c.requires, inr (λ none. some_words c.unwrap_or-names.result.now some (names ∙ none)))
+    in_table rows refl (inr (inl (c.requires, inr (λ none. some_words c.unwrap_or-names.result.now some (names ∙ none)))))
 
 pub returns-in_err-root-clause-fault : goal.returns-in_err-root-clause-fault
 returns-in_err-root-clause-fault c =
     let found = found_of c.args.values.now in
     let rows = rows_of found in
-    let texts = unwrap_or (all_of (codes "addresses") rows) [] in
-    let is_root = sym (c.in-Some.ensures ∙ first_value-rows found (codes "root")) in
+    let texts = words_for (codes "addresses") rows in
+    let is_root = sym c.in-Some.ensures in
     let one : c.in-Some.root.now ≡ codes "all" → ⊥ = not_word c.in-Some.root.now (codes "all") c.eq.result (sym c.eq.ensures) c.if-eq.false in
     let wrong = IsFaultOfValue (IsWrongValue (Some (codes "table", rows))) in
     err_kept c.from_residual.result (λ f. f ≡ c.in_err-root.field-0.0) wrong c.from_residual.ensures.1 (λ f is. subst wrong (sym is)
@@ -51,17 +49,15 @@ returns-then-eq-clause-ok c =
     let found = found_of c.args.values.now in
     let rows = rows_of found in
     let all : c.in-Some.root.now ≡ codes "all" = (bytes_decides c.in-Some.root.now (codes "all")).0 (sym c.eq.ensures ∙ c.if-eq.true) in
-    let addresses : texts_of c.unwrap_or-addresses.result.now ≡ unwrap_or (all_of (codes "addresses") rows) [] =
-    ap (λ a. texts_of a.now) c.unwrap_or-addresses.ensures ∙ texts_or_none c.get_strs.result _ refl
-    ∙ ap (λ o. unwrap_or o []) (named (λ n. all_of n (rows_of found)) _ _ (codes "addresses") (search rules) (c.get_strs.ensures ∙ raw_values-rows found _)) in
+    let addresses : texts_of c.unwrap_or-addresses.result.now ≡ words_for (codes "addresses") rows =
+    (words_found c.all_of.result _ c.unwrap_or-addresses.result _ refl c.unwrap_or-addresses.ensures c.all_of.ensures) in
     let alone = sym addresses ∙ ap texts_of (nil_from_length c.unwrap_or-addresses.result.now (grind (arith, nat_tests, c.if-not-is_empty.false, c.is_empty.ensures))) in
-    let names : texts_of c.unwrap_or-names.result.now ≡ unwrap_or (all_of (codes "without") rows) [] =
-    ap (λ a. texts_of a.now) c.unwrap_or-names.ensures ∙ texts_or_none c.get_strs-2.result _ refl
-    ∙ ap (λ o. unwrap_or o []) (named (λ n. all_of n (rows_of found)) _ _ (codes "without") (search rules) (c.get_strs-2.ensures ∙ raw_values-rows found _)) in
+    let names : texts_of c.unwrap_or-names.result.now ≡ words_for (codes "without") rows =
+    (words_found c.all_of-2.result _ c.unwrap_or-names.result _ refl c.unwrap_or-names.ensures c.all_of-2.ensures) in
     let whole = sym names ∙ ap texts_of (nil_from_length c.unwrap_or-names.result.now (grind (arith, nat_tests, c.if-not-is_empty-2.false, c.is_empty-2.ensures))) in (
       rows,
       refl,
-      sym (named (λ n. first_of n (rows_of found)) _ _ (codes "root") (search rules) (c.in-Some.ensures ∙ first_value-rows found _)) ∙ ap Some all,
+      sym c.in-Some.ensures ∙ ap Some all,
       alone,
       whole,
       c.requires,
@@ -71,19 +67,17 @@ pub returns-clause-ok : goal.returns-clause-ok
 returns-clause-ok c =
     let found = found_of c.args.values.now in
     let rows = rows_of found in
-    let addresses : texts_of c.unwrap_or-addresses.result.now ≡ unwrap_or (all_of (codes "addresses") rows) [] =
-    ap (λ a. texts_of a.now) c.unwrap_or-addresses.ensures ∙ texts_or_none c.get_strs.result _ refl
-    ∙ ap (λ o. unwrap_or o []) (named (λ n. all_of n (rows_of found)) _ _ (codes "addresses") (search rules) (c.get_strs.ensures ∙ raw_values-rows found _)) in
+    let addresses : texts_of c.unwrap_or-addresses.result.now ≡ words_for (codes "addresses") rows =
+    (words_found c.all_of.result _ c.unwrap_or-addresses.result _ refl c.unwrap_or-addresses.ensures c.all_of.ensures) in
     let alone = sym addresses ∙ ap texts_of (nil_from_length c.unwrap_or-addresses.result.now (grind (arith, nat_tests, c.if-not-is_empty.false, c.is_empty.ensures))) in
-    let names : texts_of c.unwrap_or-names.result.now ≡ unwrap_or (all_of (codes "without") rows) [] =
-    ap (λ a. texts_of a.now) c.unwrap_or-names.ensures ∙ texts_or_none c.get_strs-2.result _ refl
-    ∙ ap (λ o. unwrap_or o []) (named (λ n. all_of n (rows_of found)) _ _ (codes "without") (search rules) (c.get_strs-2.ensures ∙ raw_values-rows found _)) in
+    let names : texts_of c.unwrap_or-names.result.now ≡ words_for (codes "without") rows =
+    (words_found c.all_of-2.result _ c.unwrap_or-names.result _ refl c.unwrap_or-names.ensures c.all_of-2.ensures) in
     let whole = sym names ∙ ap texts_of (nil_from_length c.unwrap_or-names.result.now (grind (arith, nat_tests, c.if-not-is_empty-2.false, c.is_empty-2.ensures))) in (
       rows,
       refl,
       record {
         text = c.in-Some.root.now;
-        has_root = sym (named (λ n. first_of n (rows_of found)) _ _ (codes "root") (search rules) (c.in-Some.ensures ∙ first_value-rows found _));
+        has_root = sym c.in-Some.ensures;
         root_is = search (c.in_ok-root.ensures.value);
         alone = alone;
         whole = whole;

@@ -1,7 +1,7 @@
 use Rattle.std.proofs.Common.{◌≡◌, ◌⊎◌, ◌∙◌, ap, ◌<◌, ◌^◌, Bor, ℕ, List, sym, refl, subst, codes, false, inl, inr, is_some, not, true, Some, None, option_map, string_bytes}
 use Rattle.std.specs.Str.Parse.{ParsesUnsigned, ExplainsUnsignedError, HasUnsignedDigitsIfOk}
 use Rattle.clap.specs.Words.{found_of, one_of, rows_of}
-use Rattle.clap.proofs.WalkLemmas.{first_value-rows, one_text-rows, raw_values-rows}
+use Rattle.clap.proofs.WalkLemmas.{one_text-rows}
 use Rattle.ospf_words.specs.Job.{IsFaultOfValue}
 use Rattle.ospf_words.specs.Unasked.{IsNoAddress, IsWrongValue}
 use Rattle.ospf_words.specs.Words.{IsAddressIfAny, IsFlag}
@@ -16,20 +16,16 @@ returns-in_default-clause-none c =
     (λ t e n h number small. h.0 (number.0, subst (λ v. v < 2 ^ 64) (sym number.1) small)) (one_of (codes "tick") (rows_of found)) None
     (λ t at. c.in_default.ensures.value t (one_text-rows found (codes "tick") ∙ at)) refl)
 
-pub returns-in_default-get_strs-clause-none : goal.returns-in_default-get_strs-clause-none
-returns-in_default-get_strs-clause-none c =
+pub returns-in_default-all_of-clause-none : goal.returns-in_default-all_of-clause-none
+returns-in_default-all_of-clause-none c =
     let found = found_of c.args.values.now in
-    inr (inl (sym (c.in_default-get_strs.ensures ∙ raw_values-rows found (codes "files"))))
+    inr (inl (sym c.in_default-all_of.ensures))
 
 pub returns-then-is_none-clause-none : goal.returns-then-is_none-clause-none
 returns-then-is_none-clause-none c =
     let found = found_of c.args.values.now in
-    let json : IsFlag (one_of (codes "json") (rows_of found)) c.get_flag-json.result = record {
-      none = λ e. c.get_flag-json.ensures.none (one_text-rows found (codes "json") ∙ e);
-      set = λ e. c.get_flag-json.ensures.value (one_text-rows found (codes "json") ∙ e);
-      unset = λ e. c.get_flag-json.ensures.other (one_text-rows found (codes "json") ∙ e);
-    } in
-    let none = no_text string_bytes c.in_ok-log.log _ c.is_none.result c.is_none.ensures c.if-is_none.true (c.in_ok-log.ensures ∙ c.get_str-4.ensures ∙ first_value-rows found (codes "log")) in
+    let json : IsFlag (one_of (codes "json") (rows_of found)) c.has_flag-json.result = c.has_flag-json.ensures in
+    let none = no_text string_bytes c.in_ok-log.log _ c.is_none.result c.is_none.ensures c.if-is_none.true (c.in_ok-log.ensures ∙ c.word_of-4.ensures) in
     inr (inr (rw c.if-json.true at json, none))
 
 pub returns-in_err-lookup-clause-fault : goal.returns-in_err-lookup-clause-fault
@@ -38,14 +34,14 @@ returns-in_err-lookup-clause-fault c =
     let rows = rows_of found in
     let wrong = IsFaultOfValue (IsWrongValue (Some (codes "run", rows))) in
     err_kept c.from_residual-in_err-lookup.result (λ f. f ≡ c.in_err-lookup.field-0.0) wrong c.from_residual-in_err-lookup.ensures.1
-    (λ f is. subst wrong (sym is) (value_weaker (λ w. (option_map (λ (q : Bor (List ℕ)). q.now) c.get_str.result ≡ Some w) × IsNoAddress w) (IsWrongValue (Some (codes "run", rows))) c.in_err-lookup.field-0.0
-    (λ w h. wrong_lookup rows w (sym (c.get_str.ensures ∙ first_value-rows found (codes "lookup")) ∙ h.0) h.1) c.in_err-lookup.ensures.fault))
+    (λ f is. subst wrong (sym is) (value_weaker (λ w. (option_map (λ (q : Bor (List ℕ)). q.now) c.word_of.result ≡ Some w) × IsNoAddress w) (IsWrongValue (Some (codes "run", rows))) c.in_err-lookup.field-0.0
+    (λ w h. wrong_lookup rows w (sym c.word_of.ensures ∙ h.0) h.1) c.in_err-lookup.ensures.fault))
 
 pub returns-clause-some : goal.returns-clause-some
 returns-clause-some c =
     let found = found_of c.args.values.now in
     let rows = rows_of found in
-    let apart : (c.get_flag-json.result ≡ false) ⊎ (is_some c.in_ok-log.log ≡ true) =
+    let apart : (c.has_flag-json.result ≡ false) ⊎ (is_some c.in_ok-log.log ≡ true) =
     elim c.else-json.branch [ else-json-via-then-json+else-is_none w ↦ inr (w.is_none.ensures ∙ ap not w.if-is_none.false) | else-json-via-else-json w ↦ inl w.if-json.false ] in
     let tick = number_read (λ bs r. ParsesUnsigned 64 10 bs r × ExplainsUnsignedError 10 bs r × HasUnsignedDigitsIfOk bs r) (λ t n h. (h.0.0.0, sym h.0.1))
     (one_of (codes "tick") rows) c.get_one.result c.in-Some.milliseconds (λ e. c.get_one.ensures.none (one_text-rows found (codes "tick") ∙ e))
@@ -55,43 +51,23 @@ returns-clause-some c =
         tick_text = tick.0;
         has_tick = tick.1;
         tick = tick.2;
-        texts = texts_of c.in-Some-get_strs.files.now;
-        has_files = sym (c.in-Some-get_strs.ensures ∙ raw_values-rows found (codes "files"));
+        texts = texts_of c.in-Some-all_of.files.now;
+        has_files = sym c.in-Some-all_of.ensures;
         files = c.in_ok-files.ensures;
-        lookup = subst (λ o. IsAddressIfAny o c.in_ok-lookup.lookup) (c.get_str.ensures ∙ first_value-rows found (codes "lookup")) c.in_ok-lookup.ensures.value;
-        floor = c.in_ok-floor.ensures ∙ c.get_str-2.ensures ∙ first_value-rows found (codes "floor");
-        pcap = c.in_ok-pcap.ensures ∙ c.get_str-3.ensures ∙ first_value-rows found (codes "pcap");
-        log = c.in_ok-log.ensures ∙ c.get_str-4.ensures ∙ first_value-rows found (codes "log");
+        lookup = subst (λ o. IsAddressIfAny o c.in_ok-lookup.lookup) (c.word_of.ensures) c.in_ok-lookup.ensures.value;
+        floor = c.in_ok-floor.ensures ∙ c.word_of-2.ensures;
+        pcap = c.in_ok-pcap.ensures ∙ c.word_of-3.ensures;
+        log = c.in_ok-log.ensures ∙ c.word_of-4.ensures;
         every = number_if_any (λ bs r. ParsesUnsigned 64 10 bs r × ExplainsUnsignedError 10 bs r × HasUnsignedDigitsIfOk bs r)
             (λ t n h. (h.0.0.0, sym h.0.1)) (λ t e n h number small. h.0 (number.0, subst (λ v. v < 2 ^ 64) (sym number.1) small))
             (one_of (codes "every") rows) c.get_one-every.result (λ e. c.get_one-every.ensures.none (one_text-rows found (codes "every") ∙ e))
             (λ t at. c.get_one-every.ensures.value t (one_text-rows found (codes "every") ∙ at));
-        until_eof = record {
-          none = λ e. c.get_flag-until_eof.ensures.none (one_text-rows found (codes "until-eof") ∙ e);
-          set = λ e. c.get_flag-until_eof.ensures.value (one_text-rows found (codes "until-eof") ∙ e);
-          unset = λ e. c.get_flag-until_eof.ensures.other (one_text-rows found (codes "until-eof") ∙ e);
-        };
-        neighbours = record {
-          none = λ e. c.get_flag-neighbours.ensures.none (one_text-rows found (codes "neighbours") ∙ e);
-          set = λ e. c.get_flag-neighbours.ensures.value (one_text-rows found (codes "neighbours") ∙ e);
-          unset = λ e. c.get_flag-neighbours.ensures.other (one_text-rows found (codes "neighbours") ∙ e);
-        };
-        listing = record {
-          none = λ e. c.get_flag-listing.ensures.none (one_text-rows found (codes "listing") ∙ e);
-          set = λ e. c.get_flag-listing.ensures.value (one_text-rows found (codes "listing") ∙ e);
-          unset = λ e. c.get_flag-listing.ensures.other (one_text-rows found (codes "listing") ∙ e);
-        };
-        drops = record {
-          none = λ e. c.get_flag-drops.ensures.none (one_text-rows found (codes "drops") ∙ e);
-          set = λ e. c.get_flag-drops.ensures.value (one_text-rows found (codes "drops") ∙ e);
-          unset = λ e. c.get_flag-drops.ensures.other (one_text-rows found (codes "drops") ∙ e);
-        };
-        json = record {
-          none = λ e. c.get_flag-json.ensures.none (one_text-rows found (codes "json") ∙ e);
-          set = λ e. c.get_flag-json.ensures.value (one_text-rows found (codes "json") ∙ e);
-          unset = λ e. c.get_flag-json.ensures.other (one_text-rows found (codes "json") ∙ e);
-        };
-        apart = journal_apart c.in_ok-log.log c.get_flag-json.result apart;
+        until_eof = c.has_flag-until_eof.ensures;
+        neighbours = c.has_flag-neighbours.ensures;
+        listing = c.has_flag-listing.ensures;
+        drops = c.has_flag-drops.ensures;
+        json = c.has_flag-json.ensures;
+        apart = journal_apart c.in_ok-log.log c.has_flag-json.result apart;
       },
       refl,
     )
