@@ -18,11 +18,16 @@ use Rattle.ospf_graph.specs.declared.graph.Edge.{Edge}
 use Rattle.ospf_graph.specs.declared.graph.Vertex.TheVariants.{Network, Router}
 use Rattle.ospf_graph.proofs.ListLemmas.{member_cases, member_head, member_later}
 use Rattle.ospf_graph.proofs.TableLemmas.{head_before, pairs_tail}
-use Rattle.ospf_diff.specs.Costs.{AddsCost, AreCostChanges, AreCostsBy, AreInterfaceCosts, IsCostChange, IsInterfaceBefore, IsInterfaceCost, IsLeastOf, change_in, change_to, edge_of, interface_cmp}
+use Rattle.ospf_diff.specs.Costs.{AddsCost, AreCostChanges, AreInterfaceCosts, IsCostChange, IsInterfaceBefore, IsInterfaceCost, IsLeastCostOf, change_in, change_to, edge_of, interface_cmp}
 use Rattle.ospf_diff.specs.contracts.costs.InterfaceOrd.TheImpl.Laws.{total-law}
 use Rattle.ospf_diff.specs.declared.costs.CostChange.{CostChange}
 use Rattle.ospf_diff.specs.declared.costs.Interface.{Interface}
 use Rattle.ospf_diff.proofs.InterfaceOrder.{before_by_cmp, interfaces_exact}
+
+-- what each interface costs by these edges
+abbrev pub AreCostsBy : List Edge → (Interface → Option ℕ) → Type 0
+AreCostsBy edges cost_at =
+    (i : Interface) → IsLeastCostOf (λ cost. Contains edges (edge_of i cost)) (cost_at i)
 
 -- ---- one edge more
 
@@ -44,7 +49,7 @@ lt_tells a b = elim (less_or_more a b) [
 
 module _ (edges : List Edge) (edge : Edge) (j : Interface) where
   -- the edge is one of the interface
-  of_it : edge ≡ edge_of j edge.cost → (old : Option ℕ) → IsLeastOf (HasCost edges j) old → IsLeastOf (HasCost (edges ++ edge ∷ []) j) (Some (lesser_of old edge.cost))
+  of_it : edge ≡ edge_of j edge.cost → (old : Option ℕ) → IsLeastCostOf (HasCost edges j) old → IsLeastCostOf (HasCost (edges ++ edge ∷ []) j) (Some (lesser_of old edge.cost))
   of_it is None none = (
     subst (Contains (edges ++ edge ∷ [])) is (Contains-push edges edge),
     λ d c. elim (Contains-push_cases edges edge (edge_of j d) c) [
@@ -70,7 +75,7 @@ module _ (edges : List Edge) (edge : Edge) (j : Interface) where
   ]
 
   -- or of another
-  of_other : (edge ≡ edge_of j edge.cost → ⊥) → (old : Option ℕ) → IsLeastOf (HasCost edges j) old → IsLeastOf (HasCost (edges ++ edge ∷ []) j) old
+  of_other : (edge ≡ edge_of j edge.cost → ⊥) → (old : Option ℕ) → IsLeastCostOf (HasCost edges j) old → IsLeastCostOf (HasCost (edges ++ edge ∷ []) j) old
   of_other other None none = λ d c. elim (Contains-push_cases edges edge (edge_of j d) c) [
     | inl earlier ↦ none d earlier
     | inr now ↦ (let cost : edge.cost ≡ d = ap (λ (e : Edge). e.cost) now in other (now ∙ ap (edge_of j) (sym cost)))
@@ -84,9 +89,9 @@ module _ (edges : List Edge) (edge : Edge) (j : Interface) where
   )
 
   cost_more : (old new : Option ℕ) → ((edge ≡ edge_of j edge.cost) × (new ≡ Some (lesser_of old edge.cost))) ⊎ ((edge ≡ edge_of j edge.cost → ⊥) × (new ≡ old))
-      → IsLeastOf (HasCost edges j) old → IsLeastOf (HasCost (edges ++ edge ∷ []) j) new
-  cost_more old new (inl here) least = subst (IsLeastOf (HasCost (edges ++ edge ∷ []) j)) (sym here.1) (of_it here.0 old least)
-  cost_more old new (inr other) least = subst (IsLeastOf (HasCost (edges ++ edge ∷ []) j)) (sym other.1) (of_other other.0 old least)
+      → IsLeastCostOf (HasCost edges j) old → IsLeastCostOf (HasCost (edges ++ edge ∷ []) j) new
+  cost_more old new (inl here) least = subst (IsLeastCostOf (HasCost (edges ++ edge ∷ []) j)) (sym here.1) (of_it here.0 old least)
+  cost_more old new (inr other) least = subst (IsLeastCostOf (HasCost (edges ++ edge ∷ []) j)) (sym other.1) (of_other other.0 old least)
 
 pub costs_more : (edges : List Edge) (i : ℕ) (edge : Edge) (old new : Interface → Option ℕ) → i < length edges → edge ≡ get_or edges i edge
     → AddsCost edge old new → AreCostsBy (take i edges) old → AreCostsBy (take (i + 1) edges) new
@@ -96,9 +101,9 @@ costs_more edges i edge old new lt is adds so_far =
 
 pub no_costs : (edges : List Edge) (cost_at : Interface → Option ℕ) → ((i : Interface) → cost_at i ≡ None) → AreCostsBy (take 0 edges) cost_at
 no_costs edges cost_at none i =
-    subst (IsLeastOf (HasCost (take 0 edges) i)) (sym (none i)) (λ n c. let low = c.1 in omega arith)
+    subst (IsLeastCostOf (HasCost (take 0 edges) i)) (sym (none i)) (λ n c. let low = c.1 in omega arith)
 
-least_as : (P Q : ℕ → Type 0) (o : Option ℕ) → ((n : ℕ) → P n ↔ Q n) → IsLeastOf P o → IsLeastOf Q o
+least_as : (P Q : ℕ → Type 0) (o : Option ℕ) → ((n : ℕ) → P n ↔ Q n) → IsLeastCostOf P o → IsLeastCostOf Q o
 least_as P Q None same none = λ n q. none n ((same n).1 q)
 least_as P Q (Some n) same least = ((same n).0 least.0, (λ m q. least.1 m ((same m).1 q)))
 
@@ -110,7 +115,7 @@ costs_are adverts edges cost_at all costs i =
 -- ---- what differs
 
 -- an interface's cost, by what all cost
-cost_of : (adverts : List Advertisement) (i : Interface) (n : ℕ) (o : Option ℕ) → IsLeastOf (λ cost. IsEdgeBetween adverts (Router i.router) i.to cost i.link_data) o
+cost_of : (adverts : List Advertisement) (i : Interface) (n : ℕ) (o : Option ℕ) → IsLeastCostOf (λ cost. IsEdgeBetween adverts (Router i.router) i.to cost i.link_data) o
     → (o ≡ Some n) ↔ IsInterfaceCost adverts i n
 cost_of adverts i n None none = ((λ e. cc), (λ is. absurd (none n is.edge)))
 cost_of adverts i n (Some m) least = (

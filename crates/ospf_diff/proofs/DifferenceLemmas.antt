@@ -10,7 +10,7 @@ use Rattle.ospf_graph.specs.declared.route.Route.{Route}
 use Rattle.ospf_spf.specs.Changes.{IsChangeBefore, IsGone, IsNewRoute, Reaches, prefix_of}
 use Rattle.ospf_spf.specs.declared.changes.Change.{Change}
 use Rattle.ospf_spf.specs.declared.changes.Change.TheVariants.{Gone, Put}
-use Rattle.ospf_diff.specs.Difference.{AreDifferences, HasDifferenceAt, IsDifference, IsDifferenceBefore, IsDifferenceBy, IsOfTable, IsTurn, prefix_at}
+use Rattle.ospf_diff.specs.Difference.{AreDifferences, HasDifferenceAt, IsDifference, IsDifferenceBefore, IsDifferenceBy, IsOfTable, IsRouteTurn, prefix_at}
 use Rattle.ospf_diff.specs.declared.difference.RouteDifference.{RouteDifference}
 use Rattle.ospf_diff.specs.declared.difference.RouteDifference.TheVariants.{Gained, Longer, Lost, Rerouted, Shorter}
 use Rattle.ospf_diff.proofs.PairLemmas.{has_key, pairs_by_keys}
@@ -29,7 +29,7 @@ module _ (before after : List Route) where
       let lost : IsAt before after prefix (Lost old) = ((by.1, subst (λ (p : Prefix). Reaches after p → ⊥) (sym by.2) gone.1), by.2) in
       subst (IsAt before after prefix) (sym by.3) lost
 
-  at_turn : (old new : Route) (d : RouteDifference) → Contains before old → old.prefix ≡ new.prefix → IsNewRoute before after new → IsTurn old new d
+  at_turn : (old new : Route) (d : RouteDifference) → Contains before old → old.prefix ≡ new.prefix → IsNewRoute before after new → IsRouteTurn old new d
       → IsAt before after new.prefix d
   at_turn old new d had same is (inl longer) =
       subst (IsAt before after new.prefix) (sym longer.1) ((record { had = had; has = is.0; one_prefix = same }, longer.0), refl)

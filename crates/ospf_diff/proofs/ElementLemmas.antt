@@ -15,7 +15,7 @@ use Rattle.ospf_whatif.specs.declared.failure.AreaFailure.TheVariants.{Attachmen
 use Rattle.ospf_whatif.specs.contracts.failure.AreaFailureOrd.TheImpl.{ghosts}
 use Rattle.ospf_whatif.specs.contracts.failure.AreaFailureOrd.TheImpl.Laws.{matches_eq-law, total-law}
 use Rattle.ospf_whatif.proofs.FailureOrder.{failure_same, failures_rise}
-use Rattle.ospf_diff.specs.Elements.{AreElementsOnlyIn, AreMissing}
+use Rattle.ospf_diff.specs.Elements.{AreElementsOnlyIn, AreElementsMissing}
 
 -- ---- the order of elements
 
@@ -76,8 +76,8 @@ searched_for xs x (Err i) order within parted =
 
 -- ---- those that are missing
 
-pub none_missing : (elements others missing : List AreaFailure) → missing ≡ [] → AreMissing (take 0 elements) others missing
-none_missing elements others missing is = subst (AreMissing (take 0 elements) others) (sym is) (record {
+pub none_missing : (elements others missing : List AreaFailure) → missing ≡ [] → AreElementsMissing (take 0 elements) others missing
+none_missing elements others missing is = subst (AreElementsMissing (take 0 elements) others) (sym is) (record {
   in_order = λ i j d lt le. absurd (omega arith);
   whole = λ x. ((λ c. absurd (let low = c.1 in omega arith)), (λ h. absurd (let low = h.0.1 in omega arith)));
 })
@@ -96,10 +96,10 @@ module _ (elements others : List AreaFailure) (order : AllPairs IsFailureBefore 
       subst (λ (z : AreaFailure). IsFailureBefore z x) there
       (subst (λ (z : AreaFailure). IsFailureBefore (get_or elements k y) z) here (order k i y less lt))
 
-  pub missing_more : (missing new : List AreaFailure) → new ≡ missing ++ x ∷ [] → (Contains others x → ⊥) → AreMissing (take i elements) others missing
-      → AreMissing (take (i + 1) elements) others new
+  pub missing_more : (missing new : List AreaFailure) → new ≡ missing ++ x ∷ [] → (Contains others x → ⊥) → AreElementsMissing (take i elements) others missing
+      → AreElementsMissing (take (i + 1) elements) others new
   missing_more missing new new_is none so_far =
-      subst (AreMissing (take (i + 1) elements) others) (sym new_is) (subst (λ (l : List AreaFailure). AreMissing l others (missing ++ x ∷ [])) (sym taken) (record {
+      subst (AreElementsMissing (take (i + 1) elements) others) (sym new_is) (subst (λ (l : List AreaFailure). AreElementsMissing l others (missing ++ x ∷ [])) (sym taken) (record {
         in_order = all_pairs_push IsFailureBefore missing x so_far.in_order
             (λ k d less. before_it (get_or missing k d) ((so_far.whole (get_or missing k d)).0 (Contains-get_or missing k d less)).0);
         whole = λ y. (
@@ -114,8 +114,8 @@ module _ (elements others : List AreaFailure) (order : AllPairs IsFailureBefore 
         );
       }))
 
-  pub missing_same : (missing : List AreaFailure) → Contains others x → AreMissing (take i elements) others missing → AreMissing (take (i + 1) elements) others missing
-  missing_same missing there so_far = subst (λ (l : List AreaFailure). AreMissing l others missing) (sym taken) (record {
+  pub missing_same : (missing : List AreaFailure) → Contains others x → AreElementsMissing (take i elements) others missing → AreElementsMissing (take (i + 1) elements) others missing
+  missing_same missing there so_far = subst (λ (l : List AreaFailure). AreElementsMissing l others missing) (sym taken) (record {
     in_order = so_far.in_order;
     whole = λ y. (
       (λ c. let h = (so_far.whole y).0 c in (Contains-append_left (take i elements) (x ∷ []) y h.0, h.1)),
@@ -128,7 +128,7 @@ module _ (elements others : List AreaFailure) (order : AllPairs IsFailureBefore 
 
 -- what the elements of two areas are
 pub only_in : (area other : List Advertisement) (elements others found : List AreaFailure) → AreFailures area elements → AreFailures other others
-    → AreMissing elements others found → AreElementsOnlyIn area other found
+    → AreElementsMissing elements others found → AreElementsOnlyIn area other found
 only_in area other elements others found all all_others missing = record {
   in_order = missing.in_order;
   whole = λ x. (

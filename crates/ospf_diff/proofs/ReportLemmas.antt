@@ -12,9 +12,9 @@ use Rattle.ospf_whatif.specs.declared.failure.AreaFailure.{AreaFailure}
 use Rattle.ospf_whatif.specs.declared.failure.AreaFailure.TheVariants.{Router}
 use Rattle.ospf_diff.specs.Costs.{AreCostChanges, cost_line}
 use Rattle.ospf_diff.specs.Elements.{AreElementsChanged, elements_text}
-use Rattle.ospf_diff.specs.Report.{IsComparison, IsDiffReport, IsRefusal, IsRefusalOf, IsRefused, IsReported, IsUncompared, IsUnread, WarnsOf, named_text}
-use Rattle.ospf_diff.specs.Sights.{AreRoots, AreRootsAmong, AreSeen, sight_lines}
-use Rattle.ospf_diff.specs.Sums.{status_by, sums_line, sums_of}
+use Rattle.ospf_diff.specs.Report.{IsComparison, IsDiffReport, IsRefusal, IsDatabaseRefusal, IsRefused, AreBothCompared, IsUncompared, IsUnread, WarnsOfDatabase, named_text}
+use Rattle.ospf_diff.specs.Sights.{AreRoots, AreRootsAmong, AreSeen, lines_of_router}
+use Rattle.ospf_diff.specs.Sums.{status_by, difference_sums_line, difference_sums_of}
 use Rattle.ospf_diff.specs.declared.costs.CostChange.{CostChange}
 use Rattle.ospf_diff.specs.declared.report.DiffJob.{DiffJob}
 use Rattle.ospf_diff.specs.declared.report.DiffNames.{DiffNames}
@@ -39,14 +39,14 @@ roots_are A B old new None routers a b is = record {
 
 pub comparison_is : (A B : List Advertisement) (root : Option RouterId) (old new : List AreaFailure) (elements text : List ℕ) (costs : List CostChange) (routers : List RouterId)
     (seen : Sights) (status : ℕ) → AreFailures A old → AreFailures B new → AreElementsChanged old new elements → AreCostChanges A B costs → AreRootsAmong old new root routers
-    → AreSeen A B routers seen → text ≡ (elements ++ flat_map cost_line costs) ++ (string_bytes seen.lines ++ sums_line seen.sums) → status ≡ status_by seen.sums
+    → AreSeen A B routers seen → text ≡ (elements ++ flat_map cost_line costs) ++ (string_bytes seen.lines ++ difference_sums_line seen.sums) → status ≡ status_by seen.sums
     → IsComparison A B root text status
 comparison_is A B root old new elements text costs routers seen status a b changed are_costs are_roots are_seen text_is status_is =
-    let lines = flat_map sight_lines are_seen.sights in
+    let lines = flat_map lines_of_router are_seen.sights in
     let went = elements_text (codes "-") changed.went in
     let came = elements_text (codes "+") changed.came in
     let more = flat_map cost_line costs in
-    let last = sums_line (sums_of are_seen.sights) in
+    let last = difference_sums_line (difference_sums_of are_seen.sights) in
     let regrouped : ((went ++ came) ++ more) ++ (lines ++ last) ≡ (((went ++ came) ++ more) ++ lines) ++ last = sym (append_assoc ((went ++ came) ++ more) lines last) in
     record {
       went = changed.went;
@@ -60,9 +60,9 @@ comparison_is A B root old new elements text costs routers seen status a b chang
       sights = are_seen.sights;
       are_sights = are_seen.are;
       text_is =
-          text_is ∙ ap (λ (e : List ℕ). (e ++ more) ++ (string_bytes seen.lines ++ sums_line seen.sums)) changed.text_is
-          ∙ ap (λ (l : List ℕ). ((went ++ came) ++ more) ++ (l ++ sums_line seen.sums)) are_seen.lines_are
-          ∙ ap (λ (s : DifferenceSums). ((went ++ came) ++ more) ++ (lines ++ sums_line s)) are_seen.sums_are ∙ regrouped;
+          text_is ∙ ap (λ (e : List ℕ). (e ++ more) ++ (string_bytes seen.lines ++ difference_sums_line seen.sums)) changed.text_is
+          ∙ ap (λ (l : List ℕ). ((went ++ came) ++ more) ++ (l ++ difference_sums_line seen.sums)) are_seen.lines_are
+          ∙ ap (λ (s : DifferenceSums). ((went ++ came) ++ more) ++ (lines ++ difference_sums_line s)) are_seen.sums_are ∙ regrouped;
       status_is = status_is ∙ ap status_by are_seen.sums_are;
     }
 
@@ -72,11 +72,11 @@ pub reported : (job : DiffJob) (names : DiffNames) (before after : Option (List 
     (warnings_before warnings_after : List ℕ)
     → IfSome before (λ bytes. Reads bytes [] old) → IfSome before (λ bytes. LeavesOut bytes old_left_out)
     → IfSome after (λ bytes. Reads bytes [] new) → IfSome after (λ bytes. LeavesOut bytes new_left_out)
-    → WarnsOf names.before.now old_left_out (advertisements_of old) job.root warnings_before
-    → WarnsOf names.after.now new_left_out (advertisements_of new) job.root warnings_after
+    → WarnsOfDatabase names.before.now old_left_out (advertisements_of old) job.root warnings_before
+    → WarnsOfDatabase names.after.now new_left_out (advertisements_of new) job.root warnings_after
     → string_bytes report.warnings ≡ warnings_before ++ warnings_after
     → IsComparison (advertisements_of old) (advertisements_of new) job.root (string_bytes report.text) report.status
-    → IfSome before (λ b. IfSome after (λ a. IsReported job names b a report))
+    → IfSome before (λ b. IfSome after (λ a. AreBothCompared job names b a report))
 reported job names None after report old new n m w v reads leaves reads_too leaves_too warns warns_too warnings compared = tt
 reported job names (Some b) None report old new n m w v reads leaves reads_too leaves_too warns warns_too warnings compared = tt
 reported job names (Some b) (Some a) report old new n m w v reads leaves reads_too leaves_too warns warns_too warnings compared = record {
@@ -97,34 +97,13 @@ reported job names (Some b) (Some a) report old new n m w v reads leaves reads_t
 }
 
 -- where both are compared, that is the report
-pub report_is : (job : DiffJob) (names : DiffNames) (before after : Option (List ℕ)) (report : Report) → IfSome before (λ b. IfSome after (λ a. IsReported job names b a report))
+pub report_is : (job : DiffJob) (names : DiffNames) (before after : Option (List ℕ)) (report : Report) → IfSome before (λ b. IfSome after (λ a. AreBothCompared job names b a report))
     → IfSome before (λ b. IfSome after (λ a. IsDiffReport job names b a report))
 report_is job names None after report is = tt
 report_is job names (Some b) None report is = tt
 report_is job names (Some b) (Some a) report is = inl is
 
 -- ---- a refusal
-
-pub refusal_is : (job : DiffJob) (names : DiffNames) (before after : Option (List ℕ)) (report : Report) (text : List ℕ)
-    → IfSome before (λ b. IfSome after (λ a. IsRefusal names b a text)) → string_bytes report.warnings ≡ text → string_bytes report.text ≡ [] → report.status ≡ 3
-    → IfSome before (λ b. IfSome after (λ a. IsDiffReport job names b a report))
-refusal_is job names None after report text is warnings none status = tt
-refusal_is job names (Some b) None report text is warnings none status = tt
-refusal_is job names (Some b) (Some a) report text is warnings none status =
-    inr (record { refusal = subst (IsRefusal names b a) (sym warnings) is; no_text = none; status_is = status })
-
-pub unread_first : (names : DiffNames) (before after : Option (List ℕ)) (f : Unread) → IsUnread names.before.now before f → IsUncompared names before after f
-unread_first names None after (fault.Refused text) is = tt
-unread_first names (Some b) None (fault.Refused text) is = tt
-unread_first names (Some b) (Some a) (fault.Refused text) is = inl is
-unread_first names before after (fault.Failure f) is = is
-
-pub unread_second : (names : DiffNames) (before after : Option (List ℕ)) (old : List (List ℕ)) (f : Unread) → IfSome before (λ bytes. Reads bytes [] old)
-    → IsUnread names.after.now after f → IsUncompared names before after f
-unread_second names None after old (fault.Refused text) reads is = tt
-unread_second names (Some b) None old (fault.Refused text) reads is = tt
-unread_second names (Some b) (Some a) old (fault.Refused text) reads is = inr (old, reads, is)
-unread_second names before after old (fault.Failure f) reads is = is
 
 pub refused_line : (name : List ℕ) (input : Option (List ℕ)) (number : ℕ) (entry : EntryFault) (f : Unread) → IfSome input (λ bytes. Refuses bytes [] number entry)
     → IsRefused name number entry f → IsUnread name input f

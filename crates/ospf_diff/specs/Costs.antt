@@ -57,15 +57,15 @@ vertex_text (Network n) = codes "@" ++ number_text n
 vertex_text (Router r) = number_text r.0
 
 -- what it says of one
-abbrev pub change_text : CostChange → List ℕ
-change_text c =
+abbrev pub cost_change_text : CostChange → List ℕ
+cost_change_text c =
     codes "cost " ++ number_text c.interface.router.0 ++ codes " "
     ++ number_text c.interface.link_data ++ codes " to " ++ vertex_text c.interface.to
     ++ codes ": " ++ decimal c.before ++ codes " -> " ++ decimal c.after
 
 -- the line of it
 abbrev pub cost_line : CostChange → List ℕ
-cost_line c = change_text c ++ codes "\n"
+cost_line c = cost_change_text c ++ codes "\n"
 
 -- ---- on the way
 
@@ -75,20 +75,16 @@ edge_of i cost =
     record { from = Router i.router; to = i.to; cost = cost; link_data = i.link_data }
 
 -- the least number of some, where there is one
-abbrev pub IsLeastOf : (ℕ → Type 0) → Option ℕ → Type 0
-IsLeastOf P least =
+abbrev pub IsLeastCostOf : (ℕ → Type 0) → Option ℕ → Type 0
+IsLeastCostOf P least =
     MatchOption least ((n : ℕ) → P n → ⊥) (λ n. P n × ((m : ℕ) → P m → n ≤ m))
-
--- what each interface costs by these edges
-abbrev pub AreCostsBy : List Edge → (Interface → Option ℕ) → Type 0
-AreCostsBy edges cost_at =
-    (i : Interface) → IsLeastOf (λ cost. Contains edges (edge_of i cost)) (cost_at i)
 
 -- what each interface of an area costs
 abbrev pub AreInterfaceCosts : List Advertisement → (Interface → Option ℕ) → Type 0
 AreInterfaceCosts adverts cost_at =
     (i : Interface)
-    → IsLeastOf (λ cost. IsEdgeBetween adverts (Router i.router) i.to cost i.link_data) (cost_at i)
+    → IsLeastCostOf (λ cost. IsEdgeBetween adverts (Router i.router) i.to cost i.link_data)
+    (cost_at i)
 
 -- a cost is noted for an interface, unless a lesser one is
 abbrev pub PutsLeast

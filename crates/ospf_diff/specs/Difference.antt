@@ -63,8 +63,8 @@ IsOfTable before (Gone prefix) = Reaches before prefix
 IsOfTable before (Put new) = ⊤
 
 -- what two routes to one prefix differ in, if they are not the same
-abbrev pub IsTurn : Route → Route → RouteDifference → Type 0
-IsTurn old new d =
+abbrev pub IsRouteTurn : Route → Route → RouteDifference → Type 0
+IsRouteTurn old new d =
     ((old.cost < new.cost) × (d ≡ Longer old new))
     ⊎ ((new.cost < old.cost) × (d ≡ Shorter old new))
     ⊎ ((old.cost ≡ new.cost) × (d ≡ Rerouted old new))
@@ -75,4 +75,4 @@ IsDifferenceBy before (Gone prefix) d =
     (old : Route) × Contains before old × (old.prefix ≡ prefix) × (d ≡ Lost old)
 IsDifferenceBy before (Put route) d =
     ((Reaches before route.prefix → ⊥) × (d ≡ Gained route))
-    ⊎ ((old : Route) × Contains before old × (old.prefix ≡ route.prefix) × IsTurn old route d)
+    ⊎ ((old : Route) × Contains before old × (old.prefix ≡ route.prefix) × IsRouteTurn old route d)

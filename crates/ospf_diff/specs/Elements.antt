@@ -7,7 +7,7 @@ use Rattle.ospf_whatif.specs.declared.failure.AreaFailure.{AreaFailure}
 
 -- the elements of the first list that are not in the second, in the order of failures and so each
 -- once
-pub record AreMissing (elements others missing : List AreaFailure) : Type 0 where
+pub record AreElementsMissing (elements others missing : List AreaFailure) : Type 0 where
   pub in_order : AllPairs IsFailureBefore missing
   pub whole : (element : AreaFailure) → Contains missing element
       ↔ (Contains elements element × (Contains others element → ⊥))
@@ -24,10 +24,10 @@ abbrev pub elements_text : List ℕ → List AreaFailure → List ℕ
 elements_text sign elements =
     flat_map (λ e. sign ++ codes " " ++ area_failure_text e ++ codes "\n") elements
 
--- the lines of the elements that went, and behind them of those that came
+-- the lines of the elements that went, and after them of those that came
 pub record AreElementsChanged (before after : List AreaFailure) (text : List ℕ) : Type 0 where
   pub went : List AreaFailure
-  pub are_went : AreMissing before after went
+  pub are_went : AreElementsMissing before after went
   pub came : List AreaFailure
-  pub are_came : AreMissing after before came
+  pub are_came : AreElementsMissing after before came
   pub text_is : text ≡ elements_text (codes "-") went ++ elements_text (codes "+") came

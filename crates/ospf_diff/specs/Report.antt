@@ -14,8 +14,8 @@ use Rattle.ospf_table.specs.declared.table.EntryFault.{EntryFault}
 use Rattle.ospf_whatif.specs.declared.failure.AreaFailure.{AreaFailure}
 use Rattle.ospf_diff.specs.Costs.{AreCostChanges, cost_line}
 use Rattle.ospf_diff.specs.Elements.{AreElementsOnlyIn, elements_text}
-use Rattle.ospf_diff.specs.Sights.{AreRoots, AreSights, sight_lines}
-use Rattle.ospf_diff.specs.Sums.{SightValue, status_by, sums_line, sums_of}
+use Rattle.ospf_diff.specs.Sights.{AreRoots, AreRouterDifferences, lines_of_router}
+use Rattle.ospf_diff.specs.Sums.{RouterDifferences, status_by, difference_sums_line, difference_sums_of}
 use Rattle.ospf_diff.specs.declared.costs.CostChange.{CostChange}
 use Rattle.ospf_diff.specs.declared.report.DiffJob.{DiffJob}
 use Rattle.ospf_diff.specs.declared.report.DiffNames.{DiffNames}
@@ -24,12 +24,12 @@ use Rattle.ospf_diff.specs.declared.report.Unread.TheVariants as fault
 
 -- ---- warnings
 
--- a line behind the name of a database, and nothing where nothing is said
+-- a line after the name of a database, and nothing if there is no line
 abbrev pub named_text : List ℕ → List ℕ → List ℕ
 named_text name [] = []
 named_text name (c ∷ rest) = name ++ codes ": " ++ (c ∷ rest)
 
--- what is said of a router: a line where its router-LSA is not listed, and else nothing
+-- the warning about a router: a line where its router-LSA is not listed, and else nothing
 abbrev pub WarnsOfRouter : List Advertisement → RouterId → List ℕ → Type 0
 WarnsOfRouter adverts router text =
     ((IsListed adverts router → ⊥) × (text ≡ unlisted_line router))
@@ -40,8 +40,8 @@ abbrev pub WarnsOfRoot : List Advertisement → Option RouterId → List ℕ →
 WarnsOfRoot adverts (Some router) text = WarnsOfRouter adverts router text
 WarnsOfRoot adverts None text = text ≡ []
 
--- what is said of a database: how many LSAs are left out, and then of that router
-pub record WarnsOf (name : List ℕ) (left_out : ℕ) (adverts : List Advertisement)
+-- the warnings about a database: how many LSAs are left out, and then of that router
+pub record WarnsOfDatabase (name : List ℕ) (left_out : ℕ) (adverts : List Advertisement)
     (root : Option RouterId) (text : List ℕ) : Type 0 where
   pub of_root : List ℕ
   pub root_is : WarnsOfRoot adverts root of_root
@@ -61,15 +61,16 @@ pub record IsComparison (before after : List Advertisement) (root : Option Route
   pub are_costs : AreCostChanges before after costs
   pub routers : List RouterId
   pub are_roots : AreRoots before after root routers
-  pub sights : List SightValue
-  pub are_sights : AreSights before after routers sights
+  pub sights : List RouterDifferences
+  pub are_sights : AreRouterDifferences before after routers sights
   pub text_is : text
       ≡ elements_text (codes "-") went ++ elements_text (codes "+") came
-      ++ flat_map cost_line costs ++ flat_map sight_lines sights ++ sums_line (sums_of sights)
-  pub status_is : status ≡ status_by (sums_of sights)
+      ++ flat_map cost_line costs ++ flat_map lines_of_router sights
+      ++ difference_sums_line (difference_sums_of sights)
+  pub status_is : status ≡ status_by (difference_sums_of sights)
 
 -- both databases are read, and compared
-pub record IsReported (job : DiffJob) (names : DiffNames) (before after : List ℕ)
+pub record AreBothCompared (job : DiffJob) (names : DiffNames) (before after : List ℕ)
     (report : Report) : Type 0 where
   pub old : List (List ℕ)
   pub reads_before : Reads before [] old
@@ -81,10 +82,10 @@ pub record IsReported (job : DiffJob) (names : DiffNames) (before after : List �
   pub leaves_out_after : LeavesOut after new_left_out
   pub warnings_before : List ℕ
   pub warns_before :
-      WarnsOf names.before.now old_left_out (advertisements_of old) job.root warnings_before
+      WarnsOfDatabase names.before.now old_left_out (advertisements_of old) job.root warnings_before
   pub warnings_after : List ℕ
   pub warns_after :
-      WarnsOf names.after.now new_left_out (advertisements_of new) job.root warnings_after
+      WarnsOfDatabase names.after.now new_left_out (advertisements_of new) job.root warnings_after
   pub warnings_are : string_bytes report.warnings ≡ warnings_before ++ warnings_after
   pub compared : IsComparison (advertisements_of old) (advertisements_of new) job.root
       (string_bytes report.text) report.status
@@ -92,7 +93,7 @@ pub record IsReported (job : DiffJob) (names : DiffNames) (before after : List �
 -- ---- a refusal
 
 -- the first line of a database that is refused, as it is said
-pub record IsRefusalOf (name : List ℕ) (input : List ℕ) (text : List ℕ) : Type 0 where
+pub record IsDatabaseRefusal (name : List ℕ) (input : List ℕ) (text : List ℕ) : Type 0 where
   pub number : ℕ
   pub fault : EntryFault
   pub refused : Refuses input [] number fault
@@ -101,8 +102,8 @@ pub record IsRefusalOf (name : List ℕ) (input : List ℕ) (text : List ℕ) : 
 -- of the first database, or where that is read, of the second
 abbrev pub IsRefusal : DiffNames → List ℕ → List ℕ → List ℕ → Type 0
 IsRefusal names before after text =
-    IsRefusalOf names.before.now before text
-    ⊎ ((old : List (List ℕ)) × Reads before [] old × IsRefusalOf names.after.now after text)
+    IsDatabaseRefusal names.before.now before text
+    ⊎ ((old : List (List ℕ)) × Reads before [] old × IsDatabaseRefusal names.after.now after text)
 
 -- the report is that alone, with status 3
 pub record IsRefusalReport (names : DiffNames) (before after : List ℕ) (report : Report)
@@ -116,7 +117,7 @@ pub record IsRefusalReport (names : DiffNames) (before after : List ℕ) (report
 -- what is reported of two databases
 abbrev pub IsDiffReport : DiffJob → DiffNames → List ℕ → List ℕ → Report → Type 0
 IsDiffReport job names before after report =
-    IsReported job names before after report ⊎ IsRefusalReport names before after report
+    AreBothCompared job names before after report ⊎ IsRefusalReport names before after report
 
 -- the report, or why there is none: memory ran out, or a database was not read
 abbrev pub IsDiffResult : DiffJob → DiffNames → Option (List ℕ) → Option (List ℕ)
@@ -143,7 +144,7 @@ IsRefused name number entry (fault.Failure f) = IsOfInput f
 -- why one database is not read
 abbrev pub IsUnread : List ℕ → Option (List ℕ) → Unread → Type 0
 IsUnread name input (fault.Refused text) =
-    IfSome input (λ bytes. IsRefusalOf name bytes (string_bytes text))
+    IfSome input (λ bytes. IsDatabaseRefusal name bytes (string_bytes text))
 IsUnread name input (fault.Failure f) = IsOfInput f
 
 -- why two are not compared

@@ -7,13 +7,14 @@ use Rattle.ospf_graph.specs.declared.route.Route.{Route}
 use Rattle.ospf_whatif.specs.declared.failure.AreaFailure.{AreaFailure}
 use Rattle.ospf_whatif.specs.declared.failure.AreaFailure.TheVariants.{Router}
 use Rattle.ospf_diff.specs.Difference.{AreDifferences}
-use Rattle.ospf_diff.specs.Sums.{SightValue, sums_of, sums_plus}
+use Rattle.ospf_diff.specs.Sums.{RouterDifferences, difference_sums_of, difference_sums_plus}
 use Rattle.ospf_diff.specs.Text.{difference_line}
 use Rattle.ospf_diff.specs.declared.difference.RouteDifference.{RouteDifference}
 use Rattle.ospf_diff.specs.declared.sights.Sights.{Sights}
 
 -- what differs between the tables that a router has in the two areas
-pub record IsSight (before after : List Advertisement) (sight : SightValue) : Type 0 where
+pub record IsRouterDifference (before after : List Advertisement) (sight : RouterDifferences)
+    : Type 0 where
   pub old : List Route
   pub is_old : IsTable before sight.0 old
   pub new : List Route
@@ -33,33 +34,33 @@ AreRoots before after (Some root) routers = routers ≡ root ∷ []
 AreRoots before after None routers = AreAllRouters before after routers
 
 -- what differs at each of these routers, in their order
-pub record AreSights (before after : List Advertisement) (routers : List RouterId)
-    (sights : List SightValue) : Type 0 where
+pub record AreRouterDifferences (before after : List Advertisement) (routers : List RouterId)
+    (sights : List RouterDifferences) : Type 0 where
   pub routers_are : map (λ s. s.0) sights ≡ routers
-  pub seen : All (IsSight before after) sights
+  pub seen : All (IsRouterDifference before after) sights
 
 -- a line for each route that differs
-abbrev pub sight_lines : SightValue → List ℕ
-sight_lines sight = flat_map (difference_line sight.0) sight.1
+abbrev pub lines_of_router : RouterDifferences → List ℕ
+lines_of_router sight = flat_map (difference_line sight.0) sight.1
 
 -- the lines of what differs at these routers, and their sums
 pub record AreSeen (before after : List Advertisement) (routers : List RouterId) (seen : Sights)
     : Type 0 where
-  pub sights : List SightValue
-  pub are : AreSights before after routers sights
-  pub lines_are : string_bytes seen.lines ≡ flat_map sight_lines sights
-  pub sums_are : seen.sums ≡ sums_of sights
+  pub sights : List RouterDifferences
+  pub are : AreRouterDifferences before after routers sights
+  pub lines_are : string_bytes seen.lines ≡ flat_map lines_of_router sights
+  pub sums_are : seen.sums ≡ difference_sums_of sights
 
 -- ---- on the way
 
 -- one router more is seen
-pub record SeesMore (before after : List Advertisement) (router : RouterId) (old new : Sights)
+pub record SeesOneMore (before after : List Advertisement) (router : RouterId) (old new : Sights)
     : Type 0 where
   pub found : List RouteDifference
   pub few : length found < 2 ^ 64
-  pub is : IsSight before after (router, found)
-  pub lines_are : string_bytes new.lines ≡ string_bytes old.lines ++ sight_lines (router, found)
-  pub sums_are : new.sums ≡ sums_plus old.sums found
+  pub is : IsRouterDifference before after (router, found)
+  pub lines_are : string_bytes new.lines ≡ string_bytes old.lines ++ lines_of_router (router, found)
+  pub sums_are : new.sums ≡ difference_sums_plus old.sums found
 
 -- the routers among the elements of two areas, in the order of Router IDs
 pub record AreRoutersAmong (before after : List AreaFailure) (routers : List RouterId)

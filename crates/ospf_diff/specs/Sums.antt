@@ -8,17 +8,17 @@ use Rattle.ospf_diff.specs.declared.sums.DifferenceKind.TheVariants as kind
 use Rattle.ospf_diff.specs.declared.sums.DifferenceSums.{DifferenceSums}
 
 -- the difference is of this kind
-unfoldable pub is_of : DifferenceKind → RouteDifference → Bool
-is_of kind.Lost (Lost old) = true
-is_of kind.Gained (Gained new) = true
-is_of kind.Longer (Longer old new) = true
-is_of kind.Shorter (Shorter old new) = true
-is_of kind.Rerouted (Rerouted old new) = true
-is_of k d = false
+unfoldable pub is_difference_of : DifferenceKind → RouteDifference → Bool
+is_difference_of kind.Lost (Lost old) = true
+is_difference_of kind.Gained (Gained new) = true
+is_difference_of kind.Longer (Longer old new) = true
+is_difference_of kind.Shorter (Shorter old new) = true
+is_difference_of kind.Rerouted (Rerouted old new) = true
+is_difference_of k d = false
 
 -- how many are
-abbrev pub count_of : DifferenceKind → List RouteDifference → ℕ
-count_of k found = count_by (is_of k) found
+abbrev pub count_of_kind : DifferenceKind → List RouteDifference → ℕ
+count_of_kind k found = count_by (is_difference_of k) found
 
 -- something differs
 abbrev pub is_some : List RouteDifference → Bool
@@ -26,17 +26,17 @@ is_some [] = false
 is_some (d ∷ rest) = true
 
 -- a router, and what differs in its tables
-abbrev pub SightValue : Type 0
-SightValue = RouterId × List RouteDifference
+abbrev pub RouterDifferences : Type 0
+RouterDifferences = RouterId × List RouteDifference
 
 -- of each kind, over all routers; and at how many of them something differs
-abbrev pub sums_of : List SightValue → DifferenceSums
-sums_of sights = record {
-  lost = sum_by (λ s. count_of kind.Lost s.1) sights;
-  gained = sum_by (λ s. count_of kind.Gained s.1) sights;
-  longer = sum_by (λ s. count_of kind.Longer s.1) sights;
-  shorter = sum_by (λ s. count_of kind.Shorter s.1) sights;
-  rerouted = sum_by (λ s. count_of kind.Rerouted s.1) sights;
+abbrev pub difference_sums_of : List RouterDifferences → DifferenceSums
+difference_sums_of sights = record {
+  lost = sum_by (λ s. count_of_kind kind.Lost s.1) sights;
+  gained = sum_by (λ s. count_of_kind kind.Gained s.1) sights;
+  longer = sum_by (λ s. count_of_kind kind.Longer s.1) sights;
+  shorter = sum_by (λ s. count_of_kind kind.Shorter s.1) sights;
+  rerouted = sum_by (λ s. count_of_kind kind.Rerouted s.1) sights;
   routers = count_by (λ s. is_some s.1) sights;
 }
 
@@ -52,13 +52,13 @@ ways_text s =
     ++ codes " shorter, " ++ decimal s.rerouted ++ codes " rerouted"
 
 -- the last line, without its end
-abbrev pub sums_text : DifferenceSums → List ℕ
-sums_text s =
+abbrev pub difference_sums_text : DifferenceSums → List ℕ
+difference_sums_text s =
     reach_text s ++ ways_text s ++ codes ", at " ++ decimal s.routers ++ codes " routers"
 
 -- and with it
-abbrev pub sums_line : DifferenceSums → List ℕ
-sums_line s = sums_text s ++ codes "\n"
+abbrev pub difference_sums_line : DifferenceSums → List ℕ
+difference_sums_line s = difference_sums_text s ++ codes "\n"
 
 -- the status where all is compared: 1 where a route is lost
 abbrev pub status_by : DifferenceSums → ℕ
@@ -67,22 +67,22 @@ status_by s = if s.lost == 0 then 0 else 1
 -- ---- on the way
 
 -- one, or none
-abbrev pub one_if : Bool → ℕ
-one_if b = if b then 1 else 0
+abbrev pub count_if : Bool → ℕ
+count_if b = if b then 1 else 0
 
 -- with what differs at one router more
-abbrev pub sums_plus : DifferenceSums → List RouteDifference → DifferenceSums
-sums_plus s found = record {
-  lost = s.lost + count_of kind.Lost found;
-  gained = s.gained + count_of kind.Gained found;
-  longer = s.longer + count_of kind.Longer found;
-  shorter = s.shorter + count_of kind.Shorter found;
-  rerouted = s.rerouted + count_of kind.Rerouted found;
-  routers = s.routers + one_if (is_some found);
+abbrev pub difference_sums_plus : DifferenceSums → List RouteDifference → DifferenceSums
+difference_sums_plus s found = record {
+  lost = s.lost + count_of_kind kind.Lost found;
+  gained = s.gained + count_of_kind kind.Gained found;
+  longer = s.longer + count_of_kind kind.Longer found;
+  shorter = s.shorter + count_of_kind kind.Shorter found;
+  rerouted = s.rerouted + count_of_kind kind.Rerouted found;
+  routers = s.routers + count_if (is_some found);
 }
 
 -- so many routers more can be added
-pub record HasSumRoom (n : ℕ) (s : DifferenceSums) : Type 0 where
+pub record HasDifferenceRoom (n : ℕ) (s : DifferenceSums) : Type 0 where
   pub lost : s.lost + 2 ^ 64 * n < 2 ^ 128
   pub gained : s.gained + 2 ^ 64 * n < 2 ^ 128
   pub longer : s.longer + 2 ^ 64 * n < 2 ^ 128

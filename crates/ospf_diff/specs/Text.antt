@@ -8,22 +8,22 @@ use Rattle.ospf_diff.specs.declared.difference.RouteDifference.{RouteDifference}
 use Rattle.ospf_diff.specs.declared.difference.RouteDifference.TheVariants.{Gained, Longer, Lost, Rerouted, Shorter}
 
 -- what a route costs and over which hops it leads
-abbrev pub way_text : Route → List ℕ
-way_text r = codes "cost " ++ decimal r.cost ++ codes " via " ++ hops_text r.hops
+abbrev pub price_text : Route → List ℕ
+price_text r = codes "cost " ++ decimal r.cost ++ codes " via " ++ hops_text r.hops
 
 -- the kind, the prefix, and the way there, or the old way and the new one
 abbrev pub difference_text : RouteDifference → List ℕ
-difference_text (Lost old) = codes "lost " ++ prefix_text old.prefix ++ codes " " ++ way_text old
+difference_text (Lost old) = codes "lost " ++ prefix_text old.prefix ++ codes " " ++ price_text old
 difference_text (Gained new) =
-    codes "gained " ++ prefix_text new.prefix ++ codes " " ++ way_text new
+    codes "gained " ++ prefix_text new.prefix ++ codes " " ++ price_text new
 difference_text (Longer old new) =
-    codes "longer " ++ prefix_text old.prefix ++ codes " " ++ way_text old ++ codes " -> "
-    ++ way_text new
+    codes "longer " ++ prefix_text old.prefix ++ codes " " ++ price_text old ++ codes " -> "
+    ++ price_text new
 difference_text (Shorter old new) =
-    codes "shorter " ++ prefix_text old.prefix ++ codes " " ++ way_text old ++ codes " -> "
-    ++ way_text new
+    codes "shorter " ++ prefix_text old.prefix ++ codes " " ++ price_text old ++ codes " -> "
+    ++ price_text new
 difference_text (Rerouted old new) =
-    codes "rerouted " ++ prefix_text old.prefix ++ codes " " ++ way_text old ++ codes " -> via "
+    codes "rerouted " ++ prefix_text old.prefix ++ codes " " ++ price_text old ++ codes " -> via "
     ++ hops_text new.hops
 
 -- the line of it, which begins with the router whose tables differ

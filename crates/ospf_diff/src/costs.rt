@@ -36,9 +36,9 @@ pub struct CostChange {
 /// As `cost 1.1.1.1 10.0.12.1 to 2.2.2.2: 10 -> 20`, or `to @10.1.0.3` a transit network.
 impl Display for CostChange {
     ghost use Rattle.std.specs.Prelude.{Some};
-    ghost use Rattle.ospf_diff.specs.Costs.{change_text};
+    ghost use Rattle.ospf_diff.specs.Costs.{cost_change_text};
 
-    ghost output = { λ change. Some (change_text change) };
+    ghost output = { λ change. Some (cost_change_text change) };
 
     fn fmt<W: Write>(&self, f: &mut Formatter<W>) -> fmt::Result {
         let at = self.interface;

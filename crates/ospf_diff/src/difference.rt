@@ -3,7 +3,7 @@
 ghost use Rattle.std.specs.Prelude.{◌≡◌, AllPairs, Contains, IfNone, IfOk, IfSome};
 ghost use Rattle.ospf_graph.specs.Routes.{IsRouteBefore};
 ghost use Rattle.ospf_spf.specs.Changes.{Reaches};
-ghost use Rattle.ospf_diff.specs.Difference.{AreDifferences, IsDifferenceBy, IsOfTable, IsTurn};
+ghost use Rattle.ospf_diff.specs.Difference.{AreDifferences, IsDifferenceBy, IsOfTable, IsRouteTurn};
 
 use ospf_base::Prefix;
 use ospf_graph::Route;
@@ -61,9 +61,9 @@ struct Way<'a>(&'a Route);
 
 impl Display for Way<'_> {
     ghost use Rattle.std.specs.Prelude.{Some};
-    ghost use Rattle.ospf_diff.specs.Text.{way_text};
+    ghost use Rattle.ospf_diff.specs.Text.{price_text};
 
-    ghost output = { λ way. Some (way_text way.0.now) };
+    ghost output = { λ way. Some (price_text way.0.now) };
 
     fn fmt<W: Write>(&self, f: &mut Formatter<W>) -> fmt::Result {
         write!(f, "cost {} via {}", self.0.cost, self.0.hops)
@@ -130,7 +130,7 @@ fn route_to(routes: &[Route], prefix: Prefix) -> Option<&Route>
 
 // What differs between two routes to one prefix.
 fn turned(before: Route, after: Route) -> RouteDifference
-    ensures { IsTurn before after result }
+    ensures { IsRouteTurn before after result }
 {
     if before.cost < after.cost {
         RouteDifference::Longer { before, after }

@@ -2,7 +2,7 @@
 
 ghost use Rattle.std.specs.Prelude.{◌≡◌, ◌↔◌, AllPairs, Contains, IfOk, IsTrue, string_bytes};
 ghost use Rattle.ospf_whatif.specs.Single.{IsFailureBefore};
-ghost use Rattle.ospf_diff.specs.Elements.{AreMissing, elements_text};
+ghost use Rattle.ospf_diff.specs.Elements.{AreElementsMissing, elements_text};
 
 use ospf_whatif::AreaFailure;
 use std::alloc::{AllocError, Global};
@@ -19,7 +19,7 @@ pub fn missing_elements(
 ) -> Result<Vec<AreaFailure>, AllocError>
     requires elements { AllPairs IsFailureBefore elements.now }
     requires others { AllPairs IsFailureBefore others.now }
-    ensures { IfOk result (λ missing. AreMissing elements.now others.now missing.items) }
+    ensures { IfOk result (λ missing. AreElementsMissing elements.now others.now missing.items) }
 {
     let mut missing = Vec::new(alloc);
     for element in elements {

@@ -7,7 +7,7 @@ ghost use Rattle.ospf_table.specs.Line.{LeavesOut, Reads};
 ghost use Rattle.ospf_whatif.specs.Single.{IsFailureBefore};
 ghost use Rattle.ospf_diff.specs.Elements.{AreElementsChanged};
 ghost use Rattle.ospf_diff.specs.Sights.{AreRootsAmong};
-ghost use Rattle.ospf_diff.specs.Report.{IsComparison, IsDiffPrinted, IsDiffResult, IsReported, IsRefused, IsUncompared, IsUnread, WarnsOf, WarnsOfRoot, WarnsOfRouter, named_text};
+ghost use Rattle.ospf_diff.specs.Report.{IsComparison, IsDiffPrinted, IsDiffResult, AreBothCompared, IsRefused, IsUncompared, IsUnread, WarnsOfDatabase, WarnsOfRoot, WarnsOfRouter, named_text};
 
 use crate::costs::{changes_text, cost_changes};
 use crate::elements::{elements_text, missing_elements};
@@ -39,7 +39,7 @@ pub struct DiffNames<'a> {
 // Why there is no comparison.
 #[derive(Drop)]
 pub(crate) enum Unread {
-    // A line is refused, and this is said of it.
+    // A line is refused, with this message.
     Refused(String),
     // Memory ran out, or a database was not read.
     Failure(Failure),
@@ -128,8 +128,9 @@ fn compared<B: BufRead + Drop, A: BufRead + Drop>(
     after: A,
 ) -> Result<Report, Unread>
     ensures report { IfOk result (λ report. IfSome (B.remaining before) (λ old.
-        IfSome (A.remaining after) (λ new. IsReported job.now names.entry old new report))) }
-    ensures fault { IfErr result (IsUncompared names.entry (B.remaining before) (A.remaining after)) }
+        IfSome (A.remaining after) (λ new. AreBothCompared job.now names.entry old new report))) }
+    ensures fault { IfErr result
+        (IsUncompared names.entry (B.remaining before) (A.remaining after)) }
 {
     let old = area_of(alloc, names.before, before)?;
     let new = area_of(alloc, names.after, after)?;
@@ -168,14 +169,14 @@ fn line_refused(alloc: Global, name: &str, number: u64, fault: EntryFault) -> Un
     }
 }
 
-// What is said of a database: how many LSAs were left out, and that the root is not listed.
+// The warnings about a database: how many LSAs were left out, and that the root is not listed.
 fn warnings_of(
     alloc: Global,
     name: &str,
     read: &CountedListing,
     root: Option<RouterId>,
 ) -> Result<String, AllocError>
-    ensures { IfOk result (λ text. WarnsOf name.now read.now.left_out
+    ensures { IfOk result (λ text. WarnsOfDatabase name.now read.now.left_out
         (advertisements_of read.now.listing) root (string_bytes text)) }
 {
     let left_out = left_out_text(alloc, read.left_out)?;
@@ -185,7 +186,7 @@ fn warnings_of(
     Ok(text)
 }
 
-// What is said of a root that is asked for: that its router-LSA is not listed.
+// The warning about the root that is asked for: that its router-LSA is not listed.
 fn root_text(alloc: Global, listing: &Listing, root: Option<RouterId>) -> Result<String, AllocError>
     ensures { IfOk result (λ text. WarnsOfRoot (advertisements_of listing.now) root
         (string_bytes text)) }
@@ -196,7 +197,7 @@ fn root_text(alloc: Global, listing: &Listing, root: Option<RouterId>) -> Result
     }
 }
 
-// A line behind the name of a database; nothing where nothing is said.
+// A line after the name of a database; nothing if there is no line.
 fn named(alloc: Global, name: &str, line: &str) -> Result<String, AllocError>
     ensures { IfOk result (λ text. string_bytes text ≡ named_text name.now line.now) }
 {

@@ -2,8 +2,8 @@
 
 ghost use Rattle.std.specs.Prelude.{◌≡◌, ◌++◌, [], IfOk, OnOk, flat_map, string_bytes};
 ghost use Rattle.ospf_graph.specs.EdgeLists.Listed.{advertisements_of};
-ghost use Rattle.ospf_diff.specs.Sights.{AreSeen, IsSight, SeesMore};
-ghost use Rattle.ospf_diff.specs.Sums.{HasSumRoom, status_by, sums_line, sums_of};
+ghost use Rattle.ospf_diff.specs.Sights.{AreSeen, IsRouterDifference, SeesOneMore};
+ghost use Rattle.ospf_diff.specs.Sums.{HasDifferenceRoom, status_by, difference_sums_line, difference_sums_of};
 ghost use Rattle.ospf_diff.specs.Text.{difference_line};
 
 use crate::difference::{RouteDifference, differences};
@@ -45,7 +45,7 @@ fn differences_at(
     after: &Listing,
     router: RouterId,
 ) -> Result<Vec<RouteDifference>, AllocError>
-    ensures { IfOk result (λ found. IsSight (advertisements_of before.now)
+    ensures { IfOk result (λ found. IsRouterDifference (advertisements_of before.now)
         (advertisements_of after.now) (router, found.items)) }
 {
     let old = RouteTable::of(alloc, before, router)?;
@@ -57,7 +57,7 @@ impl Sights {
     // Nothing is seen yet.
     fn none(alloc: Global) -> Sights
         ensures lines { string_bytes result.lines ≡ [] }
-        ensures sums { result.sums ≡ sums_of [] }
+        ensures sums { result.sums ≡ difference_sums_of [] }
     {
         Sights {
             lines: String::new(alloc),
@@ -73,8 +73,8 @@ impl Sights {
         after: &Listing,
         router: RouterId,
     ) -> Result<(), AllocError>
-        requires { HasSumRoom 1 self.old.sums }
-        ensures { OnOk result (SeesMore (advertisements_of before.now)
+        requires { HasDifferenceRoom 1 self.old.sums }
+        ensures { OnOk result (SeesOneMore (advertisements_of before.now)
             (advertisements_of after.now) router self.old self.new) }
     {
         let found = differences_at(alloc, before, after, router)?;
@@ -87,7 +87,7 @@ impl Sights {
     // The lines, and a line of the sums.
     pub(crate) fn text(&self, alloc: Global) -> Result<String, AllocError>
         ensures { IfOk result (λ text. string_bytes text
-            ≡ string_bytes self.now.lines ++ sums_line self.now.sums) }
+            ≡ string_bytes self.now.lines ++ difference_sums_line self.now.sums) }
     {
         format!(in alloc; "{}{}\n", self.lines, self.sums)
     }

@@ -2,7 +2,7 @@
 
 ghost use Rattle.std.specs.Prelude.{◌≡◌};
 ghost use Rattle.std.specs.Fmt.{WritesOnOk};
-ghost use Rattle.ospf_diff.specs.Sums.{count_of, is_of, reach_text, ways_text};
+ghost use Rattle.ospf_diff.specs.Sums.{count_of_kind, is_difference_of, reach_text, ways_text};
 
 use crate::difference::RouteDifference;
 use std::fmt::{self, Display, Formatter, Write};
@@ -26,11 +26,11 @@ pub struct DifferenceSums {
 
 impl DifferenceSums {
     ghost use Rattle.std.specs.Prelude.{◌≡◌, []};
-    ghost use Rattle.ospf_diff.specs.Sums.{HasSumRoom, sums_of, sums_plus};
+    ghost use Rattle.ospf_diff.specs.Sums.{HasDifferenceRoom, difference_sums_of, difference_sums_plus};
 
     /// Nothing differs.
     pub fn none() -> DifferenceSums
-        ensures { result ≡ sums_of [] }
+        ensures { result ≡ difference_sums_of [] }
     {
         DifferenceSums {
             lost: 0,
@@ -44,16 +44,16 @@ impl DifferenceSums {
 
     /// With what differs at one router more.
     pub fn plus(self, found: &[RouteDifference]) -> DifferenceSums
-        requires { HasSumRoom 1 self }
-        ensures { result ≡ sums_plus self found.now }
+        requires { HasDifferenceRoom 1 self }
+        ensures { result ≡ difference_sums_plus self found.now }
     {
         let routers = if found.is_empty() { 0 } else { 1 };
         DifferenceSums {
-            lost: self.lost + count_of(DifferenceKind::Lost, found) as u128,
-            gained: self.gained + count_of(DifferenceKind::Gained, found) as u128,
-            longer: self.longer + count_of(DifferenceKind::Longer, found) as u128,
-            shorter: self.shorter + count_of(DifferenceKind::Shorter, found) as u128,
-            rerouted: self.rerouted + count_of(DifferenceKind::Rerouted, found) as u128,
+            lost: self.lost + count_of_kind(DifferenceKind::Lost, found) as u128,
+            gained: self.gained + count_of_kind(DifferenceKind::Gained, found) as u128,
+            longer: self.longer + count_of_kind(DifferenceKind::Longer, found) as u128,
+            shorter: self.shorter + count_of_kind(DifferenceKind::Shorter, found) as u128,
+            rerouted: self.rerouted + count_of_kind(DifferenceKind::Rerouted, found) as u128,
             routers: self.routers + routers,
         }
     }
@@ -62,9 +62,9 @@ impl DifferenceSums {
 /// As `routes: 2 lost, 1 gained, 1 longer, 0 shorter, 3 rerouted, at 2 routers`.
 impl Display for DifferenceSums {
     ghost use Rattle.std.specs.Prelude.{Some};
-    ghost use Rattle.ospf_diff.specs.Sums.{sums_text};
+    ghost use Rattle.ospf_diff.specs.Sums.{difference_sums_text};
 
-    ghost output = { λ sums. Some (sums_text sums) };
+    ghost output = { λ sums. Some (difference_sums_text sums) };
 
     fn fmt<W: Write>(&self, f: &mut Formatter<W>) -> fmt::Result {
         write_reach(f, self)?;
@@ -105,12 +105,12 @@ pub(crate) enum DifferenceKind {
 }
 
 // How many differences are of a kind.
-fn count_of(kind: DifferenceKind, found: &[RouteDifference]) -> usize
-    ensures { result ≡ count_of kind found.now }
+fn count_of_kind(kind: DifferenceKind, found: &[RouteDifference]) -> usize
+    ensures { result ≡ count_of_kind kind found.now }
 {
     let mut count = 0;
     for difference in found {
-        if is_of(kind, difference) {
+        if is_difference_of(kind, difference) {
             count += 1;
         }
     }
@@ -118,9 +118,9 @@ fn count_of(kind: DifferenceKind, found: &[RouteDifference]) -> usize
 }
 
 // Whether a difference is of a kind.
-#[tactic(auto, unfolding(crate::specs::Sums::is_of))]
-fn is_of(kind: DifferenceKind, difference: &RouteDifference) -> bool
-    ensures { result ≡ is_of kind difference.now }
+#[tactic(auto, unfolding(crate::specs::Sums::is_difference_of))]
+fn is_difference_of(kind: DifferenceKind, difference: &RouteDifference) -> bool
+    ensures { result ≡ is_difference_of kind difference.now }
 {
     match kind {
         DifferenceKind::Lost => matches!(difference, RouteDifference::Lost(_)),

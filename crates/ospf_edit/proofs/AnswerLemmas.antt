@@ -7,7 +7,7 @@ use Rattle.ospf_graph.specs.Advertisements.{Advertisement}
 use Rattle.ospf_whatif.specs.declared.failure.AreaFailure.{AreaFailure}
 use Rattle.ospf_edit.specs.Answer.{HasWords}
 use Rattle.ospf_edit.specs.Change.{HasRightCost, IsCost, cost_of, picks}
-use Rattle.ospf_edit.specs.Words.{AreJobChanges, IsNamedBy, Names}
+use Rattle.ospf_edit.specs.Words.{AreJobChanges, IsWordFor, Names}
 use Rattle.ospf_edit.specs.declared.change.Change.{Change}
 use Rattle.ospf_edit.specs.declared.change.Change.TheVariants as change
 use Rattle.ospf_edit.specs.declared.words.EditJob.{EditJob}
@@ -22,13 +22,13 @@ right_by (change.Cost r a n) is = is
 right_by (change.CostTo r o n) is = is
 right_by (change.Drain r) is = is
 
-named_right : (A : List Advertisement) (single : List AreaFailure) (kind : WordKind) (word : String Global) (c : Change) → IsNamedBy A single kind word c → HasRightCost c
+named_right : (A : List Advertisement) (single : List AreaFailure) (kind : WordKind) (word : String Global) (c : Change) → IsWordFor A single kind word c → HasRightCost c
 named_right A single Down word c named = subst HasRightCost (sym named.1) tt
 named_right A single Cost word c named = right_by c named.3.2.cost_is
 named_right A single Drain word c named = subst HasRightCost (sym named.1) (lit< tt, lit< tt)
 
 all_right : (A : List Advertisement) (single : List AreaFailure) (kind : WordKind) (words : List (String Global)) (changes : List Change)
-    → AllZip (IsNamedBy A single kind) words changes → All HasRightCost changes
+    → AllZip (IsWordFor A single kind) words changes → All HasRightCost changes
 all_right A single kind [] [] zip = All-nil HasRightCost
 all_right A single kind [] (c ∷ changes) zip = absurd zip
 all_right A single kind (w ∷ words) [] zip = absurd zip
@@ -43,7 +43,7 @@ job_right A job changes are =
 
 -- ---- where something is changed, there are words
 
-no_change : (A : List Advertisement) (single : List AreaFailure) (kind : WordKind) (changes : List Change) → AllZip (IsNamedBy A single kind) [] changes → changes ≡ []
+no_change : (A : List Advertisement) (single : List AreaFailure) (kind : WordKind) (changes : List Change) → AllZip (IsWordFor A single kind) [] changes → changes ≡ []
 no_change A single kind [] zip = refl
 no_change A single kind (c ∷ changes) zip = absurd zip
 
@@ -60,9 +60,9 @@ some_words A job changes are some =
         | inl no_costs ↦ elim (cases_of (vec_items job.drains)) [
           | inr drains ↦ inr drains
           | inl no_drains ↦
-              let one = no_change A are.single Down are.downs.0 (subst (λ (w : List (String Global)). AllZip (IsNamedBy A are.single Down) w are.downs.0) no_downs are.downs.1) in
-              let two = no_change A are.single Cost are.costs.0 (subst (λ (w : List (String Global)). AllZip (IsNamedBy A are.single Cost) w are.costs.0) no_costs are.costs.1) in
-              let three = no_change A are.single Drain are.drains.0 (subst (λ (w : List (String Global)). AllZip (IsNamedBy A are.single Drain) w are.drains.0) no_drains are.drains.1) in
+              let one = no_change A are.single Down are.downs.0 (subst (λ (w : List (String Global)). AllZip (IsWordFor A are.single Down) w are.downs.0) no_downs are.downs.1) in
+              let two = no_change A are.single Cost are.costs.0 (subst (λ (w : List (String Global)). AllZip (IsWordFor A are.single Cost) w are.costs.0) no_costs are.costs.1) in
+              let three = no_change A are.single Drain are.drains.0 (subst (λ (w : List (String Global)). AllZip (IsWordFor A are.single Drain) w are.drains.0) no_drains are.drains.1) in
               absurd (some (are.changes_are ∙ (λ i. one i ++ two i ++ three i)))
         ]
       ]

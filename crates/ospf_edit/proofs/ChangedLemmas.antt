@@ -11,31 +11,24 @@ use Rattle.ospf_graph.specs.EdgeLists.Listed.{advertisements_of}
 use Rattle.ospf_whatif.specs.Failure.{HasLarge, HasLeftLarge, IsLarge, IsLeftLarge, inner_of, without}
 use Rattle.ospf_whatif.specs.declared.failure.AreaFailure.{AreaFailure}
 use Rattle.ospf_whatif.proofs.WithoutLemmas.{has_large, small_without}
-use Rattle.ospf_edit.specs.Change.{AreChanged, AreChangedBy, HasChangedLarge, HasChangedLargeBy, HasLargeThen, IsChangedLarge, changed, changed_by, changed_lsa, is_of, links_after, priced_link, priced_links}
+use Rattle.ospf_edit.specs.Change.{AreChanged, AreChangedBy, HasChangedLarge, HasChangedLargeBy, HasLargeThen, IsChangedLarge, changed_area, changed_by, changed_lsa, changes_costs_of, links_after, priced_link, priced_links}
 use Rattle.ospf_edit.specs.declared.change.Change.{Change}
 use Rattle.ospf_edit.specs.declared.change.Change.TheVariants.{Down, Cost, CostTo, Drain}
 
 -- ---- a failure
 
-left_large : (A : List Advertisement) (f : AreaFailure) (a : Advertisement) → IsLeftLarge (inner_of f A) f a → IsChangedLarge (links_after A (Down f)) a
-left_large A f (router_lsa r links) large = large
-left_large A f (network_lsa n r mask attached) large = large
-
 large_left : (A : List Advertisement) (f : AreaFailure) (a : Advertisement) → IsChangedLarge (links_after A (Down f)) a → IsLeftLarge (inner_of f A) f a
 large_left A f (router_lsa r links) large = large
 large_left A f (network_lsa n r mask attached) large = large
-
-pub down_large : (A : List Advertisement) (f : AreaFailure) → HasLeftLarge f A → HasChangedLarge (Down f) A
-down_large A f large = (large.0, large.1, left_large A f large.0 large.2)
 
 pub large_down : (A : List Advertisement) (f : AreaFailure) → HasChangedLarge (Down f) A → HasLeftLarge f A
 large_down A f large = (large.0, large.1, large_left A f large.0 large.2)
 
 -- ---- one change more
 
-pub by_more : (cs : List Change) (c : Change) (A : List Advertisement) → changed_by (cs ++ c ∷ []) A ≡ changed c (changed_by cs A)
+pub by_more : (cs : List Change) (c : Change) (A : List Advertisement) → changed_by (cs ++ c ∷ []) A ≡ changed_area c (changed_by cs A)
 by_more [] c A = refl
-by_more (d ∷ cs) c A = by_more cs c (changed d A)
+by_more (d ∷ cs) c A = by_more cs c (changed_area d A)
 
 pub bytes_more : (cs : List Change) (c : Change) (before left after : List (List ℕ)) → AreChangedBy cs before left → AreChanged c left after → AreChangedBy (cs ++ c ∷ []) before after
 bytes_more [] c before left after same last = (after, subst (λ (l : List (List ℕ)). AreChanged c l after) same last, refl)
@@ -46,18 +39,18 @@ pub small_more : (cs : List Change) (c : Change) (A : List Advertisement) → (H
 small_more [] c A before last (inl large) = last large
 small_more [] c A before last (inr none) = none
 small_more (d ∷ cs) c A before last (inl large) = before (inl large)
-small_more (d ∷ cs) c A before last (inr later) = small_more cs c (changed d A) (λ large. before (inr large)) last later
+small_more (d ∷ cs) c A before last (inr later) = small_more cs c (changed_area d A) (λ large. before (inr large)) last later
 
 large_then : (cs : List Change) (c : Change) (more : List Change) (A : List Advertisement) → HasChangedLarge c (changed_by cs A) → HasChangedLargeBy (cs ++ c ∷ more) A
 large_then [] c more A large = inl large
-large_then (d ∷ cs) c more A large = inr (large_then cs c more (changed d A) large)
+large_then (d ∷ cs) c more A large = inr (large_then cs c more (changed_area d A) large)
 
 module _ (cs : List Change) (i : ℕ) (c : Change) (within : i < length cs) (is : c ≡ get_or cs i c) where
   next : take (i + 1) cs ≡ take i cs ++ c ∷ []
   next = take_more cs i c within ∙ ap (λ (d : Change). take i cs ++ d ∷ []) (sym is)
 
-  pub changed_next : (A left : List Advertisement) → left ≡ changed_by (take i cs) A → (new : List Advertisement) → new ≡ changed c left → new ≡ changed_by (take (i + 1) cs) A
-  changed_next A left before new now = now ∙ ap (changed c) before ∙ sym (ap (λ (ds : List Change). changed_by ds A) next ∙ by_more (take i cs) c A)
+  pub changed_next : (A left : List Advertisement) → left ≡ changed_by (take i cs) A → (new : List Advertisement) → new ≡ changed_area c left → new ≡ changed_by (take (i + 1) cs) A
+  changed_next A left before new now = now ∙ ap (changed_area c) before ∙ sym (ap (λ (ds : List Change). changed_by ds A) next ∙ by_more (take i cs) c A)
 
   pub bytes_next : (before left after : List (List ℕ)) → AreChangedBy (take i cs) before left → AreChanged c left after → AreChangedBy (take (i + 1) cs) before after
   bytes_next before left after first last = subst (λ (ds : List Change). AreChangedBy ds before after) (sym next) (bytes_more (take i cs) c before left after first last)
@@ -80,7 +73,7 @@ priced_many c links [] = refl
 priced_many c links (l ∷ xs) = ap suc (priced_many c links xs)
 
 as_many : (c : Change) (r : RouterId) (links : List Link) → length (priced_links c r links) ≡ length links
-as_many c r links = go (is_of c r)
+as_many c r links = go (changes_costs_of c r)
   where
     go : (b : Bool) → length (if b then map (priced_link c links) links else links) ≡ length links
     go true = priced_many c links links
@@ -109,7 +102,7 @@ change_small (Cost r a n) A small large = small (large_before (Cost r a n) A lar
 change_small (CostTo r o n) A small large = small (large_before (CostTo r o n) A large)
 change_small (Drain r) A small large = small (large_before (Drain r) A large)
 
-stays_small : (c : Change) (A : List Advertisement) → (HasLarge A → ⊥) → HasLarge (changed c A) → ⊥
+stays_small : (c : Change) (A : List Advertisement) → (HasLarge A → ⊥) → HasLarge (changed_area c A) → ⊥
 stays_small (Down f) A small = small_without f A small
 stays_small (Cost r a n) A small = priced_small (Cost r a n) A small
 stays_small (CostTo r o n) A small = priced_small (CostTo r o n) A small
@@ -118,7 +111,7 @@ stays_small (Drain r) A small = priced_small (Drain r) A small
 pub never_large : (cs : List Change) (A : List Advertisement) → (HasLarge A → ⊥) → HasChangedLargeBy cs A → ⊥
 never_large [] A small none = none
 never_large (c ∷ cs) A small (inl large) = change_small c A small large
-never_large (c ∷ cs) A small (inr later) = never_large cs (changed c A) (stays_small c A small) later
+never_large (c ∷ cs) A small (inr later) = never_large cs (changed_area c A) (stays_small c A small) later
 
 -- ... where nothing is changed
 pub none_large : (cs : List Change) (A : List Advertisement) → (cs ≢ [] → HasLarge A → ⊥) → HasChangedLargeBy cs A → ⊥

@@ -10,7 +10,7 @@ use Rattle.ospf_graph.specs.Advertisements.{Advertisement}
 use Rattle.ospf_graph.proofs.ListLemmas.{member_of_map, member_to_map, more_members}
 use Rattle.ospf_graph.specs.EdgeLists.Listed.{advertisement_of, advertisements_of}
 use Rattle.ospf_whatif.specs.Failure.{HasLarge, IsLarge}
-use Rattle.ospf_edit.specs.Large.{IsFirstLarge}
+use Rattle.ospf_edit.specs.Large.{IsFirstTooLarge}
 
 module _ (items : List (List ℕ)) (i : ℕ) (x : List ℕ) (within : i < length items) (is : x ≡ get_or items i x) (none : HasLarge (map advertisement_of (take i items)) → ⊥) where
   -- one more that is not
@@ -23,7 +23,7 @@ module _ (items : List (List ℕ)) (i : ℕ) (x : List ℕ) (within : i < length
       ]
 
   -- the first that is
-  pub first_is : (listing : List (List ℕ)) (router : RouterId) → items ≡ listing → IsLarge (advertisement_of x) → router ≡ (key_of x).router → IsFirstLarge listing router
+  pub first_is : (listing : List (List ℕ)) (router : RouterId) → items ≡ listing → IsLarge (advertisement_of x) → router ≡ (key_of x).router → IsFirstTooLarge listing router
   unfolding advertisements_of
   first_is listing router same large named = record {
     before = take i items;

@@ -23,24 +23,8 @@ module _ (keep : RouterId → List Link → List Link) where
       made_says r number links new made ∙ ap (λ ls. router_lsa r ls) are ∙ ap (λ (x : RouterId). router_lsa x (keep x (links_of lsa))) same
       ∙ sym (ap (changed_lsa keep) (router_of lsa is))
 
-  pub router_stays : (lsa : List ℕ) → IsRouterLsa lsa → keep (record { 0 = number_at 8 4 lsa }) (links_of lsa) ≡ links_of lsa
-      → advertisement_of lsa ≡ changed_lsa keep (advertisement_of lsa)
-  router_stays lsa is all =
-      router_of lsa is ∙ ap (λ ls. router_lsa (record { 0 = number_at 8 4 lsa }) ls) (sym all) ∙ sym (ap (changed_lsa keep) (router_of lsa is))
-
   pub network_stays : (lsa : List ℕ) → IsNetworkLsa lsa → advertisement_of lsa ≡ changed_lsa keep (advertisement_of lsa)
   network_stays lsa is = network_of lsa is ∙ sym (ap (changed_lsa keep) (network_of lsa is))
-
-  -- one that is rebuilt with too many links
-  pub large_made : (r : RouterId) (number : ℤ) (links : List Link) (lsa : List ℕ) → IsRouterLsa lsa → r ≡ (key_of lsa).router → links ≡ keep r (links_of lsa)
-      → (keep r (links_of lsa) ≡ links_of lsa → ⊥) → IsUnmade (RouterNeeds number links) fault.Length → IsChangedLarge keep (advertisement_of lsa)
-  large_made r number links lsa is same are differs (inl memory) = let e : fault.Length ≡ fault.Memory = memory.0 in cc
-  large_made r number links lsa is same are differs (inr first) =
-      let of : keep r (links_of lsa) ≡ keep (key_of lsa).router (links_of lsa) = ap (λ (q : RouterId). keep q (links_of lsa)) same in
-      subst (IsChangedLarge keep) (sym (router_of lsa is)) ((λ e. differs (of ∙ e)), subst (λ (l : List Link). 1361 < length l) (are ∙ of) (go first.broken))
-    where
-      go : (24 + 12 * length links ≤ 16356 → ⊥) → 1361 < length links
-      go long = omega (arith, long)
 
   -- none is so large where it is made
   pub small_made : (r : RouterId) (number : ℤ) (links : List Link) (lsa : List ℕ) → IsRouterLsa lsa → r ≡ (key_of lsa).router → links ≡ keep r (links_of lsa)
@@ -53,15 +37,6 @@ module _ (keep : RouterId → List Link → List Link) where
     where
       apart : 1361 < length links → 24 + 12 * length links ≤ 16356 → ⊥
       apart many short = omega (arith, many, short)
-
-  -- nor where its links stay
-  pub small_router : (lsa : List ℕ) → IsRouterLsa lsa → keep (record { 0 = number_at 8 4 lsa }) (links_of lsa) ≡ links_of lsa → IsChangedLarge keep (advertisement_of lsa) → ⊥
-  small_router lsa is all large =
-      let here : IsChangedLarge keep (router_lsa (record { 0 = number_at 8 4 lsa }) (links_of lsa)) = subst (IsChangedLarge keep) (router_of lsa is) large in
-      here.0 all
-
-  pub small_network : (lsa : List ℕ) → IsNetworkLsa lsa → IsChangedLarge keep (advertisement_of lsa) → ⊥
-  small_network lsa is large = subst (IsChangedLarge keep) (network_of lsa is) large
 
   -- none of a listing is
   pub small_all : (items listing : List (List ℕ)) → items ≡ listing → ((lsa : List ℕ) → Contains items lsa → IsChangedLarge keep (advertisement_of lsa) → ⊥)

@@ -19,8 +19,8 @@ use Rattle.ospf_originate.proofs.Wants.SaidLemmas.{up_is}
 use Rattle.ospf_originate.proofs.Wants.Words.{links_of_kind}
 use Rattle.ospf_originate.specs.Wants.Wanted.{is_full, is_transit, links_of_link, network_link, router_link, subnet_link}
 use Rattle.ospf_whatif.specs.Wanted.{IsOnTransit, wanted_links}
-use Rattle.ospf_edit.specs.Change.{gets_cost, has_own_subnet, is_longer_subnet, is_own_subnet, is_point_to_point, is_subnet_at, picks, priced_link, priced_links, with_cost}
-use Rattle.ospf_edit.specs.Wanted.{AreSparedFrom, CostsAreWanted, DrainsAreWanted, HasOtherCost, IsLongest, IsWired, LeadsOn}
+use Rattle.ospf_edit.specs.Change.{gets_cost, has_own_subnet, is_longer_subnet, is_own_subnet, is_router_link, is_subnet_with, picks, priced_link, priced_links, with_cost}
+use Rattle.ospf_edit.specs.Wanted.{AreSparedFrom, CostsAreWanted, DrainsAreWanted, HasOtherCost, IsLongestSubnet, IsWired, LeavesBy}
 use Rattle.ospf_edit.specs.declared.change.Change.{Change}
 use Rattle.ospf_edit.specs.declared.change.Change.TheVariants.{Cost, Drain}
 
@@ -132,7 +132,7 @@ module _ (router : RouterId) (all : List Link) (before after : LinkValue) (other
         metric = after.settings.cost;
       })
 
-module _ (all : List Link) (l : LinkValue) (subnet : Prefix) (w : IsWired l subnet) (longest : IsLongest all l) where
+module _ (all : List Link) (l : LinkValue) (subnet : Prefix) (w : IsWired l subnet) (longest : IsLongestSubnet all l) where
   twice : bit_and (bit_and l.iface.settings.address.0 l.iface.settings.mask) l.iface.settings.mask ≡ bit_and l.iface.settings.address.0 l.iface.settings.mask
   twice =
       ap (λ a. bit_and a l.iface.settings.mask) (sym w.in_subnet.masked) ∙ ap (bit_and subnet.address.0) w.in_subnet.mask_is ∙ subnet.masked ∙ w.in_subnet.masked
@@ -149,7 +149,7 @@ module _ (all : List Link) (l : LinkValue) (subnet : Prefix) (w : IsWired l subn
   own_found : (c : Change) → ((n : NeighbourValue) → picks c (router_link false l n) ≡ true) → (front back : List Link)
       → all ≡ front ++ ((map (router_link false l) (filter is_full l.neighbours) ++ subnet_link l ∷ []) ++ back) → has_own_subnet c all (subnet_link l) ≡ true
   own_found c picked front back are =
-      let q : Link → Bool = (λ (out : Link). picks c out && (is_point_to_point out && is_own_subnet all out.link_data (subnet_link l))) in
+      let q : Link → Bool = (λ (out : Link). picks c out && (is_router_link out && is_own_subnet all out.link_data (subnet_link l))) in
       let made = map (router_link false l) (filter is_full l.neighbours) in
       let one : list_any q made ≡ true = any_full q (router_link false l) (λ n. rw (picked n) own_is) l.neighbours w.adjacent in
       let two : list_any q (made ++ subnet_link l ∷ []) ≡ true = list_any-append q made (subnet_link l ∷ []) ∙ rw one refl in
@@ -163,7 +163,7 @@ same_transit before after other = λ i. is_transit (record after { iface = other
 split : (front back : List LinkValue) (l : LinkValue) → wanted_links false (front ++ l ∷ back) ≡ wanted_links false front ++ (links_of_link false l ++ wanted_links false back)
 split front back l = flat_map-append (links_of_link false) front (l ∷ back)
 
-interface_priced : (router : RouterId) (front back : List LinkValue) (before after : LinkValue) → HasOtherCost before after → LeadsOn (wanted_links false (front ++ before ∷ back)) before
+interface_priced : (router : RouterId) (front back : List LinkValue) (before after : LinkValue) → HasOtherCost before after → LeavesBy (wanted_links false (front ++ before ∷ back)) before
     → map (priced_link (change_of router before after) (wanted_links false (front ++ before ∷ back))) (links_of_link false before) ≡ links_of_link false after
 interface_priced router front back before after other (inl (subnet, w, longest)) =
     let all = wanted_links false (front ++ before ∷ back) in

@@ -17,8 +17,8 @@ use Rattle.ospf_graph.proofs.ListLemmas.{member_of_map, member_to_map, more_memb
 use Rattle.ospf_graph.specs.EdgeLists.Listed.{advertisement_of, advertisements_of}
 use Rattle.ospf_whatif.specs.Subnets.{is_link_to}
 use Rattle.ospf_whatif.specs.declared.failure.AreaFailure as failure
-use Rattle.ospf_edit.specs.Change.{IsCost, is_interface_link, is_of, picks}
-use Rattle.ospf_edit.specs.Words.{IsCostWord, IsCostWordAt, IsCostWordOf, IsFaultOfWords, IsFirstAmong, IsNamedBy, IsUnnamedHere, interface_front, pair_front}
+use Rattle.ospf_edit.specs.Change.{IsCost, is_interface_link, changes_costs_of, picks}
+use Rattle.ospf_edit.specs.Words.{IsCostWord, IsCostWordAt, IsCostWordOf, IsFaultOfEditWords, IsFirstUnknownAmong, IsWordFor, IsUnknownHere, interface_front, pair_front}
 use Rattle.ospf_edit.specs.declared.change.Change.{Change}
 use Rattle.ospf_edit.specs.declared.change.Change.TheVariants as change
 use Rattle.ospf_edit.specs.declared.words.WordFault.{WordFault}
@@ -63,14 +63,14 @@ same_router q r sure = let e = eqb-true q.0 r.0 sure in λ i. record { 0 = e i }
 
 -- ---- words of a kind
 
-pub fault_weaker : (P Q : List ℕ → Type 0) (f : WordFault) → ((text : List ℕ) → P text → Q text) → IsFaultOfWords P f → IsFaultOfWords Q f
+pub fault_weaker : (P Q : List ℕ → Type 0) (f : WordFault) → ((text : List ℕ) → P text → Q text) → IsFaultOfEditWords P f → IsFaultOfEditWords Q f
 fault_weaker P Q (fault.Word text) k is = k (string_bytes text) is
 fault_weaker P Q fault.Memory k is = is
 
 -- the first, after words that name these
 pub first_among : (A : List Advertisement) (single : List failure.AreaFailure) (kind : WordKind) (words : List (String Global)) (i : ℕ) (x : String Global) (changes : List Change)
-    → i < length words → x ≡ get_or words i x → AllZip (IsNamedBy A single kind) (take i words) changes → (text : List ℕ) → IsUnnamedHere A single kind x text
-    → IsFirstAmong A single kind words text
+    → i < length words → x ≡ get_or words i x → AllZip (IsWordFor A single kind) (take i words) changes → (text : List ℕ) → IsUnknownHere A single kind x text
+    → IsFirstUnknownAmong A single kind words text
 first_among A single kind words i x changes within is named text here = record {
   before = take i words;
   word = x;
@@ -130,9 +130,6 @@ module _ (word : List ℕ) (c : Change) where
         | inr same ↦ here (subst (λ (x : link.Link). IsCostWordAt r x word c) (sym same) is.2)
       ]
 
-  pub of_none : (r : RouterId) → IsCostWordOf r [] word c → ⊥
-  of_none r is = absurd (let low = is.1.1 in omega arith)
-
 -- ---- costs of a link
 
 no_interface : (l : link.Link) (other : RouterId) → is_link_to l other ≡ true → is_interface_link l ≡ true
@@ -143,50 +140,6 @@ no_interface l other sure = go l.kind refl
     go kind.Transit is = rw is refl
     go kind.Stub is = absurd (let no : false ≡ true = rw is at sure in cc)
     go kind.Virtual is = absurd (let no : false ≡ true = rw is at sure in cc)
-
-pub never_by : (r : RouterId) (l : link.Link) (word : List ℕ) → is_interface_link l ≡ false → (c : Change) → IsCostWordAt r l word c → ⊥
-never_by r l word not (change.Down f) at = let no : false ≡ true = at.link_is in cc
-never_by r l word not (change.Cost of address cost) at = let both = and_both (is_interface_link l) (l.link_data == address.0) at.link_is in let sure = both.0 in cc
-never_by r l word not (change.CostTo of other cost) at = let sure = no_interface l other at.link_is in cc
-never_by r l word not (change.Drain of) at = let no : false ≡ true = at.link_is in cc
-
-pub by_interface : (r : RouterId) (l : link.Link) (word : List ℕ) (a : Addr) (n : ℕ) → is_interface_link l ≡ true → l.link_data ≡ a.0 → IsCost n
-    → word ≡ interface_front r a ++ decimal n → IsCostWordAt r l word (change.Cost r a n)
-by_interface r l word a n sure same cost is = record {
-  router_is = eq-eqb r.0 r.0 refl;
-  link_is = rw sure (eq-eqb l.link_data a.0 same);
-  cost_is = cost;
-  word_is = is;
-}
-
-pub by_neither : (r : RouterId) (l : link.Link) (word : List ℕ) (a : Addr) → l.link_data ≡ a.0 → ((n : ℕ) → IsCost n → word ≡ interface_front r a ++ decimal n → ⊥)
-    → ((other : RouterId) (n : ℕ) → IsCostWordAt r l word (change.CostTo r other n) → ⊥) → (c : Change) → IsCostWordAt r l word c → ⊥
-by_neither r l word a same one two (change.Down f) at = let no : false ≡ true = at.link_is in cc
-by_neither r l word a same one two (change.Cost of address n) at =
-    let both = and_both (is_interface_link l) (l.link_data == address.0) at.link_is in
-    let here : address ≡ a = (let e = sym (eqb-true l.link_data address.0 both.1) ∙ same in λ i. record { 0 = e i }) in
-    let by : of ≡ r = same_router of r at.router_is in
-    one n at.cost_is (at.word_is ∙ (λ i. interface_front (by i) (here i) ++ decimal n))
-by_neither r l word a same one two (change.CostTo of other n) at =
-    let by : of ≡ r = same_router of r at.router_is in
-    two other n (subst (λ (x : RouterId). IsCostWordAt r l word (change.CostTo x other n)) by at)
-by_neither r l word a same one two (change.Drain of) at = let no : false ≡ true = at.link_is in cc
-
-pub by_pair : (r : RouterId) (l : link.Link) (word : List ℕ) (other : RouterId) (n : ℕ) → l.kind ≡ kind.PointToPoint → l.id ≡ other.0 → IsCost n
-    → word ≡ pair_front r other ++ decimal n → IsCostWordAt r l word (change.CostTo r other n)
-by_pair r l word other n is same cost spelled = record {
-  router_is = eq-eqb r.0 r.0 refl;
-  link_is = rw is (eq-eqb l.id other.0 same);
-  cost_is = cost;
-  word_is = spelled;
-}
-
-pub not_by_pair : (r : RouterId) (l : link.Link) (word : List ℕ) (other : RouterId) → l.kind ≡ kind.PointToPoint → l.id ≡ other.0
-    → ((n : ℕ) → IsCost n → word ≡ pair_front r other ++ decimal n → ⊥) → (q : RouterId) (n : ℕ) → IsCostWordAt r l word (change.CostTo r q n) → ⊥
-not_by_pair r l word other is same none q n at =
-    let sure : (l.id == q.0) ≡ true = rw is at at.link_is in
-    let to : q ≡ other = (let e = sym (eqb-true l.id q.0 sure) ∙ same in λ i. record { 0 = e i }) in
-    none n at.cost_is (at.word_is ∙ (λ i. pair_front r (to i) ++ decimal n))
 
 pub no_pair : (r : RouterId) (l : link.Link) (word : List ℕ) (q : RouterId) (n : ℕ) → (l.kind ≡ kind.PointToPoint → ⊥) → IsCostWordAt r l word (change.CostTo r q n) → ⊥
 no_pair r l word q n not at = go l.kind refl

@@ -13,8 +13,8 @@ use Rattle.ospf_table.specs.Refusal.{refusal_line}
 use Rattle.ospf_table.specs.declared.table.EntryFault.{EntryFault}
 use Rattle.ospf_whatif.specs.Failure.{HasLarge}
 use Rattle.ospf_edit.specs.Change.{AreChangedBy}
-use Rattle.ospf_edit.specs.Large.{IsFirstLarge, large_line}
-use Rattle.ospf_edit.specs.Words.{AreJobChanges, IsFirstUnnamed}
+use Rattle.ospf_edit.specs.Large.{IsFirstTooLarge, too_large_line}
+use Rattle.ospf_edit.specs.Words.{AreJobChanges, IsFirstUnknown}
 use Rattle.ospf_edit.specs.declared.change.Change.{Change}
 use Rattle.ospf_edit.specs.declared.words.EditJob.{EditJob}
 
@@ -28,11 +28,11 @@ abbrev pub lsa_line : List ℕ → List ℕ
 lsa_line lsa = encode_lower lsa ++ codes "\n"
 
 -- the LSAs of a listing, in its order
-abbrev pub lsa_lines : List (List ℕ) → List ℕ
-lsa_lines lsas = flat_map lsa_line lsas
+abbrev pub hex_lines : List (List ℕ) → List ℕ
+hex_lines lsas = flat_map lsa_line lsas
 
 -- the report says this on standard error and prints that on standard output
-pub record Says (report : Report) (warnings text : List ℕ) (status : ℕ) : Type 0 where
+pub record ReportSays (report : Report) (warnings text : List ℕ) (status : ℕ) : Type 0 where
   pub warnings_are : string_bytes report.warnings ≡ warnings
   pub text_is : string_bytes report.text ≡ text
   pub status_is : report.status ≡ status
@@ -41,8 +41,8 @@ pub record Says (report : Report) (warnings text : List ℕ) (status : ℕ) : Ty
 pub record IsChangedReport (changes : List Change) (listing : List (List ℕ)) (left_out : ℕ)
     (report : Report) : Type 0 where
   pub after : List (List ℕ)
-  pub changed : AreChangedBy changes listing after
-  pub says : Says report (left_out_text left_out) (lsa_lines after) 0
+  pub changed_area : AreChangedBy changes listing after
+  pub says : ReportSays report (left_out_text left_out) (hex_lines after) 0
 
 -- after the changes that the words of the job name
 abbrev pub IsEdited : EditJob → List (List ℕ) → ℕ → Report → Type 0
@@ -52,23 +52,23 @@ IsEdited job listing left_out report =
 
 -- the report of a listing. If the job changes something, the first router whose router-LSA has too
 -- many links is refused. Next, the first word that names nothing. Otherwise the LSAs are printed
-pub data IsReportOf (job : EditJob) (listing : List (List ℕ)) (left_out : ℕ) (report : Report)
+pub data IsEditReportOf (job : EditJob) (listing : List (List ℕ)) (left_out : ℕ) (report : Report)
     : Type 0 where
-  too_large : (router : RouterId) → HasWords job → IsFirstLarge listing router
-      → Says report (large_line router) [] 3 → IsReportOf job listing left_out report
+  too_large : (router : RouterId) → HasWords job → IsFirstTooLarge listing router
+      → ReportSays report (too_large_line router) [] 3 → IsEditReportOf job listing left_out report
   unnamed : (text : List ℕ) → (HasLarge (advertisements_of listing) → ⊥)
-      → IsFirstUnnamed (advertisements_of listing) job text
-      → Says report text [] 2 → IsReportOf job listing left_out report
+      → IsFirstUnknown (advertisements_of listing) job text
+      → ReportSays report text [] 2 → IsEditReportOf job listing left_out report
   edited : (HasWords job → HasLarge (advertisements_of listing) → ⊥)
-      → IsEdited job listing left_out report → IsReportOf job listing left_out report
+      → IsEdited job listing left_out report → IsEditReportOf job listing left_out report
 
 -- the report of the lines of an input: of the listing that they are, or of the first line that is
 -- refused
 pub data IsEditReport (job : EditJob) (input : List ℕ) (report : Report) : Type 0 where
   of_line : (number : ℕ) (fault : EntryFault) → Refuses input [] number fault
-      → Says report (refusal_line number fault) [] 3 → IsEditReport job input report
+      → ReportSays report (refusal_line number fault) [] 3 → IsEditReport job input report
   of_listing : (listing : List (List ℕ)) (left_out : ℕ) → Reads input [] listing
-      → LeavesOut input left_out → IsReportOf job listing left_out report
+      → LeavesOut input left_out → IsEditReportOf job listing left_out report
       → IsEditReport job input report
 
 -- the report of the job, or why there is none

@@ -1,5 +1,5 @@
--- What changes make of the LSAs of an area: failures (RFC 2328, section 12.4.1), costs of interfaces
--- (sections 12.4.1.1 and 12.4.1.2) and drained routers (RFC 6987).
+-- What changes make of the LSAs of an area: failures (RFC 2328, section 12.4.1), costs of
+-- interfaces (sections 12.4.1.1 and 12.4.1.2) and drained routers (RFC 6987).
 use Rattle.std.specs.Prelude.{◌≡◌, ◌≢◌, ◌⊎◌, ◌==◌, ◌&&◌, ◌||◌, ◌<◌, ◌^◌, ◌∷◌, [], ⊤, ℕ, Bool, true, false, not, nat_lt, if◌then◌else◌, Contains, List, length, map}
 use Rattle.std.specs.List.{AllZip, list_any}
 use Rattle.ospf_base.specs.declared.ids.RouterId.{RouterId}
@@ -26,27 +26,28 @@ is_interface_link l = by_kind l.kind
     by_kind _ = false
 
 -- a type 1 link
-abbrev pub is_point_to_point : Link → Bool
-is_point_to_point l = by_kind l.kind
+abbrev pub is_router_link : Link → Bool
+is_router_link l = by_kind l.kind
   where
     by_kind : LinkKind → Bool
     by_kind kind.PointToPoint = true
     by_kind _ = false
 
 -- a type 3 link to a subnet that holds the address, and not to a host alone
-abbrev pub is_subnet_at : ℕ → Link → Bool
-is_subnet_at address l =
+abbrev pub is_subnet_with : ℕ → Link → Bool
+is_subnet_with address l =
     is_stub_link l && (not (l.link_data == 0xFFFFFFFF) && (is_address address && is_held l address))
 
 -- the other link is to a longer such subnet
 abbrev pub is_longer_subnet : ℕ → Link → Link → Bool
-is_longer_subnet address l other = is_subnet_at address other && nat_lt l.link_data other.link_data
+is_longer_subnet address l other =
+    is_subnet_with address other && nat_lt l.link_data other.link_data
 
 -- the longest subnet that holds the address, of all in these links of a router: the subnet of its
 -- interface with this address (12.4.1.1)
 abbrev pub is_own_subnet : List Link → ℕ → Link → Bool
 is_own_subnet links address l =
-    is_subnet_at address l && not (list_any (is_longer_subnet address l) links)
+    is_subnet_with address l && not (list_any (is_longer_subnet address l) links)
 
 -- the same link at another cost
 abbrev pub with_cost : ℕ → Link → Link
@@ -55,11 +56,11 @@ with_cost cost l = record { id = l.id; link_data = l.link_data; kind = l.kind; m
 -- ---- a change of costs
 
 -- the router whose costs change
-abbrev pub is_of : Change → RouterId → Bool
-is_of (Down f) router = false
-is_of (Cost of address cost) router = of.0 == router.0
-is_of (CostTo of other cost) router = of.0 == router.0
-is_of (Drain of) router = of.0 == router.0
+abbrev pub changes_costs_of : Change → RouterId → Bool
+changes_costs_of (Down f) router = false
+changes_costs_of (Cost of address cost) router = of.0 == router.0
+changes_costs_of (CostTo of other cost) router = of.0 == router.0
+changes_costs_of (Drain of) router = of.0 == router.0
 
 -- the new cost; of a drained router MaxLinkMetric (RFC 6987, section 2)
 abbrev pub cost_of : Change → ℕ
@@ -78,7 +79,7 @@ picks c l = false
 -- the link is to the own subnet of a point-to-point link whose cost changes
 abbrev pub has_own_subnet : Change → List Link → Link → Bool
 has_own_subnet c links l =
-    list_any (λ out. picks c out && (is_point_to_point out && is_own_subnet links out.link_data l))
+    list_any (λ out. picks c out && (is_router_link out && is_own_subnet links out.link_data l))
     links
 
 -- the link gets the new cost: it leaves by such an interface, or is to the own subnet of one on a
@@ -99,7 +100,8 @@ keeps_cost c links l = not (gets_cost c links l) || (l.metric == cost_of c)
 
 -- the links of a router after the change: those of another router stay
 abbrev pub priced_links : Change → RouterId → List Link → List Link
-priced_links c router links = if is_of c router then map (priced_link c links) links else links
+priced_links c router links =
+    if changes_costs_of c router then map (priced_link c links) links else links
 
 -- ---- the area after a change
 
@@ -109,14 +111,14 @@ changed_lsa links_after (router_lsa router links) = router_lsa router (links_aft
 changed_lsa links_after (network_lsa n router mask attached) = network_lsa n router mask attached
 
 -- the LSAs of the area after the change
-abbrev pub changed : Change → List Advertisement → List Advertisement
-changed (Down f) adverts = without f adverts
-changed c adverts = map (changed_lsa (priced_links c)) adverts
+abbrev pub changed_area : Change → List Advertisement → List Advertisement
+changed_area (Down f) adverts = without f adverts
+changed_area c adverts = map (changed_lsa (priced_links c)) adverts
 
 -- after several changes, one after the other
 abbrev pub changed_by : List Change → List Advertisement → List Advertisement
 changed_by [] adverts = adverts
-changed_by (c ∷ more) adverts = changed_by more (changed c adverts)
+changed_by (c ∷ more) adverts = changed_by more (changed_area c adverts)
 
 -- ---- its bytes
 
@@ -129,7 +131,8 @@ links_after adverts c router links = priced_links c router links
 -- are the same byte for byte. Other router-LSAs are rebuilt with the links after the change, with
 -- their sequence number, age 0 and no flags (12.4.1)
 abbrev pub AreChanged : Change → List (List ℕ) → List (List ℕ) → Type 0
-AreChanged c before after = AllZip (IsLeftBy (links_after (advertisements_of before) c)) before after
+AreChanged c before after =
+    AllZip (IsLeftBy (links_after (advertisements_of before) c)) before after
 
 -- before and after several changes, one after the other
 abbrev pub AreChangedBy : List Change → List (List ℕ) → List (List ℕ) → Type 0
@@ -158,7 +161,7 @@ HasChangedLarge c adverts = HasLargeThen (links_after adverts c) adverts
 abbrev pub HasChangedLargeBy : List Change → List Advertisement → Type 0
 HasChangedLargeBy [] adverts = ⊥
 HasChangedLargeBy (c ∷ more) adverts =
-    HasChangedLarge c adverts ⊎ HasChangedLargeBy more (changed c adverts)
+    HasChangedLarge c adverts ⊎ HasChangedLargeBy more (changed_area c adverts)
 
 -- ---- what may be asked for
 

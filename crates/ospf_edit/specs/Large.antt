@@ -8,7 +8,7 @@ use Rattle.ospf_whatif.specs.Failure.{HasLarge, IsLarge}
 
 -- the first router-LSA of a listing with more links than the largest LSA holds is that of this
 -- router
-pub record IsFirstLarge (listing : List (List ℕ)) (router : RouterId) : Type 0 where
+pub record IsFirstTooLarge (listing : List (List ℕ)) (router : RouterId) : Type 0 where
   pub before : List (List ℕ)
   pub lsa : List ℕ
   pub after : List (List ℕ)
@@ -18,5 +18,5 @@ pub record IsFirstLarge (listing : List (List ℕ)) (router : RouterId) : Type 0
   pub router_is : router ≡ (key_of lsa).router
 
 -- the message for such a router
-abbrev pub large_line : RouterId → List ℕ
-large_line router = number_text router.0 ++ codes ": more than 1361 links\n"
+abbrev pub too_large_line : RouterId → List ℕ
+too_large_line router = number_text router.0 ++ codes ": more than 1361 links\n"

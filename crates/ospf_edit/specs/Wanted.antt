@@ -38,13 +38,13 @@ pub record IsWired (l : LinkValue) (subnet : Prefix) : Type 0 where
 
 -- the subnet of the interface is the longest that holds its address, of all in these links of the
 -- router
-abbrev pub IsLongest : List Link → LinkValue → Type 0
-IsLongest all l =
+abbrev pub IsLongestSubnet : List Link → LinkValue → Type 0
+IsLongestSubnet all l =
     list_any (is_longer_subnet l.iface.settings.address.0 (subnet_link l)) all ≡ false
 
 -- an interface that leads on: on a point-to-point link or on a transit network
-abbrev pub LeadsOn : List Link → LinkValue → Type 0
-LeadsOn all l = ((subnet : Prefix) × IsWired l subnet × IsLongest all l) ⊎ IsOnTransit l
+abbrev pub LeavesBy : List Link → LinkValue → Type 0
+LeavesBy all l = ((subnet : Prefix) × IsWired l subnet × IsLongestSubnet all l) ⊎ IsOnTransit l
 
 -- of all links of a router the change gives none of those that these interfaces make another cost
 abbrev pub AreSparedFrom : Change → List Link → List LinkValue → Type 0
@@ -59,5 +59,5 @@ CostsAreWanted =
     HasOtherCost before after →
     let all = wanted_links false (front ++ before ∷ back) in
     let change = Cost router before.iface.settings.address after.settings.cost in
-    LeadsOn all before → AreSparedFrom change all front → AreSparedFrom change all back →
+    LeavesBy all before → AreSparedFrom change all front → AreSparedFrom change all back →
     wanted_links false (front ++ after ∷ back) ≡ priced_links change router all

@@ -12,7 +12,7 @@ use Rattle.ospf_whatif.specs.Name.{area_failure_text}
 use Rattle.ospf_whatif.specs.Single.{AreFailures}
 use Rattle.ospf_whatif.specs.declared.failure.AreaFailure as failure
 use Rattle.ospf_whatif.specs.declared.failure.AreaFailure.TheVariants as fails
-use Rattle.ospf_edit.specs.Change.{IsCost, cost_of, is_of, picks}
+use Rattle.ospf_edit.specs.Change.{IsCost, cost_of, changes_costs_of, picks}
 use Rattle.ospf_edit.specs.declared.change.Change.{Change}
 use Rattle.ospf_edit.specs.declared.change.Change.TheVariants as change
 use Rattle.ospf_edit.specs.declared.words.EditJob.{EditJob}
@@ -63,7 +63,7 @@ cost_front c = []
 -- a decimal number without leading zeros
 pub record IsCostWordAt (router : RouterId) (l : link.Link) (word : List ℕ) (c : Change)
     : Type 0 where
-  pub router_is : is_of c router ≡ true
+  pub router_is : changes_costs_of c router ≡ true
   pub link_is : picks c l ≡ true
   pub cost_is : IsCost (cost_of c)
   pub word_is : word ≡ cost_front c ++ decimal (cost_of c)
@@ -132,9 +132,9 @@ Names adverts single Drain word c =
     (router : RouterId) × (c ≡ change.Drain router) × IsDrainWord single word router
 
 -- the same of a String
-abbrev pub IsNamedBy
+abbrev pub IsWordFor
     : List Advertisement → List failure.AreaFailure → WordKind → String Global → Change → Type 0
-IsNamedBy adverts single kind word c = Names adverts single kind (string_bytes word) c
+IsWordFor adverts single kind word c = Names adverts single kind (string_bytes word) c
 
 -- the message for a word of this kind that names nothing
 abbrev pub IsMessage : List failure.AreaFailure → WordKind → String Global → List ℕ → Type 0
@@ -143,21 +143,21 @@ IsMessage single kind word text =
     × (text ≡ string_bytes word ++ codes ": not in this area\n" ++ hint)
 
 -- this is the message for the word, which names nothing
-abbrev pub IsUnnamedHere
+abbrev pub IsUnknownHere
     : List Advertisement → List failure.AreaFailure → WordKind → String Global → List ℕ → Type 0
-IsUnnamedHere adverts single kind word text =
-    ((c : Change) → IsNamedBy adverts single kind word c → ⊥) × IsMessage single kind word text
+IsUnknownHere adverts single kind word text =
+    ((c : Change) → IsWordFor adverts single kind word c → ⊥) × IsMessage single kind word text
 
 -- this is the message for the first of these words that names nothing
-pub record IsFirstAmong (adverts : List Advertisement) (single : List failure.AreaFailure)
+pub record IsFirstUnknownAmong (adverts : List Advertisement) (single : List failure.AreaFailure)
     (kind : WordKind) (words : List (String Global)) (text : List ℕ) : Type 0 where
   pub before : List (String Global)
   pub word : String Global
   pub after : List (String Global)
   pub words_are : words ≡ before ++ word ∷ after
   pub changes : List Change
-  pub named : AllZip (IsNamedBy adverts single kind) before changes
-  pub unnamed : IsUnnamedHere adverts single kind word text
+  pub named : AllZip (IsWordFor adverts single kind) before changes
+  pub unnamed : IsUnknownHere adverts single kind word text
 
 -- ---- the words of a job
 
@@ -165,7 +165,7 @@ pub record IsFirstAmong (adverts : List Advertisement) (single : List failure.Ar
 abbrev pub AreAllNamed
     : List Advertisement → List failure.AreaFailure → WordKind → List (String Global) → Type 0
 AreAllNamed adverts single kind words =
-    (changes : List Change) × AllZip (IsNamedBy adverts single kind) words changes
+    (changes : List Change) × AllZip (IsWordFor adverts single kind) words changes
 
 -- what the words of a job name in the area as it is read: what goes down, then costs, then drained
 -- routers
@@ -181,23 +181,23 @@ pub record AreJobChanges (adverts : List Advertisement) (job : EditJob) (changes
 -- this is the message for the first word of a job that names nothing, where all this may fail
 pub data IsFirstOf (adverts : List Advertisement) (single : List failure.AreaFailure)
     (job : EditJob) (text : List ℕ) : Type 0 where
-  in_downs : IsFirstAmong adverts single Down (vec_items job.down) text
+  in_downs : IsFirstUnknownAmong adverts single Down (vec_items job.down) text
       → IsFirstOf adverts single job text
   in_costs : AreAllNamed adverts single Down (vec_items job.down)
-      → IsFirstAmong adverts single Cost (vec_items job.costs) text
+      → IsFirstUnknownAmong adverts single Cost (vec_items job.costs) text
       → IsFirstOf adverts single job text
   in_drains : AreAllNamed adverts single Down (vec_items job.down)
       → AreAllNamed adverts single Cost (vec_items job.costs)
-      → IsFirstAmong adverts single Drain (vec_items job.drains) text
+      → IsFirstUnknownAmong adverts single Drain (vec_items job.drains) text
       → IsFirstOf adverts single job text
 
 -- this is the message for the first word of a job that names nothing
-abbrev pub IsFirstUnnamed : List Advertisement → EditJob → List ℕ → Type 0
-IsFirstUnnamed adverts job text =
+abbrev pub IsFirstUnknown : List Advertisement → EditJob → List ℕ → Type 0
+IsFirstUnknown adverts job text =
     (single : List failure.AreaFailure) × AreFailures adverts single
     × IsFirstOf adverts single job text
 
 -- why there are no changes: such a message, or memory ran out
-abbrev pub IsFaultOfWords : (List ℕ → Type 0) → WordFault → Type 0
-IsFaultOfWords Is (fault.Word text) = Is (string_bytes text)
-IsFaultOfWords Is fault.Memory = ⊤
+abbrev pub IsFaultOfEditWords : (List ℕ → Type 0) → WordFault → Type 0
+IsFaultOfEditWords Is (fault.Word text) = Is (string_bytes text)
+IsFaultOfEditWords Is fault.Memory = ⊤

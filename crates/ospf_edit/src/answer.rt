@@ -5,9 +5,9 @@ ghost use Rattle.ospf_graph.specs.EdgeLists.Listed.{advertisements_of};
 ghost use Rattle.ospf_files.specs.Status.{code_of};
 ghost use Rattle.ospf_files.specs.Streams.{written_on};
 ghost use Rattle.ospf_whatif.specs.Failure.{HasLarge};
-ghost use Rattle.ospf_edit.specs.Answer.{HasWords, IsChangedReport, IsEditPrinted, IsEditResult, IsReportOf, Says, lsa_line, lsa_lines};
+ghost use Rattle.ospf_edit.specs.Answer.{HasWords, IsChangedReport, IsEditPrinted, IsEditResult, IsEditReportOf, ReportSays, lsa_line, hex_lines};
 ghost use Rattle.ospf_edit.specs.Change.{AreChangedBy, HasRightCost};
-ghost use Rattle.ospf_edit.specs.Large.{IsFirstLarge, large_line};
+ghost use Rattle.ospf_edit.specs.Large.{IsFirstTooLarge, too_large_line};
 ghost use Rattle.ospf_table.specs.Refusal.{refusal_line};
 
 use crate::applied::apply;
@@ -70,7 +70,7 @@ pub fn edit_report<R: BufRead + Drop>(
 
 // The refusal of a line.
 fn line_refused(alloc: Global, number: u64, fault: EntryFault) -> Result<Report, AllocError>
-    ensures { IfOk result (λ report. Says report (refusal_line number fault) [] 3) }
+    ensures { IfOk result (λ report. ReportSays report (refusal_line number fault) [] 3) }
 {
     let line = format!(in alloc; "line {number}: {}\n", fault.text())?;
     Ok(refusal(alloc, line, Status::Refused))
@@ -78,7 +78,7 @@ fn line_refused(alloc: Global, number: u64, fault: EntryFault) -> Result<Report,
 
 // The refusal of a router with too many links.
 fn router_refused(alloc: Global, router: RouterId) -> Result<Report, AllocError>
-    ensures { IfOk result (λ report. Says report (large_line router) [] 3) }
+    ensures { IfOk result (λ report. ReportSays report (too_large_line router) [] 3) }
 {
     let line = format!(in alloc; "{router}: more than 1361 links\n")?;
     Ok(refusal(alloc, line, Status::Refused))
@@ -86,7 +86,7 @@ fn router_refused(alloc: Global, router: RouterId) -> Result<Report, AllocError>
 
 // A report of a line on standard error alone.
 fn refusal(alloc: Global, line: String, status: Status) -> Report
-    ensures { Says result (string_bytes line) [] (code_of status) }
+    ensures { ReportSays result (string_bytes line) [] (code_of status) }
 {
     Report {
         warnings: line,
@@ -97,7 +97,7 @@ fn refusal(alloc: Global, line: String, status: Status) -> Report
 
 // The report of a listing.
 fn report_of(alloc: Global, job: &EditJob, read: CountedListing) -> Result<Report, AllocError>
-    ensures { IfOk result (IsReportOf job.now read.listing read.left_out) }
+    ensures { IfOk result (IsEditReportOf job.now read.listing read.left_out) }
 {
     if let Some(router) = large_router(job, &read.listing) {
         return router_refused(alloc, router);
@@ -111,7 +111,7 @@ fn report_of(alloc: Global, job: &EditJob, read: CountedListing) -> Result<Repor
 
 // The first router with too many links, if the job changes something.
 fn large_router(job: &EditJob, listing: &Listing) -> Option<RouterId>
-    ensures some { IfSome result (λ router. HasWords job.now × IsFirstLarge listing.now router) }
+    ensures some { IfSome result (λ router. HasWords job.now × IsFirstTooLarge listing.now router) }
     ensures none { IfNone result (HasWords job.now →
         HasLarge (advertisements_of listing.now) → ⊥) }
 {
@@ -130,7 +130,7 @@ fn edited(alloc: Global, read: CountedListing, changes: &[Change]) -> Result<Rep
 {
     let warnings = left_out_text(alloc, read.left_out)?;
     let after = applied(alloc, read.listing, changes)?;
-    let text = lsa_lines(alloc, &after)?;
+    let text = hex_lines(alloc, &after)?;
     Ok(Report {
         warnings,
         text,
@@ -152,8 +152,8 @@ fn applied(alloc: Global, listing: Listing, changes: &[Change]) -> Result<Listin
 }
 
 // The LSAs of a listing as lines.
-fn lsa_lines(alloc: Global, listing: &Listing) -> Result<String, AllocError>
-    ensures { IfOk result (λ text. string_bytes text ≡ lsa_lines listing.now) }
+fn hex_lines(alloc: Global, listing: &Listing) -> Result<String, AllocError>
+    ensures { IfOk result (λ text. string_bytes text ≡ hex_lines listing.now) }
 {
     let mut text = String::new(alloc);
     for lsa in listing.lsas() {

@@ -8,7 +8,7 @@ ghost use Rattle.ospf_lsa.specs.Listing.{IsListable};
 ghost use Rattle.ospf_lsa.specs.Lsa.{IsRouterLsa, key_of};
 ghost use Rattle.ospf_graph.specs.EdgeLists.Listed.{advertisement_of, advertisements_of};
 ghost use Rattle.ospf_whatif.specs.Failure.{IsLeftBy};
-ghost use Rattle.ospf_edit.specs.Change.{AreChanged, AreChangedBy, HasChangedLarge, HasChangedLargeBy, HasLargeThen, HasRightCost, IsChangedLarge, changed, changed_by, changed_lsa, keeps_cost, priced_link, priced_links};
+ghost use Rattle.ospf_edit.specs.Change.{AreChanged, AreChangedBy, HasChangedLarge, HasChangedLargeBy, HasLargeThen, HasRightCost, IsChangedLarge, changed_area, changed_by, changed_lsa, keeps_cost, priced_link, priced_links};
 
 use crate::change::Change;
 use ospf_base::{Kind, RouterId};
@@ -18,15 +18,15 @@ use std::alloc::{AllocError, Global};
 
 /// The LSAs of an area after changes, applied one after the other: what its routers originate once
 /// they have converged. An LSA that no change touches is the same byte for byte. A router-LSA whose
-/// links change is rebuilt as by `ospf_whatif::without`: with its sequence number, at age 0, without
-/// the flags B, E and V and without TOS metrics.
+/// links change is rebuilt as by `ospf_whatif::without`: with its sequence number, at age 0,
+/// without the flags B, E and V and without TOS metrics.
 ///
 /// `Links` if a changed router-LSA has more than 1,361 links, which do not fit in `LARGEST_LSA`
 /// bytes; otherwise `Memory`.
 pub fn apply(alloc: Global, listing: Listing, changes: &[Change]) -> Result<Listing, WithoutFault>
     // The metric of a link to a router or a transit network is not 0.
     requires { All HasRightCost changes.now }
-    ensures changed { IfOk result (λ new. advertisements_of new
+    ensures changed_area { IfOk result (λ new. advertisements_of new
         ≡ changed_by changes.now (advertisements_of listing)) }
     ensures bytes { IfOk result (AreChangedBy changes.now listing) }
     // `Links` is returned exactly if an LSA would have too many.
@@ -37,15 +37,15 @@ pub fn apply(alloc: Global, listing: Listing, changes: &[Change]) -> Result<List
 {
     let mut left = listing;
     for change in changes {
-        left = changed(alloc, &left, change)?;
+        left = changed_area(alloc, &left, change)?;
     }
     Ok(left)
 }
 
 // The LSAs of an area after a change.
-fn changed(alloc: Global, listing: &Listing, change: &Change) -> Result<Listing, WithoutFault>
-    ensures changed { IfOk result (λ new. advertisements_of new
-        ≡ changed change.now (advertisements_of listing.now)) }
+fn changed_area(alloc: Global, listing: &Listing, change: &Change) -> Result<Listing, WithoutFault>
+    ensures changed_area { IfOk result (λ new. advertisements_of new
+        ≡ changed_area change.now (advertisements_of listing.now)) }
     ensures bytes { IfOk result (AreChanged change.now listing.now) }
     ensures large { result ≡ Err WithoutFault.Links →
         HasChangedLarge change.now (advertisements_of listing.now) }
@@ -62,7 +62,7 @@ fn changed(alloc: Global, listing: &Listing, change: &Change) -> Result<Listing,
 
 // The LSAs of an area after a change of costs.
 fn priced(alloc: Global, listing: &Listing, change: &Change) -> Result<Listing, WithoutFault>
-    ensures changed { IfOk result (λ new. advertisements_of new
+    ensures changed_area { IfOk result (λ new. advertisements_of new
         ≡ map (changed_lsa (priced_links change.now)) (advertisements_of listing.now)) }
     ensures bytes { IfOk result (AllZip (IsLeftBy (priced_links change.now)) listing.now) }
     ensures large { result ≡ Err WithoutFault.Links →
@@ -107,6 +107,7 @@ fn router_priced(alloc: Global, change: &Change, lsa: &LsaView) -> Result<Lsa, L
     ensures bytes { IfOk result (IsLeftBy (priced_links change.now) lsa.now) }
     ensures key { IfOk result (λ new. key_of new ≡ key_of lsa.now) }
     ensures young { IfOk result (λ new. (header_of new).age < max_age) }
+    // It is too long exactly if it changes and has more links than the largest LSA holds.
     ensures large { result ≡ Err LsaFault.Length →
         IsChangedLarge (priced_links change.now) (advertisement_of lsa.now) }
     ensures small { OnOk result
@@ -129,7 +130,7 @@ fn router_priced(alloc: Global, change: &Change, lsa: &LsaView) -> Result<Lsa, L
 fn keeps_all(change: &Change, router: RouterId, links: &[Link]) -> bool
     ensures { IsTrue result ↔ (priced_links change.now router links.now ≡ links.now) }
 {
-    !change.is_of(router) || keep_costs(change, links)
+    !change.changes_costs_of(router) || keep_costs(change, links)
 }
 
 // Whether these links of the router whose costs change keep theirs.
@@ -148,7 +149,7 @@ fn links_priced(
 ) -> Result<Vec<Link>, AllocError>
     ensures { IfOk result (λ new. new.items ≡ priced_links change.now router links.now) }
 {
-    if change.is_of(router) {
+    if change.changes_costs_of(router) {
         each_priced(alloc, change, links)
     } else {
         Vec::from_slice(alloc, links)

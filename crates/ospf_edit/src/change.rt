@@ -2,7 +2,7 @@
 
 ghost use Rattle.std.specs.Prelude.{◌≡◌};
 ghost use Rattle.std.specs.List.{list_any};
-ghost use Rattle.ospf_edit.specs.Change.{is_interface_link, is_longer_subnet, is_own_subnet, is_point_to_point, is_subnet_at, with_cost};
+ghost use Rattle.ospf_edit.specs.Change.{is_interface_link, is_longer_subnet, is_own_subnet, is_router_link, is_subnet_with, with_cost};
 ghost use Rattle.ospf_whatif.specs.Subnets.{is_address, is_held, is_link_to, is_stub_link};
 
 use ospf_base::{Addr, RouterId};
@@ -47,11 +47,11 @@ pub enum Change {
 
 impl Change {
     ghost use Rattle.std.specs.Prelude.{◌≡◌};
-    ghost use Rattle.ospf_edit.specs.Change.{cost_of, gets_cost, has_own_subnet, is_of, keeps_cost, picks, priced_link};
+    ghost use Rattle.ospf_edit.specs.Change.{cost_of, gets_cost, has_own_subnet, changes_costs_of, keeps_cost, picks, priced_link};
 
     /// Whether the change gives links of a router another cost.
-    pub(crate) fn is_of(&self, router: RouterId) -> bool
-        ensures { result ≡ is_of self.now router }
+    pub(crate) fn changes_costs_of(&self, router: RouterId) -> bool
+        ensures { result ≡ changes_costs_of self.now router }
     {
         match *self {
             Change::Down(_) => false,
@@ -120,8 +120,7 @@ impl Change {
         ensures { result ≡ has_own_subnet self.now links.now link }
     {
         links.iter().any(|out| {
-            self.picks(*out)
-                && (is_point_to_point(*out) && is_own_subnet(links, out.link_data, link))
+            self.picks(*out) && (is_router_link(*out) && is_own_subnet(links, out.link_data, link))
         })
     }
 }
@@ -149,8 +148,8 @@ pub(crate) fn is_interface_link(link: Link) -> bool
 }
 
 // Whether it is a type 1 link.
-fn is_point_to_point(link: Link) -> bool
-    ensures { result ≡ is_point_to_point link }
+fn is_router_link(link: Link) -> bool
+    ensures { result ≡ is_router_link link }
 {
     match link.kind {
         LinkKind::PointToPoint => true,
@@ -183,7 +182,7 @@ fn is_stub_link(link: Link) -> bool
 fn is_own_subnet(links: &[Link], address: u32, link: Link) -> bool
     ensures { result ≡ is_own_subnet links.now address link }
 {
-    is_subnet_at(address, link) && !has_longer(links, address, link)
+    is_subnet_with(address, link) && !has_longer(links, address, link)
 }
 
 // Whether one of these links is to a longer subnet that holds the address.
@@ -199,13 +198,13 @@ fn has_longer(links: &[Link], address: u32, link: Link) -> bool
 fn is_longer_subnet(address: u32, link: Link, other: Link) -> bool
     ensures { result ≡ is_longer_subnet address link other }
 {
-    is_subnet_at(address, other) && link.link_data < other.link_data
+    is_subnet_with(address, other) && link.link_data < other.link_data
 }
 
 // Whether a link is to a subnet that holds the address, and no host route. An interface index is
 // no address.
-fn is_subnet_at(address: u32, link: Link) -> bool
-    ensures { result ≡ is_subnet_at address link }
+fn is_subnet_with(address: u32, link: Link) -> bool
+    ensures { result ≡ is_subnet_with address link }
 {
     is_stub_link(link)
         && (link.link_data != HOST && (is_address(address) && is_held(link, address)))

@@ -3,7 +3,7 @@
 ghost use Rattle.std.specs.Prelude.{◌↔◌, ◌<◌, IfNone, IfSome, IsTrue, length};
 ghost use Rattle.ospf_graph.specs.EdgeLists.Listed.{advertisement_of, advertisements_of};
 ghost use Rattle.ospf_whatif.specs.Failure.{HasLarge, IsLarge};
-ghost use Rattle.ospf_edit.specs.Large.{IsFirstLarge};
+ghost use Rattle.ospf_edit.specs.Large.{IsFirstTooLarge};
 
 use ospf_base::{Kind, RouterId};
 use ospf_lsa::{Links, Listing, LsaView};
@@ -13,7 +13,7 @@ const MOST_LINKS: usize = 1361;
 
 // The first router of a listing whose router-LSA has too many links.
 pub(crate) fn first_large(listing: &Listing) -> Option<RouterId>
-    ensures some { IfSome result (IsFirstLarge listing.now) }
+    ensures some { IfSome result (IsFirstTooLarge listing.now) }
     ensures none { IfNone result (HasLarge (advertisements_of listing.now) → ⊥) }
 {
     for lsa in listing.lsas() {

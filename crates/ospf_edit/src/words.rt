@@ -8,7 +8,7 @@ ghost use Rattle.ospf_base.specs.declared.ids.RouterId as ids;
 ghost use Rattle.ospf_whatif.specs.declared.failure.AreaFailure as failure;
 ghost use Rattle.ospf_whatif.specs.declared.failure.AreaFailure.TheVariants as stops;
 ghost use Rattle.ospf_edit.specs.Change.{IsCost};
-ghost use Rattle.ospf_edit.specs.Words.{AreJobChanges, IsCostWord, IsCostWordAt, IsCostWordOf, IsDownWord, IsDrainWord, IsFaultOfWords, IsFirstAmong, IsFirstUnnamed, IsHintOf, IsMessage, IsNamedBy, IsUnnamedHere, Names, interface_front, mirrored, pair_front};
+ghost use Rattle.ospf_edit.specs.Words.{AreJobChanges, IsCostWord, IsCostWordAt, IsCostWordOf, IsDownWord, IsDrainWord, IsFaultOfEditWords, IsFirstUnknownAmong, IsFirstUnknown, IsHintOf, IsMessage, IsWordFor, IsUnknownHere, Names, interface_front, mirrored, pair_front};
 ghost use Rattle.ospf_edit.specs.declared.change.Change as change;
 ghost use Rattle.ospf_edit.specs.declared.change.Change.TheVariants as variant;
 
@@ -81,8 +81,8 @@ pub(crate) fn changes_of(
 ) -> Result<Vec<Change>, WordFault>
     ensures named { IfOk result (λ changes. AreJobChanges (advertisements_of listing.now) job.now
         changes.items) }
-    ensures fault { IfErr result (IsFaultOfWords
-        (IsFirstUnnamed (advertisements_of listing.now) job.now)) }
+    ensures fault { IfErr result (IsFaultOfEditWords
+        (IsFirstUnknown (advertisements_of listing.now) job.now)) }
 {
     let single = single_failures(alloc, listing)?;
     let mut changes = named_among(alloc, listing, &single, WordKind::Down, &job.down)?;
@@ -102,9 +102,9 @@ fn named_among(
     words: &[String],
 ) -> Result<Vec<Change>, WordFault>
     ensures named { IfOk result (λ changes. AllZip
-        (IsNamedBy (advertisements_of listing.now) single.now kind) words.now changes.items) }
-    ensures fault { IfErr result (IsFaultOfWords
-        (IsFirstAmong (advertisements_of listing.now) single.now kind words.now)) }
+        (IsWordFor (advertisements_of listing.now) single.now kind) words.now changes.items) }
+    ensures fault { IfErr result (IsFaultOfEditWords
+        (IsFirstUnknownAmong (advertisements_of listing.now) single.now kind words.now)) }
 {
     let mut changes = Vec::new(alloc);
     for word in words {
@@ -124,10 +124,10 @@ fn named_one(
     kind: WordKind,
     word: &String,
 ) -> Result<Change, WordFault>
-    ensures named { IfOk result (IsNamedBy (advertisements_of listing.now) single.now kind
+    ensures named { IfOk result (IsWordFor (advertisements_of listing.now) single.now kind
         word.now) }
-    ensures fault { IfErr result (IsFaultOfWords
-        (IsUnnamedHere (advertisements_of listing.now) single.now kind word.now)) }
+    ensures fault { IfErr result (IsFaultOfEditWords
+        (IsUnknownHere (advertisements_of listing.now) single.now kind word.now)) }
 {
     match find_change(alloc, listing, single, kind, word)? {
         Some(change) => Ok(change),
@@ -137,7 +137,7 @@ fn named_one(
 
 // The message for a word that names nothing.
 fn unnamed(alloc: Global, single: &[AreaFailure], kind: WordKind, word: &String) -> WordFault
-    ensures { IsFaultOfWords (IsMessage single.now kind word.now) result }
+    ensures { IsFaultOfEditWords (IsMessage single.now kind word.now) result }
 {
     match message(alloc, single, kind, word) {
         Ok(text) => WordFault::Word(text),

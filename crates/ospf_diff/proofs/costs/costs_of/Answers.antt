@@ -4,8 +4,8 @@ use Rattle.std.proofs.lemmas.List.{get_or_default, take_all}
 use Rattle.ospf_graph.specs.EdgeLists.Given.{IsEdgesOf}
 use Rattle.ospf_graph.specs.EdgeLists.Listed.{advertisements_of}
 use Rattle.ospf_graph.specs.declared.graph.Edge.{Edge}
-use Rattle.ospf_diff.specs.Costs.{AreCostsBy, interface_cmp}
-use Rattle.ospf_diff.proofs.CostLemmas.{costs_are, costs_more, no_costs}
+use Rattle.ospf_diff.specs.Costs.{interface_cmp}
+use Rattle.ospf_diff.proofs.CostLemmas.{AreCostsBy, costs_are, costs_more, no_costs}
 use Rattle.ospf_diff.proofs.costs.costs_of.Goals as goal
 
 pub loop-edge-init : goal.loop-edge-init

@@ -1,6 +1,7 @@
 use Rattle.std.proofs.Common.{take}
 use Rattle.std.specs.BTreeMap.{get}
-use Rattle.ospf_diff.specs.Costs.{AreCostsBy, interface_cmp}
+use Rattle.ospf_diff.specs.Costs.{interface_cmp}
+use Rattle.ospf_diff.proofs.CostLemmas.{AreCostsBy}
 use Rattle.ospf_diff.proofs.costs.costs_of.Given as goal
 
 -- what interfaces cost by the edges so far

@@ -2,7 +2,7 @@ use Rattle.std.proofs.Common.{◌≡◌, ◌∙◌, ap, inl, inr, subst, sym}
 use Rattle.ospf_graph.specs.declared.route.Route.{Route}
 use Rattle.ospf_spf.specs.Changes.{Reaches}
 use Rattle.ospf_spf.specs.declared.changes.Change.{Change}
-use Rattle.ospf_diff.specs.Difference.{IsDifferenceBy, IsOfTable, IsTurn}
+use Rattle.ospf_diff.specs.Difference.{IsDifferenceBy, IsOfTable, IsRouteTurn}
 use Rattle.ospf_diff.specs.declared.difference.RouteDifference.TheVariants.{Gained, Lost}
 use Rattle.ospf_diff.proofs.difference.difference_by.Goals as goal
 
@@ -20,9 +20,9 @@ pub returns-in_ok-copy-in-Some-route_to : goal.returns-in_ok-copy-in-Some-route_
 returns-in_ok-copy-in-Some-route_to c =
     let old = c.in-Some-route_to.old.now in
     let route : c.in_ok-after-in-Put.after ≡ c.in-Put.route = c.in_ok-after-in-Put.ensures in
-    let turn : IsTurn old c.in-Put.route c.turned.result =
-    subst (λ (r : Route). IsTurn r c.in-Put.route c.turned.result) c.in_ok-copy-in-Some-route_to.ensures
-    (subst (λ (r : Route). IsTurn c.in_ok-copy-in-Some-route_to.field-0 r c.turned.result) route c.turned.ensures) in
+    let turn : IsRouteTurn old c.in-Put.route c.turned.result =
+    subst (λ (r : Route). IsRouteTurn r c.in-Put.route c.turned.result) c.in_ok-copy-in-Some-route_to.ensures
+    (subst (λ (r : Route). IsRouteTurn c.in_ok-copy-in-Some-route_to.field-0 r c.turned.result) route c.turned.ensures) in
     let some = c.in-Some-route_to.ensures.some in
     subst (λ (x : Change). IsDifferenceBy c.args.before.now x c.turned.result) (sym c.in-Put.is)
     (inr (old, some.0, some.1 ∙ ap (λ (r : Route). r.prefix) route, turn))

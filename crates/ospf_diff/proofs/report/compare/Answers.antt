@@ -5,7 +5,7 @@ use Rattle.ospf_whatif.specs.declared.failure.AreaFailure.{AreaFailure}
 use Rattle.ospf_diff.specs.Costs.{cost_line}
 use Rattle.ospf_diff.specs.Elements.{AreElementsChanged}
 use Rattle.ospf_diff.specs.Sights.{AreRootsAmong, AreSeen}
-use Rattle.ospf_diff.specs.Sums.{sums_line}
+use Rattle.ospf_diff.specs.Sums.{difference_sums_line}
 use Rattle.ospf_diff.specs.declared.costs.CostChange.{CostChange}
 use Rattle.ospf_diff.proofs.ReportLemmas.{comparison_is}
 use Rattle.ospf_diff.proofs.report.compare.Goals as goal
@@ -29,8 +29,8 @@ returns c =
     let are : AreSeen A B routers seen = subst (λ (l : List RouterId). AreSeen A B l seen) c.deref-7.ensures.value c.in_ok-sights.ensures in
     let lines : c.deref-4.result.now ≡ flat_map cost_line costs = c.deref-4.ensures ∙ c.in_ok-changes_text.ensures ∙ ap (flat_map cost_line) c.deref-3.ensures.value in
     let first : string_bytes c.push_str.new.self ≡ elements ++ flat_map cost_line costs = c.in_ok-push_str.ensures.bytes ∙ ap (λ (l : List ℕ). elements ++ l) lines in
-    let last : c.deref-8.result.now ≡ string_bytes seen.lines ++ sums_line seen.sums = c.deref-8.ensures ∙ c.in_ok-text-2.ensures in
-    let text : string_bytes c.push_str-2.new.self ≡ (elements ++ flat_map cost_line costs) ++ (string_bytes seen.lines ++ sums_line seen.sums) =
+    let last : c.deref-8.result.now ≡ string_bytes seen.lines ++ difference_sums_line seen.sums = c.deref-8.ensures ∙ c.in_ok-text-2.ensures in
+    let text : string_bytes c.push_str-2.new.self ≡ (elements ++ flat_map cost_line costs) ++ (string_bytes seen.lines ++ difference_sums_line seen.sums) =
     c.in_ok-push_str-2.ensures.bytes ∙ (λ i. first i ++ last i) in
     comparison_is A B c.args.root old new elements (string_bytes c.push_str-2.new.self) costs routers seen c.status-status.result c.in_ok-old.ensures.all c.in_ok-new.ensures.all
     changed c.in_ok-costs.ensures among are text c.status-status.ensures

@@ -4,7 +4,7 @@ use Rattle.std.proofs.lemmas.Result.{IfOk-weaker}
 use Rattle.ospf_graph.specs.EdgeLists.Listed.{advertisements_of}
 use Rattle.ospf_edit.specs.Answer.{too_large, unnamed}
 use Rattle.ospf_edit.specs.Change.{HasRightCost}
-use Rattle.ospf_edit.specs.Words.{IsFaultOfWords, IsFirstUnnamed}
+use Rattle.ospf_edit.specs.Words.{IsFaultOfEditWords, IsFirstUnknown}
 use Rattle.ospf_edit.proofs.AnswerLemmas.{job_right}
 use Rattle.ospf_edit.proofs.KindLemmas.{unnamed_is_word}
 use Rattle.ospf_edit.proofs.answer.report_of.Goals as goal
@@ -22,6 +22,6 @@ pub returns-in-Err-Word : goal.returns-in-Err-Word
 returns-in-Err-Word c =
     let A = advertisements_of c.args.read.listing in
     let text = string_bytes c.in-Err-Word.line in
-    let first = subst (IsFaultOfWords (IsFirstUnnamed A c.args.job.now)) c.in-Err-Word.field-0-is c.in-Err-Word.ensures.fault in
+    let first = subst (IsFaultOfEditWords (IsFirstUnknown A c.args.job.now)) c.in-Err-Word.field-0-is c.in-Err-Word.ensures.fault in
     let small = c.in_default.ensures.none in
     unnamed text (small (unnamed_is_word A c.args.job.now text first)) first c.refusal.ensures

@@ -7,7 +7,7 @@ use Rattle.ospf_edit.proofs.ChangedLemmas.{bytes_next, changed_next, large_next,
 use Rattle.ospf_edit.proofs.applied.apply.Goals as goal
 
 pub loop-change-init : goal.loop-change-init
-loop-change-init c = record { changed = refl; bytes = refl; small = λ none. none }
+loop-change-init c = record { changed_area = refl; bytes = refl; small = λ none. none }
 
 pub loop-change-preserved : goal.loop-change-preserved
 loop-change-preserved c =
@@ -17,23 +17,23 @@ loop-change-preserved c =
     let A = advertisements_of c.args.listing in
     let left = c.loop-change.left in
     record {
-      changed =
-          changed_next cs i x c.loop-change-test.true c.change-item.is A (advertisements_of left) c.loop-change.invariant.changed (advertisements_of c.in_ok-left.left)
-          c.in_ok-left.ensures.changed;
+      changed_area =
+          changed_next cs i x c.loop-change-test.true c.change-item.is A (advertisements_of left) c.loop-change.invariant.changed_area (advertisements_of c.in_ok-left.left)
+          c.in_ok-left.ensures.changed_area;
       bytes = bytes_next cs i x c.loop-change-test.true c.change-item.is c.args.listing left c.in_ok-left.left c.loop-change.invariant.bytes c.in_ok-left.ensures.bytes;
-      small = small_next cs i x c.loop-change-test.true c.change-item.is A (advertisements_of left) c.loop-change.invariant.changed c.loop-change.invariant.small c.in_ok-left.ensures.small;
+      small = small_next cs i x c.loop-change-test.true c.change-item.is A (advertisements_of left) c.loop-change.invariant.changed_area c.loop-change.invariant.small c.in_ok-left.ensures.small;
     }
 
 pub returns-in_err-left-clause-large : goal.returns-in_err-left-clause-large
 returns-in_err-left-clause-large c = λ is.
     large_next c.args.changes.now c.loop-change.change-index c.change-item.result c.loop-change-test.true c.change-item.is (advertisements_of c.args.listing)
-    (advertisements_of c.loop-change.left) c.loop-change.invariant.changed (c.in_err-left.ensures.large (search rules))
+    (advertisements_of c.loop-change.left) c.loop-change.invariant.changed_area (c.in_err-left.ensures.large (search rules))
 
-pub returns-clause-changed : goal.returns-clause-changed
-returns-clause-changed c =
+pub returns-clause-changed_area : goal.returns-clause-changed_area
+returns-clause-changed_area c =
     let end : length c.args.changes.now ≤ c.loop-change.change-index = omega (arith, c.loop-change-test.false) in
     subst (λ (cs : List Change). advertisements_of c.loop-change.left ≡ changed_by cs (advertisements_of c.args.listing)) (take_all c.loop-change.change-index c.args.changes.now end)
-    c.loop-change.invariant.changed
+    c.loop-change.invariant.changed_area
 
 pub returns-clause-bytes : goal.returns-clause-bytes
 returns-clause-bytes c =

@@ -6,7 +6,7 @@ use Rattle.ospf_edit.proofs.applied.apply.Given as goal
 -- what the changes so far have made
 abbrev pub invariant-loop-change : goal.invariant-loop-change
 invariant-loop-change l = record {
-  changed : advertisements_of l.left ≡ changed_by (take l.change-index l.changes) (advertisements_of l.fn.listing);
+  changed_area : advertisements_of l.left ≡ changed_by (take l.change-index l.changes) (advertisements_of l.fn.listing);
   bytes : AreChangedBy (take l.change-index l.changes) l.fn.listing l.left;
   small : HasChangedLargeBy (take l.change-index l.changes) (advertisements_of l.fn.listing) → ⊥;
 }

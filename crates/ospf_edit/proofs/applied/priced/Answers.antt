@@ -55,9 +55,9 @@ loop-lsa-preserved c =
       keys = ap (map key_of) c.in_ok-append.ensures.ok ∙ keys;
     }
 
-pub returns-clause-changed : goal.returns-clause-changed
+pub returns-clause-changed_area : goal.returns-clause-changed_area
 unfolding advertisements_of
-returns-clause-changed c =
+returns-clause-changed_area c =
     let items = c.lsas-lsa-items.result.now in
     let end : length items ≤ c.loop-lsa.lsa-index = omega (arith, c.loop-lsa-test.false) in
     let all : take c.loop-lsa.lsa-index items ≡ c.args.listing.now = take_all c.loop-lsa.lsa-index items end ∙ c.lsas-lsa-items.ensures.lsas in

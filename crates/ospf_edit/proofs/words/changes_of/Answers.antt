@@ -1,6 +1,6 @@
 use Rattle.std.proofs.Common.{◌≡◌, ◌∙◌, ◌++◌, List, subst, sym, vec_items}
 use Rattle.ospf_graph.specs.EdgeLists.Listed.{advertisements_of}
-use Rattle.ospf_edit.specs.Words.{IsFaultOfWords, IsFirstAmong, IsFirstUnnamed, in_drains}
+use Rattle.ospf_edit.specs.Words.{IsFaultOfEditWords, IsFirstUnknownAmong, IsFirstUnknown, in_drains}
 use Rattle.ospf_edit.specs.declared.words.WordKind.TheVariants.{Down, Cost, Drain}
 use Rattle.ospf_edit.proofs.KindLemmas.{err_kept, first_same, named_same}
 use Rattle.ospf_edit.proofs.WordLemmas.{fault_weaker}
@@ -13,11 +13,15 @@ returns-in_err-drains-clause-fault c =
     let job = c.args.job.now in
     let downs = named_same A c.deref.result.now single Down c.deref-2.result.now (vec_items job.down) c.in_ok-changes.changes.items c.deref.ensures.value c.deref-2.ensures.value c.in_ok-changes.ensures.named in
     let costs = named_same A c.deref-3.result.now single Cost c.deref-4.result.now (vec_items job.costs) c.in_ok-costs.costs.items c.deref-3.ensures.value c.deref-4.ensures.value c.in_ok-costs.ensures.named in
-    let Q = IsFaultOfWords (IsFirstUnnamed A job) in
+    let Q = IsFaultOfEditWords (IsFirstUnknown A job) in
     err_kept c.from_residual-in_err-drains.result (λ f. f ≡ c.in_err-drains.field-0.0) Q c.from_residual-in_err-drains.ensures.1 (λ f is. subst Q (sym is)
-    (fault_weaker (IsFirstAmong A c.deref-5.result.now Drain c.deref-6.result.now) (IsFirstUnnamed A job) c.in_err-drains.field-0.0
-    (λ text first. (single, c.in_ok-single.ensures.all, in_drains (c.in_ok-changes.changes.items, downs) (c.in_ok-costs.costs.items, costs)
-    (first_same A c.deref-5.result.now single Drain c.deref-6.result.now (vec_items job.drains) text c.deref-5.ensures.value c.deref-6.ensures.value first)))
+    (fault_weaker (IsFirstUnknownAmong A c.deref-5.result.now Drain c.deref-6.result.now) (IsFirstUnknown A job) c.in_err-drains.field-0.0
+    (λ text first. (
+      single,
+      c.in_ok-single.ensures.all,
+      in_drains (c.in_ok-changes.changes.items, downs) (c.in_ok-costs.costs.items, costs)
+          (first_same A c.deref-5.result.now single Drain c.deref-6.result.now (vec_items job.drains) text c.deref-5.ensures.value c.deref-6.ensures.value first),
+    ))
     c.in_err-drains.ensures.fault))
 
 pub returns-clause-named : goal.returns-clause-named

@@ -4,7 +4,7 @@ use Rattle.ospf_graph.specs.EdgeLists.Listed.{advertisements_of}
 use Rattle.ospf_whatif.specs.Failure.{IsLeftBy, IsLeftLsa}
 use Rattle.ospf_edit.specs.Change.{AreChanged, priced_links}
 use Rattle.ospf_edit.specs.declared.change.Change.{Change}
-use Rattle.ospf_edit.proofs.applied.changed.Goals as goal
+use Rattle.ospf_edit.proofs.applied.changed_area.Goals as goal
 
 pub returns-in-Down-clause-bytes : goal.returns-in-Down-clause-bytes
 returns-in-Down-clause-bytes c = subst (λ (d : Change). IfOk c.without.result (AreChanged d c.args.listing.now)) (sym c.in-Down.is) c.without.ensures.bytes

@@ -1,0 +1,7 @@
+use Rattle.std.proofs.Common.{◌≡◌, string_bytes, take}
+use Rattle.ospf_edit.specs.Answer.{hex_lines}
+use Rattle.ospf_edit.proofs.answer.hex_lines.Given as goal
+
+-- the lines of the LSAs so far
+abbrev pub invariant-loop-lsa : goal.invariant-loop-lsa
+invariant-loop-lsa l = string_bytes l.text ≡ hex_lines (take l.lsa-index l.lsa-items)
