@@ -5,6 +5,7 @@ mod age;
 mod bytes;
 mod constants;
 pub mod event;
+mod host;
 mod ids;
 mod interface;
 mod laws;
@@ -22,6 +23,7 @@ pub use crate::constants::{
     NETWORK_LSA, NO_FLOOR, OPTIONS, PACKET_HEADER, RESERVED_SEQUENCE_NUMBER, ROUTER_LSA,
     SUMMARY_LSA,
 };
+pub use crate::host::Host;
 pub use crate::ids::{Addr, AreaId, Instance, Kind, LsaKey, RouterId};
 pub use crate::interface::InterfaceKind;
 pub use crate::laws::{same_instances_are_equal, same_keys_are_equal};
