@@ -46,7 +46,7 @@ no_read_no_decimal {E} bs n r e is parsed small some spelled =
     not_read (rw spelled (numeral.0.1, numeral.0.0, (let v : digits_value 10 (decimal n) ≡ n = numeral.1 in omega arith)))
 
 -- a decimal number above zero begins with a digit that is no zero
-pub decimal_begins : (bs : List ℕ) (n : ℕ) → 1 ≤ n → n ≤ 30 → bs ≡ decimal n → (48 < get_or bs 0 0) × (get_or bs 0 0 ≤ 57) × (0 < length bs)
+pub decimal_begins : (bs : List ℕ) (n : ℕ) → 1 ≤ n → n ≤ 31 → bs ≡ decimal n → (48 < get_or bs 0 0) × (get_or bs 0 0 ≤ 57) × (0 < length bs)
 decimal_begins bs n low high spelled =
     let numeral = decimal_is_IsNumeral n (omega arith) in
     let first : 48 < get_or (decimal n) 0 0 = first_decimal n (omega arith) (omega arith) in

@@ -1,5 +1,5 @@
 -- Which faults come first: those of keys, then those of several keys.
-use Rattle.std.proofs.Common.{◌≡◌, ◌⊎◌, ℕ, zero, suc, ℤ, pos, negsuc, ◌≤◌, false, [], codes, Option, Some, None, Result, Ok, Err, inl, inr, arith}
+use Rattle.std.proofs.Common.{◌≡◌, ◌⊎◌, ℕ, zero, suc, ℤ, pos, negsuc, ◌≤◌, Bool, false, [], codes, Option, Some, None, Result, Ok, Err, inl, inr, arith}
 use Rattle.std.specs.Prelude.{Any}
 use Rattle.toml.specs.Data.{Data, Members, get_member, as_str, as_bool, as_integer}
 use Rattle.ospf_config.specs.declared.fault.ConfigFault.{ConfigFault}
@@ -7,9 +7,9 @@ use Rattle.ospf_config.specs.declared.fault.ConfigFault.TheVariants as fault
 use Rattle.ospf_config.specs.Fault.{config_fault_number, IsLeastFault}
 use Rattle.ospf_config.proofs.Least.{least_number, least_of}
 use Rattle.ospf_config.specs.Reading.{ReadsValue, Required, Optional, IsNumberIn, as_integers}
-use Rattle.ospf_config.specs.Texts.{IsRouterIdText, IsAreaText, IsOtherLsasText, IsKindText, IsAddressText}
-use Rattle.ospf_config.specs.Keys.{ReadsCostValue, ReadsCostAt, IsPortNumber, ArePortNumbers}
-use Rattle.ospf_config.specs.Tables.{HasTopFault, in_router_id, in_area, in_stub_router, in_other_lsas, in_interface, HasInterfaceFault, in_kind, in_address, in_cost, in_priority, in_hello, in_dead, in_retransmit, in_transmit_delay, in_mtu, in_port, in_peers, HaveSamePrefix, IsDeadNotOverHello, HasOtherKey, HasKeyFault, HasConfigFault, AreInterfaceTables, as_tables, interface_tables, top_keys, interface_keys}
+use Rattle.ospf_config.specs.Texts.{IsRouterIdText, IsAreaText, IsOtherLsasText, IsKindText, IsAddressText, IsHostText}
+use Rattle.ospf_config.specs.Keys.{MayHave31Bits, asks_rfc3021, ReadsCostValue, ReadsCostAt, IsPortNumber, ArePortNumbers}
+use Rattle.ospf_config.specs.Tables.{HasTopFault, in_router_id, in_area, in_stub_router, in_other_lsas, in_rfc3021, in_interface, in_host, HasInterfaceFault, in_kind, in_address, in_cost, in_priority, in_hello, in_dead, in_retransmit, in_transmit_delay, in_mtu, in_port, in_peers, HasHostFault, in_host_address, in_host_cost, HasSameAddress, IsDeadNotOverHello, HasOtherKey, HasOtherBelow, HasKeyFault, HasConfigFault, AreInterfaceTables, AreHostTables, as_tables, interface_tables, top_keys}
 
 abbrev error : (T : Type 0) → ConfigFault → Result T ConfigFault
 error T f = Err f
@@ -54,20 +54,26 @@ top_low t f (in_router_id h) = required_low IsRouterIdText as_str (get_member (c
 top_low t f (in_area h) = required_low IsAreaText as_str (get_member (codes "area") t) f h
 top_low t f (in_stub_router h) = optional_low (λ b c. b ≡ c) as_bool false (get_member (codes "stub_router") t) f h
 top_low t f (in_other_lsas h) = optional_low IsOtherLsasText as_str false (get_member (codes "other_lsas") t) f h
+top_low t f (in_rfc3021 h) = optional_low (λ b c. b ≡ c) as_bool false (get_member (codes "rfc3021") t) f h
 top_low t f (in_interface h) = required_low AreInterfaceTables as_tables (get_member (codes "interface") t) f h
+top_low t f (in_host h) = optional_low AreHostTables as_tables [] (get_member (codes "host") t) f h
 
-interface_low : (t : Members) (f : ConfigFault) → HasInterfaceFault t f → config_fault_number f ≤ 5
-interface_low t f (in_kind h) = required_low IsKindText as_str (get_member (codes "kind") t) f h
-interface_low t f (in_address h) = required_low IsAddressText as_str (get_member (codes "address") t) f h
-interface_low t f (in_cost h) = cost_low (get_member (codes "cost") t) f h
-interface_low t f (in_priority h) = optional_low (IsNumberIn 0 255) as_integer 1 (get_member (codes "priority") t) f h
-interface_low t f (in_hello h) = optional_low (IsNumberIn 1 65535) as_integer 10 (get_member (codes "hello") t) f h
-interface_low t f (in_dead h) = optional_low (IsNumberIn 1 65535) as_integer 40 (get_member (codes "dead") t) f h
-interface_low t f (in_retransmit h) = optional_low (IsNumberIn 1 65535) as_integer 5 (get_member (codes "retransmit") t) f h
-interface_low t f (in_transmit_delay h) = optional_low (IsNumberIn 1 3600) as_integer 1 (get_member (codes "transmit_delay") t) f h
-interface_low t f (in_mtu h) = optional_low (IsNumberIn 576 9000) as_integer 1500 (get_member (codes "mtu") t) f h
-interface_low t f (in_port h) = optional_low IsPortNumber as_integer None (get_member (codes "port") t) f h
-interface_low t f (in_peers h) = optional_low ArePortNumbers as_integers [] (get_member (codes "peers") t) f h
+interface_low : (r : Bool) (t : Members) (f : ConfigFault) → HasInterfaceFault r t f → config_fault_number f ≤ 5
+interface_low r t f (in_kind h) = required_low IsKindText as_str (get_member (codes "kind") t) f h
+interface_low r t f (in_address h) = required_low (IsAddressText (MayHave31Bits r t)) as_str (get_member (codes "address") t) f h
+interface_low r t f (in_cost h) = cost_low (get_member (codes "cost") t) f h
+interface_low r t f (in_priority h) = optional_low (IsNumberIn 0 255) as_integer 1 (get_member (codes "priority") t) f h
+interface_low r t f (in_hello h) = optional_low (IsNumberIn 1 65535) as_integer 10 (get_member (codes "hello") t) f h
+interface_low r t f (in_dead h) = optional_low (IsNumberIn 1 65535) as_integer 40 (get_member (codes "dead") t) f h
+interface_low r t f (in_retransmit h) = optional_low (IsNumberIn 1 65535) as_integer 5 (get_member (codes "retransmit") t) f h
+interface_low r t f (in_transmit_delay h) = optional_low (IsNumberIn 1 3600) as_integer 1 (get_member (codes "transmit_delay") t) f h
+interface_low r t f (in_mtu h) = optional_low (IsNumberIn 576 9000) as_integer 1500 (get_member (codes "mtu") t) f h
+interface_low r t f (in_port h) = optional_low IsPortNumber as_integer None (get_member (codes "port") t) f h
+interface_low r t f (in_peers h) = optional_low ArePortNumbers as_integers [] (get_member (codes "peers") t) f h
+
+host_low : (t : Members) (f : ConfigFault) → HasHostFault t f → config_fault_number f ≤ 5
+host_low t f (in_host_address h) = required_low IsHostText as_str (get_member (codes "address") t) f h
+host_low t f (in_host_cost h) = required_low (IsNumberIn 0 65535) as_integer (get_member (codes "cost") t) f h
 
 module _ {D T : Type 0} (Means : D → T → Type 0) where
   value_high : (v : Option D) (f : ConfigFault) → ReadsValue Means v (Err f) → 2 ≤ config_fault_number f
@@ -97,20 +103,26 @@ top_high t f (in_router_id h) = required_high IsRouterIdText as_str (get_member 
 top_high t f (in_area h) = required_high IsAreaText as_str (get_member (codes "area") t) f h
 top_high t f (in_stub_router h) = optional_high (λ b c. b ≡ c) as_bool false (get_member (codes "stub_router") t) f h
 top_high t f (in_other_lsas h) = optional_high IsOtherLsasText as_str false (get_member (codes "other_lsas") t) f h
+top_high t f (in_rfc3021 h) = optional_high (λ b c. b ≡ c) as_bool false (get_member (codes "rfc3021") t) f h
 top_high t f (in_interface h) = required_high AreInterfaceTables as_tables (get_member (codes "interface") t) f h
+top_high t f (in_host h) = optional_high AreHostTables as_tables [] (get_member (codes "host") t) f h
 
-interface_high : (t : Members) (f : ConfigFault) → HasInterfaceFault t f → 2 ≤ config_fault_number f
-interface_high t f (in_kind h) = required_high IsKindText as_str (get_member (codes "kind") t) f h
-interface_high t f (in_address h) = required_high IsAddressText as_str (get_member (codes "address") t) f h
-interface_high t f (in_cost h) = cost_high (get_member (codes "cost") t) f h
-interface_high t f (in_priority h) = optional_high (IsNumberIn 0 255) as_integer 1 (get_member (codes "priority") t) f h
-interface_high t f (in_hello h) = optional_high (IsNumberIn 1 65535) as_integer 10 (get_member (codes "hello") t) f h
-interface_high t f (in_dead h) = optional_high (IsNumberIn 1 65535) as_integer 40 (get_member (codes "dead") t) f h
-interface_high t f (in_retransmit h) = optional_high (IsNumberIn 1 65535) as_integer 5 (get_member (codes "retransmit") t) f h
-interface_high t f (in_transmit_delay h) = optional_high (IsNumberIn 1 3600) as_integer 1 (get_member (codes "transmit_delay") t) f h
-interface_high t f (in_mtu h) = optional_high (IsNumberIn 576 9000) as_integer 1500 (get_member (codes "mtu") t) f h
-interface_high t f (in_port h) = optional_high IsPortNumber as_integer None (get_member (codes "port") t) f h
-interface_high t f (in_peers h) = optional_high ArePortNumbers as_integers [] (get_member (codes "peers") t) f h
+interface_high : (r : Bool) (t : Members) (f : ConfigFault) → HasInterfaceFault r t f → 2 ≤ config_fault_number f
+interface_high r t f (in_kind h) = required_high IsKindText as_str (get_member (codes "kind") t) f h
+interface_high r t f (in_address h) = required_high (IsAddressText (MayHave31Bits r t)) as_str (get_member (codes "address") t) f h
+interface_high r t f (in_cost h) = cost_high (get_member (codes "cost") t) f h
+interface_high r t f (in_priority h) = optional_high (IsNumberIn 0 255) as_integer 1 (get_member (codes "priority") t) f h
+interface_high r t f (in_hello h) = optional_high (IsNumberIn 1 65535) as_integer 10 (get_member (codes "hello") t) f h
+interface_high r t f (in_dead h) = optional_high (IsNumberIn 1 65535) as_integer 40 (get_member (codes "dead") t) f h
+interface_high r t f (in_retransmit h) = optional_high (IsNumberIn 1 65535) as_integer 5 (get_member (codes "retransmit") t) f h
+interface_high r t f (in_transmit_delay h) = optional_high (IsNumberIn 1 3600) as_integer 1 (get_member (codes "transmit_delay") t) f h
+interface_high r t f (in_mtu h) = optional_high (IsNumberIn 576 9000) as_integer 1500 (get_member (codes "mtu") t) f h
+interface_high r t f (in_port h) = optional_high IsPortNumber as_integer None (get_member (codes "port") t) f h
+interface_high r t f (in_peers h) = optional_high ArePortNumbers as_integers [] (get_member (codes "peers") t) f h
+
+host_high : (t : Members) (f : ConfigFault) → HasHostFault t f → 2 ≤ config_fault_number f
+host_high t f (in_host_address h) = required_high IsHostText as_str (get_member (codes "address") t) f h
+host_high t f (in_host_cost h) = required_high (IsNumberIn 0 65535) as_integer (get_member (codes "cost") t) f h
 
 small : (g : ConfigFault) → 10 ≤ config_fault_number g → ⊥
 small fault.NotToml h = omega arith
@@ -126,11 +138,13 @@ small fault.Memory h = omega arith
 -- a fault of one key has a number up to that of ZeroCost
 key_low : (t : Members) (f : ConfigFault) → HasKeyFault t f → config_fault_number f ≤ 5
 key_low t f (inl h) = top_low t f h
-key_low t f (inr (k, i, lt, at, h)) = interface_low i f h
+key_low t f (inr (inl (k, i, lt, at, h))) = interface_low (asks_rfc3021 t) i f h
+key_low t f (inr (inr (k, i, lt, at, h))) = host_low i f h
 
 key_high : (t : Members) (f : ConfigFault) → HasKeyFault t f → 2 ≤ config_fault_number f
 key_high t f (inl h) = top_high t f h
-key_high t f (inr (k, i, lt, at, h)) = interface_high i f h
+key_high t f (inr (inl (k, i, lt, at, h))) = interface_high (asks_rfc3021 t) i f h
+key_high t f (inr (inr (k, i, lt, at, h))) = host_high i f h
 
 pub key_has : (t : Members) (f : ConfigFault) → HasKeyFault t f → HasConfigFault t f
 key_has t fault.NotToml h = h
@@ -143,9 +157,9 @@ key_has t fault.DeadNotOverHello h = absurd (let few = key_low t fault.DeadNotOv
 key_has t fault.Unknown h = absurd (let few = key_low t fault.Unknown h in omega arith)
 key_has t fault.Memory h = h
 
-module _ (t : Members) (n : ℕ) (keys : (g : ConfigFault) → HasKeyFault t g → n ≤ config_fault_number g) (prefix : HaveSamePrefix (interface_tables t) → n ≤ 6)
+module _ (t : Members) (n : ℕ) (keys : (g : ConfigFault) → HasKeyFault t g → n ≤ config_fault_number g) (prefix : HasSameAddress t → n ≤ 6)
     (dead : Any IsDeadNotOverHello (interface_tables t) → n ≤ 7)
-    (unknown : HasOtherKey top_keys t ⊎ Any (HasOtherKey interface_keys) (interface_tables t) → n ≤ 8) where
+    (unknown : HasOtherKey top_keys t ⊎ HasOtherBelow t → n ≤ 8) where
   at_least : (g : ConfigFault) → HasConfigFault t g → n ≤ config_fault_number g
   at_least fault.NotToml h = keys fault.NotToml h
   at_least fault.Missing h = keys fault.Missing h
@@ -163,18 +177,18 @@ least_key t f h =
     least_of _ f (key_has t f h.broken) (at_least t (config_fault_number f) (least_number _ f h) (λ _. omega arith) (λ _. omega arith) (λ _. omega arith))
 
 module _ (t : Members) (keys : (g : ConfigFault) → HasKeyFault t g → ⊥) where
-  pub least_prefix : HaveSamePrefix (interface_tables t) → IsLeastFault (HasConfigFault t) fault.SamePrefix
+  pub least_prefix : HasSameAddress t → IsLeastFault (HasConfigFault t) fault.SamePrefix
   least_prefix h = least_of _ _ h (at_least t 6 (λ g k. absurd (keys g k)) (λ _. omega arith) (λ _. omega arith) (λ _. omega arith))
 
-  pub least_dead : (HaveSamePrefix (interface_tables t) → ⊥) → Any IsDeadNotOverHello (interface_tables t) → IsLeastFault (HasConfigFault t) fault.DeadNotOverHello
+  pub least_dead : (HasSameAddress t → ⊥) → Any IsDeadNotOverHello (interface_tables t) → IsLeastFault (HasConfigFault t) fault.DeadNotOverHello
   least_dead prefix h = least_of _ _ h (at_least t 7 (λ g k. absurd (keys g k)) (λ p. absurd (prefix p)) (λ _. omega arith) (λ _. omega arith))
 
-  pub least_unknown : (HaveSamePrefix (interface_tables t) → ⊥) → (Any IsDeadNotOverHello (interface_tables t) → ⊥)
-      → HasOtherKey top_keys t ⊎ Any (HasOtherKey interface_keys) (interface_tables t) → IsLeastFault (HasConfigFault t) fault.Unknown
+  pub least_unknown : (HasSameAddress t → ⊥) → (Any IsDeadNotOverHello (interface_tables t) → ⊥)
+      → HasOtherKey top_keys t ⊎ HasOtherBelow t → IsLeastFault (HasConfigFault t) fault.Unknown
   least_unknown prefix dead h = least_of _ _ h (at_least t 8 (λ g k. absurd (keys g k)) (λ p. absurd (prefix p)) (λ d. absurd (dead d)) (λ _. omega arith))
 
-  pub no_fault_at_all : (HaveSamePrefix (interface_tables t) → ⊥) → (Any IsDeadNotOverHello (interface_tables t) → ⊥)
-      → (HasOtherKey top_keys t ⊎ Any (HasOtherKey interface_keys) (interface_tables t) → ⊥) → (g : ConfigFault) → HasConfigFault t g → ⊥
+  pub no_fault_at_all : (HasSameAddress t → ⊥) → (Any IsDeadNotOverHello (interface_tables t) → ⊥)
+      → (HasOtherKey top_keys t ⊎ HasOtherBelow t → ⊥) → (g : ConfigFault) → HasConfigFault t g → ⊥
   no_fault_at_all prefix dead unknown g h =
       let ten : 10 ≤ config_fault_number g = at_least t 10 (λ f k. absurd (keys f k)) (λ p. absurd (prefix p)) (λ d. absurd (dead d)) (λ u. absurd (unknown u)) g h in
       small g ten

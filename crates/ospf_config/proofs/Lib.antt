@@ -5,6 +5,7 @@ pub mod Singles
 pub mod TableLists
 mod KeyLists
 pub mod ConflictLists
+pub mod HostLists
 mod IntegerLemmas
 mod FaultLemmas
 mod TextFaults

@@ -151,7 +151,7 @@ pub all_tables : (vs : List Value) → list_all (λ v. is_some (as_table (view v
 all_tables [] = refl
 all_tables (v ∷ vs) = ap (λ b. is_some (as_table (view v)) && b) (all_tables vs) ∙ are_tables_item (view v) (items_view vs)
 
-as_tables-array : (d : Data) (ds : Items) → Some ds ≡ as_array d → as_tables d ≡ (if are_tables ds then Some (tables_among ds) else None)
+pub as_tables-array : (d : Data) (ds : Items) → Some ds ≡ as_array d → as_tables d ≡ (if are_tables ds then Some (tables_among ds) else None)
 as_tables-array (array xs) ds e = rw (same_Some ds xs e) refl
 as_tables-array (integer y) ds e = absurd (none_is_some ds (sym e))
 as_tables-array (string s) ds e = absurd (none_is_some ds (sym e))

@@ -6,17 +6,18 @@ use Rattle.toml.specs.Parse.{parse_document}
 use Rattle.ospf_config.specs.declared.config.Config.{Config}
 use Rattle.ospf_config.specs.declared.fault.ConfigFault.{ConfigFault}
 use Rattle.ospf_config.specs.declared.fault.ConfigFault.TheVariants as fault
-use Rattle.ospf_config.specs.Keys.{ReadsOwnRouterId, ReadsArea, ReadsStubRouter, ReadsOtherLsas}
-use Rattle.ospf_config.specs.Interfaces.{IsInterfaceOf}
-use Rattle.ospf_config.specs.Tables.{HasConfigFault, interface_tables}
+use Rattle.ospf_config.specs.Keys.{ReadsOwnRouterId, ReadsArea, ReadsStubRouter, ReadsOtherLsas, asks_rfc3021}
+use Rattle.ospf_config.specs.Interfaces.{IsInterfaceOf, IsHostOf}
+use Rattle.ospf_config.specs.Tables.{HasConfigFault, interface_tables, host_tables}
 
--- the configuration is the reading of the table, its interfaces in order
+-- the configuration is the reading of the table, its interfaces and its hosts in order
 pub record IsConfigOf (t : Members) (c : Config) : Type 0 where
   pub router_id : ReadsOwnRouterId t (Ok c.router_id)
   pub area : ReadsArea t (Ok c.area)
   pub stub_router : ReadsStubRouter t (Ok c.stub_router)
   pub passes_over : ReadsOtherLsas t (Ok c.passes_over)
-  pub interfaces : AllZip IsInterfaceOf (interface_tables t) c.interfaces.items
+  pub interfaces : AllZip (IsInterfaceOf (asks_rfc3021 t)) (interface_tables t) c.interfaces.items
+  pub hosts : AllZip IsHostOf (host_tables t) c.hosts.items
 
 -- the text has the fault: it is no TOML, or its table has the fault
 abbrev pub TextHasFault : List ℕ → ConfigFault → Type 0

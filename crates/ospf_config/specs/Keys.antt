@@ -1,16 +1,18 @@
 -- The keys: name, type, meaning, and default where there is one.
-use Rattle.std.specs.Prelude.{◌≡◌, ℕ, zero, ℤ, pos, ◌≤◌, Bool, false, List, [], map, length, codes, Option, Some, None, Result, Err}
+use Rattle.std.specs.Prelude.{◌≡◌, ℕ, zero, ℤ, pos, ◌≤◌, Bool, false, IsTrue, option_and_then, unwrap_or, List, [], map, length, codes, Option, Some, None, Result, Ok, Err}
 use Rattle.ospf_base.specs.Constants.{max_age}
 use Rattle.toml.specs.Data.{Data, Members, get_member, as_str, as_integer, as_bool}
+use Rattle.ospf_base.specs.declared.ids.Addr.{Addr}
 use Rattle.ospf_base.specs.declared.ids.RouterId.{RouterId}
 use Rattle.ospf_base.specs.declared.ids.AreaId.{AreaId}
 use Rattle.ospf_config.specs.declared.address.InterfaceAddress.{InterfaceAddress}
 use Rattle.ospf_base.specs.declared.interface.InterfaceKind.{InterfaceKind}
+use Rattle.ospf_base.specs.declared.interface.InterfaceKind.TheVariants.{PointToPoint}
 use Rattle.ospf_config.specs.declared.interface.Port.{Port}
 use Rattle.ospf_config.specs.declared.fault.ConfigFault.{ConfigFault}
 use Rattle.ospf_config.specs.declared.fault.ConfigFault.TheVariants as fault
 use Rattle.ospf_config.specs.Reading.{ReadsValue, Required, Optional, IsNumberIn, as_integers}
-use Rattle.ospf_config.specs.Texts.{IsRouterIdText, IsAreaText, IsOtherLsasText, IsKindText, IsAddressText}
+use Rattle.ospf_config.specs.Texts.{IsRouterIdText, IsAreaText, IsOtherLsasText, IsKindText, IsAddressText, IsHostText}
 
 -- ---- at the top
 
@@ -31,15 +33,30 @@ ReadsStubRouter t r = Optional as_bool (λ b c. b ≡ c) false (get_member (code
 abbrev pub ReadsOtherLsas : Members → Result Bool ConfigFault → Type 0
 ReadsOtherLsas t r = Optional as_str IsOtherLsasText false (get_member (codes "other_lsas") t) r
 
+-- the key `rfc3021`, `false` where it is not there: whether point-to-point interfaces may have
+-- prefixes of 31 bits (RFC 3021)
+abbrev pub ReadsRfc3021 : Members → Result Bool ConfigFault → Type 0
+ReadsRfc3021 t r = Optional as_bool (λ b c. b ≡ c) false (get_member (codes "rfc3021") t) r
+
+-- prefixes of 31 bits are asked for: the key `rfc3021` is true
+abbrev pub asks_rfc3021 : Members → Bool
+asks_rfc3021 t = unwrap_or (option_and_then as_bool (get_member (codes "rfc3021") t)) false
+
 -- ---- of an interface (RFC 2328, appendix C.3)
 
 -- the key `kind`, which must be there: point-to-point or broadcast (C.3)
 abbrev pub ReadsKind : Members → Result InterfaceKind ConfigFault → Type 0
 ReadsKind t r = Required as_str IsKindText (get_member (codes "kind") t) r
 
+-- the interface may have a prefix of 31 bits: that is asked for, and it is a point-to-point
+-- interface (RFC 3021)
+abbrev pub MayHave31Bits : Bool → Members → Type 0
+MayHave31Bits rfc3021 t = IsTrue rfc3021 × ReadsKind t (Ok PointToPoint)
+
 -- the key `address`, which must be there: the interface's address and the length of its mask (C.3)
-abbrev pub ReadsInterfaceAddress : Members → Result InterfaceAddress ConfigFault → Type 0
-ReadsInterfaceAddress t r = Required as_str IsAddressText (get_member (codes "address") t) r
+abbrev pub ReadsInterfaceAddress : Bool → Members → Result InterfaceAddress ConfigFault → Type 0
+ReadsInterfaceAddress rfc3021 t r =
+    Required as_str (IsAddressText (MayHave31Bits rfc3021 t)) (get_member (codes "address") t) r
 
 -- a cost of zero has a fault of its own
 abbrev pub ReadsCostValue : Option ℤ → Result ℕ ConfigFault → Type 0
@@ -102,3 +119,13 @@ ArePortNumbers zs ports = (zs ≡ map (λ (p : Port). pos p.number) ports) × (l
 -- the key `peers`, none where it is not there: the UDP ports of the link's other ends
 abbrev pub ReadsPeers : Members → Result (List Port) ConfigFault → Type 0
 ReadsPeers t r = Optional as_integers ArePortNumbers [] (get_member (codes "peers") t) r
+
+-- ---- of a host (RFC 2328, appendix C.7)
+
+-- the key `address`, which must be there: the host's address
+abbrev pub ReadsHostAddress : Members → Result Addr ConfigFault → Type 0
+ReadsHostAddress t r = Required as_str IsHostText (get_member (codes "address") t) r
+
+-- the key `cost`, which must be there: the cost of the router's link to the host, which may be 0
+abbrev pub ReadsHostCost : Members → Result ℕ ConfigFault → Type 0
+ReadsHostCost t r = Required as_integer (IsNumberIn 0 65535) (get_member (codes "cost") t) r

@@ -2,8 +2,10 @@
 use Rattle.std.specs.Prelude.{◌≡◌, ℕ, ◌^◌, ◌<◌, Bool, true, false, List, ◌++◌, codes, decimal}
 use Rattle.ospf_base.specs.Text.{IsDottedNumber}
 use Rattle.ospf_base.specs.declared.ids.RouterId.{RouterId}
+use Rattle.ospf_base.specs.declared.ids.Addr.{Addr}
 use Rattle.ospf_base.specs.declared.ids.AreaId.{AreaId}
 use Rattle.ospf_config.specs.declared.address.InterfaceAddress.{InterfaceAddress}
+use Rattle.ospf_config.specs.Host.{IsUnicast}
 use Rattle.ospf_base.specs.declared.interface.InterfaceKind.{InterfaceKind}
 use Rattle.ospf_base.specs.declared.interface.InterfaceKind.TheVariants.{PointToPoint, Broadcast}
 
@@ -42,6 +44,13 @@ pub record IsPrefixText (text : List ℕ) (address prefix_length : ℕ) : Type 0
   pub address_spelled : IsDottedNumber dotted address
   pub spelled : text ≡ dotted ++ (codes "/" ++ decimal prefix_length)
 
--- the text denotes an interface's address and the length of its mask
-abbrev pub IsAddressText : List ℕ → InterfaceAddress → Type 0
-IsAddressText text a = IsPrefixText text a.address.0 a.length
+-- the text denotes an interface's address and the length of its mask, which is 31 only where that
+-- is allowed
+pub record IsAddressText (Allowed : Type 0) (text : List ℕ) (a : InterfaceAddress) : Type 0 where
+  pub prefix : IsPrefixText text a.address.0 a.length
+  pub allowed : a.length ≡ 31 → Allowed
+
+-- the text denotes the address of a host: a dotted number that is a unicast address
+pub record IsHostText (text : List ℕ) (a : Addr) : Type 0 where
+  pub spelled : IsDottedNumber text a.0
+  pub unicast : IsUnicast a.0

@@ -2,12 +2,13 @@
 
 ghost use Rattle.std.specs.Prelude.{◌≡◌, ◌^◌, ◌<◌, ◌≤◌, ◌↔◌, ℕ, IsTrue, IfSome, IfNone, decimal};
 ghost use Rattle.ospf_base.specs.Text.{IsDottedNumber};
-ghost use Rattle.ospf_config.specs.Host.{IsHostAddress};
+ghost use Rattle.ospf_config.specs.Host.{IsHostAddress, IsUnicast};
 
 use ospf_base::{Addr, Prefix, mask_of};
 
-// The longest prefix under which there is another address.
-const LONGEST: u8 = 30;
+// The longest prefix under which there is another address: of two addresses, both of hosts (RFC
+// 3021).
+const LONGEST: u8 = 31;
 
 // The first octet of the last addresses that are of one host.
 const LAST_UNICAST: u32 = 223;
@@ -16,7 +17,7 @@ const LAST_UNICAST: u32 = 223;
 #[derive(Clone, Copy, Debug, PartialEq, Eq)]
 pub struct InterfaceAddress {
     pub address: Addr,
-    /// 1 to 30.
+    /// 1 to 30; 31 at a point-to-point interface whose configuration asks for that.
     pub length: u8,
     ghost host: { IsHostAddress address.0 length },
 }
@@ -48,14 +49,19 @@ impl InterfaceAddress {
         one_prefix || here == there
     }
 
-    // The address that a text spells, if an interface can have it.
-    pub(crate) fn read(text: &str) -> Option<InterfaceAddress>
-        ensures some { IfSome result (IsAddressText text.now) }
-        ensures none { IfNone result ((a : InterfaceAddress) → IsAddressText text.now a → ⊥) }
+    // The address that a text spells, if an interface can have it that may have a prefix of 31 bits
+    // or may not.
+    pub(crate) fn read(text: &str, may_have_31: bool) -> Option<InterfaceAddress>
+        ensures some { IfSome result (IsAddressText (IsTrue may_have_31) text.now) }
+        ensures none { IfNone result ((a : InterfaceAddress)
+            → IsAddressText (IsTrue may_have_31) text.now a → ⊥) }
     {
         let (dotted, length) = text.split_once('/')?;
         let length = length_of(length)?;
         let number = dotted_number(dotted)?;
+        if !is_allowed(length, may_have_31) {
+            return None;
+        }
         if is_host(number, length) {
             let address = Addr(number);
             Some(InterfaceAddress { address, length })
@@ -82,7 +88,7 @@ pub(crate) fn dotted_number(text: &str) -> Option<u32>
 // The length of a prefix that a text spells, without leading zeros.
 fn length_of(text: &str) -> Option<u8>
     ensures some { IfSome result (λ n. (text.now ≡ decimal n) × (n < 256)) }
-    ensures none { IfNone result ((n : ℕ) → 1 ≤ n → n ≤ 30 → text.now ≡ decimal n → ⊥) }
+    ensures none { IfNone result ((n : ℕ) → 1 ≤ n → n ≤ 31 → text.now ≡ decimal n → ⊥) }
 {
     match text.as_bytes() {
         [b'1'..=b'9', ..] => match text.parse::<u8>() {
@@ -91,6 +97,13 @@ fn length_of(text: &str) -> Option<u8>
         },
         _ => None,
     }
+}
+
+// Whether an interface that may have a prefix of 31 bits, or may not, can have one of this length.
+fn is_allowed(length: u8, may_have_31: bool) -> bool
+    ensures { IsTrue result ↔ (length ≡ 31 → IsTrue may_have_31) }
+{
+    if length == LONGEST { may_have_31 } else { true }
 }
 
 // Whether an interface can have the address under a prefix of this length.
@@ -102,6 +115,14 @@ fn is_host(address: u32, length: u8) -> bool
     }
     let size = 1u32 << (32 - length);
     let host = address % size;
+    let inside = length == LONGEST || (host > 0 && host + 1 < size);
+    inside && is_unicast(address)
+}
+
+// Whether the address can be that of one host.
+pub(crate) fn is_unicast(address: u32) -> bool
+    ensures { IsTrue result ↔ IsUnicast address }
+{
     let octet = address >> 24;
-    host > 0 && host + 1 < size && octet >= 1 && octet <= LAST_UNICAST
+    octet >= 1 && octet <= LAST_UNICAST
 }

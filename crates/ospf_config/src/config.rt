@@ -4,7 +4,7 @@ ghost use Rattle.std.specs.Prelude.{◌<◌, ◌≤◌, AllPairs, vec_len};
 ghost use Rattle.ospf_config.specs.Conflicts.{Conflict};
 
 use crate::interface::Interface;
-use ospf_base::{AreaId, RouterId};
+use ospf_base::{AreaId, Host, RouterId};
 
 /// The configuration of a router (RFC 2328, appendix C).
 #[derive(Debug, Drop)]
@@ -19,8 +19,12 @@ pub struct Config {
     /// One to 32 interfaces, of which no two have one prefix or one address. A link's number is its
     /// place here.
     pub interfaces: Vec<Interface>,
+    /// At most 32 hosts, which the router advertises behind its interfaces' links (RFC 2328,
+    /// appendix C.7).
+    pub hosts: Vec<Host>,
     ghost router_id_not_zero: { 0 < router_id.0 },
     ghost some_interface: { 1 ≤ vec_len interfaces },
     ghost few_interfaces: { vec_len interfaces ≤ 32 },
+    ghost few_hosts: { vec_len hosts ≤ 32 },
     ghost no_conflict: { AllPairs (λ a b. Conflict a.address b.address → ⊥) interfaces.items },
 }

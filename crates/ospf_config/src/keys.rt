@@ -1,12 +1,13 @@
 //! The values at keys.
 
-ghost use Rattle.std.specs.Prelude.{◌≡◌, ◌≤◌, IfOk, option_map, option_copied, Ok, codes};
+ghost use Rattle.std.specs.Prelude.{◌≡◌, ◌≤◌, ◌↔◌, IsTrue, IfOk, option_map, option_copied, Ok, codes};
 ghost use Rattle.ospf_base.specs.Constants.{max_age};
+ghost use Rattle.ospf_base.specs.declared.interface.InterfaceKind.TheVariants.{PointToPoint};
 ghost use Rattle.toml.specs.Data.{get_member, as_integer, as_str};
 ghost use Rattle.toml.specs.View.{view, table_view};
 ghost use Rattle.ospf_config.specs.Reading.{ReadsValue, Optional, IsNumberIn, integer_or};
 ghost use Rattle.ospf_config.specs.Texts.{IsKindText, IsAddressText};
-ghost use Rattle.ospf_config.specs.Keys.{ReadsKind, ReadsInterfaceAddress, ReadsCostValue, ReadsCost, IsPortNumber, ReadsPriority, ReadsHello, ReadsDead, ReadsRetransmit, ReadsTransmitDelay, ReadsMtu, ReadsPort};
+ghost use Rattle.ospf_config.specs.Keys.{ReadsKind, MayHave31Bits, ReadsInterfaceAddress, ReadsCostValue, ReadsCost, IsPortNumber, ReadsPriority, ReadsHello, ReadsDead, ReadsRetransmit, ReadsTransmitDelay, ReadsMtu, ReadsPort};
 
 use crate::address::InterfaceAddress;
 use crate::fault::ConfigFault;
@@ -37,13 +38,15 @@ pub fn kind_at(table: &Table) -> Result<InterfaceKind, ConfigFault>
     }
 }
 
-/// The address at the key `address`, or the fault of the key.
-pub fn address_at(table: &Table) -> Result<InterfaceAddress, ConfigFault>
-    ensures { ReadsInterfaceAddress (table_view table.now) result }
+/// The address at the key `address` of an interface, or the fault of the key.
+///
+/// With `rfc3021` a point-to-point interface may have a prefix of 31 bits.
+pub fn address_at(table: &Table, rfc3021: bool) -> Result<InterfaceAddress, ConfigFault>
+    ensures { ReadsInterfaceAddress rfc3021 (table_view table.now) result }
 {
     match value_at(table, "address") {
         None => Err(ConfigFault::Missing),
-        Some(value) => address_of(value.as_str()),
+        Some(value) => address_of(value.as_str(), table, rfc3021),
     }
 }
 
@@ -160,13 +163,44 @@ fn kind_of(text: Option<&str>) -> Result<InterfaceKind, ConfigFault>
     }
 }
 
-// The address that a text spells, under its prefix.
-fn address_of(text: Option<&str>) -> Result<InterfaceAddress, ConfigFault>
-    ensures { ReadsValue IsAddressText (option_copied text.entry) result }
+// Whether the interface may have a prefix of 31 bits.
+fn may_have_31(table: &Table, rfc3021: bool) -> bool
+    ensures { IsTrue result ↔ MayHave31Bits rfc3021 (table_view table.now) }
+{
+    rfc3021 && is_point_to_point(table)
+}
+
+// Whether the table is that of a point-to-point interface.
+fn is_point_to_point(table: &Table) -> bool
+    ensures { IsTrue result ↔ ReadsKind (table_view table.now) (Ok PointToPoint) }
+{
+    match kind_at(table) {
+        Ok(InterfaceKind::PointToPoint) => true,
+        Ok(InterfaceKind::Broadcast) => false,
+        Err(_) => false,
+    }
+}
+
+// The address that a text spells, under its prefix, at the interface of a table.
+fn address_of(
+    text: Option<&str>,
+    table: &Table,
+    rfc3021: bool,
+) -> Result<InterfaceAddress, ConfigFault>
+    ensures { ReadsValue (IsAddressText (MayHave31Bits rfc3021 (table_view table.now)))
+        (option_copied text.entry) result }
+{
+    address_spelled(text, may_have_31(table, rfc3021))
+}
+
+// The address that a text spells, under its prefix, at an interface that may have one of 31 bits or
+// may not.
+fn address_spelled(text: Option<&str>, may_have_31: bool) -> Result<InterfaceAddress, ConfigFault>
+    ensures { ReadsValue (IsAddressText (IsTrue may_have_31)) (option_copied text.entry) result }
 {
     match text {
         None => Err(ConfigFault::Type),
-        Some(text) => InterfaceAddress::read(text).ok_or(ConfigFault::Range),
+        Some(text) => InterfaceAddress::read(text, may_have_31).ok_or(ConfigFault::Range),
     }
 }
 

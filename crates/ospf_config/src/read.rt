@@ -7,21 +7,22 @@ ghost use Rattle.toml.specs.View.{view, table_view, items_view};
 ghost use Rattle.ospf_config.specs.declared.fault.ConfigFault.{ConfigFault};
 ghost use Rattle.ospf_config.specs.declared.fault.ConfigFault.TheVariants as fault;
 ghost use Rattle.ospf_config.specs.Fault.{IsLeastFault};
-ghost use Rattle.ospf_config.specs.Tables.{HasInterfaceFault, HasKeyFault, HasConfigFault, IsDeadNotOverHello, IsTableWith, interface_tables, tables_among};
+ghost use Rattle.ospf_config.specs.Tables.{HasInterfaceFault, HasKeyFault, HasConfigFault, IsDeadNotOverHello, IsTableWith, tables_among};
 ghost use Rattle.ospf_config.specs.Interfaces.{IsInterfaceOf};
 ghost use Rattle.ospf_config.specs.Configs.{IsConfigOf, IsReading, TextHasFault};
 
 use crate::config::Config;
 use crate::fault::ConfigFault;
 use crate::faults::{interface_values, key_fault};
+use crate::hosts::{host_values, hosts_of};
 use crate::interface::Interface;
 use crate::keys::{
     address_at, cost_at, dead_at, hello_at, kind_at, mtu_at, port_at, priority_at, retransmit_at,
     transmit_delay_at,
 };
 use crate::peers::peers_at;
-use crate::rules::{addresses_of, has_conflict, is_any_dead, is_any_unknown, table_in};
-use crate::top::{area_at, other_lsas_at, router_id_at, stub_router_at};
+use crate::rules::{has_same_address, is_any_dead, is_any_unknown, table_in};
+use crate::top::{area_at, asks_rfc3021, other_lsas_at, router_id_at, stub_router_at};
 use std::alloc::Global;
 use toml::{Table, Value};
 
@@ -68,29 +69,23 @@ fn config_by_rules(alloc: Global, table: &Table) -> Result<Config, ConfigFault>
     ensures fault { IfErr result (λ f. (f ≡ fault.Memory)
         ⊎ IsLeastFault (HasConfigFault (table_view table.now)) f) }
 {
-    let values = interface_values(table);
-    let addresses = addresses_of(alloc, values)?;
-    if has_conflict(&addresses) {
+    let same = has_same_address(alloc, table)?;
+    if same {
         return Err(ConfigFault::SamePrefix);
     }
-    if is_any_dead(values) {
+    if is_any_dead(table) {
         return Err(ConfigFault::DeadNotOverHello);
     }
-    if is_any_unknown(table, values) {
+    if is_any_unknown(table) {
         return Err(ConfigFault::Unknown);
     }
-    let config = config_at(alloc, table, values)?;
+    let config = config_at(alloc, table)?;
     Ok(config)
 }
 
-// The configuration that a table without faults describes, whose interfaces' values these are.
-fn config_at(alloc: Global, table: &Table, values: &[Value]) -> Result<Config, ConfigFault>
-    // The table has no fault, and the values are those of its interfaces, each a table.
-    requires free { (f : ConfigFault) → HasConfigFault (table_view table.now) f → ⊥ }
-    requires values { tables_among (items_view values.now)
-        ≡ interface_tables (table_view table.now) }
-    requires tables { All (λ v. IsSome (as_table (view v))) values.now }
-    // So it describes a configuration, and only memory can run out.
+// The configuration that a table without faults describes: only memory can run out.
+fn config_at(alloc: Global, table: &Table) -> Result<Config, ConfigFault>
+    requires { (f : ConfigFault) → HasConfigFault (table_view table.now) f → ⊥ }
     ensures ok { IfOk result (IsConfigOf (table_view table.now)) }
     ensures fault { IfErr result (λ f. f ≡ fault.Memory) }
 {
@@ -98,41 +93,47 @@ fn config_at(alloc: Global, table: &Table, values: &[Value]) -> Result<Config, C
     let area = area_at(table)?;
     let stub_router = stub_router_at(table)?;
     let passes_over = other_lsas_at(table)?;
-    let interfaces = interfaces_of(alloc, values)?;
+    let interfaces = interfaces_of(alloc, interface_values(table), asks_rfc3021(table))?;
+    let hosts = hosts_of(alloc, host_values(table))?;
     Ok(Config {
         router_id,
         area,
         stub_router,
         passes_over,
         interfaces,
+        hosts,
     })
 }
 
 // The interfaces that tables describe, in order.
-fn interfaces_of(alloc: Global, values: &[Value]) -> Result<Vec<Interface>, ConfigFault>
+fn interfaces_of(
+    alloc: Global,
+    values: &[Value],
+    rfc3021: bool,
+) -> Result<Vec<Interface>, ConfigFault>
     requires tables { All (λ v. IsSome (as_table (view v))) values.now }
     requires hellos { Any (λ v. IsTableWith IsDeadNotOverHello (view v)) values.now → ⊥ }
-    ensures ok { IfOk result (λ interfaces. AllZip IsInterfaceOf
+    ensures ok { IfOk result (λ interfaces. AllZip (IsInterfaceOf rfc3021)
         (tables_among (items_view values.now)) interfaces.items) }
     ensures fault { IfErr result (λ f. (f ≡ fault.Memory)
-        ⊎ Any (λ t. HasInterfaceFault t f) (tables_among (items_view values.now))) }
+        ⊎ Any (λ t. HasInterfaceFault rfc3021 t f) (tables_among (items_view values.now))) }
 {
     let mut interfaces = Vec::with_capacity(alloc, values.len())?;
     for value in values {
-        interfaces.push(interface_at(alloc, table_in(value))?)?;
+        interfaces.push(interface_at(alloc, table_in(value), rfc3021)?)?;
     }
     Ok(interfaces)
 }
 
 // The interface that a table describes.
-fn interface_at(alloc: Global, table: &Table) -> Result<Interface, ConfigFault>
+fn interface_at(alloc: Global, table: &Table, rfc3021: bool) -> Result<Interface, ConfigFault>
     requires { IsDeadNotOverHello (table_view table.now) → ⊥ }
-    ensures ok { IfOk result (IsInterfaceOf (table_view table.now)) }
+    ensures ok { IfOk result (IsInterfaceOf rfc3021 (table_view table.now)) }
     ensures fault { IfErr result (λ f. (f ≡ fault.Memory)
-        ⊎ HasInterfaceFault (table_view table.now) f) }
+        ⊎ HasInterfaceFault rfc3021 (table_view table.now) f) }
 {
     let kind = kind_at(table)?;
-    let address = address_at(table)?;
+    let address = address_at(table, rfc3021)?;
     let cost = cost_at(table)?;
     let priority = priority_at(table)?;
     let hello = hello_at(table)?;

@@ -1,10 +1,11 @@
 //! The keys at the top.
 
-ghost use Rattle.std.specs.Prelude.{◌<◌, IfOk, option_copied};
+ghost use Rattle.std.specs.Prelude.{◌≡◌, ◌<◌, IfOk, false, option_copied};
+ghost use Rattle.toml.specs.Data.{as_bool, get_member};
 ghost use Rattle.toml.specs.View.{table_view};
-ghost use Rattle.ospf_config.specs.Reading.{ReadsValue};
+ghost use Rattle.ospf_config.specs.Reading.{ReadsValue, Optional};
 ghost use Rattle.ospf_config.specs.Texts.{IsRouterIdText, IsAreaText, IsOtherLsasText};
-ghost use Rattle.ospf_config.specs.Keys.{ReadsOwnRouterId, ReadsArea, ReadsStubRouter, ReadsOtherLsas};
+ghost use Rattle.ospf_config.specs.Keys.{ReadsOwnRouterId, ReadsArea, ReadsStubRouter, ReadsOtherLsas, ReadsRfc3021, asks_rfc3021};
 
 use crate::address::dotted_number;
 use crate::fault::ConfigFault;
@@ -38,10 +39,7 @@ pub fn area_at(table: &Table) -> Result<AreaId, ConfigFault>
 pub fn stub_router_at(table: &Table) -> Result<bool, ConfigFault>
     ensures { ReadsStubRouter (table_view table.now) result }
 {
-    match value_at(table, "stub_router") {
-        None => Ok(false),
-        Some(value) => value.as_bool().ok_or(ConfigFault::Type),
-    }
+    flag_at(table, "stub_router")
 }
 
 /// Whether LSAs of LS types 3, 4 and 5 are passed over, at the key `other_lsas`: not where nothing
@@ -52,6 +50,35 @@ pub fn other_lsas_at(table: &Table) -> Result<bool, ConfigFault>
     match value_at(table, "other_lsas") {
         None => Ok(false),
         Some(value) => other_lsas_of(value.as_str()),
+    }
+}
+
+/// Whether point-to-point interfaces may have prefixes of 31 bits (RFC 3021), at the key `rfc3021`:
+/// not where nothing is there; or the fault of the key.
+pub fn rfc3021_at(table: &Table) -> Result<bool, ConfigFault>
+    ensures { ReadsRfc3021 (table_view table.now) result }
+{
+    flag_at(table, "rfc3021")
+}
+
+/// Whether prefixes of 31 bits are asked for: the key `rfc3021` is true, and not of another type.
+pub fn asks_rfc3021(table: &Table) -> bool
+    ensures { result ≡ asks_rfc3021 (table_view table.now) }
+{
+    match value_at(table, "rfc3021") {
+        None => false,
+        Some(value) => value.as_bool().unwrap_or(false),
+    }
+}
+
+// The truth value at a key, false where nothing is there.
+fn flag_at(table: &Table, key: &str) -> Result<bool, ConfigFault>
+    ensures { Optional as_bool (λ b c. b ≡ c) false (get_member key.now (table_view table.now))
+        result }
+{
+    match value_at(table, key) {
+        None => Ok(false),
+        Some(value) => value.as_bool().ok_or(ConfigFault::Type),
     }
 }
 

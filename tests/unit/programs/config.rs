@@ -536,3 +536,206 @@ fn prints_each_fault(rt: HostRuntime) -> Result<(), Fail> {
     }
     Ok(())
 }
+
+// A configuration with these lines before its interface, and these behind it.
+fn hosted(alloc: Global, before: &str, behind: &str) -> Result<Option<ConfigFault>, ConfigFault> {
+    let top = joined(alloc, "router_id = \"1.1.1.1\"\narea = \"0.0.0.0\"\n", before, "\n")?;
+    fault_of(alloc, top.as_str(), INTERFACE, behind)
+}
+
+// So many hosts, each with an address of its own.
+fn hosts(alloc: Global, count: u8) -> Result<String, ConfigFault> {
+    let mut text = String::new(alloc);
+    for i in 0..count {
+        let host = format!(in alloc; "[[host]]\naddress = \"10.9.0.{i}\"\ncost = {i}\n")?;
+        text.push_str(host.as_str())?;
+    }
+    Ok(text)
+}
+
+#[test]
+fn hosts_in_order(rt: HostRuntime) -> Result<(), Fail> {
+    let two = "[[host]]\naddress = \"192.0.2.1\"\ncost = 0\n\n[[host]]\naddress = \"10.0.0.2\"\ncost = 65535\n";
+    let text = joined(rt.alloc(), TOP, INTERFACE, two)?;
+    let config = Config::from_text(rt.alloc(), text.as_str())?;
+    assert_eq!(rt; config.interfaces.len(), 1);
+    assert_eq!(rt; config.hosts.len(), 2);
+    assert_eq!(rt; config.hosts[0].address, Addr(0xc000_0201));
+    assert_eq!(rt; config.hosts[0].cost, 0);
+    assert_eq!(rt; config.hosts[1].address, Addr(0x0a00_0002));
+    assert_eq!(rt; config.hosts[1].cost, 65535);
+    let without = joined(rt.alloc(), TOP, INTERFACE, "")?;
+    assert!(rt; Config::from_text(rt.alloc(), without.as_str())?.hosts.is_empty());
+    Ok(())
+}
+
+#[test]
+fn refused_hosts(rt: HostRuntime) -> Result<(), Fail> {
+    let cases: [(&str, Option<ConfigFault>, &str); 19] = [
+        ("[[host]]\naddress = \"192.0.2.1\"\ncost = 1\n", None, "a host"),
+        ("[[host]]\ncost = 1\n", Some(ConfigFault::Missing), "no address"),
+        ("[[host]]\naddress = \"192.0.2.1\"\n", Some(ConfigFault::Missing), "no cost"),
+        ("[[host]]\naddress = 5\ncost = 1\n", Some(ConfigFault::Type), "an address that is a number"),
+        (
+            "[[host]]\naddress = \"192.0.2.1\"\ncost = \"1\"\n",
+            Some(ConfigFault::Type),
+            "a cost that is a text",
+        ),
+        (
+            "[[host]]\naddress = \"192.0.2.1/32\"\ncost = 1\n",
+            Some(ConfigFault::Range),
+            "an address with a length",
+        ),
+        (
+            "[[host]]\naddress = \"192.0.02.1\"\ncost = 1\n",
+            Some(ConfigFault::Range),
+            "a leading zero",
+        ),
+        (
+            "[[host]]\naddress = \"0.0.0.1\"\ncost = 1\n",
+            Some(ConfigFault::Range),
+            "a first octet of 0",
+        ),
+        (
+            "[[host]]\naddress = \"224.0.0.5\"\ncost = 1\n",
+            Some(ConfigFault::Range),
+            "a multicast address",
+        ),
+        ("[[host]]\naddress = \"223.255.255.255\"\ncost = 0\n", None, "the last unicast address"),
+        (
+            "[[host]]\naddress = \"192.0.2.1\"\ncost = 65536\n",
+            Some(ConfigFault::Range),
+            "a cost out of range",
+        ),
+        (
+            "[[host]]\naddress = \"192.0.2.1\"\ncost = -1\n",
+            Some(ConfigFault::Range),
+            "a negative cost",
+        ),
+        (
+            "[[host]]\naddress = \"192.0.2.1\"\ncost = 1\nkind = \"broadcast\"\n",
+            Some(ConfigFault::Unknown),
+            "a key of an interface",
+        ),
+        (
+            "[[host]]\naddress = \"10.0.0.1\"\ncost = 1\n",
+            Some(ConfigFault::SamePrefix),
+            "the address of an interface",
+        ),
+        ("[[host]]\naddress = \"10.0.0.2\"\ncost = 1\n", None, "an address of the interface's subnet"),
+        (
+            "[[host]]\naddress = \"192.0.2.1\"\ncost = 1\n[[host]]\naddress = \"192.0.2.1\"\ncost = 2\n",
+            Some(ConfigFault::SamePrefix),
+            "a host twice",
+        ),
+        (
+            "[[host]]\naddress = \"10.0.0.1\"\ncost = 1\nkind = 1\n",
+            Some(ConfigFault::SamePrefix),
+            "one address before an unknown key",
+        ),
+        (
+            "[[host]]\naddress = \"10.0.0.1\"\ncost = 70000\n",
+            Some(ConfigFault::Range),
+            "range before one address",
+        ),
+        (
+            "[[host]]\naddress = \"10.0.0.1\"\ncost = 70000\n[[host]]\n",
+            Some(ConfigFault::Missing),
+            "a missing key of a later host before range",
+        ),
+    ];
+    for (behind, fault, name) in cases {
+        assert_eq!(rt; hosted(rt.alloc(), "", behind)?, fault, "{name}");
+    }
+    Ok(())
+}
+
+#[test]
+fn counts_of_hosts(rt: HostRuntime) -> Result<(), Fail> {
+    assert_eq!(rt; hosted(rt.alloc(), "host = []\n", "")?, None, "an empty list");
+    assert_eq!(rt; hosted(rt.alloc(), "host = 5\n", "")?, Some(ConfigFault::Type), "no list");
+    assert_eq!(rt; hosted(rt.alloc(), "host = [5]\n", "")?, Some(ConfigFault::Type), "no tables");
+    let most = hosts(rt.alloc(), 32)?;
+    assert_eq!(rt; hosted(rt.alloc(), "", most.as_str())?, None, "most hosts");
+    let more = hosts(rt.alloc(), 33)?;
+    let fault = hosted(rt.alloc(), "", more.as_str())?;
+    assert_eq!(rt; fault, Some(ConfigFault::Range), "too many hosts");
+    Ok(())
+}
+
+// A configuration of one interface: these lines at the top, its kind and its address.
+fn of_31_bits(
+    alloc: Global,
+    top: &str,
+    kind: &str,
+    address: &str,
+) -> Result<Option<ConfigFault>, ConfigFault> {
+    let head = joined(alloc, "router_id = \"1.1.1.1\"\narea = \"0.0.0.0\"\n", top, "")?;
+    let interface = format!(in alloc; "[[interface]]\nkind = \"{kind}\"\naddress = \"{address}\"\ncost = 1\n")?;
+    fault_of(alloc, head.as_str(), interface.as_str(), "")
+}
+
+// RFC 3021: both addresses of a prefix of 31 bits are hosts, on point-to-point links.
+#[test]
+fn prefixes_of_31_bits(rt: HostRuntime) -> Result<(), Fail> {
+    let yes = "rfc3021 = true\n";
+    let range = Some(ConfigFault::Range);
+    let cases = [
+        (yes, "point-to-point", "10.0.0.0/31", None, "the lower address"),
+        (yes, "point-to-point", "10.0.0.1/31", None, "the upper address"),
+        (yes, "point-to-point", "223.255.255.255/31", None, "the last address"),
+        (yes, "point-to-point", "0.0.0.1/31", range, "a first octet of 0"),
+        (yes, "point-to-point", "224.0.0.1/31", range, "a multicast address"),
+        (yes, "point-to-point", "10.0.0.1/32", range, "32 bits"),
+        (yes, "point-to-point", "10.0.0.0/30", range, "the network's address under 30 bits"),
+        (yes, "point-to-point", "10.0.0.3/30", range, "the broadcast address under 30 bits"),
+        (yes, "broadcast", "10.0.0.1/31", range, "a broadcast network"),
+        (yes, "broadcast", "10.0.0.1/30", None, "a broadcast network of 30 bits"),
+        ("rfc3021 = false\n", "point-to-point", "10.0.0.1/31", range, "not asked for"),
+        ("", "point-to-point", "10.0.0.1/31", range, "the default"),
+        ("rfc3021 = 1\n", "point-to-point", "10.0.0.1/30", Some(ConfigFault::Type), "a number"),
+    ];
+    for (top, kind, address, fault, name) in cases {
+        assert_eq!(rt; of_31_bits(rt.alloc(), top, kind, address)?, fault, "{name}");
+    }
+    Ok(())
+}
+
+#[test]
+fn explains_hosts_and_31_bits(rt: HostRuntime) -> Result<(), Fail> {
+    let alloc = rt.alloc();
+    let rows = [
+        (
+            "[[host]]\naddress = \"10.0.0.1\"\ncost = 1\n",
+            "host 0: address: an address that no interface and no earlier host has wanted, \"10.0.0.1\" found\n",
+        ),
+        (
+            "[[host]]\naddress = \"10.0.0.2\"\ncost = 1\n[[host]]\naddress = \"10.0.0.2\"\ncost = 1\n",
+            "host 1: address: an address that no interface and no earlier host has wanted, \"10.0.0.2\" found\n",
+        ),
+        (
+            "[[host]]\naddress = \"10.0.0.2\"\ncost = 70000\n",
+            "host 0: cost: 0 to 65535 wanted, 70000 found\n",
+        ),
+        (
+            "[[host]]\naddress = \"10.0.0.2/32\"\ncost = 1\n",
+            "host 0: address: a dotted unicast address such as \"192.0.2.1\", wanted, \"10.0.0.2/32\" found\n",
+        ),
+        ("[[host]]\naddress = \"10.0.0.2\"\n", "host 0: cost: 0 to 65535 wanted, none found\n"),
+        (
+            "[[host]]\naddress = \"10.0.0.2\"\ncost = 1\nmtu = 7\n",
+            "host 0: mtu: a known key wanted, 7 found\n",
+        ),
+    ];
+    for (third, told) in rows.iter() {
+        assert_eq!(rt; explained(alloc, TOP, INTERFACE, third)?.as_str(), *told);
+    }
+    let told = explained(alloc, "rfc3021 = 1\nhost = 5\n", TOP, INTERFACE)?;
+    let wanted = "rfc3021: true or false wanted, 1 found\n\
+        host: at most 32 tables [[host]] wanted, 5 found\n";
+    assert_eq!(rt; told.as_str(), wanted);
+    let told = explained(alloc, TOP, OTHER, "\"10.0.0.1/31\"\ncost = 1\n")?;
+    let wanted = "interface 0: address: a host address and prefix length, 1 to 30, such as \"10.0.0.1/30\", wanted, \"10.0.0.1/31\" found\n";
+    assert_eq!(rt; told.as_str(), wanted);
+    Ok(())
+}

@@ -1,4 +1,4 @@
-use Rattle.std.proofs.Common.{◌⊎◌, Err, inl, inr}
+use Rattle.std.proofs.Common.{◌⊎◌, Bool, Err, inl, inr}
 use Rattle.toml.specs.Data.{Members}
 use Rattle.toml.specs.View.{table_view}
 use Rattle.ospf_config.specs.declared.fault.ConfigFault.{ConfigFault}
@@ -8,8 +8,8 @@ use Rattle.ospf_config.proofs.Least.{least_both, least_same, least_error, least_
 use Rattle.ospf_config.proofs.Singles.{kind_single, address_single, hello_single, dead_single, retransmit_single, transmit_delay_single, only_cost, priority_single, mtu_single, port_single, peers_single}
 use Rattle.ospf_config.proofs.faults.interface_fault.Goals as goal
 
-abbrev Texts : Members → ConfigFault → Type 0
-Texts t f = ReadsKind t (Err f) ⊎ ReadsInterfaceAddress t (Err f)
+abbrev Texts : Bool → Members → ConfigFault → Type 0
+Texts q t f = ReadsKind t (Err f) ⊎ ReadsInterfaceAddress q t (Err f)
 
 abbrev Times : Members → ConfigFault → Type 0
 Times t f = (ReadsHello t (Err f) ⊎ ReadsDead t (Err f)) ⊎ (ReadsRetransmit t (Err f) ⊎ ReadsTransmitDelay t (Err f))
@@ -20,40 +20,41 @@ Sizes t f = (ReadsCost t (Err f) ⊎ ReadsPriority t (Err f)) ⊎ ReadsMtu t (Er
 abbrev Ports : Members → ConfigFault → Type 0
 Ports t f = ReadsPort t (Err f) ⊎ ReadsPeers t (Err f)
 
-abbrev Parts : Members → ConfigFault → Type 0
-Parts t f = (Texts t f ⊎ Times t f) ⊎ (Sizes t f ⊎ Ports t f)
+abbrev Parts : Bool → Members → ConfigFault → Type 0
+Parts q t f = (Texts q t f ⊎ Times t f) ⊎ (Sizes t f ⊎ Ports t f)
 
-to_interface : (t : Members) (f : ConfigFault) → Parts t f → HasInterfaceFault t f
-to_interface t f (inl (inl (inl h))) = in_kind h
-to_interface t f (inl (inl (inr h))) = in_address h
-to_interface t f (inl (inr (inl (inl h)))) = in_hello h
-to_interface t f (inl (inr (inl (inr h)))) = in_dead h
-to_interface t f (inl (inr (inr (inl h)))) = in_retransmit h
-to_interface t f (inl (inr (inr (inr h)))) = in_transmit_delay h
-to_interface t f (inr (inl (inl (inl h)))) = in_cost h
-to_interface t f (inr (inl (inl (inr h)))) = in_priority h
-to_interface t f (inr (inl (inr h))) = in_mtu h
-to_interface t f (inr (inr (inl h))) = in_port h
-to_interface t f (inr (inr (inr h))) = in_peers h
+to_interface : (q : Bool) (t : Members) (f : ConfigFault) → Parts q t f → HasInterfaceFault q t f
+to_interface q t f (inl (inl (inl h))) = in_kind h
+to_interface q t f (inl (inl (inr h))) = in_address h
+to_interface q t f (inl (inr (inl (inl h)))) = in_hello h
+to_interface q t f (inl (inr (inl (inr h)))) = in_dead h
+to_interface q t f (inl (inr (inr (inl h)))) = in_retransmit h
+to_interface q t f (inl (inr (inr (inr h)))) = in_transmit_delay h
+to_interface q t f (inr (inl (inl (inl h)))) = in_cost h
+to_interface q t f (inr (inl (inl (inr h)))) = in_priority h
+to_interface q t f (inr (inl (inr h))) = in_mtu h
+to_interface q t f (inr (inr (inl h))) = in_port h
+to_interface q t f (inr (inr (inr h))) = in_peers h
 
-from_interface : (t : Members) (f : ConfigFault) → HasInterfaceFault t f → Parts t f
-from_interface t f (in_kind h) = inl (inl (inl h))
-from_interface t f (in_address h) = inl (inl (inr h))
-from_interface t f (in_hello h) = inl (inr (inl (inl h)))
-from_interface t f (in_dead h) = inl (inr (inl (inr h)))
-from_interface t f (in_retransmit h) = inl (inr (inr (inl h)))
-from_interface t f (in_transmit_delay h) = inl (inr (inr (inr h)))
-from_interface t f (in_cost h) = inr (inl (inl (inl h)))
-from_interface t f (in_priority h) = inr (inl (inl (inr h)))
-from_interface t f (in_mtu h) = inr (inl (inr h))
-from_interface t f (in_port h) = inr (inr (inl h))
-from_interface t f (in_peers h) = inr (inr (inr h))
+from_interface : (q : Bool) (t : Members) (f : ConfigFault) → HasInterfaceFault q t f → Parts q t f
+from_interface q t f (in_kind h) = inl (inl (inl h))
+from_interface q t f (in_address h) = inl (inl (inr h))
+from_interface q t f (in_hello h) = inl (inr (inl (inl h)))
+from_interface q t f (in_dead h) = inl (inr (inl (inr h)))
+from_interface q t f (in_retransmit h) = inl (inr (inr (inl h)))
+from_interface q t f (in_transmit_delay h) = inl (inr (inr (inr h)))
+from_interface q t f (in_cost h) = inr (inl (inl (inl h)))
+from_interface q t f (in_priority h) = inr (inl (inl (inr h)))
+from_interface q t f (in_mtu h) = inr (inl (inr h))
+from_interface q t f (in_port h) = inr (inr (inl h))
+from_interface q t f (in_peers h) = inr (inr (inr h))
 
 pub returns : goal.returns
 returns c =
     let t = table_view c.args.table.now in
+    let q = c.args.rfc3021 in
     let kind = least_error (ReadsKind t) (kind_single t) c.kind_at.result c.err.result c.kind_at.ensures c.err.ensures.value in
-    let address = least_error (ReadsInterfaceAddress t) (address_single t) c.address_at.result c.err-2.result c.address_at.ensures c.err-2.ensures.value in
+    let address = least_error (ReadsInterfaceAddress q t) (address_single t q) c.address_at.result c.err-2.result c.address_at.ensures c.err-2.ensures.value in
     let hello = least_error (ReadsHello t) (hello_single t) c.hello_at.result c.err-3.result c.hello_at.ensures.reads c.err-3.ensures.value in
     let dead = least_error (ReadsDead t) (dead_single t) c.dead_at.result c.err-4.result c.dead_at.ensures.reads c.err-4.ensures.value in
     let retransmit = least_error (ReadsRetransmit t) (retransmit_single t) c.retransmit_at.result c.err-5.result c.retransmit_at.ensures.reads c.err-5.ensures.value in
@@ -79,4 +80,4 @@ returns c =
       c.earlier-ranks.ensures,
       c.earlier-ports.ensures,
     )
-    (least_same _ _ _ (to_interface t) (from_interface t) (least_both _ _ _ _ (least_both _ _ _ _ texts times) (least_both _ _ _ _ sizes ports)))
+    (least_same _ _ _ (to_interface q t) (from_interface q t) (least_both _ _ _ _ (least_both _ _ _ _ texts times) (least_both _ _ _ _ sizes ports)))

@@ -1,4 +1,4 @@
-use Rattle.std.proofs.Common.{◌≡◌, take}
+use Rattle.std.proofs.Common.{◌≡◌, Bool, take}
 use Rattle.std.specs.Prelude.{Any}
 use Rattle.std.proofs.lemmas.List.{take_all}
 use Rattle.ospf_config.specs.Fault.{IsLeastIfAny}
@@ -11,8 +11,8 @@ use Rattle.ospf_config.proofs.TableLists.{any_more, any_less}
 use Rattle.ospf_config.proofs.faults.interfaces_fault.Goals as goal
 
 -- the value is a table of this fault
-abbrev Has : ConfigFault → Value → Type 0
-Has f v = IsTableWith (λ t. HasInterfaceFault t f) (view v)
+abbrev Has : Bool → ConfigFault → Value → Type 0
+Has q f v = IsTableWith (λ t. HasInterfaceFault q t f) (view v)
 
 pub loop-value-preserved : goal.loop-value-preserved
 loop-value-preserved c =
@@ -20,13 +20,13 @@ loop-value-preserved c =
     let i = c.loop-value.value-index in
     let v = c.value-item.result in
     rw c.earlier-least.ensures
-    (least_same _ _ _ (λ f. any_more (Has f) vs i v c.loop-value-test.true c.value-item.is) (λ f. any_less (Has f) vs i v c.loop-value-test.true c.value-item.is)
+    (least_same _ _ _ (λ f. any_more (Has c.args.rfc3021 f) vs i v c.loop-value-test.true c.value-item.is) (λ f. any_less (Has c.args.rfc3021 f) vs i v c.loop-value-test.true c.value-item.is)
     (least_both _ _ c.loop-value.least c.value_fault.result c.loop-value.invariant c.value_fault.ensures))
 
 pub returns : goal.returns
 returns c =
     let vs = c.args.values.now in
     let i = c.loop-value.value-index in
-    let so_far : IsLeastIfAny (λ f. Any (Has f) (take i vs)) c.loop-value.least = c.loop-value.invariant in
+    let so_far : IsLeastIfAny (λ f. Any (Has c.args.rfc3021 f) (take i vs)) c.loop-value.least = c.loop-value.invariant in
     let whole : take i vs ≡ vs = take_all i vs c.loop-value-test.false in
     rw whole at so_far

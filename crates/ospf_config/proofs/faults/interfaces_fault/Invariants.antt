@@ -6,4 +6,4 @@ use Rattle.ospf_config.specs.Tables.{HasInterfaceFault, IsTableWith}
 use Rattle.ospf_config.proofs.faults.interfaces_fault.Given as goal
 
 abbrev pub invariant-loop-value : goal.invariant-loop-value
-invariant-loop-value l = IsLeastIfAny (λ f. Any (λ v. IsTableWith (λ t. HasInterfaceFault t f) (view v)) (take l.value-index l.values)) l.least
+invariant-loop-value l = IsLeastIfAny (λ f. Any (λ v. IsTableWith (λ t. HasInterfaceFault l.rfc3021 t f) (view v)) (take l.value-index l.values)) l.least

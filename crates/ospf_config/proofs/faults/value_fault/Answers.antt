@@ -5,5 +5,5 @@ use Rattle.ospf_config.proofs.faults.value_fault.Goals as goal
 
 pub returns-in-Some : goal.returns-in-Some
 returns-in-Some c =
-    least_same _ _ c.interface_fault.result (λ f. with_table (λ t. HasInterfaceFault t f) _ _ c.in-Some.ensures) (λ f. table_with (λ t. HasInterfaceFault t f) _ _ c.in-Some.ensures)
+    least_same _ _ c.interface_fault.result (λ f. with_table (λ t. HasInterfaceFault c.args.rfc3021 t f) _ _ c.in-Some.ensures) (λ f. table_with (λ t. HasInterfaceFault c.args.rfc3021 t f) _ _ c.in-Some.ensures)
     c.interface_fault.ensures

@@ -12,7 +12,7 @@ interface_at-requires c dead =
 pub loop-value-preserved : goal.loop-value-preserved
 loop-value-preserved c =
     rw c.in_ok-push.ensures.items
-    (pairs_more IsInterfaceOf c.args.values.now c.loop-value.value-index c.value-item.result _ c.loop-value.interfaces.items _
+    (pairs_more (IsInterfaceOf c.args.rfc3021) c.args.values.now c.loop-value.value-index c.value-item.result _ c.loop-value.interfaces.items _
     c.loop-value-test.true c.value-item.is c.table_in.ensures c.loop-value.invariant c.in_ok-interface_at.ensures.ok)
 
 pub returns-in_err-interface_at-clause-fault : goal.returns-in_err-interface_at-clause-fault
@@ -21,5 +21,5 @@ returns-in_err-interface_at-clause-fault c =
     rw (p.1, p.2)
     (elim c.in_err-interface_at.ensures.fault [
       | inl memory ↦ inl memory
-      | inr found ↦ inr (any_table_at (λ t. HasInterfaceFault t _) c.args.values.now c.loop-value.value-index c.value-item.result _ c.loop-value-test.true c.value-item.is c.table_in.ensures found)
+      | inr found ↦ inr (any_table_at (λ t. HasInterfaceFault c.args.rfc3021 t _) c.args.values.now c.loop-value.value-index c.value-item.result _ c.loop-value-test.true c.value-item.is c.table_in.ensures found)
     ])

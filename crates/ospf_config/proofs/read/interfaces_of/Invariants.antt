@@ -6,4 +6,4 @@ use Rattle.ospf_config.specs.Tables.{tables_among}
 use Rattle.ospf_config.proofs.read.interfaces_of.Given as goal
 
 abbrev pub invariant-loop-value : goal.invariant-loop-value
-invariant-loop-value l = AllZip IsInterfaceOf (tables_among (items_view (take l.value-index l.values))) l.interfaces.items
+invariant-loop-value l = AllZip (IsInterfaceOf l.rfc3021) (tables_among (items_view (take l.value-index l.values))) l.interfaces.items
