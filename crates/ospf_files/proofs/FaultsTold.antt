@@ -1,8 +1,9 @@
 -- A fault holds where there is a place that has it: so the faults with places are those that hold.
-use Rattle.std.proofs.Common.{◌≡◌, ◌==◌, ◌∙◌, ◌⊎◌, false, true, ℕ, zero, suc, ◌+◌, ◌<◌, List, [], ◌∷◌, ◌++◌, length, take, get_or, Some, None, inl, inr, refl, sym, ap, subst, arith}
+use Rattle.std.proofs.Common.{◌≡◌, ◌==◌, ◌∙◌, ◌⊎◌, Bool, false, true, ℕ, zero, suc, ◌+◌, ◌<◌, List, [], ◌∷◌, ◌++◌, length, take, get_or, Some, None, inl, inr, refl, sym, ap, subst, arith}
 use Rattle.std.specs.Prelude.{⊤, Any, slice_get}
 use Rattle.std.proofs.lemmas.Bool.{false≢true}
-use Rattle.std.proofs.lemmas.List.{take_more}
+use Rattle.std.proofs.lemmas.List.{take_more, take-append-le}
+use Rattle.std.proofs.Math.Seq.{take-append_seam}
 use Rattle.std.proofs.lemmas.Option.{same_Some}
 use Rattle.toml.specs.Data.{Members}
 use Rattle.toml.specs.Parse.{parse_document}
@@ -10,14 +11,16 @@ use Rattle.ospf_config.specs.declared.fault.ConfigFault.{ConfigFault}
 use Rattle.ospf_config.specs.declared.fault.ConfigFault.TheVariants as fault
 use Rattle.ospf_config.specs.Configs.{TextHasFault}
 use Rattle.ospf_config.specs.Fault.{config_fault_number}
-use Rattle.ospf_config.specs.Tables.{HasTopFault, HasInterfaceFault, HaveSamePrefix, IsDeadNotOverHello, HasOtherKey, HasKeyFault, HasConfigFault, interface_tables, keys_of, interface_keys}
+use Rattle.ospf_config.specs.Keys.{asks_rfc3021}
+use Rattle.ospf_config.specs.Tables.{HasTopFault, HasInterfaceFault, HasHostFault, HaveSamePrefix, IsAnyTaken, IsTaken, IsDeadNotOverHello, HasOtherKey, HasKeyFault, HasConfigFault, interface_tables, host_tables, keys_of, interface_keys, host_keys}
 use Rattle.ospf_config.proofs.PeerLists.{none_is_some}
 use Rattle.ospf_config.proofs.TableLists.{any_here, any_later, any_cons, any_none, any_append_left, any_last, any_snoc}
 use Rattle.ospf_files.specs.AllFaults.{AreAllExplained, AreFaultsExplained, no_fault_more, holds_here, holds_not, faults_of_tables}
-use Rattle.ospf_files.specs.Explained.{KeyHas, IsKnownPlace, ArePlacesOf, no_key, taken, passed, IsPlaceWhere, told, not_told, AreTopPlaces, AreInConflict, AreInterfacePlaces, AreAllPlaces, no_interface, one_more, AreTablePlaces, IsExplained, IsLinePlace, keys_at_top, keys_of_interface}
+use Rattle.ospf_files.specs.Explained.{KeyHas, IsKnownPlace, ArePlacesOf, no_key, taken, passed, IsPlaceWhere, told, not_told, AreTopPlaces, AreInConflict, AreInterfacePlaces, AreHostPlaces, AreAllPlaces, no_table, one_more, AreTablePlaces, IsExplained, IsLinePlace, keys_at_top, keys_of_interface, keys_of_host}
 use Rattle.ospf_files.specs.declared.all.FaultExplained.{FaultExplained}
 use Rattle.ospf_files.specs.declared.explained.Explained.{Explained}
-use Rattle.ospf_files.proofs.KeyFaults.{any_low, interface_fault_of, interface_keys_have, top_fault_of, top_keys_have}
+use Rattle.ospf_files.specs.declared.explained.Section.TheVariants as section
+use Rattle.ospf_files.proofs.KeyFaults.{any_low, host_fault_of, host_keys_have, interface_fault_of, interface_keys_have, top_fault_of, top_keys_have}
 
 -- ---- places, and whether the fact holds that they are told for
 
@@ -53,20 +56,21 @@ tells_where : (F : Type 0) (IsPlace : Explained → Type 0) (es : List Explained
 tells_where F IsPlace _ (told fact is) = tells fact
 tells_where F IsPlace _ (not_told none) = silent none
 
--- ---- the places of interfaces
+-- ---- the places of interfaces and of hosts
 
-module _ (f : ConfigFault) (Fact : List Members → Type 0) (Own : List Members → Members → Type 0) (none : Fact [] → ⊥)
+module _ (AreOwn : ℕ → List Members → Members → List Explained → Type 0) (Fact : List Members → Type 0) (Own : List Members → Members → Type 0) (none : Fact [] → ⊥)
     (split : (before : List Members) (t : Members) → Fact (before ++ t ∷ []) → Fact before ⊎ Own before t) (join : (before : List Members) (t : Members) → Fact before ⊎ Own before t → Fact (before ++ t ∷ []))
-    (here : (before : List Members) (t : Members) (es : List Explained) → AreInterfacePlaces (length before) before t f es → Tells (Own before t) es) where
-  tells_all : (ts : List Members) (es : List Explained) → AreAllPlaces f ts es → Tells (Fact ts) es
-  tells_all _ _ no_interface = silent none
+    (here : (before : List Members) (t : Members) (es : List Explained) → AreOwn (length before) before t es → Tells (Own before t) es) where
+  tells_all : (ts : List Members) (es : List Explained) → AreAllPlaces AreOwn ts es → Tells (Fact ts) es
+  tells_all _ _ no_table = silent none
   tells_all _ _ (one_more {before = before} t own {es = es} rest is) =
       tells_same _ _ (es ++ own) (join before t) (split before t) (tells_both _ _ es own (tells_all before es rest) (here before t own is))
 
-module _ (f : ConfigFault) (P : Members → Type 0) (here : (before : List Members) (t : Members) (es : List Explained) → AreInterfacePlaces (length before) before t f es → Tells (P t) es) where
-  tells_any : (ts : List Members) (es : List Explained) → AreAllPlaces f ts es → Tells (Any P ts) es
+module _ (AreOwn : ℕ → List Members → Members → List Explained → Type 0) (P : Members → Type 0)
+    (here : (before : List Members) (t : Members) (es : List Explained) → AreOwn (length before) before t es → Tells (P t) es) where
+  tells_any : (ts : List Members) (es : List Explained) → AreAllPlaces AreOwn ts es → Tells (Any P ts) es
   tells_any =
-      tells_all f (Any P) (λ before t. P t) (any_none P) (λ before t h. any_snoc P before t h)
+      tells_all AreOwn (Any P) (λ before t. P t) (any_none P) (λ before t h. any_snoc P before t h)
       (λ before t h. elim h [ inl some ↦ any_append_left P before (t ∷ []) some | inr p ↦ any_last P before t p ]) here
 
 -- ---- two interfaces of one prefix
@@ -100,11 +104,11 @@ get_split [] y (suc i) x at = absurd (none_is_some x at)
 get_split (z ∷ xs) y zero x at = inl at
 get_split (z ∷ xs) y (suc i) x at = elim (get_split xs y i x at) [ inl in_front ↦ inl in_front | inr (last, is) ↦ inr (ap suc last, is) ]
 
-prefix_none : HaveSamePrefix [] → ⊥
-prefix_none h = none_is_some h.first h.at_first
+prefix_none : (q : Bool) → HaveSamePrefix q [] → ⊥
+prefix_none q h = none_is_some h.first h.at_first
 
-prefix_split : (before : List Members) (t : Members) → HaveSamePrefix (before ++ t ∷ []) → HaveSamePrefix before ⊎ Any (λ first. AreInConflict first t) before
-prefix_split before t h =
+prefix_split : (q : Bool) (before : List Members) (t : Members) → HaveSamePrefix q (before ++ t ∷ []) → HaveSamePrefix q before ⊎ Any (λ first. AreInConflict q first t) before
+prefix_split q before t h =
     let lt : h.i < h.j = h.before in
     elim (get_split before t h.i h.first h.at_first) [
       | inl first_at ↦ elim (get_split before t h.j h.second h.at_second) [
@@ -123,8 +127,8 @@ prefix_split before t h =
           conflict = h.conflict;
         })
         | inr (last, is) ↦
-            let both : AreInConflict h.first h.second = record { a = h.a; b = h.b; first_address = h.first_address; second_address = h.second_address; conflict = h.conflict } in
-            inr (any_at (λ first. AreInConflict first t) before h.i h.first first_at (subst (λ s. AreInConflict h.first s) (sym is) both))
+            let both : AreInConflict q h.first h.second = record { a = h.a; b = h.b; first_address = h.first_address; second_address = h.second_address; conflict = h.conflict } in
+            inr (any_at (λ first. AreInConflict q first t) before h.i h.first first_at (subst (λ s. AreInConflict q h.first s) (sym is) both))
       ]
       | inr (last, is) ↦ elim (get_split before t h.j h.second h.at_second) [
         | inl second_at ↦ absurd (let within : h.j < length before = get_within before h.j h.second second_at in omega (arith, last))
@@ -132,8 +136,8 @@ prefix_split before t h =
       ]
     ]
 
-prefix_join : (before : List Members) (t : Members) → HaveSamePrefix before ⊎ Any (λ first. AreInConflict first t) before → HaveSamePrefix (before ++ t ∷ [])
-prefix_join before t (inl h) = record {
+prefix_join : (q : Bool) (before : List Members) (t : Members) → HaveSamePrefix q before ⊎ Any (λ first. AreInConflict q first t) before → HaveSamePrefix q (before ++ t ∷ [])
+prefix_join q before t (inl h) = record {
   i = h.i;
   j = h.j;
   before = h.before;
@@ -147,7 +151,7 @@ prefix_join before t (inl h) = record {
   second_address = h.second_address;
   conflict = h.conflict;
 }
-prefix_join before t (inr some) = (let (i, first, at, both) = at_any (λ first. AreInConflict first t) before some in record {
+prefix_join q before t (inr some) = (let (i, first, at, both) = at_any (λ first. AreInConflict q first t) before some in record {
   i = i;
   j = length before;
   before = get_within before i first at;
@@ -162,47 +166,109 @@ prefix_join before t (inr some) = (let (i, first, at, both) = at_any (λ first. 
   conflict = both.conflict;
 })
 
+-- ---- a host at the address of an interface or of a host before it
+
+taken_none : (q : Bool) (is : List Members) → IsAnyTaken q is [] → ⊥
+taken_none q is h = none_is_some h.host h.at_place
+
+taken_split : (q : Bool) (is before : List Members) (t : Members) → IsAnyTaken q is (before ++ t ∷ []) → IsAnyTaken q is before ⊎ IsTaken q is before t
+taken_split q is before t h =
+    elim (get_split before t h.place h.host h.at_place) [
+      | inl in_front ↦
+          (let within : h.place < length before = get_within before h.place h.host in_front in
+          inl (record { place = h.place; host = h.host; at_place = in_front; taken = (rw (take-append-le h.place before (t ∷ []) (omega arith)) at h.taken) }))
+      | inr (last, same) ↦
+          (let whole : take h.place (before ++ t ∷ []) ≡ before = ap (λ n. take n (before ++ t ∷ [])) last ∙ take-append_seam before (t ∷ []) in
+          let taken : IsTaken q is before h.host = (rw whole at h.taken) in
+          inr (subst (λ x. IsTaken q is before x) (sym same) taken))
+    ]
+
+taken_join : (q : Bool) (is before : List Members) (t : Members) → IsAnyTaken q is before ⊎ IsTaken q is before t → IsAnyTaken q is (before ++ t ∷ [])
+taken_join q is before t (inl h) = record {
+  place = h.place;
+  host = h.host;
+  at_place = get_front before (t ∷ []) h.place h.host h.at_place;
+  taken = (let within : h.place < length before = get_within before h.place h.host h.at_place in rw (take-append-le h.place before (t ∷ []) (omega arith)) h.taken);
+}
+taken_join q is before t (inr own) = record {
+  place = length before;
+  host = t;
+  at_place = get_last before t;
+  taken = rw (take-append_seam before (t ∷ [])) own;
+}
+
 -- ---- the places of a table
 
-own_key : (f : ConfigFault) (before : List Members) (t : Members) (es : List Explained) → ArePlacesOf (KeyHas t f) (IsKnownPlace (Some (length before)) t) keys_of_interface es
-    → Tells (HasInterfaceFault t f) es
-own_key f before t es are = tells_same _ _ es (interface_fault_of t f) (interface_keys_have t f) (tells_keys _ _ keys_of_interface es are)
+own_key : (q : Bool) (f : ConfigFault) (before : List Members) (t : Members) (es : List Explained) → ArePlacesOf (KeyHas q t f) (IsKnownPlace (section.Interface (length before)) t) keys_of_interface es
+    → Tells (HasInterfaceFault q t f) es
+own_key q f before t es are = tells_same _ _ es (interface_fault_of q t f) (interface_keys_have q t f) (tells_keys _ _ keys_of_interface es are)
+
+host_key : (q : Bool) (f : ConfigFault) (before : List Members) (t : Members) (es : List Explained) → ArePlacesOf (KeyHas q t f) (IsKnownPlace (section.Host (length before)) t) keys_of_host es
+    → Tells (HasHostFault t f) es
+host_key q f before t es are = tells_same _ _ es (host_fault_of q t f) (host_keys_have q t f) (tells_keys _ _ keys_of_host es are)
 
 module _ (t : Members) where
-  at_top : (f : ConfigFault) (es : List Explained) → ArePlacesOf (KeyHas t f) (IsKnownPlace None t) keys_at_top es → Tells (HasTopFault t f) es
-  at_top f es are = tells_same _ _ es (top_fault_of t f) (top_keys_have t f) (tells_keys _ _ keys_at_top es are)
+  abbrev Q : Bool
+  Q = asks_rfc3021 t
 
-  key_fault : (f : ConfigFault) (top own : List Explained) → ArePlacesOf (KeyHas t f) (IsKnownPlace None t) keys_at_top top
-      → ((before : List Members) (u : Members) (es : List Explained) → AreInterfacePlaces (length before) before u f es → Tells (HasInterfaceFault u f) es) → AreAllPlaces f (interface_tables t) own
-      → Tells (HasKeyFault t f) (top ++ own)
-  key_fault f top own are here all = tells_both _ _ top own (at_top f top are) (tells_any f (λ i. HasInterfaceFault i f) here (interface_tables t) own all)
+  abbrev Interfaces : ConfigFault → List Explained → Type 0
+  Interfaces f own = AreAllPlaces (AreInterfacePlaces Q f) (interface_tables t) own
+
+  abbrev Hosts : ConfigFault → List Explained → Type 0
+  Hosts f last = AreAllPlaces (AreHostPlaces Q (interface_tables t) f) (host_tables t) last
+
+  at_top : (f : ConfigFault) (es : List Explained) → ArePlacesOf (KeyHas Q t f) (IsKnownPlace section.Top t) keys_at_top es → Tells (HasTopFault t f) es
+  at_top f es are = tells_same _ _ es (top_fault_of Q t f) (top_keys_have Q t f) (tells_keys _ _ keys_at_top es are)
+
+  key_fault : (f : ConfigFault) (top own last : List Explained) → ArePlacesOf (KeyHas Q t f) (IsKnownPlace section.Top t) keys_at_top top
+      → ((before : List Members) (u : Members) (es : List Explained) → AreInterfacePlaces Q f (length before) before u es → Tells (HasInterfaceFault Q u f) es)
+      → ((before : List Members) (u : Members) (es : List Explained) → AreHostPlaces Q (interface_tables t) f (length before) before u es → Tells (HasHostFault u f) es) → Interfaces f own → Hosts f last
+      → Tells (HasKeyFault t f) (top ++ (own ++ last))
+  key_fault f top own last are here host_here interfaces hosts =
+      tells_both _ _ top (own ++ last) (at_top f top are)
+      (tells_both _ _ own last (tells_any (AreInterfacePlaces Q f) (λ i. HasInterfaceFault Q i f) here (interface_tables t) own interfaces)
+      (tells_any (AreHostPlaces Q (interface_tables t) f) (λ h. HasHostFault h f) host_here (host_tables t) last hosts))
 
   -- no key at the top has a fault of several keys
-  none_at_top : (f : ConfigFault) (F : Type 0) (top own : List Explained) → (config_fault_number f < 6 → ⊥) → ArePlacesOf (KeyHas t f) (IsKnownPlace None t) keys_at_top top → Tells F own
+  none_at_top : (f : ConfigFault) (F : Type 0) (top own : List Explained) → (config_fault_number f < 6 → ⊥) → ArePlacesOf (KeyHas Q t f) (IsKnownPlace section.Top t) keys_at_top top → Tells F own
       → Tells F (top ++ own)
   none_at_top f F top own high are later =
-      tells_same _ _ (top ++ own) (λ h. elim h [ inl has ↦ absurd (high (let low = any_low t f keys_at_top has in omega (arith, low))) | inr fact ↦ fact ]) inr
+      tells_same _ _ (top ++ own) (λ h. elim h [ inl has ↦ absurd (high (let low = any_low Q t f keys_at_top has in omega (arith, low))) | inr fact ↦ fact ]) inr
       (tells_both _ _ top own (tells_keys _ _ keys_at_top top are) later)
 
-  of_parts : (f : ConfigFault) (top own : List Explained) → AreTopPlaces t f top → AreAllPlaces f (interface_tables t) own → Tells (HasConfigFault t f) (top ++ own)
-  of_parts fault.NotToml top own are all = key_fault fault.NotToml top own are (own_key fault.NotToml) all
-  of_parts fault.Missing top own are all = key_fault fault.Missing top own are (own_key fault.Missing) all
-  of_parts fault.Type top own are all = key_fault fault.Type top own are (own_key fault.Type) all
-  of_parts fault.Range top own are all = key_fault fault.Range top own are (own_key fault.Range) all
-  of_parts fault.ZeroCost top own are all = key_fault fault.ZeroCost top own are (own_key fault.ZeroCost) all
-  of_parts fault.SamePrefix top own are all =
-      none_at_top fault.SamePrefix _ top own (λ few. omega (arith, few)) are
-      (tells_all fault.SamePrefix HaveSamePrefix (λ before u. Any (λ first. AreInConflict first u) before) prefix_none prefix_split prefix_join (λ before u es is. tells_where _ _ es is) (interface_tables t) own all)
-  of_parts fault.DeadNotOverHello top own are all =
-      none_at_top fault.DeadNotOverHello _ top own (λ few. omega (arith, few)) are
-      (tells_any fault.DeadNotOverHello IsDeadNotOverHello (λ before u es is. tells_where _ _ es is) (interface_tables t) own all)
-  of_parts fault.Unknown top own are all =
-      tells_both _ _ top own (tells_keys _ _ (keys_of t) top are)
-      (tells_any fault.Unknown (HasOtherKey interface_keys) (λ before u es is. tells_keys _ _ (keys_of u) es is) (interface_tables t) own all)
-  of_parts fault.Memory top own are all = key_fault fault.Memory top own are (own_key fault.Memory) all
+  -- hosts have no interval
+  none_of_hosts : (F : Type 0) (own last : List Explained) → Tells F own → Hosts fault.DeadNotOverHello last → Tells F (own ++ last)
+  none_of_hosts F own last first hosts =
+      let Keys : Members → Type 0 = λ h. Any (KeyHas Q h fault.DeadNotOverHello) keys_of_host in
+      let later : Tells (Any Keys (host_tables t)) last =
+      tells_any (AreHostPlaces Q (interface_tables t) fault.DeadNotOverHello) Keys (λ before u es is. tells_keys _ _ keys_of_host es is) (host_tables t) last hosts in
+      tells_same _ _ (own ++ last) (λ h. elim h [ inl fact ↦ fact | inr (i, u, lt, at, has) ↦ absurd (let low = any_low Q u fault.DeadNotOverHello keys_of_host has in omega (arith, low)) ]) inl
+      (tells_both _ _ own last first later)
+
+  of_parts : (f : ConfigFault) (top own last : List Explained) → AreTopPlaces t f top → Interfaces f own → Hosts f last → Tells (HasConfigFault t f) (top ++ (own ++ last))
+  of_parts fault.NotToml top own last are all hosts = key_fault fault.NotToml top own last are (own_key Q fault.NotToml) (host_key Q fault.NotToml) all hosts
+  of_parts fault.Missing top own last are all hosts = key_fault fault.Missing top own last are (own_key Q fault.Missing) (host_key Q fault.Missing) all hosts
+  of_parts fault.Type top own last are all hosts = key_fault fault.Type top own last are (own_key Q fault.Type) (host_key Q fault.Type) all hosts
+  of_parts fault.Range top own last are all hosts = key_fault fault.Range top own last are (own_key Q fault.Range) (host_key Q fault.Range) all hosts
+  of_parts fault.ZeroCost top own last are all hosts = key_fault fault.ZeroCost top own last are (own_key Q fault.ZeroCost) (host_key Q fault.ZeroCost) all hosts
+  of_parts fault.SamePrefix top own last are all hosts =
+      none_at_top fault.SamePrefix _ top (own ++ last) (λ few. omega (arith, few)) are
+      (tells_both _ _ own last
+      (tells_all (AreInterfacePlaces Q fault.SamePrefix) (HaveSamePrefix Q) (λ before u. Any (λ first. AreInConflict Q first u) before) (prefix_none Q) (prefix_split Q) (prefix_join Q)
+      (λ before u es is. tells_where _ _ es is) (interface_tables t) own all)
+      (tells_all (AreHostPlaces Q (interface_tables t) fault.SamePrefix) (IsAnyTaken Q (interface_tables t)) (IsTaken Q (interface_tables t)) (taken_none Q (interface_tables t))
+      (taken_split Q (interface_tables t)) (taken_join Q (interface_tables t)) (λ before u es is. tells_where _ _ es is) (host_tables t) last hosts))
+  of_parts fault.DeadNotOverHello top own last are all hosts =
+      none_at_top fault.DeadNotOverHello _ top (own ++ last) (λ few. omega (arith, few)) are
+      (none_of_hosts _ own last (tells_any (AreInterfacePlaces Q fault.DeadNotOverHello) IsDeadNotOverHello (λ before u es is. tells_where _ _ es is) (interface_tables t) own all) hosts)
+  of_parts fault.Unknown top own last are all hosts =
+      tells_both _ _ top (own ++ last) (tells_keys _ _ (keys_of t) top are)
+      (tells_both _ _ own last (tells_any (AreInterfacePlaces Q fault.Unknown) (HasOtherKey interface_keys) (λ before u es is. tells_keys _ _ (keys_of u) es is) (interface_tables t) own all)
+      (tells_any (AreHostPlaces Q (interface_tables t) fault.Unknown) (HasOtherKey host_keys) (λ before u es is. tells_keys _ _ (keys_of u) es is) (host_tables t) last hosts))
+  of_parts fault.Memory top own last are all hosts = key_fault fault.Memory top own last are (own_key Q fault.Memory) (host_key Q fault.Memory) all hosts
 
   pub tells_fault : (f : ConfigFault) (es : List Explained) → AreTablePlaces t f es → Tells (HasConfigFault t f) es
-  tells_fault f es are = rw are.all (of_parts f are.at_top are.of_interfaces are.top are.interfaces)
+  tells_fault f es are = rw are.all (of_parts f are.at_top are.of_interfaces are.of_hosts are.top are.interfaces are.hosts)
 
 -- ---- one fault after the other
 
@@ -277,8 +343,10 @@ module _ (text : List ℕ) (t : Members) (parsed : parse_document text ≡ Some 
 
   never_memory : TextHasFault text fault.Memory → ⊥
   never_memory h = elim (table_has fault.Memory h) [
-    | inl top ↦ (let low = any_low t fault.Memory keys_at_top (top_keys_have t fault.Memory top) in omega (arith, low))
-    | inr (i, u, lt, at, has) ↦ (let low = any_low u fault.Memory keys_of_interface (interface_keys_have u fault.Memory has) in omega (arith, low))
+    | inl top ↦ (let low = any_low (asks_rfc3021 t) t fault.Memory keys_at_top (top_keys_have (asks_rfc3021 t) t fault.Memory top) in omega (arith, low))
+    | inr (inl (i, u, lt, at, has)) ↦
+        (let low = any_low (asks_rfc3021 t) u fault.Memory keys_of_interface (interface_keys_have (asks_rfc3021 t) u fault.Memory has) in omega (arith, low))
+    | inr (inr (i, u, lt, at, has)) ↦ (let low = any_low (asks_rfc3021 t) u fault.Memory keys_of_host (host_keys_have (asks_rfc3021 t) u fault.Memory has) in omega (arith, low))
   ]
 
   pub all_of_table : (es : List FaultExplained) → AreFaultsExplained (HasConfigFault t) (AreTablePlaces t) faults_of_tables es → AreAllExplained text es

@@ -1,16 +1,16 @@
 -- Which faults a key can have.
-use Rattle.std.proofs.Common.{◌≡◌, ◌⊎◌, ℕ, zero, suc, ℤ, pos, negsuc, ◌≤◌, false, List, [], ◌∷◌, codes, Option, Some, None, Result, Ok, Err, inl, inr, arith}
+use Rattle.std.proofs.Common.{◌≡◌, ◌⊎◌, ℕ, zero, suc, ℤ, pos, negsuc, ◌≤◌, Bool, false, List, [], ◌∷◌, codes, Option, Some, None, Result, Ok, Err, inl, inr, arith}
 use Rattle.std.specs.Prelude.{Any}
 use Rattle.toml.specs.Data.{Data, Members, get_member, as_str, as_bool, as_integer}
 use Rattle.ospf_config.specs.declared.fault.ConfigFault.{ConfigFault}
 use Rattle.ospf_config.specs.declared.fault.ConfigFault.TheVariants as fault
 use Rattle.ospf_config.specs.Fault.{config_fault_number}
 use Rattle.ospf_config.specs.Reading.{ReadsValue, Required, Optional, IsNumberIn, as_integers}
-use Rattle.ospf_config.specs.Texts.{IsRouterIdText, IsAreaText, IsOtherLsasText, IsKindText, IsAddressText}
-use Rattle.ospf_config.specs.Keys.{ReadsCostValue, ReadsCostAt, IsPortNumber, ArePortNumbers}
-use Rattle.ospf_config.specs.Tables.{HasTopFault, in_router_id, in_area, in_stub_router, in_other_lsas, in_interface, HasInterfaceFault, in_kind, in_address, in_cost, in_priority, in_hello, in_dead, in_retransmit, in_transmit_delay, in_mtu, in_port, in_peers, AreInterfaceTables, as_tables}
+use Rattle.ospf_config.specs.Texts.{IsRouterIdText, IsAreaText, IsOtherLsasText, IsKindText, IsAddressText, IsHostText}
+use Rattle.ospf_config.specs.Keys.{MayHave31Bits, ReadsCostValue, ReadsCostAt, IsPortNumber, ArePortNumbers}
+use Rattle.ospf_config.specs.Tables.{HasTopFault, in_router_id, in_area, in_stub_router, in_other_lsas, in_rfc3021, in_interface, in_host, HasInterfaceFault, in_kind, in_address, in_cost, in_priority, in_hello, in_dead, in_retransmit, in_transmit_delay, in_mtu, in_port, in_peers, HasHostFault, in_host_address, in_host_cost, AreInterfaceTables, AreHostTables, as_tables}
 use Rattle.ospf_config.proofs.TableLists.{any_here, any_later, any_cons, any_none}
-use Rattle.ospf_files.specs.Explained.{KnownKey, KeyHas, keys_at_top, keys_of_interface, router_id_key, area_key, stub_router_key, other_lsas_key, interface_key, kind_key, address_key, cost_key, priority_key, hello_key, dead_key, retransmit_key, transmit_delay_key, mtu_key, port_key, peers_key}
+use Rattle.ospf_files.specs.Explained.{KnownKey, KeyHas, keys_at_top, keys_of_interface, keys_of_host, router_id_key, area_key, stub_router_key, other_lsas_key, rfc3021_key, interface_key, host_key, kind_key, address_key, cost_key, priority_key, hello_key, dead_key, retransmit_key, transmit_delay_key, mtu_key, port_key, peers_key, host_address_key, host_cost_key}
 
 -- ---- the number of a key's fault
 
@@ -46,16 +46,20 @@ cost_low : (o : Option Data) (f : ConfigFault) → ReadsCostAt o (Err f) → con
 cost_low None f h = number_of ℕ f fault.Missing h (omega arith)
 cost_low (Some d) f h = cost_value_low (as_integer d) f h
 
-module _ (t : Members) (f : ConfigFault) where
+module _ (q : Bool) (t : Members) (f : ConfigFault) where
   -- no fault of several keys
-  pub key_low : (k : KnownKey) → KeyHas t f k → config_fault_number f ≤ 5
+  pub key_low : (k : KnownKey) → KeyHas q t f k → config_fault_number f ≤ 5
   key_low router_id_key h = required_low IsRouterIdText as_str (get_member (codes "router_id") t) f h
   key_low area_key h = required_low IsAreaText as_str (get_member (codes "area") t) f h
   key_low stub_router_key h = optional_low (λ b c. b ≡ c) as_bool false (get_member (codes "stub_router") t) f h
   key_low other_lsas_key h = optional_low IsOtherLsasText as_str false (get_member (codes "other_lsas") t) f h
+  key_low rfc3021_key h = optional_low (λ b c. b ≡ c) as_bool false (get_member (codes "rfc3021") t) f h
+  key_low host_key h = optional_low AreHostTables as_tables [] (get_member (codes "host") t) f h
+  key_low host_address_key h = required_low IsHostText as_str (get_member (codes "address") t) f h
+  key_low host_cost_key h = required_low (IsNumberIn 0 65535) as_integer (get_member (codes "cost") t) f h
   key_low interface_key h = required_low AreInterfaceTables as_tables (get_member (codes "interface") t) f h
   key_low kind_key h = required_low IsKindText as_str (get_member (codes "kind") t) f h
-  key_low address_key h = required_low IsAddressText as_str (get_member (codes "address") t) f h
+  key_low address_key h = required_low (IsAddressText (MayHave31Bits q t)) as_str (get_member (codes "address") t) f h
   key_low cost_key h = cost_low (get_member (codes "cost") t) f h
   key_low priority_key h = optional_low (IsNumberIn 0 255) as_integer 1 (get_member (codes "priority") t) f h
   key_low hello_key h = optional_low (IsNumberIn 1 65535) as_integer 10 (get_member (codes "hello") t) f h
@@ -69,7 +73,7 @@ module _ (t : Members) (f : ConfigFault) where
   -- ---- the keys at the top, and those of an interface
 
   abbrev Has : KnownKey → Type 0
-  Has k = KeyHas t f k
+  Has k = KeyHas q t f k
 
   pub any_low : (ks : List KnownKey) → Any Has ks → config_fault_number f ≤ 5
   any_low ks (i, k, lt, at, h) = key_low k h
@@ -93,9 +97,15 @@ module _ (t : Members) (f : ConfigFault) where
   top_keys_have (in_area h) = any_of keys_at_top (inr (inl h))
   top_keys_have (in_stub_router h) = any_of keys_at_top (inr (inr (inl h)))
   top_keys_have (in_other_lsas h) = any_of keys_at_top (inr (inr (inr (inl h))))
-  top_keys_have (in_interface h) = any_of keys_at_top (inr (inr (inr (inr (inl h)))))
+  top_keys_have (in_rfc3021 h) = any_of keys_at_top (inr (inr (inr (inr (inl h)))))
+  top_keys_have (in_interface h) = any_of keys_at_top (inr (inr (inr (inr (inr (inl h))))))
+  top_keys_have (in_host h) = any_of keys_at_top (inr (inr (inr (inr (inr (inr (inl h)))))))
 
-  pub interface_keys_have : HasInterfaceFault t f → Any Has keys_of_interface
+  pub host_keys_have : HasHostFault t f → Any Has keys_of_host
+  host_keys_have (in_host_address h) = any_of keys_of_host (inl h)
+  host_keys_have (in_host_cost h) = any_of keys_of_host (inr (inl h))
+
+  pub interface_keys_have : HasInterfaceFault q t f → Any Has keys_of_interface
   interface_keys_have (in_kind h) = any_of keys_of_interface (inl h)
   interface_keys_have (in_address h) = any_of keys_of_interface (inr (inl h))
   interface_keys_have (in_cost h) = any_of keys_of_interface (inr (inr (inl h)))
@@ -113,10 +123,17 @@ module _ (t : Members) (f : ConfigFault) where
   top_one (inr (inl h)) = in_area h
   top_one (inr (inr (inl h))) = in_stub_router h
   top_one (inr (inr (inr (inl h)))) = in_other_lsas h
-  top_one (inr (inr (inr (inr (inl h))))) = in_interface h
-  top_one (inr (inr (inr (inr (inr h))))) = absurd h
+  top_one (inr (inr (inr (inr (inl h))))) = in_rfc3021 h
+  top_one (inr (inr (inr (inr (inr (inl h)))))) = in_interface h
+  top_one (inr (inr (inr (inr (inr (inr (inl h))))))) = in_host h
+  top_one (inr (inr (inr (inr (inr (inr (inr h))))))) = absurd h
 
-  interface_one : OneOf keys_of_interface → HasInterfaceFault t f
+  host_one : OneOf keys_of_host → HasHostFault t f
+  host_one (inl h) = in_host_address h
+  host_one (inr (inl h)) = in_host_cost h
+  host_one (inr (inr h)) = absurd h
+
+  interface_one : OneOf keys_of_interface → HasInterfaceFault q t f
   interface_one (inl h) = in_kind h
   interface_one (inr (inl h)) = in_address h
   interface_one (inr (inr (inl h))) = in_cost h
@@ -133,5 +150,8 @@ module _ (t : Members) (f : ConfigFault) where
   pub top_fault_of : Any Has keys_at_top → HasTopFault t f
   top_fault_of h = top_one (one_of keys_at_top h)
 
-  pub interface_fault_of : Any Has keys_of_interface → HasInterfaceFault t f
+  pub interface_fault_of : Any Has keys_of_interface → HasInterfaceFault q t f
   interface_fault_of h = interface_one (one_of keys_of_interface h)
+
+  pub host_fault_of : Any Has keys_of_host → HasHostFault t f
+  host_fault_of h = host_one (one_of keys_of_host h)

@@ -10,11 +10,13 @@ use Rattle.ospf_config.specs.declared.address.InterfaceAddress.{InterfaceAddress
 use Rattle.ospf_files.specs.declared.explained.Explained.{Explained}
 use Rattle.ospf_files.specs.declared.explained.Explained.TheVariants as said
 use Rattle.ospf_files.specs.declared.explained.KeyExplained.{KeyExplained}
+use Rattle.ospf_files.specs.declared.explained.Section.{Section}
+use Rattle.ospf_files.specs.declared.explained.Section.TheVariants as section
 use Rattle.ospf_config.specs.declared.fault.ConfigFault.{ConfigFault}
 use Rattle.ospf_config.specs.declared.fault.ConfigFault.TheVariants as fault
 use Rattle.ospf_config.specs.Conflicts.{Conflict}
-use Rattle.ospf_config.specs.Keys.{ReadsOwnRouterId, ReadsArea, ReadsStubRouter, ReadsOtherLsas, ReadsKind, ReadsInterfaceAddress, ReadsCost, ReadsPriority, ReadsHello, ReadsDead, ReadsRetransmit, ReadsTransmitDelay, ReadsMtu, ReadsPort, ReadsPeers}
-use Rattle.ospf_config.specs.Tables.{ReadsInterfaces, IsDeadNotOverHello, IsOtherKey, interface_tables, keys_of, top_keys, interface_keys}
+use Rattle.ospf_config.specs.Keys.{ReadsOwnRouterId, ReadsArea, ReadsStubRouter, ReadsOtherLsas, ReadsRfc3021, asks_rfc3021, ReadsKind, ReadsInterfaceAddress, ReadsCost, ReadsPriority, ReadsHello, ReadsDead, ReadsRetransmit, ReadsTransmitDelay, ReadsMtu, ReadsPort, ReadsPeers, ReadsHostAddress, ReadsHostCost}
+use Rattle.ospf_config.specs.Tables.{ReadsInterfaces, ReadsHosts, IsDeadNotOverHello, IsTaken, IsOtherKey, interface_tables, host_tables, keys_of, top_keys, interface_keys, host_keys}
 
 -- ---- the keys
 
@@ -24,7 +26,9 @@ pub data KnownKey : Type 0 where
   area_key : KnownKey
   stub_router_key : KnownKey
   other_lsas_key : KnownKey
+  rfc3021_key : KnownKey
   interface_key : KnownKey
+  host_key : KnownKey
   kind_key : KnownKey
   address_key : KnownKey
   cost_key : KnownKey
@@ -36,10 +40,14 @@ pub data KnownKey : Type 0 where
   mtu_key : KnownKey
   port_key : KnownKey
   peers_key : KnownKey
+  host_address_key : KnownKey
+  host_cost_key : KnownKey
 
 -- the keys at the top, in the order in which they are listed
 abbrev pub keys_at_top : List KnownKey
-keys_at_top = router_id_key ∷ area_key ∷ stub_router_key ∷ other_lsas_key ∷ interface_key ∷ []
+keys_at_top =
+    router_id_key ∷ area_key ∷ stub_router_key ∷ other_lsas_key ∷ rfc3021_key ∷ interface_key
+    ∷ host_key ∷ []
 
 -- the keys of an interface, in the order in which they are listed
 abbrev pub keys_of_interface : List KnownKey
@@ -48,13 +56,19 @@ keys_of_interface =
     ∷ transmit_delay_key ∷ mtu_key
     ∷ port_key ∷ peers_key ∷ []
 
+-- the keys of a host, in the order in which they are listed
+abbrev pub keys_of_host : List KnownKey
+keys_of_host = host_address_key ∷ host_cost_key ∷ []
+
 -- the key itself
 abbrev pub key_name : KnownKey → List ℕ
 key_name router_id_key = codes "router_id"
 key_name area_key = codes "area"
 key_name stub_router_key = codes "stub_router"
 key_name other_lsas_key = codes "other_lsas"
+key_name rfc3021_key = codes "rfc3021"
 key_name interface_key = codes "interface"
+key_name host_key = codes "host"
 key_name kind_key = codes "kind"
 key_name address_key = codes "address"
 key_name cost_key = codes "cost"
@@ -66,6 +80,8 @@ key_name transmit_delay_key = codes "transmit_delay"
 key_name mtu_key = codes "mtu"
 key_name port_key = codes "port"
 key_name peers_key = codes "peers"
+key_name host_address_key = codes "address"
+key_name host_cost_key = codes "cost"
 
 -- what belongs at the key, in words
 abbrev pub wanted_at : KnownKey → List ℕ
@@ -73,7 +89,9 @@ wanted_at router_id_key = codes "a dotted string such as \"10.0.0.1\", not \"0.0
 wanted_at area_key = codes "a dotted string such as \"0.0.0.1\","
 wanted_at stub_router_key = codes "true or false"
 wanted_at other_lsas_key = codes "\"refuse\" or \"pass over\""
+wanted_at rfc3021_key = codes "true or false"
 wanted_at interface_key = codes "1 to 32 tables [[interface]]"
+wanted_at host_key = codes "at most 32 tables [[host]]"
 wanted_at kind_key = codes "\"point-to-point\" or \"broadcast\""
 wanted_at address_key =
     codes "a host address and prefix length, 1 to 30, such as \"10.0.0.1/30\","
@@ -86,25 +104,32 @@ wanted_at transmit_delay_key = codes "1 to 3600"
 wanted_at mtu_key = codes "576 to 9000"
 wanted_at port_key = codes "0, or 1024 to 65535,"
 wanted_at peers_key = codes "an array of at most 32 ports, each 1024 to 65535,"
+wanted_at host_address_key = codes "a dotted unicast address such as \"192.0.2.1\","
+wanted_at host_cost_key = codes "0 to 65535"
 
--- the key of the table has the fault
-abbrev pub KeyHas : Members → ConfigFault → KnownKey → Type 0
-KeyHas t f router_id_key = ReadsOwnRouterId t (Err f)
-KeyHas t f area_key = ReadsArea t (Err f)
-KeyHas t f stub_router_key = ReadsStubRouter t (Err f)
-KeyHas t f other_lsas_key = ReadsOtherLsas t (Err f)
-KeyHas t f interface_key = ReadsInterfaces t (Err f)
-KeyHas t f kind_key = ReadsKind t (Err f)
-KeyHas t f address_key = ReadsInterfaceAddress t (Err f)
-KeyHas t f cost_key = ReadsCost t (Err f)
-KeyHas t f priority_key = ReadsPriority t (Err f)
-KeyHas t f hello_key = ReadsHello t (Err f)
-KeyHas t f dead_key = ReadsDead t (Err f)
-KeyHas t f retransmit_key = ReadsRetransmit t (Err f)
-KeyHas t f transmit_delay_key = ReadsTransmitDelay t (Err f)
-KeyHas t f mtu_key = ReadsMtu t (Err f)
-KeyHas t f port_key = ReadsPort t (Err f)
-KeyHas t f peers_key = ReadsPeers t (Err f)
+-- the key of the table has the fault, in a configuration that asks for prefixes of 31 bits or does
+-- not
+abbrev pub KeyHas : Bool → Members → ConfigFault → KnownKey → Type 0
+KeyHas q t f router_id_key = ReadsOwnRouterId t (Err f)
+KeyHas q t f area_key = ReadsArea t (Err f)
+KeyHas q t f stub_router_key = ReadsStubRouter t (Err f)
+KeyHas q t f other_lsas_key = ReadsOtherLsas t (Err f)
+KeyHas q t f rfc3021_key = ReadsRfc3021 t (Err f)
+KeyHas q t f interface_key = ReadsInterfaces t (Err f)
+KeyHas q t f host_key = ReadsHosts t (Err f)
+KeyHas q t f kind_key = ReadsKind t (Err f)
+KeyHas q t f address_key = ReadsInterfaceAddress q t (Err f)
+KeyHas q t f cost_key = ReadsCost t (Err f)
+KeyHas q t f priority_key = ReadsPriority t (Err f)
+KeyHas q t f hello_key = ReadsHello t (Err f)
+KeyHas q t f dead_key = ReadsDead t (Err f)
+KeyHas q t f retransmit_key = ReadsRetransmit t (Err f)
+KeyHas q t f transmit_delay_key = ReadsTransmitDelay t (Err f)
+KeyHas q t f mtu_key = ReadsMtu t (Err f)
+KeyHas q t f port_key = ReadsPort t (Err f)
+KeyHas q t f peers_key = ReadsPeers t (Err f)
+KeyHas q t f host_address_key = ReadsHostAddress t (Err f)
+KeyHas q t f host_cost_key = ReadsHostCost t (Err f)
 
 -- ---- one place
 
@@ -145,23 +170,23 @@ IsKeyText key text = elim (is_bare key) [
   | false ↦ IsQuotedText key text
 ]
 
--- the place of a key: the number of its interface, if any, what belongs there and what was found
-pub record IsKeyPlace (number : Option ℕ) (t : Members) (key wanted : List ℕ) (e : Explained)
+-- the place of a key: the table that it stands in, what belongs there and what was found
+pub record IsKeyPlace (at : Section) (t : Members) (key wanted : List ℕ) (e : Explained)
     : Type 0 where
   pub place : KeyExplained
   pub is_key : e ≡ said.Key place
-  pub number_is : place.interface ≡ number
+  pub section_is : place.section ≡ at
   pub key_is : IsKeyText key (string_bytes place.key)
   pub wanted_is : place.wanted.now ≡ wanted
   pub found_is : IsFoundText (get_member key t) (option_map (λ text. string_bytes text) place.found)
 
 -- the place of a key that the configuration knows
-abbrev pub IsKnownPlace : Option ℕ → Members → KnownKey → Explained → Type 0
-IsKnownPlace number t k e = IsKeyPlace number t (key_name k) (wanted_at k) e
+abbrev pub IsKnownPlace : Section → Members → KnownKey → Explained → Type 0
+IsKnownPlace at t k e = IsKeyPlace at t (key_name k) (wanted_at k) e
 
 -- the place of a key that it does not know
-abbrev pub IsUnknownPlace : Option ℕ → Members → List ℕ → Explained → Type 0
-IsUnknownPlace number t key e = IsKeyPlace number t key (codes "a known key") e
+abbrev pub IsUnknownPlace : Section → Members → List ℕ → Explained → Type 0
+IsUnknownPlace at t key e = IsKeyPlace at t key (codes "a known key") e
 
 -- ---- the places of a table
 
@@ -182,46 +207,67 @@ pub data IsPlaceWhere (Fact : Type 0) (IsPlace : Explained → Type 0) : List Ex
 -- the places at the top
 abbrev pub AreTopPlaces : Members → ConfigFault → List Explained → Type 0
 AreTopPlaces t fault.Unknown es =
-    ArePlacesOf (IsOtherKey top_keys) (IsUnknownPlace None t) (keys_of t) es
-AreTopPlaces t f es = ArePlacesOf (KeyHas t f) (IsKnownPlace None t) keys_at_top es
+    ArePlacesOf (IsOtherKey top_keys) (IsUnknownPlace section.Top t) (keys_of t) es
+AreTopPlaces t f es =
+    ArePlacesOf (KeyHas (asks_rfc3021 t) t f) (IsKnownPlace section.Top t) keys_at_top es
 
 -- both interfaces have an address, and these are in conflict
-pub record AreInConflict (first second : Members) : Type 0 where
+pub record AreInConflict (rfc3021 : Bool) (first second : Members) : Type 0 where
   pub a : InterfaceAddress
   pub b : InterfaceAddress
-  pub first_address : ReadsInterfaceAddress first (Ok a)
-  pub second_address : ReadsInterfaceAddress second (Ok b)
+  pub first_address : ReadsInterfaceAddress rfc3021 first (Ok a)
+  pub second_address : ReadsInterfaceAddress rfc3021 second (Ok b)
   pub conflict : Conflict a b
 
 -- the places of the interface of this number, where the interfaces before it have these tables
-abbrev pub AreInterfacePlaces : ℕ → List Members → Members → ConfigFault → List Explained → Type 0
-AreInterfacePlaces n before t fault.SamePrefix es =
-    IsPlaceWhere (Any (λ first. AreInConflict first t) before)
-    (IsKeyPlace (Some n) t (codes "address")
+abbrev pub AreInterfacePlaces : Bool → ConfigFault → ℕ → List Members → Members → List Explained
+    → Type 0
+AreInterfacePlaces q fault.SamePrefix n before t es =
+    IsPlaceWhere (Any (λ first. AreInConflict q first t) before)
+    (IsKeyPlace (section.Interface n) t (codes "address")
     (codes "a prefix and an address that no earlier interface has")) es
-AreInterfacePlaces n before t fault.DeadNotOverHello es =
+AreInterfacePlaces q fault.DeadNotOverHello n before t es =
     IsPlaceWhere (IsDeadNotOverHello t)
-    (IsKeyPlace (Some n) t (codes "dead")
+    (IsKeyPlace (section.Interface n) t (codes "dead")
     (codes "more than `hello` (defaults: dead 40, hello 10)")) es
-AreInterfacePlaces n before t fault.Unknown es =
-    ArePlacesOf (IsOtherKey interface_keys) (IsUnknownPlace (Some n) t) (keys_of t) es
-AreInterfacePlaces n before t f es =
-    ArePlacesOf (KeyHas t f) (IsKnownPlace (Some n) t) keys_of_interface es
+AreInterfacePlaces q fault.Unknown n before t es =
+    ArePlacesOf (IsOtherKey interface_keys) (IsUnknownPlace (section.Interface n) t) (keys_of t) es
+AreInterfacePlaces q f n before t es =
+    ArePlacesOf (KeyHas q t f) (IsKnownPlace (section.Interface n) t) keys_of_interface es
 
--- the places of the interfaces of these tables, one interface after the other
-pub data AreAllPlaces (f : ConfigFault) : List Members → List Explained → Type 0 where
-  no_interface : AreAllPlaces f [] []
+-- the places of the host of this number, beside interfaces of these tables, where the hosts before
+-- it have those
+abbrev pub AreHostPlaces : Bool → List Members → ConfigFault → ℕ → List Members → Members
+    → List Explained → Type 0
+AreHostPlaces q interfaces fault.SamePrefix n before t es =
+    IsPlaceWhere (IsTaken q interfaces before t)
+    (IsKeyPlace (section.Host n) t (codes "address")
+    (codes "an address that no interface and no earlier host has")) es
+AreHostPlaces q interfaces fault.Unknown n before t es =
+    ArePlacesOf (IsOtherKey host_keys) (IsUnknownPlace (section.Host n) t) (keys_of t) es
+AreHostPlaces q interfaces f n before t es =
+    ArePlacesOf (KeyHas q t f) (IsKnownPlace (section.Host n) t) keys_of_host es
+
+-- the places of these tables, one table after the other, each with those of its number behind the
+-- tables before it
+pub data AreAllPlaces (AreOwn : ℕ → List Members → Members → List Explained → Type 0)
+    : List Members → List Explained → Type 0 where
+  no_table : AreAllPlaces AreOwn [] []
   one_more : {before : List Members} (t : Members) (own : List Explained) {es : List Explained}
-      → AreAllPlaces f before es → AreInterfacePlaces (length before) before t f own
-      → AreAllPlaces f (before ++ t ∷ []) (es ++ own)
+      → AreAllPlaces AreOwn before es → AreOwn (length before) before t own
+      → AreAllPlaces AreOwn (before ++ t ∷ []) (es ++ own)
 
--- the places of a table: those at the top, and then those of its interfaces
+-- the places of a table: those at the top, those of its interfaces, and then those of its hosts
 pub record AreTablePlaces (t : Members) (f : ConfigFault) (es : List Explained) : Type 0 where
   pub at_top : List Explained
   pub of_interfaces : List Explained
+  pub of_hosts : List Explained
   pub top : AreTopPlaces t f at_top
-  pub interfaces : AreAllPlaces f (interface_tables t) of_interfaces
-  pub all : es ≡ at_top ++ of_interfaces
+  pub interfaces : AreAllPlaces (AreInterfacePlaces (asks_rfc3021 t) f) (interface_tables t)
+      of_interfaces
+  pub hosts : AreAllPlaces (AreHostPlaces (asks_rfc3021 t) (interface_tables t) f) (host_tables t)
+      of_hosts
+  pub all : es ≡ at_top ++ (of_interfaces ++ of_hosts)
 
 -- ---- the places of a text
 
@@ -249,15 +295,16 @@ abbrev pub found_here_text : Option (String Global) → List ℕ
 found_here_text None = codes "none found"
 found_here_text (Some text) = string_bytes text ++ codes " found"
 
--- in which of the interfaces it is, if in one
-abbrev pub interface_text : Option ℕ → List ℕ
-interface_text None = []
-interface_text (Some n) = codes "interface " ++ decimal n ++ codes ": "
+-- the table that it stands in, if not at the top
+abbrev pub section_text : Section → List ℕ
+section_text section.Top = []
+section_text (section.Interface n) = codes "interface " ++ decimal n ++ codes ": "
+section_text (section.Host n) = codes "host " ++ decimal n ++ codes ": "
 
 -- as `interface 0: mtu: 576 to 9000 wanted, 100 found`
 abbrev pub key_explained_text : KeyExplained → List ℕ
 key_explained_text p =
-    interface_text p.interface
+    section_text p.section
     ++ (string_bytes p.key ++ codes ": " ++ p.wanted.now ++ codes " wanted, ")
     ++ found_here_text p.found
 

@@ -3,7 +3,7 @@
 ghost use Rattle.std.specs.Prelude.{◌≡◌, ◌==◌, ◌+◌, ◌≤◌, length, take, count_by, IfOk, []};
 ghost use Rattle.std.specs.Fmt.{WritesOnOk};
 ghost use Rattle.ospf_config.specs.Configs.{TextHasFault};
-ghost use Rattle.ospf_files.specs.Explained.{IsExplained, IsLinePlace, found_here_text, interface_text};
+ghost use Rattle.ospf_files.specs.Explained.{IsExplained, IsLinePlace, found_here_text, section_text};
 ghost use Rattle.ospf_config.specs.Fault.{IsLeastFault};
 ghost use Rattle.ospf_config.specs.declared.fault.ConfigFault.{ConfigFault};
 
@@ -36,11 +36,18 @@ impl Display for Explained {
     }
 }
 
+/// The table that a key stands in: the number of an interface or of a host is from 0.
+#[derive(Clone, Copy, Debug)]
+pub enum Section {
+    Top,
+    Interface(usize),
+    Host(usize),
+}
+
 /// A key that is not as it has to be.
 #[derive(Debug, Drop)]
 pub struct KeyExplained {
-    /// The number of the interface, from 0; `None` at the top.
-    pub interface: Option<usize>,
+    pub section: Section,
     pub key: String,
     /// What belongs there, in words.
     pub wanted: &'static str,
@@ -56,15 +63,15 @@ impl Display for KeyExplained {
     ghost output = { λ place. Some (key_explained_text place) };
 
     fn fmt<W: Write>(&self, f: &mut Formatter<W>) -> fmt::Result {
-        write_interface(f, self.interface)?;
+        write_section(f, self.section)?;
         write!(f, "{}: {} wanted, ", self.key, self.wanted)?;
         write_found(f, &self.found)
     }
 }
 
 /// What to do about a text that `Config::from_text` refuses: each place that has the fault it
-/// reports, first those at the top, then those of the interfaces in order. Empty if the text is
-/// accepted.
+/// reports, first those at the top, then those of the interfaces and of the hosts in order. Empty
+/// if the text is accepted.
 ///
 /// `AllocError` if memory runs out.
 pub fn explain(alloc: Global, text: &str) -> Result<Vec<Explained>, AllocError>
@@ -80,13 +87,14 @@ pub fn explain(alloc: Global, text: &str) -> Result<Vec<Explained>, AllocError>
     }
 }
 
-// Writes the number of an interface, where there is one.
-fn write_interface<W: Write>(f: &mut Formatter<W>, interface: Option<usize>) -> fmt::Result
-    ensures { WritesOnOk W.Write.write_str_gives f.old result (interface_text interface) f.new }
+// Writes the table that a key stands in, if not at the top.
+fn write_section<W: Write>(f: &mut Formatter<W>, section: Section) -> fmt::Result
+    ensures { WritesOnOk W.Write.write_str_gives f.old result (section_text section) f.new }
 {
-    match interface {
-        None => Ok(()),
-        Some(number) => write!(f, "interface {number}: "),
+    match section {
+        Section::Top => Ok(()),
+        Section::Interface(number) => write!(f, "interface {number}: "),
+        Section::Host(number) => write!(f, "host {number}: "),
     }
 }
 

@@ -33,7 +33,7 @@ pub use crate::all::{FaultExplained, explain_all};
 pub use crate::byte::place_of;
 pub use crate::configs::first_unread;
 pub use crate::disk::{read_file, read_files, tell_unwritten, write_file};
-pub use crate::explained::{Explained, KeyExplained, explain};
+pub use crate::explained::{Explained, KeyExplained, Section, explain};
 pub use crate::files::{NamedFile, config_in};
 pub use crate::line::{Line, first_line, lines};
 pub use crate::report::{Report, print_report};

@@ -1,18 +1,18 @@
 //! The places that have a fault.
 
 ghost use Rattle.std.specs.List.{list_all};
-ghost use Rattle.std.specs.Prelude.{◌≡◌, ◌↔◌, IsTrue, IsSome, Some, IfOk, OnOk, All, Any, map, string_bytes};
-ghost use Rattle.toml.specs.Data.{as_table};
+ghost use Rattle.std.specs.Prelude.{◌≡◌, ◌↔◌, Bool, List, IsTrue, IsSome, Some, IfOk, OnOk, All, Any, map, string_bytes};
+ghost use Rattle.toml.specs.Data.{Members, as_table};
 ghost use Rattle.toml.specs.View.{view, table_view, items_view};
-ghost use Rattle.ospf_files.specs.Explained.{ArePlacesOf, IsKeyPlace, IsKeyText, is_bare, is_bare_byte, IsUnknownPlace, IsValueText, IsPlaceWhere, AreTopPlaces, AreInterfacePlaces, AreAllPlaces, AreTablePlaces, AreInConflict};
+ghost use Rattle.ospf_files.specs.Explained.{ArePlacesOf, IsKeyPlace, IsKeyText, is_bare, is_bare_byte, IsUnknownPlace, IsValueText, IsPlaceWhere, AreTopPlaces, AreInterfacePlaces, AreHostPlaces, AreAllPlaces, AreTablePlaces, AreInConflict};
 ghost use Rattle.ospf_files.specs.Rows.{AddsRows};
-ghost use Rattle.ospf_config.specs.Tables.{IsOtherKey, IsTableWith, keys_of, tables_among};
+ghost use Rattle.ospf_config.specs.Tables.{IsOtherKey, IsTableWith, IsTaken, keys_of, tables_among};
 
-use crate::explained::{Explained, KeyExplained};
-use crate::rows::{Row, interface_rows, top_rows};
+use crate::explained::{Explained, KeyExplained, Section};
+use crate::rows::{Row, host_rows, interface_rows, top_rows};
 use ospf_config::{
-    ConfigFault, address_at, interface_names, interface_values, is_dead_not_over_hello, is_other,
-    table_in, top_names, value_at,
+    ConfigFault, address_at, asks_rfc3021, host_names, host_values, interface_names,
+    interface_values, is_dead_not_over_hello, is_other, is_taken, table_in, top_names, value_at,
 };
 use std::alloc::{AllocError, Global};
 use toml::{Table, Value};
@@ -26,8 +26,18 @@ pub(crate) fn table_explained(
     ensures { IfOk result (λ places. AreTablePlaces (table_view table.now) fault places.items) }
 {
     let mut out = Vec::new(alloc);
+    let interfaces = interface_values(table);
+    let rfc3021 = asks_rfc3021(table);
     add_top(alloc, &mut out, table, fault)?;
-    add_interfaces(alloc, &mut out, interface_values(table), fault)?;
+    add_interfaces(alloc, &mut out, interfaces, rfc3021, fault)?;
+    add_hosts(
+        alloc,
+        &mut out,
+        interfaces,
+        host_values(table),
+        rfc3021,
+        fault,
+    )?;
     Ok(out)
 }
 
@@ -42,8 +52,8 @@ fn add_top(
         out.new.items) }
 {
     match fault {
-        ConfigFault::Unknown => add_unknown(alloc, out, None, table, &top_names()),
-        fault => add_rows(alloc, out, None, table, &top_rows(table), fault),
+        ConfigFault::Unknown => add_unknown(alloc, out, Section::Top, table, &top_names()),
+        fault => add_rows(alloc, out, Section::Top, table, &top_rows(table), fault),
     }
 }
 
@@ -51,18 +61,18 @@ fn add_top(
 fn add_unknown(
     alloc: Global,
     out: &mut Vec<Explained>,
-    interface: Option<usize>,
+    section: Section,
     table: &Table,
     known: &[&str],
 ) -> Result<(), AllocError>
     ensures { OnOk result (AddsRows (ArePlacesOf (IsOtherKey (map (λ k. k.now) known.now))
-        (IsUnknownPlace interface (table_view table.now)) (keys_of (table_view table.now)))
+        (IsUnknownPlace section (table_view table.now)) (keys_of (table_view table.now)))
         out.old.items out.new.items) }
 {
     for key in table.keys() {
         let name = key.as_str();
         let holds = is_other(name, known);
-        add_where(alloc, out, interface, table, name, "a known key", holds)?;
+        add_where(alloc, out, section, table, name, "a known key", holds)?;
     }
     Ok(())
 }
@@ -71,18 +81,18 @@ fn add_unknown(
 fn add_where(
     alloc: Global,
     out: &mut Vec<Explained>,
-    interface: Option<usize>,
+    section: Section,
     table: &Table,
     key: &str,
     wanted: &'static str,
     holds: bool,
 ) -> Result<(), AllocError>
     ensures { OnOk result (AddsRows (IsPlaceWhere (IsTrue holds)
-        (IsKeyPlace interface (table_view table.now) key.now wanted.now)) out.old.items
+        (IsKeyPlace section (table_view table.now) key.now wanted.now)) out.old.items
         out.new.items) }
 {
     if holds {
-        out.push(key_of(alloc, interface, table, key, wanted)?)?;
+        out.push(key_of(alloc, section, table, key, wanted)?)?;
     }
     Ok(())
 }
@@ -90,12 +100,12 @@ fn add_where(
 // The place of a key.
 fn key_of(
     alloc: Global,
-    interface: Option<usize>,
+    section: Section,
     table: &Table,
     key: &str,
     wanted: &'static str,
 ) -> Result<Explained, AllocError>
-    ensures { IfOk result (IsKeyPlace interface (table_view table.now) key.now wanted.now) }
+    ensures { IfOk result (IsKeyPlace section (table_view table.now) key.now wanted.now) }
 {
     let found = match value_at(table, key) {
         None => None,
@@ -103,7 +113,7 @@ fn key_of(
     };
     let key = key_text(alloc, key)?;
     Ok(Explained::Key(KeyExplained {
-        interface,
+        section,
         key,
         wanted,
         found,
@@ -162,18 +172,18 @@ fn found_in(alloc: Global, value: &Value) -> Result<String, AllocError>
 fn add_rows(
     alloc: Global,
     out: &mut Vec<Explained>,
-    interface: Option<usize>,
+    section: Section,
     table: &Table,
     rows: &[Row],
     fault: ConfigFault,
 ) -> Result<(), AllocError>
     ensures { OnOk result (AddsRows (ArePlacesOf (λ row. row.fault ≡ Some fault)
-        (λ row. IsKeyPlace interface (table_view table.now) row.key.now row.wanted.now) rows.now)
+        (λ row. IsKeyPlace section (table_view table.now) row.key.now row.wanted.now) rows.now)
         out.old.items out.new.items) }
 {
     for row in rows {
         let holds = has_fault(row, fault);
-        add_where(alloc, out, interface, table, row.key, row.wanted, holds)?;
+        add_where(alloc, out, section, table, row.key, row.wanted, holds)?;
     }
     Ok(())
 }
@@ -193,15 +203,24 @@ fn add_interfaces(
     alloc: Global,
     out: &mut Vec<Explained>,
     values: &[Value],
+    rfc3021: bool,
     fault: ConfigFault,
 ) -> Result<(), AllocError>
     requires { All (λ v. IsSome (as_table (view v))) values.now }
-    ensures { OnOk result (AddsRows (AreAllPlaces fault (tables_among (items_view values.now)))
-        out.old.items out.new.items) }
+    ensures { OnOk result (AddsRows (AreAllPlaces (AreInterfacePlaces rfc3021 fault)
+        (tables_among (items_view values.now))) out.old.items out.new.items) }
 {
     for (interface, value) in values.iter().enumerate() {
         let before = &values[..interface];
-        add_interface(alloc, out, interface, before, table_in(value), fault)?;
+        add_interface(
+            alloc,
+            out,
+            interface,
+            before,
+            table_in(value),
+            rfc3021,
+            fault,
+        )?;
     }
     Ok(())
 }
@@ -213,62 +232,114 @@ fn add_interface(
     interface: usize,
     before: &[Value],
     table: &Table,
+    rfc3021: bool,
     fault: ConfigFault,
 ) -> Result<(), AllocError>
-    ensures { OnOk result (AddsRows (AreInterfacePlaces interface (tables_among
-        (items_view before.now))
-        (table_view table.now) fault) out.old.items out.new.items) }
+    ensures { OnOk result (AddsRows (AreInterfacePlaces rfc3021 fault interface
+        (tables_among (items_view before.now)) (table_view table.now)) out.old.items
+        out.new.items) }
 {
-    let number = Some(interface);
+    let section = Section::Interface(interface);
     match fault {
         ConfigFault::SamePrefix => {
             let wanted = "a prefix and an address that no earlier interface has";
-            let holds = is_any_in_conflict(before, table);
-            add_where(alloc, out, number, table, "address", wanted, holds)
+            let holds = is_any_in_conflict(before, table, rfc3021);
+            add_where(alloc, out, section, table, "address", wanted, holds)
         }
         ConfigFault::DeadNotOverHello => {
             let holds = is_dead_not_over_hello(table);
             add_where(
                 alloc,
                 out,
-                number,
+                section,
                 table,
                 "dead",
                 "more than `hello` (defaults: dead 40, hello 10)",
                 holds,
             )
         }
-        ConfigFault::Unknown => add_unknown(alloc, out, number, table, &interface_names()),
-        fault => add_rows(alloc, out, number, table, &interface_rows(table), fault),
+        ConfigFault::Unknown => add_unknown(alloc, out, section, table, &interface_names()),
+        fault => {
+            let rows = interface_rows(table, rfc3021);
+            add_rows(alloc, out, section, table, &rows, fault)
+        }
+    }
+}
+
+// Adds what the hosts have of this fault.
+fn add_hosts(
+    alloc: Global,
+    out: &mut Vec<Explained>,
+    interfaces: &[Value],
+    values: &[Value],
+    rfc3021: bool,
+    fault: ConfigFault,
+) -> Result<(), AllocError>
+    requires { All (λ v. IsSome (as_table (view v))) values.now }
+    ensures { OnOk result (AddsRows (AreAllPlaces (AreHostPlaces rfc3021
+        (tables_among (items_view interfaces.now)) fault) (tables_among (items_view values.now)))
+        out.old.items out.new.items) }
+{
+    for (host, value) in values.iter().enumerate() {
+        let table = table_in(value);
+        let holds = is_taken(interfaces, &values[..host], table, rfc3021);
+        add_host(alloc, out, host, table, holds, fault)?;
+    }
+    Ok(())
+}
+
+// Adds what a host has of this fault, whose address is taken or is not.
+fn add_host(
+    alloc: Global,
+    out: &mut Vec<Explained>,
+    host: usize,
+    table: &Table,
+    is_taken: bool,
+    fault: ConfigFault,
+) -> Result<(), AllocError>
+    ensures { (q : Bool) → (interfaces before : List Members)
+        → (IsTrue is_taken ↔ IsTaken q interfaces before (table_view table.now))
+        → OnOk result (AddsRows (AreHostPlaces q interfaces fault host before
+        (table_view table.now)) out.old.items out.new.items) }
+{
+    let section = Section::Host(host);
+    match fault {
+        ConfigFault::SamePrefix => {
+            let wanted = "an address that no interface and no earlier host has";
+            add_where(alloc, out, section, table, "address", wanted, is_taken)
+        }
+        ConfigFault::Unknown => add_unknown(alloc, out, section, table, &host_names()),
+        fault => add_rows(alloc, out, section, table, &host_rows(table), fault),
     }
 }
 
 // Whether one of the interfaces before has the prefix or the address of this one.
-fn is_any_in_conflict(before: &[Value], table: &Table) -> bool
-    ensures { IsTrue result ↔ Any (λ v. IsTableWith (λ t. AreInConflict t (table_view table.now))
-        (view v)) before.now }
+fn is_any_in_conflict(before: &[Value], table: &Table, rfc3021: bool) -> bool
+    ensures { IsTrue result ↔ Any (λ v. IsTableWith (λ t. AreInConflict rfc3021 t
+        (table_view table.now)) (view v)) before.now }
 {
     before
         .iter()
-        .any(|value| is_value_in_conflict(value, table))
+        .any(|value| is_value_in_conflict(value, table, rfc3021))
 }
 
 // Whether a value is the table of an interface that is in conflict with this one.
-fn is_value_in_conflict(value: &Value, table: &Table) -> bool
-    ensures { IsTrue result ↔ IsTableWith (λ t. AreInConflict t (table_view table.now))
+fn is_value_in_conflict(value: &Value, table: &Table, rfc3021: bool) -> bool
+    ensures { IsTrue result ↔ IsTableWith (λ t. AreInConflict rfc3021 t (table_view table.now))
         (view value.now) }
 {
     match value.as_table() {
         None => false,
-        Some(first) => are_in_conflict(first, table),
+        Some(first) => are_in_conflict(first, table, rfc3021),
     }
 }
 
 // Whether the addresses of two interfaces are in conflict.
-fn are_in_conflict(first: &Table, second: &Table) -> bool
-    ensures { IsTrue result ↔ AreInConflict (table_view first.now) (table_view second.now) }
+fn are_in_conflict(first: &Table, second: &Table, rfc3021: bool) -> bool
+    ensures { IsTrue result ↔ AreInConflict rfc3021 (table_view first.now)
+        (table_view second.now) }
 {
-    match (address_at(first), address_at(second)) {
+    match (address_at(first, rfc3021), address_at(second, rfc3021)) {
         (Ok(one), Ok(other)) => one.conflicts_with(&other),
         _ => false,
     }

@@ -13,7 +13,7 @@ pub loop-row-preserved : goal.loop-row-preserved
 loop-row-preserved c =
     let i = c.loop-row.row-index in
     let row : Row = get_or c.args.rows.now i (record { key = record { ref_ptr = (0, 0); now = [] }; fault = None; wanted = record { ref_ptr = (0, 0); now = [] } }) in
-    adds_where (λ (r : Row). r.fault ≡ Some c.args.fault) (λ (r : Row) e. IsKeyPlace c.args.interface (table_view c.args.table.now) r.key.now r.wanted.now e) _ c.args.rows.now i row _ _ _
+    adds_where (λ (r : Row). r.fault ≡ Some c.args.fault) (λ (r : Row) e. IsKeyPlace c.args.section (table_view c.args.table.now) r.key.now r.wanted.now e) _ c.args.rows.now i row _ _ _
     c.loop-row-test.true (get_or_default c.args.rows.now i _ _ c.loop-row-test.true) c.has_fault-holds.ensures c.loop-row.invariant c.in_ok-add_where.ensures
 
 pub returns : goal.returns

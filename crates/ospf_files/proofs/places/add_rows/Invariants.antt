@@ -6,4 +6,4 @@ use Rattle.ospf_files.proofs.places.add_rows.Given as goal
 
 abbrev pub invariant-loop-row : goal.invariant-loop-row
 invariant-loop-row l =
-    AddsRows (ArePlacesOf (λ row. row.fault ≡ Some l.fault) (λ row. IsKeyPlace l.interface (table_view l.table) row.key.now row.wanted.now) (take l.row-index l.rows)) l.fn.out.items l.out.items
+    AddsRows (ArePlacesOf (λ row. row.fault ≡ Some l.fault) (λ row. IsKeyPlace l.section (table_view l.table) row.key.now row.wanted.now) (take l.row-index l.rows)) l.fn.out.items l.out.items

@@ -6,4 +6,4 @@ use Rattle.ospf_files.proofs.places.add_top.Goals as goal
 pub returns-in_default : goal.returns-in_default
 returns-in_default c =
     on_ok_weaker c.add_rows.result
-    (top_added (table_view c.args.table.now) 0 c.args.fault c.args.out.now.items c.add_rows.new.out.items c.top_rows.result c.in_default.not-Unknown c.top_rows.ensures) c.add_rows.ensures
+    (top_added (table_view c.args.table.now) c.args.fault c.args.out.now.items c.add_rows.new.out.items c.top_rows.result c.in_default.not-Unknown c.top_rows.ensures) c.add_rows.ensures

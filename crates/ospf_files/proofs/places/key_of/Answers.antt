@@ -7,7 +7,7 @@ pub returns : goal.returns
 returns c = record {
   place = _;
   is_key = refl;
-  number_is = refl;
+  section_is = refl;
   key_is = c.in_ok-key.ensures;
   wanted_is = refl;
   found_is = elim c.match-value_at.branch [

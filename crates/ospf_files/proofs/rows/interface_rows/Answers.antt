@@ -6,7 +6,8 @@ use Rattle.ospf_files.proofs.rows.interface_rows.Goals as goal
 
 pub returns : goal.returns
 returns c =
-    let t = table_view c.args.table.now in (
+    let t = table_view c.args.table.now in
+    let q = c.args.rfc3021 in (
       record {
         key_is = c.key_row.ensures.key;
         wanted_is = c.key_row.ensures.wanted;
@@ -16,7 +17,7 @@ returns c =
         record {
           key_is = c.key_row-2.ensures.key;
           wanted_is = c.key_row-2.ensures.wanted;
-          fault_is = fault_error (ReadsInterfaceAddress t) (address_single t) c.key_row-2.result.fault c.err-2.result c.address_at.result c.key_row-2.ensures.fault c.err-2.ensures.value c.address_at.ensures;
+          fault_is = fault_error (ReadsInterfaceAddress q t) (address_single t q) c.key_row-2.result.fault c.err-2.result c.address_at.result c.key_row-2.ensures.fault c.err-2.ensures.value c.address_at.ensures;
         },
         (
           record {
