@@ -1,11 +1,12 @@
 -- What routers want after a change.
 use Rattle.std.proofs.Common.{if◌then◌else◌, ◌≡◌, ◌≢◌, ◌==◌, ◌&&◌, ◌||◌, ◌++◌, ◌∷◌, [], ℕ, Bool, true, false, not, List, map, refl, sym, ap, subst, ◌∙◌, inl, inr, eq-eqb, bit_and}
 use Rattle.std.specs.List.{AllByRecursion, filter, flat_map, list_any}
-use Rattle.std.proofs.lemmas.List.{map-append}
+use Rattle.std.proofs.lemmas.List.{append_assoc, map-append}
 use Rattle.std.proofs.lemmas.List.Concat.{flat_map-append}
 use Rattle.std.proofs.lemmas.List.Folds.{list_any-append}
 use Rattle.std.proofs.lemmas.Bool.Decides.{eqb_tells}
 use Rattle.ospf_base.specs.Masks.{mask_of}
+use Rattle.ospf_base.specs.declared.host.Host.{Host}
 use Rattle.ospf_base.specs.declared.ids.RouterId.{RouterId}
 use Rattle.ospf_base.specs.declared.interface.InterfaceKind.{InterfaceKind}
 use Rattle.ospf_base.specs.declared.interface.InterfaceKind.TheVariants as kind
@@ -17,8 +18,8 @@ use Rattle.ospf_neighbour.specs.Neighbour.{NeighbourValue}
 use Rattle.ospf_graph.proofs.ListLemmas.{bool_cases}
 use Rattle.ospf_originate.proofs.Wants.SaidLemmas.{up_is}
 use Rattle.ospf_originate.proofs.Wants.Words.{links_of_kind}
-use Rattle.ospf_originate.specs.Wants.Wanted.{is_full, is_transit, links_of_link, network_link, router_link, subnet_link}
-use Rattle.ospf_whatif.specs.Wanted.{IsOnTransit, wanted_links}
+use Rattle.ospf_originate.specs.Wants.Wanted.{host_link, interface_links, is_full, is_transit, links_of_link, network_link, own_links, router_link, subnet_link}
+use Rattle.ospf_whatif.specs.Wanted.{IsOnTransit}
 use Rattle.ospf_edit.specs.Change.{gets_cost, has_own_subnet, is_longer_subnet, is_own_subnet, is_router_link, is_subnet_with, picks, priced_link, priced_links, with_cost}
 use Rattle.ospf_edit.specs.Wanted.{AreSparedFrom, CostsAreWanted, DrainsAreWanted, HasOtherCost, IsLongestSubnet, IsWired, LeavesBy}
 use Rattle.ospf_edit.specs.declared.change.Change.{Change}
@@ -50,17 +51,24 @@ module _ (router : RouterId) (all : List Link) where
     | inr up ↦ up_is true l up ∙ drained_kind l l.iface.settings.kind ∙ sym (ap (map (priced_link (Drain router) all)) (up_is false l up))
   ]
 
-  drained_links : (ls : List LinkValue) → wanted_links true ls ≡ map (priced_link (Drain router) all) (wanted_links false ls)
+  drained_links : (ls : List LinkValue) → interface_links true ls ≡ map (priced_link (Drain router) all) (interface_links false ls)
   drained_links [] = refl
   drained_links (l ∷ ls) =
-      (λ i. drained_link l i ++ drained_links ls i) ∙ sym (map-append (priced_link (Drain router) all) (links_of_link false l) (wanted_links false ls))
+      (λ i. drained_link l i ++ drained_links ls i) ∙ sym (map-append (priced_link (Drain router) all) (links_of_link false l) (interface_links false ls))
+
+  drained_hosts : (hosts : List Host) → map host_link hosts ≡ map (priced_link (Drain router) all) (map host_link hosts)
+  drained_hosts [] = refl
+  drained_hosts (h ∷ hs) = ap (λ (ls : List Link). host_link h ∷ ls) (drained_hosts hs)
 
 own : (router : RouterId) (A B : List Link) → (if router.0 == router.0 then A else B) ≡ A
 own router A B = let same : (router.0 == router.0) ≡ true = eq-eqb router.0 router.0 refl in rw same refl
 
 pub drains_are_wanted : DrainsAreWanted
-drains_are_wanted router links =
-    drained_links router (wanted_links false links) links ∙ sym (own router (map (priced_link (Drain router) (wanted_links false links)) (wanted_links false links)) (wanted_links false links))
+drains_are_wanted router links hosts =
+    let all = own_links false links hosts in
+    (λ i. drained_links router all links i ++ drained_hosts router all hosts i)
+    ∙ sym (map-append (priced_link (Drain router) all) (interface_links false links) (map host_link hosts))
+    ∙ sym (own router (map (priced_link (Drain router) all) all) all)
 
 -- ---- another cost
 
@@ -75,6 +83,10 @@ change_of router before after = Cost router before.iface.settings.address after.
 
 same_number : (n : ℕ) → (n == n) ≡ true
 same_number n = eq-eqb n n refl
+
+and_false : (b : Bool) → (b && false) ≡ false
+and_false true = refl
+and_false false = refl
 
 or_true : (b : Bool) → (b || true) ≡ true
 or_true true = refl
@@ -160,27 +172,50 @@ module _ (all : List Link) (l : LinkValue) (subnet : Prefix) (w : IsWired l subn
 same_transit : (before after : LinkValue) → HasOtherCost before after → is_transit after ≡ is_transit before
 same_transit before after other = λ i. is_transit (record after { iface = other.iface i; neighbours = other.neighbours i })
 
-split : (front back : List LinkValue) (l : LinkValue) → wanted_links false (front ++ l ∷ back) ≡ wanted_links false front ++ (links_of_link false l ++ wanted_links false back)
+split : (front back : List LinkValue) (l : LinkValue) → interface_links false (front ++ l ∷ back) ≡ interface_links false front ++ (links_of_link false l ++ interface_links false back)
 split front back l = flat_map-append (links_of_link false) front (l ∷ back)
 
-interface_priced : (router : RouterId) (front back : List LinkValue) (before after : LinkValue) → HasOtherCost before after → LeavesBy (wanted_links false (front ++ before ∷ back)) before
-    → map (priced_link (change_of router before after) (wanted_links false (front ++ before ∷ back))) (links_of_link false before) ≡ links_of_link false after
-interface_priced router front back before after other (inl (subnet, w, longest)) =
-    let all = wanted_links false (front ++ before ∷ back) in
+-- and the links to hosts behind those of the interfaces
+split_all : (front back : List LinkValue) (hosts : List Host) (l : LinkValue)
+    → own_links false (front ++ l ∷ back) hosts ≡ interface_links false front ++ (links_of_link false l ++ own_links false back hosts)
+split_all front back hosts l =
+    ap (λ (ls : List Link). ls ++ map host_link hosts) (split front back l)
+    ∙ append_assoc (interface_links false front) (links_of_link false l ++ interface_links false back) (map host_link hosts)
+    ∙ ap (λ (ls : List Link). interface_links false front ++ ls) (append_assoc (links_of_link false l) (interface_links false back) (map host_link hosts))
+
+-- no link to a host is that of an interface, or to a subnet
+no_host_is_own : (router : RouterId) (before after : LinkValue) (all outs : List Link) (h : Host)
+    → list_any (λ out. picks (change_of router before after) out && (is_router_link out && is_own_subnet all out.link_data (host_link h))) outs ≡ false
+no_host_is_own router before after all [] h = refl
+no_host_is_own router before after all (out ∷ outs) h =
+    let picked = picks (change_of router before after) out in
+    let q : Link → Bool = (λ (o : Link). picks (change_of router before after) o && (is_router_link o && is_own_subnet all o.link_data (host_link h))) in
+    ap (λ (b : Bool). (picked && b) || list_any q outs) (and_false (is_router_link out))
+    ∙ ap (λ (b : Bool). b || list_any q outs) (and_false picked)
+    ∙ no_host_is_own router before after all outs h
+
+hosts_spared : (router : RouterId) (before after : LinkValue) (all : List Link) (hosts : List Host) → AllByRecursion (λ l. gets_cost (change_of router before after) all l ≡ false) (map host_link hosts)
+hosts_spared router before after all [] = tt
+hosts_spared router before after all (h ∷ hs) = (no_host_is_own router before after all all h, hosts_spared router before after all hs)
+
+interface_priced : (router : RouterId) (front back : List LinkValue) (before after : LinkValue) (hosts : List Host) → HasOtherCost before after → LeavesBy (own_links false (front ++ before ∷ back) hosts) before
+    → map (priced_link (change_of router before after) (own_links false (front ++ before ∷ back) hosts)) (links_of_link false before) ≡ links_of_link false after
+interface_priced router front back before after hosts other (inl (subnet, w, longest)) =
+    let all = own_links false (front ++ before ∷ back) hosts in
     let c = change_of router before after in
     let made = map (router_link false before) (filter is_full before.neighbours) in
     let wired = wire_is before w.up w.kind_is in
-    let are : all ≡ wanted_links false front ++ ((made ++ subnet_link before ∷ []) ++ wanted_links false back) =
-    split front back before ∙ ap (λ (ls : List Link). wanted_links false front ++ (ls ++ wanted_links false back)) wired in
-    let sure = own_found all before subnet w longest c (λ n. same_number before.iface.settings.address.0) (wanted_links false front) (wanted_links false back) are in
+    let are : all ≡ interface_links false front ++ ((made ++ subnet_link before ∷ []) ++ own_links false back hosts) =
+    split_all front back hosts before ∙ ap (λ (ls : List Link). interface_links false front ++ (ls ++ own_links false back hosts)) wired in
+    let sure = own_found all before subnet w longest c (λ n. same_number before.iface.settings.address.0) (interface_links false front) (own_links false back hosts) are in
     let up : is_down after.iface.state ≡ false = ap (λ x. is_down x.state) other.iface ∙ w.up in
     let kind_is : after.iface.settings.kind ≡ kind.PointToPoint = ap (λ x. x.settings.kind) other.iface ∙ w.kind_is in
     ap (map (priced_link c all)) wired ∙ map-append (priced_link c all) made (subnet_link before ∷ [])
     ∙ (λ i. all_to_priced router all before after other (filter is_full before.neighbours) i ++ subnet_priced router all before after other sure i ∷ [])
     ∙ ap (λ ns. map (router_link false after) (filter is_full ns) ++ subnet_link after ∷ []) (sym other.neighbours)
     ∙ sym (wire_is after up kind_is)
-interface_priced router front back before after other (inr on) =
-    let all = wanted_links false (front ++ before ∷ back) in
+interface_priced router front back before after hosts other (inr on) =
+    let all = own_links false (front ++ before ∷ back) hosts in
     let c = change_of router before after in
     let up : is_down after.iface.state ≡ false = ap (λ x. is_down x.state) other.iface ∙ on.up in
     let kind_is : after.iface.settings.kind ≡ kind.Broadcast = ap (λ x. x.settings.kind) other.iface ∙ on.kind_is in
@@ -190,14 +225,17 @@ interface_priced router front back before after other (inr on) =
     ∙ sym (transit_is after up kind_is transit)
 
 pub costs_are_wanted : CostsAreWanted
-costs_are_wanted router front back before after other leads spared_front spared_back =
-    let all = wanted_links false (front ++ before ∷ back) in
+costs_are_wanted router front back before after hosts other leads spared_front spared_back =
+    let all = own_links false (front ++ before ∷ back) hosts in
     let c = change_of router before after in
     let p = priced_link c all in
-    split front back after
-    ∙ (λ i. sym (spared_stay c all (wanted_links false front) spared_front) i
-    ++ (sym (interface_priced router front back before after other leads) i ++ sym (spared_stay c all (wanted_links false back) spared_back) i))
-    ∙ ap (λ (ls : List Link). map p (wanted_links false front) ++ ls) (sym (map-append p (links_of_link false before) (wanted_links false back)))
-    ∙ sym (map-append p (wanted_links false front) (links_of_link false before ++ wanted_links false back))
-    ∙ ap (map p) (sym (split front back before))
+    let none = spared_stay c all (map host_link hosts) (hosts_spared router before after all hosts) in
+    let behind : map p (own_links false back hosts) ≡ own_links false back hosts =
+    map-append p (interface_links false back) (map host_link hosts) ∙ (λ i. spared_stay c all (interface_links false back) spared_back i ++ none i) in
+    split_all front back hosts after
+    ∙ (λ i. sym (spared_stay c all (interface_links false front) spared_front) i
+    ++ (sym (interface_priced router front back before after hosts other leads) i ++ sym behind i))
+    ∙ ap (λ (ls : List Link). map p (interface_links false front) ++ ls) (sym (map-append p (links_of_link false before) (own_links false back hosts)))
+    ∙ sym (map-append p (interface_links false front) (links_of_link false before ++ own_links false back hosts))
+    ∙ ap (map p) (sym (split_all front back hosts before))
     ∙ sym (own router (map p all) all)

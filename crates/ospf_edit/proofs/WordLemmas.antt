@@ -132,15 +132,6 @@ module _ (word : List ℕ) (c : Change) where
 
 -- ---- costs of a link
 
-no_interface : (l : link.Link) (other : RouterId) → is_link_to l other ≡ true → is_interface_link l ≡ true
-no_interface l other sure = go l.kind refl
-  where
-    go : (k : LinkKind) → l.kind ≡ k → is_interface_link l ≡ true
-    go kind.PointToPoint is = rw is refl
-    go kind.Transit is = rw is refl
-    go kind.Stub is = absurd (let no : false ≡ true = rw is at sure in cc)
-    go kind.Virtual is = absurd (let no : false ≡ true = rw is at sure in cc)
-
 pub no_pair : (r : RouterId) (l : link.Link) (word : List ℕ) (q : RouterId) (n : ℕ) → (l.kind ≡ kind.PointToPoint → ⊥) → IsCostWordAt r l word (change.CostTo r q n) → ⊥
 no_pair r l word q n not at = go l.kind refl
   where

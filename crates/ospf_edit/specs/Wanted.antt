@@ -2,15 +2,16 @@
 use Rattle.std.specs.Prelude.{◌≡◌, ◌≢◌, ◌⊎◌, ◌++◌, ◌∷◌, Bool, true, false, List}
 use Rattle.std.specs.List.{AllByRecursion, list_any}
 use Rattle.ospf_base.specs.Prefixes.{IsPrefixOf}
+use Rattle.ospf_base.specs.declared.host.Host.{Host}
 use Rattle.ospf_base.specs.declared.ids.RouterId.{RouterId}
 use Rattle.ospf_base.specs.declared.interface.InterfaceKind.TheVariants as kind
 use Rattle.ospf_base.specs.declared.prefix.Prefix.{Prefix}
 use Rattle.ospf_lsa.specs.declared.link.Link.{Link}
 use Rattle.ospf_area.specs.State.{LinkValue}
 use Rattle.ospf_neighbour.specs.Interface.Machine.{is_down}
-use Rattle.ospf_originate.specs.Wants.Wanted.{is_full, subnet_link}
+use Rattle.ospf_originate.specs.Wants.Wanted.{interface_links, is_full, own_links, subnet_link}
 use Rattle.ospf_whatif.specs.Subnets.{is_address}
-use Rattle.ospf_whatif.specs.Wanted.{IsOnTransit, wanted_links}
+use Rattle.ospf_whatif.specs.Wanted.{IsOnTransit}
 use Rattle.ospf_edit.specs.Change.{gets_cost, is_longer_subnet, priced_links}
 use Rattle.ospf_edit.specs.declared.change.Change.{Change}
 use Rattle.ospf_edit.specs.declared.change.Change.TheVariants.{Cost, Drain}
@@ -18,8 +19,8 @@ use Rattle.ospf_edit.specs.declared.change.Change.TheVariants.{Cost, Drain}
 -- as a stub router a router wants the drained links of those that it wants otherwise
 abbrev pub DrainsAreWanted : Type 0
 DrainsAreWanted =
-    (router : RouterId) (links : List LinkValue) →
-    wanted_links true links ≡ priced_links (Drain router) router (wanted_links false links)
+    (router : RouterId) (links : List LinkValue) (hosts : List Host) →
+    own_links true links hosts ≡ priced_links (Drain router) router (own_links false links hosts)
 
 -- the interface is as it was, but for its cost
 pub record HasOtherCost (before after : LinkValue) : Type 0 where
@@ -49,15 +50,15 @@ LeavesBy all l = ((subnet : Prefix) × IsWired l subnet × IsLongestSubnet all l
 -- of all links of a router the change gives none of those that these interfaces make another cost
 abbrev pub AreSparedFrom : Change → List Link → List LinkValue → Type 0
 AreSparedFrom c all links =
-    AllByRecursion (λ l. gets_cost c all l ≡ false) (wanted_links false links)
+    AllByRecursion (λ l. gets_cost c all l ≡ false) (interface_links false links)
 
 -- the cost of an interface changes, whose address the router has but once: it wants the links of
 -- before at the new cost
 abbrev pub CostsAreWanted : Type 0
 CostsAreWanted =
-    (router : RouterId) (front back : List LinkValue) (before after : LinkValue) →
-    HasOtherCost before after →
-    let all = wanted_links false (front ++ before ∷ back) in
+    (router : RouterId) (front back : List LinkValue) (before after : LinkValue)
+    (hosts : List Host) → HasOtherCost before after →
+    let all = own_links false (front ++ before ∷ back) hosts in
     let change = Cost router before.iface.settings.address after.settings.cost in
     LeavesBy all before → AreSparedFrom change all front → AreSparedFrom change all back →
-    wanted_links false (front ++ after ∷ back) ≡ priced_links change router all
+    own_links false (front ++ after ∷ back) hosts ≡ priced_links change router all

@@ -1,5 +1,5 @@
 -- What a router keeps for its own LSAs, where its numbers and its database change.
-use Rattle.std.proofs.Common.{◌≡◌, ◌≤ℤ◌, ◌&&◌, ◌||◌, ℕ, ℤ, Bool, true, false, List, [], ◌∷◌, Option, None, Some, option_map, is_some, refl, sym, ap, subst, ◌∙◌, if◌then◌else◌, arith}
+use Rattle.std.proofs.Common.{◌≡◌, ◌≤◌, ◌≤ℤ◌, ◌&&◌, ◌||◌, ℕ, ℤ, Bool, true, false, List, [], ◌∷◌, Option, None, Some, option_map, is_some, length, refl, sym, ap, subst, ◌∙◌, if◌then◌else◌, arith}
 use Rattle.std.specs.Int.{int_max}
 use Rattle.std.specs.Ordering.{int_eq}
 use Rattle.std.proofs.lemmas.Int.{ints}
@@ -18,7 +18,7 @@ use Rattle.ospf_area.specs.State.{AreaValue, kept_number, numbering_of}
 use Rattle.ospf_area.proofs.Words.{kept_in, counted}
 use Rattle.ospf_area.specs.declared.state.Numbering.{Numbering}
 use Rattle.ospf_area.specs.Updates.Removal.{lowest_number, reset}
-use Rattle.ospf_originate.specs.Sound.{AreSetUp, IsSound}
+use Rattle.ospf_originate.specs.Sound.{AreSetUp, IsSound, max_hosts}
 use Rattle.ospf_originate.proofs.NumberLemmas.{counted_some, reset_kept, reset_some}
 
 -- ---- what the database has of a key, at any age
@@ -77,9 +77,10 @@ numbers_of s sound = record {
   max_seq = sound.max_seq;
 }
 
-pub sound_of : (s : AreaValue) → AreSetUp s.links → NumbersOf s → IsSound s
-sound_of s up ns = record {
+pub sound_of : (s : AreaValue) → AreSetUp s.links → length s.hosts ≤ max_hosts → NumbersOf s → IsSound s
+sound_of s up few ns = record {
   links = up;
+  hosts = few;
   numbered = λ key there own. by_held key (held_of s.database key) refl there own;
   counted = λ key copy is own. by_copy key copy (held_of s.database key) refl is own;
   max_seq = ns.max_seq;

@@ -1,13 +1,13 @@
 -- States in which nothing is due of the router's own LSAs (RFC 2328, sections 12.4, 13.4 and 14.1).
 use Rattle.std.specs.Prelude.{◌≡◌, ◌&&◌, ◌||◌, Bool, true, false, not, List, [], ◌∷◌, is_some}
-use Rattle.std.specs.List.{flat_map, list_all}
+use Rattle.std.specs.List.{list_all}
 use Rattle.ospf_base.specs.declared.ids.LsaKey.{LsaKey}
 use Rattle.ospf_area.specs.Numbers.{is_own}
 use Rattle.ospf_area.specs.State.{AreaValue, LinkValue, database_entry, kept_number}
 use Rattle.ospf_originate.specs.Actions.{unwanted_action, wanted_action}
 use Rattle.ospf_originate.specs.Numbers.{waits}
 use Rattle.ospf_originate.specs.Steps.{action_of, wants}
-use Rattle.ospf_originate.specs.Wants.Wanted.{WantedValue, is_dr_of, links_of_link, network_of, wanted_key, wanted_of}
+use Rattle.ospf_originate.specs.Wants.Wanted.{WantedValue, is_dr_of, network_of, own_links, wanted_key, wanted_of}
 use Rattle.ospf_originate.specs.Wants.Wanted.WantedValue.{RouterLsa}
 use Rattle.ospf_originate.specs.declared.action.OwnAction.{OwnAction}
 use Rattle.ospf_originate.specs.declared.action.OwnAction.TheVariants.{Leave, Flush, Issue}
@@ -42,7 +42,7 @@ key_left s key = unwanted_left s key || is_some (wanted_of (wants s) key)
 
 -- the router-LSA that is wanted
 abbrev pub own_router : AreaValue → WantedValue
-own_router s = RouterLsa s.router (flat_map (links_of_link s.stub_router) s.links)
+own_router s = RouterLsa s.router (own_links s.stub_router s.links s.hosts)
 
 -- nothing is due of the network-LSA of a link, if one is wanted
 abbrev pub network_left : AreaValue → LinkValue → Bool

@@ -1,6 +1,6 @@
 -- Laws of own LSAs: their numbers, and what is recorded for them; those of what is
 -- wanted are in `ospf_originate`.
-use Rattle.std.specs.Prelude.{◌≡◌, ◌&&◌, ◌+ℤ◌, ◌≤ℤ◌, ℕ, ℤ, pos, true, List, [], Option, Some, if◌then◌else◌, map, option_and_then}
+use Rattle.std.specs.Prelude.{◌≡◌, ◌&&◌, ◌≤◌, ◌+ℤ◌, ◌≤ℤ◌, ℕ, ℤ, pos, true, List, [], Option, Some, if◌then◌else◌, length, map, option_and_then}
 use Rattle.std.specs.Int.{int_max}
 use Rattle.ospf_area.specs.Asking.{turned_link}
 use Rattle.ospf_base.specs.Keys.{same_key}
@@ -29,7 +29,7 @@ use Rattle.ospf_area.specs.Acting.{Becomes, InTurn}
 use Rattle.ospf_area.specs.Updates.Meets.{MeetsLsa, Stores, restarted, header_met}
 use Rattle.ospf_area.specs.Updates.Removal.{RemovesOne, leaving}
 use Rattle.ospf_area.specs.Updates.Updates.{TakesUpdate}
-use Rattle.ospf_originate.specs.Sound.{AreSetUp, IsSound}
+use Rattle.ospf_originate.specs.Sound.{AreSetUp, IsSound, max_hosts}
 use Rattle.ospf_originate.specs.Steps.{Issues, OwnLsas, wants, action_of}
 use Rattle.ospf_originate.specs.Wants.Made.{CanBeMade, lsa_value}
 use Rattle.ospf_originate.specs.Wants.Wanted.{WantedValue, wanted_key, wanted_of}
@@ -79,10 +79,11 @@ NextIsNewer =
 
 -- ---- what the router keeps
 
--- a router that starts has it, and keeps it where its links are others that are set up
+-- a router that starts with few hosts has it, and keeps it where its links are others that are
+-- set up
 pub record StartsSound : Type 0 where
-  pub begun : (s : AreaValue) → AreSetUp s.links → s.database ≡ [] → s.numbering ≡ []
-      → s.max_seq ≡ s.floor → IsSound s
+  pub begun : (s : AreaValue) → AreSetUp s.links → length s.hosts ≤ max_hosts → s.database ≡ []
+      → s.numbering ≡ [] → s.max_seq ≡ s.floor → IsSound s
   pub relinked : (s : AreaValue) (links : List LinkValue) (tick : ℕ) → AreSetUp links → IsSound s
       → IsSound (record s { links = links; tick = tick })
 
@@ -160,4 +161,5 @@ pub record OwnStayShort : Type 0 where
   pub issued : (w : WantedValue) (number : ℤ) (s : AreaValue) (o o' : OutputsValue) (s' : AreaValue)
       → Issues w number s o o' s' → CanBeMade w → AreShort s.database → AreShort s'.database
   pub ended : (s : AreaValue) (o o' : OutputsValue) (s' : AreaValue) → OwnLsas s o o' s'
-      → AreSetUp s.links → AreShort s.database → AreShort s'.database
+      → AreSetUp s.links → length s.hosts ≤ max_hosts → AreShort s.database
+      → AreShort s'.database

@@ -1,11 +1,11 @@
 -- What a router records, so that its own LSAs can be made, distinguished and numbered (RFC
 -- 2328, sections 12.1.6 and 12.4).
-use Rattle.std.specs.Prelude.{◌≡◌, ◌≤ℤ◌, true, Some, is_some}
+use Rattle.std.specs.Prelude.{◌≡◌, ◌≤◌, ◌≤ℤ◌, true, Some, is_some, length}
 use Rattle.ospf_base.specs.declared.ids.LsaKey.{LsaKey}
 use Rattle.ospf_lsdb.specs.Database.{Entry, header_at}
 use Rattle.ospf_area.specs.Numbers.{is_own}
 use Rattle.ospf_area.specs.State.{AreaValue, database_entry, kept_number, numbering_of}
-pub use Rattle.ospf_originate.specs.Wants.SetUp.{IsSetUp, AreApart, max_links, AreSetUp}
+pub use Rattle.ospf_originate.specs.Wants.SetUp.{IsSetUp, AreApart, max_links, max_hosts, AreSetUp}
 
 -- ---- numbers
 
@@ -30,6 +30,7 @@ AreBelowGreatest s = (key : LsaKey) → kept_number s key ≤ℤ s.max_seq
 -- all of it holds of a router
 pub record IsSound (s : AreaValue) : Type 0 where
   pub links : AreSetUp s.links
+  pub hosts : length s.hosts ≤ max_hosts
   pub numbered : AreNumbered s
   pub counted : AreCounted s
   pub max_seq : AreBelowGreatest s

@@ -3,6 +3,7 @@
 ghost use Rattle.std.specs.Prelude.{◌≡◌, ◌&&◌, ◌||◌, ◌↔◌, IsTrue, [], is_some, not, option_copied};
 ghost use Rattle.std.specs.List.{list_all, list_any};
 ghost use Rattle.ospf_base.specs.Keys.{same_key};
+ghost use Rattle.ospf_base.specs.Sums.{contents};
 ghost use Rattle.ospf_base.specs.declared.ids.LsaKey.{LsaKey};
 ghost use Rattle.ospf_area.specs.State.{kept_number};
 ghost use Rattle.ospf_originate.specs.Actions.{is_due, next_action};
@@ -10,6 +11,7 @@ ghost use Rattle.ospf_originate.specs.Idle.{IsIdle, is_left, is_quiet, key_left,
 ghost use Rattle.ospf_originate.specs.Numbers.{waits};
 ghost use Rattle.ospf_originate.specs.Sound.{IsSound};
 ghost use Rattle.ospf_originate.specs.Steps.{wants};
+ghost use Rattle.ospf_originate.specs.Wants.Made.{says};
 ghost use Rattle.ospf_originate.specs.Wants.Wanted.{is_dr_of, network_of, wanted_key, wanted_of};
 ghost use Rattle.ospf_originate.specs.Wants.Wanted.WantedValue.{RouterLsa};
 
@@ -18,6 +20,7 @@ use crate::contents::{is_dr_of, says_network, says_router};
 use crate::numbers::{kept_number, waits};
 use ospf_area::{Area, AreaLink, Numbering, is_own};
 use ospf_base::{Kind, LsaKey, RouterId};
+use ospf_lsa::LsaView;
 use ospf_lsdb::{EntryView, LS_REFRESH_TIME};
 
 /// Whether no self-originated LSA was heard in this step, and nothing is due of any key
@@ -72,10 +75,23 @@ fn router_is_due(area: &Area, copy: Option<&EntryView<'_>>) -> bool
     match copy {
         Some(copy) => {
             let old = LS_REFRESH_TIME <= copy.age().ticks();
-            old || !says_router(&copy.lsa(), area.stub_router, area.router, &area.links)
+            old || !says_own_router(&copy.lsa(), area)
         }
         None => true,
     }
+}
+
+// Whether a copy is the router-LSA that is wanted, number and checksum aside.
+fn says_own_router(copy: &LsaView<'_>, area: &Area) -> bool
+    ensures { result ≡ says (contents copy.now) (own_router area.now) }
+{
+    says_router(
+        copy,
+        area.stub_router,
+        area.router,
+        &area.links,
+        &area.hosts,
+    )
 }
 
 // Whether a wanted LSA is left as it is, given whether it is due.

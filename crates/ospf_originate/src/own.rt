@@ -63,7 +63,13 @@ fn issue_and_flush(area: &mut Area, out: &mut Outputs, alloc: Global) -> Result<
 fn wanted_by(area: &Area, alloc: Global) -> Result<Vec<OwnLsa>, AllocError>
     ensures { IfOk result (λ v. map wanted_value v.items ≡ wants area.now) }
 {
-    wanted(area.stub_router, area.router, &area.links, alloc)
+    wanted(
+        area.stub_router,
+        area.router,
+        &area.links,
+        &area.hosts,
+        alloc,
+    )
 }
 
 // All that is due.

@@ -113,10 +113,11 @@ links_set_up config ls are most = record {
 
 -- ---- the router
 
-pub area_fit : StartsSound → (config : Config) (dd_start : ℕ) (floor : ℤ) (s : AreaValue) → IsAreaOf config dd_start floor s → length config.interfaces.items ≤ 32 → IsFitRouter s
-area_fit law config dd_start floor s is most =
+pub area_fit : StartsSound → (config : Config) (dd_start : ℕ) (floor : ℤ) (s : AreaValue) → IsAreaOf config dd_start floor s → length config.interfaces.items ≤ 32 → length config.hosts.items ≤ 32
+    → IsFitRouter s
+area_fit law config dd_start floor s is most few =
     let now : AreaValue = area_of config dd_start floor s.links in
-    let sound : IsSound now = law.begun now (links_set_up config s.links is.links most) refl refl refl in
+    let sound : IsSound now = law.begun now (links_set_up config s.links is.links most) few refl refl refl in
     let fit : IsFitRouter now = record { links = all_fit config.router_id config.interfaces.items s.links is.links; sound = sound } in
     subst (λ (x : AreaValue). IsFitRouter x) (sym is.rest) fit
 

@@ -55,6 +55,7 @@ area_of config dd_start floor links = record {
   stub_router = config.stub_router;
   passes_over = config.passes_over;
   links = links;
+  hosts = config.hosts.items;
   database = [];
   direct = [];
   numbering = [];

@@ -24,12 +24,14 @@ pub(crate) fn area_of(
     ensures { IfOk result (λ area. IsAreaOf config.now dd_start floor area) }
 {
     let links = links_of(config.router_id, &config.interfaces, alloc)?;
+    let hosts = Vec::from_slice(alloc, &config.hosts)?;
     Ok(Area {
         router: config.router_id,
         area: config.area,
         stub_router: config.stub_router,
         passes_over: config.passes_over,
         links,
+        hosts,
         database: Lsdb::new(alloc),
         direct: Vec::new(alloc),
         numbering: Vec::new(alloc),

@@ -1,9 +1,10 @@
 -- Interfaces that change, and what their router wants then.
-use Rattle.std.proofs.Common.{◌≡◌, ◌≢◌, ◌++◌, ◌∷◌, [], ℕ, Bool, true, false, List, eqb, eq-eqb, map, refl, sym, ap, ◌∙◌, inl, inr, bit_and}
+use Rattle.std.proofs.Common.{◌≡◌, ◌≢◌, ◌&&◌, ◌++◌, ◌∷◌, [], ℕ, Bool, true, false, List, eqb, eq-eqb, map, refl, sym, ap, ◌∙◌, inl, inr, bit_and}
 use Rattle.std.specs.List.{AllByRecursion, filter}
 use Rattle.std.proofs.lemmas.List.Concat.{flat_map-append}
 use Rattle.std.proofs.lemmas.Bool.Decides.{eqb_tells}
 use Rattle.ospf_base.specs.Masks.{mask_of}
+use Rattle.ospf_base.specs.declared.host.Host.{Host}
 use Rattle.ospf_base.specs.declared.ids.RouterId.{RouterId}
 use Rattle.ospf_base.specs.declared.interface.InterfaceKind.TheVariants as kind
 use Rattle.ospf_base.specs.declared.prefix.Prefix.{Prefix}
@@ -13,13 +14,13 @@ use Rattle.ospf_neighbour.specs.Interface.Machine.{is_down}
 use Rattle.ospf_neighbour.specs.Neighbour.{NeighbourValue}
 use Rattle.ospf_graph.proofs.ListLemmas.{bool_cases}
 use Rattle.ospf_originate.proofs.Wants.Words.{links_of_kind}
-use Rattle.ospf_originate.specs.Wants.Wanted.{is_full, is_transit, links_of_link, network_link, router_link, subnet_link}
+use Rattle.ospf_originate.specs.Wants.Wanted.{host_link, interface_links, is_full, is_transit, links_of_link, network_link, own_links, router_link, subnet_link}
 use Rattle.ospf_graph.specs.Advertisements.{Advertisement}
 use Rattle.ospf_whatif.specs.Failure.{inner_of, kept_after, kept_links, takes, without, without_all}
 use Rattle.ospf_whatif.specs.declared.failure.AreaFailure.{AreaFailure}
 use Rattle.ospf_whatif.specs.declared.failure.AreaFailure.TheVariants as fails
 use Rattle.ospf_whatif.proofs.WithoutLemmas.{kept_links-append}
-use Rattle.ospf_whatif.specs.Wanted.{AreSpared, AreSparedBy, FailuresComeTogether, IsInNone, IsLeft, IsNetworkFailure, IsWireUp, wanted_links}
+use Rattle.ospf_whatif.specs.Wanted.{AreHostsSpared, AreSpared, AreSparedBy, FailuresComeTogether, IsInNone, IsLeft, IsNetworkFailure, IsWireUp}
 use Rattle.ospf_originate.proofs.Wants.SaidLemmas.{up_is}
 
 -- ---- links that are all kept, or all taken
@@ -32,20 +33,33 @@ kept_none : (inner : List Link) (f : AreaFailure) (r : RouterId) (xs : List Link
 kept_none inner f r [] all = refl
 kept_none inner f r (l ∷ rest) all = rw all.0 (kept_none inner f r rest all.1)
 
+-- ---- links to hosts
+
+-- what passes none of them
+no_host : (p : Link → Bool) → ((h : Host) → p (host_link h) ≡ false) → (hosts : List Host) → AllByRecursion (λ l. p l ≡ false) (map host_link hosts)
+no_host p none [] = tt
+no_host p none (h ∷ hs) = (none h, no_host p none hs)
+
 -- ---- one interface changes
 
-module _ (inner : List Link) (f : AreaFailure) (router : RouterId) (stub_router : Bool) (front back : List LinkValue) (before after : LinkValue)
-    (spared_front : AreSpared inner f router stub_router front) (spared_back : AreSpared inner f router stub_router back) where
-  split : (l : LinkValue) → wanted_links stub_router (front ++ l ∷ back) ≡ wanted_links stub_router front ++ (links_of_link stub_router l ++ wanted_links stub_router back)
+module _ (inner : List Link) (f : AreaFailure) (router : RouterId) (stub_router : Bool) (front back : List LinkValue) (before after : LinkValue) (hosts : List Host)
+    (spared_front : AreSpared inner f router stub_router front) (spared_back : AreSpared inner f router stub_router back) (spared_hosts : AreHostsSpared inner f router hosts) where
+  split : (l : LinkValue) → interface_links stub_router (front ++ l ∷ back) ≡ interface_links stub_router front ++ (links_of_link stub_router l ++ interface_links stub_router back)
   split l = flat_map-append (links_of_link stub_router) front (l ∷ back)
 
-  left : kept_links inner f router (links_of_link stub_router before) ≡ links_of_link stub_router after → IsLeft inner f router stub_router front before after back
-  left one =
+  interfaces_left : kept_links inner f router (links_of_link stub_router before) ≡ links_of_link stub_router after
+      → kept_links inner f router (interface_links stub_router (front ++ before ∷ back)) ≡ interface_links stub_router (front ++ after ∷ back)
+  interfaces_left one =
       ap (λ ls. kept_links inner f router ls) (split before)
-      ∙ kept_links-append inner f router (wanted_links stub_router front) (links_of_link stub_router before ++ wanted_links stub_router back)
-      ∙ ap (λ ls. kept_links inner f router (wanted_links stub_router front) ++ ls) (kept_links-append inner f router (links_of_link stub_router before) (wanted_links stub_router back))
-      ∙ (λ i. kept_all inner f router (wanted_links stub_router front) spared_front i ++ (one i ++ kept_all inner f router (wanted_links stub_router back) spared_back i))
+      ∙ kept_links-append inner f router (interface_links stub_router front) (links_of_link stub_router before ++ interface_links stub_router back)
+      ∙ ap (λ ls. kept_links inner f router (interface_links stub_router front) ++ ls) (kept_links-append inner f router (links_of_link stub_router before) (interface_links stub_router back))
+      ∙ (λ i. kept_all inner f router (interface_links stub_router front) spared_front i ++ (one i ++ kept_all inner f router (interface_links stub_router back) spared_back i))
       ∙ sym (split after)
+
+  left : kept_links inner f router (links_of_link stub_router before) ≡ links_of_link stub_router after → IsLeft inner f router stub_router front before after back hosts
+  left one =
+      kept_links-append inner f router (interface_links stub_router (front ++ before ∷ back)) (map host_link hosts)
+      ∙ (λ i. interfaces_left one i ++ kept_all inner f router (map host_link hosts) spared_hosts i)
 
 down_is : (stub_router : Bool) (l : LinkValue) → is_down l.iface.state ≡ true → links_of_link stub_router l ≡ []
 unfolding links_of_link
@@ -95,11 +109,12 @@ module _ (inner : List Link) (router other : RouterId) (subnet : Prefix) (stub_r
   all_taken : kept_links inner (fails.Link router other subnet) router (links_of_link stub_router l) ≡ []
   all_taken = ap (λ ls. kept_links inner (fails.Link router other subnet) router ls) (wire_is stub_router l w.up w.kind_is) ∙ neighbours_taken l.neighbours w.alone
 
-pub links_go_down : (inner : List Link) (router other : RouterId) (subnet : Prefix) (stub_router : Bool) (front back : List LinkValue) (before after : LinkValue)
+pub links_go_down : (inner : List Link) (router other : RouterId) (subnet : Prefix) (stub_router : Bool) (front back : List LinkValue) (before after : LinkValue) (hosts : List Host)
     → IsWireUp before other subnet → IsInNone inner before → is_down after.iface.state ≡ true → AreSpared inner (fails.Link router other subnet) router stub_router front
-    → AreSpared inner (fails.Link router other subnet) router stub_router back → IsLeft inner (fails.Link router other subnet) router stub_router front before after back
-links_go_down inner router other subnet stub_router front back before after w none down spared_front spared_back =
-    left inner (fails.Link router other subnet) router stub_router front back before after spared_front spared_back
+    → AreSpared inner (fails.Link router other subnet) router stub_router back → AreHostsSpared inner (fails.Link router other subnet) router hosts
+    → IsLeft inner (fails.Link router other subnet) router stub_router front before after back hosts
+links_go_down inner router other subnet stub_router front back before after hosts w none down spared_front spared_back spared_hosts =
+    left inner (fails.Link router other subnet) router stub_router front back before after hosts spared_front spared_back spared_hosts
     (all_taken inner router other subnet stub_router before w none ∙ sym (down_is stub_router after down))
 
 -- ---- an end of it, behind a switch
@@ -130,14 +145,19 @@ module _ (inner : List Link) (router other : RouterId) (subnet : Prefix) (stub_r
   end_all_taken : kept_links inner (fails.End router other subnet) router (links_of_link stub_router l) ≡ []
   end_all_taken = ap (λ ls. kept_links inner (fails.End router other subnet) router ls) (wire_is stub_router l w.up w.kind_is) ∙ end_neighbours_taken l.neighbours w.alone
 
-pub ends_go_down : (inner : List Link) (router other : RouterId) (subnet : Prefix) (stub_router : Bool) (front back : List LinkValue) (before after : LinkValue)
+pub ends_go_down : (inner : List Link) (router other : RouterId) (subnet : Prefix) (stub_router : Bool) (front back : List LinkValue) (before after : LinkValue) (hosts : List Host)
     → IsWireUp before other subnet → IsInNone inner before → is_down after.iface.state ≡ true → AreSpared inner (fails.End router other subnet) router stub_router front
-    → AreSpared inner (fails.End router other subnet) router stub_router back → IsLeft inner (fails.End router other subnet) router stub_router front before after back
-ends_go_down inner router other subnet stub_router front back before after w none down spared_front spared_back =
-    left inner (fails.End router other subnet) router stub_router front back before after spared_front spared_back
+    → AreSpared inner (fails.End router other subnet) router stub_router back → AreHostsSpared inner (fails.End router other subnet) router hosts
+    → IsLeft inner (fails.End router other subnet) router stub_router front before after back hosts
+ends_go_down inner router other subnet stub_router front back before after hosts w none down spared_front spared_back spared_hosts =
+    left inner (fails.End router other subnet) router stub_router front back before after hosts spared_front spared_back spared_hosts
     (end_all_taken inner router other subnet stub_router before w none ∙ sym (down_is stub_router after down))
 
 -- ---- a transit network
+
+and_false : (b : Bool) → (b && false) ≡ false
+and_false true = refl
+and_false false = refl
 
 network_taken : (inner : List Link) (f : AreaFailure) (router : RouterId) (network : ℕ) (l : LinkValue) (stub_router : Bool) → IsNetworkFailure f router network → l.iface.dr.0 ≡ network
     → takes inner f router (network_link stub_router l) ≡ true
@@ -151,14 +171,23 @@ network_taken inner (fails.End _ _ _) router network l stub_router of is = absur
 network_taken inner (fails.Links _ _) router network l stub_router of is = absurd of
 network_taken inner (fails.Router _) router network l stub_router of is = absurd of
 
-pub interfaces_go_down : (inner : List Link) (router : RouterId) (stub_router : Bool) (front back : List LinkValue) (before after : LinkValue)
+-- no host is a transit network
+network_hosts : (inner : List Link) (f : AreaFailure) (router : RouterId) (network : ℕ) (hosts : List Host) → IsNetworkFailure f router network → AreHostsSpared inner f router hosts
+network_hosts inner (fails.Attachment q n) router network hosts of = no_host (takes inner (fails.Attachment q n) router) (λ h. and_false (eqb router.0 q.0)) hosts
+network_hosts inner (fails.Network n) router network hosts of = no_host (takes inner (fails.Network n) router) (λ h. refl) hosts
+network_hosts inner (fails.Link _ _ _) router network hosts of = absurd of
+network_hosts inner (fails.End _ _ _) router network hosts of = absurd of
+network_hosts inner (fails.Links _ _) router network hosts of = absurd of
+network_hosts inner (fails.Router _) router network hosts of = absurd of
+
+pub interfaces_go_down : (inner : List Link) (router : RouterId) (stub_router : Bool) (front back : List LinkValue) (before after : LinkValue) (hosts : List Host)
     → is_down before.iface.state ≡ false → before.iface.settings.kind ≡ kind.Broadcast → is_transit before ≡ true → is_down after.iface.state ≡ true
     → (f : AreaFailure) → IsNetworkFailure f router before.iface.dr.0 → AreSpared inner f router stub_router front → AreSpared inner f router stub_router back
-    → IsLeft inner f router stub_router front before after back
-interfaces_go_down inner router stub_router front back before after up is transit down f of spared_front spared_back =
+    → IsLeft inner f router stub_router front before after back hosts
+interfaces_go_down inner router stub_router front back before after hosts up is transit down f of spared_front spared_back =
     let one : links_of_link stub_router before ≡ network_link stub_router before ∷ [] =
     up_is stub_router before up ∙ ap (λ k. links_of_kind k stub_router before) is ∙ rw transit refl in
-    left inner f router stub_router front back before after spared_front spared_back
+    left inner f router stub_router front back before after hosts spared_front spared_back (network_hosts inner f router before.iface.dr.0 hosts of)
     (ap (λ ls. kept_links inner f router ls) one ∙ rw (network_taken inner f router before.iface.dr.0 before stub_router of refl) refl ∙ sym (down_is stub_router after down))
 
 -- ---- a neighbour that is heard no more
@@ -169,6 +198,9 @@ module _ (inner : List Link) (router gone : RouterId) (stub_router : Bool) (l : 
 
   subnet_stays : takes inner (fails.Router gone) router (subnet_link l) ≡ false
   subnet_stays = rw not_own refl
+
+  host_stays : (h : Host) → takes inner (fails.Router gone) router (host_link h) ≡ false
+  host_stays h = rw not_own refl
 
   link_goes : (n : NeighbourValue) → n.router ≡ gone → takes inner (fails.Router gone) router (router_link stub_router l n) ≡ true
   link_goes n is = let same : eqb n.router.0 gone.0 ≡ true = eq-eqb _ _ (ap (λ (r : RouterId). r.0) is) in rw (not_own, same) refl
@@ -197,12 +229,13 @@ silent stub_router before after other subnet w iface settings none =
     } in
     wire_is stub_router after up is ∙ ap (λ ns. map (router_link stub_router after) (filter is_full ns) ++ subnet_link after ∷ []) none ∙ ap (λ l. l ∷ []) same
 
-pub routers_stop : (inner : List Link) (router gone : RouterId) (subnet : Prefix) (stub_router : Bool) (front back : List LinkValue) (before after : LinkValue)
+pub routers_stop : (inner : List Link) (router gone : RouterId) (subnet : Prefix) (stub_router : Bool) (front back : List LinkValue) (before after : LinkValue) (hosts : List Host)
     → router.0 ≢ gone.0 → IsWireUp before gone subnet → after.iface ≡ before.iface → after.settings ≡ before.settings → after.neighbours ≡ []
     → AreSpared inner (fails.Router gone) router stub_router front → AreSpared inner (fails.Router gone) router stub_router back
-    → IsLeft inner (fails.Router gone) router stub_router front before after back
-routers_stop inner router gone subnet stub_router front back before after apart w iface settings none spared_front spared_back =
-    left inner (fails.Router gone) router stub_router front back before after spared_front spared_back
+    → IsLeft inner (fails.Router gone) router stub_router front before after back hosts
+routers_stop inner router gone subnet stub_router front back before after hosts apart w iface settings none spared_front spared_back =
+    left inner (fails.Router gone) router stub_router front back before after hosts spared_front spared_back
+    (no_host (takes inner (fails.Router gone) router) (host_stays inner router gone stub_router before apart) hosts)
     (ap (λ ls. kept_links inner (fails.Router gone) router ls) (wire_is stub_router before w.up w.kind_is) ∙ only_subnet inner router gone stub_router before apart before.neighbours w.alone
     ∙ sym (silent stub_router before after gone subnet w iface settings none))
 
@@ -219,6 +252,9 @@ module _ (inner : List Link) (router gone : RouterId) (subnet : Prefix) (stub_ro
   far_subnet_stays : takes inner (fails.End gone router subnet) router (subnet_link l) ≡ false
   far_subnet_stays = rw (far_not, far_own) refl
 
+  far_host_stays : (h : Host) → takes inner (fails.End gone router subnet) router (host_link h) ≡ false
+  far_host_stays h = rw (far_not, far_own) refl
+
   far_link_goes : (n : NeighbourValue) → n.router ≡ gone → takes inner (fails.End gone router subnet) router (router_link stub_router l n) ≡ true
   far_link_goes n is =
       let same : eqb n.router.0 gone.0 ≡ true = eq-eqb _ _ (ap (λ (r : RouterId). r.0) is) in
@@ -233,12 +269,13 @@ module _ (inner : List Link) (router gone : RouterId) (subnet : Prefix) (stub_ro
         | inr less ↦ rw less (far_only_subnet ns all.1)
       ]
 
-pub far_ends_stay_up : (inner : List Link) (router gone : RouterId) (subnet : Prefix) (stub_router : Bool) (front back : List LinkValue) (before after : LinkValue)
+pub far_ends_stay_up : (inner : List Link) (router gone : RouterId) (subnet : Prefix) (stub_router : Bool) (front back : List LinkValue) (before after : LinkValue) (hosts : List Host)
     → router.0 ≢ gone.0 → IsWireUp before gone subnet → IsInNone inner before → after.iface ≡ before.iface → after.settings ≡ before.settings → after.neighbours ≡ []
     → AreSpared inner (fails.End gone router subnet) router stub_router front → AreSpared inner (fails.End gone router subnet) router stub_router back
-    → IsLeft inner (fails.End gone router subnet) router stub_router front before after back
-far_ends_stay_up inner router gone subnet stub_router front back before after apart w none iface settings empty spared_front spared_back =
-    left inner (fails.End gone router subnet) router stub_router front back before after spared_front spared_back
+    → IsLeft inner (fails.End gone router subnet) router stub_router front before after back hosts
+far_ends_stay_up inner router gone subnet stub_router front back before after hosts apart w none iface settings empty spared_front spared_back =
+    left inner (fails.End gone router subnet) router stub_router front back before after hosts spared_front spared_back
+    (no_host (takes inner (fails.End gone router subnet) router) (far_host_stays inner router gone subnet stub_router before apart w none) hosts)
     (ap (λ ls. kept_links inner (fails.End gone router subnet) router ls) (wire_is stub_router before w.up w.kind_is)
     ∙ far_only_subnet inner router gone subnet stub_router before apart w none before.neighbours w.alone
     ∙ sym (silent stub_router before after gone subnet w iface settings empty))
@@ -259,5 +296,5 @@ come_together A (e ∷ earlier) later f router before after first one rest =
     ∙ come_together (without e A) earlier later f router before after first.1 one rest
 
 pub failures_come_together : FailuresComeTogether
-failures_come_together A earlier later f router stub_router front back before after first one rest =
-    come_together A earlier later f router (wanted_links stub_router (front ++ before ∷ back)) (wanted_links stub_router (front ++ after ∷ back)) first one rest
+failures_come_together A earlier later f router stub_router front back before after hosts first one rest =
+    come_together A earlier later f router (own_links stub_router (front ++ before ∷ back) hosts) (own_links stub_router (front ++ after ∷ back) hosts) first one rest

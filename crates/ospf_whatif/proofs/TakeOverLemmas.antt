@@ -2,13 +2,14 @@
 use Rattle.std.proofs.Common.{◌≡◌, ◌++◌, ◌∷◌, [], ℕ, Bool, List, map, refl, sym, ap, ◌∙◌}
 use Rattle.std.specs.List.{AllByRecursion}
 use Rattle.std.proofs.lemmas.List.Concat.{flat_map-append}
+use Rattle.ospf_base.specs.declared.host.Host.{Host}
 use Rattle.ospf_lsa.specs.declared.link.Link.{Link}
 use Rattle.ospf_area.specs.State.{LinkValue}
-use Rattle.ospf_originate.specs.Wants.Wanted.{links_of_link, network_link}
+use Rattle.ospf_originate.specs.Wants.Wanted.{host_link, interface_links, links_of_link, network_link, own_links}
 use Rattle.ospf_originate.proofs.Wants.Words.{links_of_kind, through_metric}
 use Rattle.ospf_originate.proofs.Wants.SaidLemmas.{up_is}
 use Rattle.ospf_whatif.specs.Renamed.{renamed_link}
-use Rattle.ospf_whatif.specs.Wanted.{IsOnTransit, KeepTheirNames, wanted_links}
+use Rattle.ospf_whatif.specs.Wanted.{IsOnTransit, KeepTheirNames}
 
 names_kept : (name : ℕ → ℕ) (xs : List Link) → AllByRecursion (λ l. renamed_link name l ≡ l) xs → map (renamed_link name) xs ≡ xs
 names_kept name [] all = refl
@@ -25,14 +26,19 @@ one_link stub_router l on =
     up_is stub_router l on.up ∙ ap (λ k. links_of_kind k stub_router l) on.kind_is ∙ rw transit refl
 
 split : (stub_router : Bool) (front back : List LinkValue) (l : LinkValue)
-    → wanted_links stub_router (front ++ l ∷ back) ≡ wanted_links stub_router front ++ (links_of_link stub_router l ++ wanted_links stub_router back)
+    → interface_links stub_router (front ++ l ∷ back) ≡ interface_links stub_router front ++ (links_of_link stub_router l ++ interface_links stub_router back)
 split stub_router front back l = flat_map-append (links_of_link stub_router) front (l ∷ back)
 
-pub designated_routers_change : (name : ℕ → ℕ) (stub_router : Bool) (front back : List LinkValue) (before after : LinkValue)
+-- a host is no transit network
+hosts_renamed : (name : ℕ → ℕ) (hosts : List Host) → map (renamed_link name) (map host_link hosts) ≡ map host_link hosts
+hosts_renamed name [] = refl
+hosts_renamed name (h ∷ hs) = ap (λ more. host_link h ∷ more) (hosts_renamed name hs)
+
+interfaces_renamed : (name : ℕ → ℕ) (stub_router : Bool) (front back : List LinkValue) (before after : LinkValue)
     → IsOnTransit before → IsOnTransit after → after.iface.settings ≡ before.iface.settings → after.settings ≡ before.settings
     → after.iface.dr.0 ≡ name before.iface.dr.0 → KeepTheirNames name stub_router front → KeepTheirNames name stub_router back
-    → wanted_links stub_router (front ++ after ∷ back) ≡ map (renamed_link name) (wanted_links stub_router (front ++ before ∷ back))
-designated_routers_change name stub_router front back before after was on iface settings dr kept_front kept_back =
+    → interface_links stub_router (front ++ after ∷ back) ≡ map (renamed_link name) (interface_links stub_router (front ++ before ∷ back))
+interfaces_renamed name stub_router front back before after was on iface settings dr kept_front kept_back =
     let link : network_link stub_router after ≡ renamed_link name (network_link stub_router before) =
     λ i. record {
       id = dr i;
@@ -43,8 +49,16 @@ designated_routers_change name stub_router front back before after was on iface 
     let one : links_of_link stub_router after ≡ map (renamed_link name) (links_of_link stub_router before) =
     one_link stub_router after on ∙ ap (λ l. l ∷ []) link ∙ sym (ap (λ ls. map (renamed_link name) ls) (one_link stub_router before was)) in
     split stub_router front back after
-    ∙ (λ i. sym (names_kept name (wanted_links stub_router front) kept_front) i ++ (one i ++ sym (names_kept name (wanted_links stub_router back) kept_back) i))
+    ∙ (λ i. sym (names_kept name (interface_links stub_router front) kept_front) i ++ (one i ++ sym (names_kept name (interface_links stub_router back) kept_back) i))
     ∙ sym (
     ap (λ ls. map (renamed_link name) ls) (split stub_router front back before)
-    ∙ map_join name (wanted_links stub_router front) (links_of_link stub_router before ++ wanted_links stub_router back)
-    ∙ ap (λ ls. map (renamed_link name) (wanted_links stub_router front) ++ ls) (map_join name (links_of_link stub_router before) (wanted_links stub_router back)))
+    ∙ map_join name (interface_links stub_router front) (links_of_link stub_router before ++ interface_links stub_router back)
+    ∙ ap (λ ls. map (renamed_link name) (interface_links stub_router front) ++ ls) (map_join name (links_of_link stub_router before) (interface_links stub_router back)))
+
+pub designated_routers_change : (name : ℕ → ℕ) (stub_router : Bool) (front back : List LinkValue) (before after : LinkValue) (hosts : List Host)
+    → IsOnTransit before → IsOnTransit after → after.iface.settings ≡ before.iface.settings → after.settings ≡ before.settings
+    → after.iface.dr.0 ≡ name before.iface.dr.0 → KeepTheirNames name stub_router front → KeepTheirNames name stub_router back
+    → own_links stub_router (front ++ after ∷ back) hosts ≡ map (renamed_link name) (own_links stub_router (front ++ before ∷ back) hosts)
+designated_routers_change name stub_router front back before after hosts was on iface settings dr kept_front kept_back =
+    (λ i. interfaces_renamed name stub_router front back before after was on iface settings dr kept_front kept_back i ++ sym (hosts_renamed name hosts) i)
+    ∙ sym (map_join name (interface_links stub_router (front ++ before ∷ back)) (map host_link hosts))

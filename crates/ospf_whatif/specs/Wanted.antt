@@ -1,7 +1,8 @@
 -- What routers want after a failure (RFC 2328, section 12.4.1).
 use Rattle.std.specs.Prelude.{◌≡◌, ◌≢◌, ◌++◌, ◌∷◌, [], ⊤, ℕ, Bool, true, false, List, map}
-use Rattle.std.specs.List.{AllByRecursion, flat_map, list_any}
+use Rattle.std.specs.List.{AllByRecursion, list_any}
 use Rattle.ospf_base.specs.Prefixes.{IsPrefixOf}
+use Rattle.ospf_base.specs.declared.host.Host.{Host}
 use Rattle.ospf_base.specs.declared.ids.RouterId.{RouterId}
 use Rattle.ospf_base.specs.declared.interface.InterfaceKind.TheVariants as kind
 use Rattle.ospf_base.specs.declared.prefix.Prefix.{Prefix}
@@ -9,29 +10,31 @@ use Rattle.ospf_lsa.specs.declared.link.Link.{Link}
 use Rattle.ospf_area.specs.State.{LinkValue}
 use Rattle.ospf_graph.specs.Advertisements.{Advertisement}
 use Rattle.ospf_neighbour.specs.Interface.Machine.{is_down}
-use Rattle.ospf_originate.specs.Wants.Wanted.{is_transit, links_of_link}
+use Rattle.ospf_originate.specs.Wants.Wanted.{host_link, interface_links, is_transit, own_links}
 use Rattle.ospf_whatif.specs.Failure.{inner_of, kept_after, kept_links, takes, takes_in, without, without_all}
 use Rattle.ospf_whatif.specs.Renamed.{renamed_link}
 use Rattle.ospf_whatif.specs.Subnets.{is_held}
 use Rattle.ospf_whatif.specs.declared.failure.AreaFailure.{AreaFailure}
 use Rattle.ospf_whatif.specs.declared.failure.AreaFailure.TheVariants as fails
 
--- the links of the router-LSA that a router of these interfaces wants
-abbrev pub wanted_links : Bool → List LinkValue → List Link
-wanted_links stub_router links = flat_map (links_of_link stub_router) links
-
 -- the failure takes none of the links that these interfaces make
 abbrev pub AreSpared : List Link → AreaFailure → RouterId → Bool → List LinkValue → Type 0
 AreSpared inner f router stub_router links =
-    AllByRecursion (λ l. takes inner f router l ≡ false) (wanted_links stub_router links)
+    AllByRecursion (λ l. takes inner f router l ≡ false) (interface_links stub_router links)
+
+-- the failure takes none of the links to the hosts
+abbrev pub AreHostsSpared : List Link → AreaFailure → RouterId → List Host → Type 0
+AreHostsSpared inner f router hosts =
+    AllByRecursion (λ l. takes inner f router l ≡ false) (map host_link hosts)
 
 -- the router wants what the failure leaves of what it wanted, where
 -- one of its interfaces has changed
 abbrev pub IsLeft : List Link → AreaFailure → RouterId → Bool
-    → (front : List LinkValue) (before after : LinkValue) (back : List LinkValue) → Type 0
-IsLeft inner f router stub_router front before after back =
-    kept_links inner f router (wanted_links stub_router (front ++ before ∷ back))
-    ≡ wanted_links stub_router (front ++ after ∷ back)
+    → (front : List LinkValue) (before after : LinkValue) (back : List LinkValue) → List Host
+    → Type 0
+IsLeft inner f router stub_router front before after back hosts =
+    kept_links inner f router (own_links stub_router (front ++ before ∷ back) hosts)
+    ≡ own_links stub_router (front ++ after ∷ back) hosts
 
 -- an interface of a point-to-point link that is up, in this subnet,
 -- with no neighbour but this router
@@ -49,21 +52,23 @@ IsInNone inner l = list_any (λ stub. is_held stub l.iface.settings.address.0) i
 abbrev pub LinksGoDown : Type 0
 LinksGoDown =
     (inner : List Link) (router other : RouterId) (subnet : Prefix) (stub_router : Bool)
-    (front back : List LinkValue) (before after : LinkValue) →
+    (front back : List LinkValue) (before after : LinkValue) (hosts : List Host) →
     IsWireUp before other subnet → IsInNone inner before → is_down after.iface.state ≡ true →
     AreSpared inner (fails.Link router other subnet) router stub_router front
-    → AreSpared inner (fails.Link router other subnet) router stub_router back →
-    IsLeft inner (fails.Link router other subnet) router stub_router front before after back
+    → AreSpared inner (fails.Link router other subnet) router stub_router back
+    → AreHostsSpared inner (fails.Link router other subnet) router hosts →
+    IsLeft inner (fails.Link router other subnet) router stub_router front before after back hosts
 
 -- the link runs through a switch: the interface goes down, and the one at the other end stays up
 abbrev pub EndsGoDown : Type 0
 EndsGoDown =
     (inner : List Link) (router other : RouterId) (subnet : Prefix) (stub_router : Bool)
-    (front back : List LinkValue) (before after : LinkValue) →
+    (front back : List LinkValue) (before after : LinkValue) (hosts : List Host) →
     IsWireUp before other subnet → IsInNone inner before → is_down after.iface.state ≡ true →
     AreSpared inner (fails.End router other subnet) router stub_router front
-    → AreSpared inner (fails.End router other subnet) router stub_router back →
-    IsLeft inner (fails.End router other subnet) router stub_router front before after back
+    → AreSpared inner (fails.End router other subnet) router stub_router back
+    → AreHostsSpared inner (fails.End router other subnet) router hosts →
+    IsLeft inner (fails.End router other subnet) router stub_router front before after back hosts
 
 -- the failure of a router's attachment to a network, or of the network
 abbrev pub IsNetworkFailure : AreaFailure → RouterId → ℕ → Type 0
@@ -78,35 +83,35 @@ IsNetworkFailure (fails.Router _) _ _ = ⊥
 abbrev pub InterfacesGoDown : Type 0
 InterfacesGoDown =
     (inner : List Link) (router : RouterId) (stub_router : Bool) (front back : List LinkValue)
-    (before after : LinkValue) →
+    (before after : LinkValue) (hosts : List Host) →
     is_down before.iface.state ≡ false → before.iface.settings.kind ≡ kind.Broadcast
     → is_transit before ≡ true → is_down after.iface.state ≡ true →
     (f : AreaFailure) → IsNetworkFailure f router before.iface.dr.0 →
     AreSpared inner f router stub_router front → AreSpared inner f router stub_router back
-    → IsLeft inner f router stub_router front before after back
+    → IsLeft inner f router stub_router front before after back hosts
 
 -- the neighbour on a point-to-point link is heard no more, and the interface stays up
 abbrev pub RoutersStop : Type 0
 RoutersStop =
     (inner : List Link) (router gone : RouterId) (subnet : Prefix) (stub_router : Bool)
-    (front back : List LinkValue) (before after : LinkValue) →
+    (front back : List LinkValue) (before after : LinkValue) (hosts : List Host) →
     router.0 ≢ gone.0 → IsWireUp before gone subnet → after.iface ≡ before.iface
     → after.settings ≡ before.settings → after.neighbours ≡ [] →
     AreSpared inner (fails.Router gone) router stub_router front
     → AreSpared inner (fails.Router gone) router stub_router back →
-    IsLeft inner (fails.Router gone) router stub_router front before after back
+    IsLeft inner (fails.Router gone) router stub_router front before after back hosts
 
 -- the link runs through a switch: the interface stays up, and no longer hears the router at the
 -- other end, whose interface went down
 abbrev pub FarEndsStayUp : Type 0
 FarEndsStayUp =
     (inner : List Link) (router gone : RouterId) (subnet : Prefix) (stub_router : Bool)
-    (front back : List LinkValue) (before after : LinkValue) →
+    (front back : List LinkValue) (before after : LinkValue) (hosts : List Host) →
     router.0 ≢ gone.0 → IsWireUp before gone subnet → IsInNone inner before
     → after.iface ≡ before.iface → after.settings ≡ before.settings → after.neighbours ≡ [] →
     AreSpared inner (fails.End gone router subnet) router stub_router front
     → AreSpared inner (fails.End gone router subnet) router stub_router back →
-    IsLeft inner (fails.End gone router subnet) router stub_router front before after back
+    IsLeft inner (fails.End gone router subnet) router stub_router front before after back hosts
 
 -- failures, one after the other, take none of these links of the router
 abbrev pub AreSparedBy : List Advertisement → List AreaFailure → RouterId → List Link → Type 0
@@ -121,14 +126,14 @@ abbrev pub FailuresComeTogether : Type 0
 FailuresComeTogether =
     (adverts : List Advertisement) (earlier later : List AreaFailure) (f : AreaFailure)
     (router : RouterId) (stub_router : Bool) (front back : List LinkValue)
-    (before after : LinkValue) →
-    AreSparedBy adverts earlier router (wanted_links stub_router (front ++ before ∷ back)) →
+    (before after : LinkValue) (hosts : List Host) →
+    let was = own_links stub_router (front ++ before ∷ back) hosts in
+    let is = own_links stub_router (front ++ after ∷ back) hosts in
+    AreSparedBy adverts earlier router was →
     IsLeft (inner_of f (without_all earlier adverts)) f router stub_router front before after back
-    → AreSparedBy (without f (without_all earlier adverts)) later router
-    (wanted_links stub_router (front ++ after ∷ back)) →
-    kept_after adverts (earlier ++ f ∷ later) router
-    (wanted_links stub_router (front ++ before ∷ back))
-    ≡ wanted_links stub_router (front ++ after ∷ back)
+    hosts
+    → AreSparedBy (without f (without_all earlier adverts)) later router is →
+    kept_after adverts (earlier ++ f ∷ later) router was ≡ is
 
 -- an interface that is up, on a transit network
 pub record IsOnTransit (l : LinkValue) : Type 0 where
@@ -139,16 +144,17 @@ pub record IsOnTransit (l : LinkValue) : Type 0 where
 -- the new names change none of the links that these interfaces make
 abbrev pub KeepTheirNames : (ℕ → ℕ) → Bool → List LinkValue → Type 0
 KeepTheirNames name stub_router links =
-    AllByRecursion (λ l. renamed_link name l ≡ l) (wanted_links stub_router links)
+    AllByRecursion (λ l. renamed_link name l ≡ l) (interface_links stub_router links)
 
 -- another router becomes the Designated Router of a network, and the interface stays on the
 -- network: the router wants the links of before, under the network's new name
 abbrev pub DesignatedRoutersChange : Type 0
 DesignatedRoutersChange =
-    (name : ℕ → ℕ) (stub_router : Bool) (front back : List LinkValue) (before after : LinkValue) →
+    (name : ℕ → ℕ) (stub_router : Bool) (front back : List LinkValue) (before after : LinkValue)
+    (hosts : List Host) →
     IsOnTransit before → IsOnTransit after →
     after.iface.settings ≡ before.iface.settings → after.settings ≡ before.settings →
     after.iface.dr.0 ≡ name before.iface.dr.0 →
     KeepTheirNames name stub_router front → KeepTheirNames name stub_router back →
-    wanted_links stub_router (front ++ after ∷ back) ≡
-    map (renamed_link name) (wanted_links stub_router (front ++ before ∷ back))
+    own_links stub_router (front ++ after ∷ back) hosts ≡
+    map (renamed_link name) (own_links stub_router (front ++ before ∷ back) hosts)

@@ -29,7 +29,7 @@ abbrev pub its_address : Addr
 its_address = record { 0 = 167772161 }
 
 pub is_host : IsHostAddress 167772161 24
-is_host = record { long = lit≤ tt; short = lit≤ tt; not_zeros = lit< tt; not_ones = lit< tt; octet_low = lit≤ tt; octet_high = lit≤ tt }
+is_host = record { long = lit≤ tt; short = lit≤ tt; not_zeros = λ _. lit< tt; not_ones = λ _. lit< tt; octet_low = lit≤ tt; octet_high = lit≤ tt }
 
 abbrev pub interface : Interface
 interface = record {
@@ -62,8 +62,10 @@ config = record {
   stub_router = false;
   passes_over = false;
   interfaces = vec_of (interface ∷ []) (lit< tt);
+  hosts = vec_of [] (lit< tt);
   router_id_not_zero = lit< tt;
   some_interface = lit≤ tt;
   few_interfaces = lit≤ tt;
+  few_hosts = lit≤ tt;
   no_conflict = λ i j d lt within. absurd (omega arith);
 }

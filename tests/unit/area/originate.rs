@@ -1,7 +1,7 @@
 //! The numbers and contents of own LSAs over an area, against sums that were computed elsewhere.
 
 use ospf_area::{Area, AreaLink, LinkSettings, PacketSource, Outputs};
-use ospf_base::{Addr, AreaId, Instance, InterfaceKind, Kind, LsaKey, MAX_AGE, RouterId, is_mask};
+use ospf_base::{Addr, AreaId, Host, Instance, InterfaceKind, Kind, LsaKey, MAX_AGE, RouterId, is_mask};
 use ospf_neighbour::iface::{Iface, IfaceSettings, IfaceState};
 use ospf_lsa::{LinkKind, Lsa, LsaView};
 use ospf_lsdb::Lsdb;
@@ -143,6 +143,7 @@ fn area(alloc: Global, own: End, stub_router: bool, floor: i32, links: Vec<AreaL
         stub_router,
         passes_over: false,
         links,
+        hosts: Vec::new(alloc),
         database: Lsdb::new(alloc),
         direct: Vec::new(alloc),
         numbering: Vec::new(alloc),
@@ -292,10 +293,7 @@ fn has_both_links(area: &Area) -> bool {
         0u8, 0, 2, 1, 1, 1, 1, 1, 1, 1, 1, 1, 0x80, 0, 0, 2, 0xe0, 0x2d, 0, 0x30, 0, 0, 0, 2, 2, 2,
         2, 2, 10, 0, 0, 1, 1, 0, 0, 10, 10, 0, 0, 0, 255, 255, 255, 252, 3, 0, 0, 10,
     ];
-    match area.database.get(&ROUTER_KEY) {
-        Some(copy) => copy.lsa().as_bytes()[2..] == expected[2..],
-        None => false,
-    }
+    lists(area, &expected)
 }
 
 // A change four ticks after the issue issues nothing, and at the fifth tick it does.
@@ -317,6 +315,103 @@ fn stub_routers(rt: HostRuntime) -> Result<(), Fail> {
     let alloc = rt.alloc();
     let mut area = one(alloc, true, FIRST, Some(TWO))?;
     assert!(rt; issues(&mut area, ROUTER_KEY, FIRST + 1, 0x2ceb, alloc)?);
+    Ok(())
+}
+
+// 192.0.2.1 at no cost, and 192.0.2.7
+const HOSTS: [Host; 2] = [
+    Host { address: Addr(0xc000_0201), cost: 0 },
+    Host { address: Addr(0xc000_0207), cost: 300 },
+];
+
+// 1.1.1.1, fully adjacent to 2.2.2.2 on the first link and alone on the second, at 10.0.0.5, with these hosts.
+fn one_with_hosts(alloc: Global, stub_router: bool, hosts: &[Host]) -> Result<Area, Fail> {
+    let second = End { router: ONE.router, address: Addr(0x0a00_0005) };
+    let mut links = links(alloc, ONE, IfaceState::PointToPoint, Some(TWO))?;
+    links.push(link(alloc, second, IfaceState::Dr, None)?)?;
+    let mut area = area(alloc, ONE, stub_router, FIRST, links);
+    area.hosts = Vec::from_slice(alloc, hosts)?;
+    Ok(area)
+}
+
+fn lists(area: &Area, expected: &[u8]) -> bool {
+    match area.database.get(&ROUTER_KEY) {
+        Some(copy) => copy.lsa().as_bytes()[2..] == expected[2..],
+        None => false,
+    }
+}
+
+// Behind the links of both interfaces, in order, those to the hosts: of 32 ones, at their own costs. Then nothing is due.
+#[test]
+fn hosts_behind_the_interfaces(rt: HostRuntime) -> Result<(), Fail> {
+    let alloc = rt.alloc();
+    let mut area = one_with_hosts(alloc, false, &HOSTS)?;
+    assert!(rt; issues(&mut area, ROUTER_KEY, FIRST + 1, 0xfb12, alloc)?);
+    let expected = [
+        0u8, 0, 2, 1, 1, 1, 1, 1, 1, 1, 1, 1, 0x80, 0, 0, 2, 0xfb, 0x12, 0, 84, 0, 0, 0, 5, 2, 2, 2,
+        2, 10, 0, 0, 1, 1, 0, 0, 10, 10, 0, 0, 0, 255, 255, 255, 252, 3, 0, 0, 10, 10, 0, 0, 4, 255,
+        255, 255, 252, 3, 0, 0, 10, 192, 0, 2, 1, 255, 255, 255, 255, 3, 0, 0, 0, 192, 0, 2, 7, 255,
+        255, 255, 255, 3, 0, 1, 44,
+    ];
+    assert!(rt; lists(&area, &expected));
+    assert!(rt; rests(&mut area, alloc)?);
+    Ok(())
+}
+
+// The metric to the neighbour is the largest, and those to the hosts are not.
+#[test]
+fn hosts_of_a_stub_router(rt: HostRuntime) -> Result<(), Fail> {
+    let alloc = rt.alloc();
+    let mut area = one_with_hosts(alloc, true, &HOSTS)?;
+    assert!(rt; issues(&mut area, ROUTER_KEY, FIRST + 1, 0x47d0, alloc)?);
+    let expected = [
+        0u8, 0, 2, 1, 1, 1, 1, 1, 1, 1, 1, 1, 0x80, 0, 0, 2, 0x47, 0xd0, 0, 84, 0, 0, 0, 5, 2, 2, 2,
+        2, 10, 0, 0, 1, 1, 0, 255, 255, 10, 0, 0, 0, 255, 255, 255, 252, 3, 0, 0, 10, 10, 0, 0, 4,
+        255, 255, 255, 252, 3, 0, 0, 10, 192, 0, 2, 1, 255, 255, 255, 255, 3, 0, 0, 0, 192, 0, 2, 7,
+        255, 255, 255, 255, 3, 0, 1, 44,
+    ];
+    assert!(rt; lists(&area, &expected));
+    assert!(rt; rests(&mut area, alloc)?);
+    Ok(())
+}
+
+// As many hosts as a router has at most: 192.0.2.1 at cost 1 to 192.0.2.32 at cost 32, behind two other links.
+#[test]
+fn as_many_hosts_as_there_may_be(rt: HostRuntime) -> Result<(), Fail> {
+    let alloc = rt.alloc();
+    let mut area = one(alloc, false, FIRST, Some(TWO))?;
+    let mut hosts = Vec::new(alloc);
+    for n in 1..=32u16 {
+        hosts.push(Host { address: Addr(0xc000_0200 + u32::from(n)), cost: n })?;
+    }
+    area.hosts = hosts;
+    assert!(rt; issues(&mut area, ROUTER_KEY, FIRST + 1, 0x1c73, alloc)?);
+    assert!(rt; has_size(&area, 432));
+    assert!(rt; rests(&mut area, alloc)?);
+    Ok(())
+}
+
+fn has_size(area: &Area, size: usize) -> bool {
+    match area.database.get(&ROUTER_KEY) {
+        Some(copy) => copy.lsa().as_bytes().len() == size,
+        None => false,
+    }
+}
+
+// A copy that says another cost of a host than the router has is out of date, as is one that lists a host fewer.
+#[test]
+fn hosts_that_change(rt: HostRuntime) -> Result<(), Fail> {
+    let alloc = rt.alloc();
+    let mut area = one_with_hosts(alloc, false, &HOSTS)?;
+    assert!(rt; issues_number(&mut area, FIRST + 1, alloc)?);
+    area.tick = 5;
+    area.hosts[1].cost = 301;
+    assert!(rt; issues_number(&mut area, FIRST + 2, alloc)?);
+    area.tick = 10;
+    area.hosts.truncate(1);
+    assert!(rt; issues_number(&mut area, FIRST + 3, alloc)?);
+    area.tick = 15;
+    assert!(rt; rests(&mut area, alloc)?);
     Ok(())
 }
 

@@ -2,7 +2,7 @@
 
 use answers::{Answers, is_silent};
 use hex::decode;
-use ospf_base::{Addr, RouterId};
+use ospf_base::{Addr, Host, RouterId};
 use ospf_config::Config;
 use ospf_neighbour::NeighbourState;
 use ospf_router::{Dropped, Event, Outputs, Router, Sent, StartFault, Step, Stopped};
@@ -188,6 +188,30 @@ fn two_routers_agree(rt: HostRuntime) -> Result<(), Fail> {
         .map(|route| route.cost);
     assert_eq!(rt; cost, Some(10));
     assert_eq!(rt; first.floor(), -0x7fff_fffe);
+    Ok(())
+}
+
+fn cost_to(router: &Router, address: u32) -> Option<u64> {
+    let route = router.table().lookup(Addr(address))?;
+    Some(route.cost)
+}
+
+// 2.2.2.2 has the hosts 192.0.2.7 and 192.0.2.1: each costs 1.1.1.1 the link and what it costs 2.2.2.2.
+#[test]
+fn hosts_are_reached(rt: HostRuntime) -> Result<(), Fail> {
+    let alloc = rt.alloc();
+    let mut config = Config::from_text(alloc, SECOND)?;
+    config.hosts.push(Host { address: Addr(0xc000_0207), cost: 300 })?;
+    config.hosts.push(Host { address: Addr(0xc000_0201), cost: 0 })?;
+    let mut first = start(FIRST, 100, alloc)?;
+    let mut second = Router::start(&config, 200, NO_FLOOR, alloc)?;
+    bring_up(&mut first, &mut second, alloc)?;
+    rounds(&mut first, &mut second, 20, alloc)?;
+    assert_eq!(rt; cost_to(&first, 0xc000_0207), Some(310));
+    assert_eq!(rt; cost_to(&first, 0xc000_0201), Some(10));
+    assert_eq!(rt; cost_to(&first, 0xc000_0206), None);
+    assert_eq!(rt; cost_to(&second, 0xc000_0207), Some(300));
+    assert_eq!(rt; cost_to(&second, 0xc000_0201), Some(0));
     Ok(())
 }
 

@@ -1,11 +1,12 @@
 -- What is wanted can be made.
-use Rattle.std.proofs.Common.{◌≡◌, ◌≢◌, ◌<◌, ◌≤◌, ◌+◌, ◌*◌, ◌++◌, ℕ, ℤ, zero, suc, Bool, true, false, cond, List, [], ◌∷◌, length, map, filter, Option, None, Some, inl, inr, refl, subst, arith, if◌then◌else◌}
+use Rattle.std.proofs.Common.{◌≡◌, ◌≢◌, ◌<◌, ◌≤◌, ◌+◌, ◌*◌, ◌++◌, ℕ, ℤ, zero, suc, Bool, true, false, cond, List, [], ◌∷◌, length, map, filter, Option, None, Some, ◌⊎◌, inl, inr, refl, subst, arith, if◌then◌else◌}
 use Rattle.std.specs.List.{AllByRecursion, All, flat_map}
 use Rattle.std.proofs.lemmas.List.{length-append, length-map}
 use Rattle.std.proofs.lemmas.Int.{ints}
 use Rattle.std.proofs.lemmas.Option.{none-some, same_Some}
 use Rattle.ospf_base.specs.Keys.{same_key}
 use Rattle.ospf_base.specs.Masks.{IsMask}
+use Rattle.ospf_base.specs.declared.host.Host.{Host}
 use Rattle.ospf_base.specs.declared.ids.LsaKey.{LsaKey}
 use Rattle.ospf_base.specs.declared.ids.RouterId.{RouterId}
 use Rattle.ospf_base.specs.declared.interface.InterfaceKind.{InterfaceKind}
@@ -20,9 +21,9 @@ use Rattle.ospf_lsdb.proofs.MapLemmas.{bool_cases}
 use Rattle.ospf_neighbour.specs.Neighbour.{NeighbourValue}
 use Rattle.ospf_area.specs.State.{LinkValue}
 use Rattle.ospf_originate.specs.Wants.Made.{CanBeMade, CanBeMadeIf, IsUnmadeIf, Needs, first_number}
-use Rattle.ospf_originate.specs.Wants.SetUp.{AreSetUp, IsSetUp}
+use Rattle.ospf_originate.specs.Wants.SetUp.{AreSetUp, IsSetUp, max_hosts}
 use Rattle.ospf_neighbour.specs.Interface.Machine.{is_down}
-use Rattle.ospf_originate.specs.Wants.Wanted.{attached_routers, is_full, is_transit, router_link, network_link, subnet_link, links_of_link, network_of, wanted_lsas, wanted_key, wanted_of, WantedValue}
+use Rattle.ospf_originate.specs.Wants.Wanted.{attached_routers, host_link, is_full, is_transit, router_link, network_link, subnet_link, links_of_link, network_of, wanted_lsas, wanted_key, wanted_of, WantedValue}
 use Rattle.ospf_originate.proofs.Wants.Words.{broadcast_link, is_full_before, is_full_behind, links_of_kind, through_metric}
 use Rattle.ospf_originate.proofs.Wants.WantedLemmas.{map_all, all_networks}
 
@@ -156,13 +157,22 @@ network_made : (router : RouterId) (number : ℤ) (l : LinkValue) → number ≢
 unfolding network_of
 network_made router number l used up f = network_needs number l.iface.settings.mask (attached_routers router l.neighbours) (attached_few router l.neighbours up.few) up.mask used f
 
-pub wanted_made : (stub_router : Bool) (router : RouterId) (links : List LinkValue) → AreSetUp links → AllByRecursion CanBeMade (wanted_lsas stub_router router links)
+-- a host's link has a mask of 32 ones, and costs what it may
+host_good : (h : Host) → IsGood (host_link h)
+unfolding IsGood
+host_good h = ((λ is. (32, omega arith, refl)), λ is. let none : (Stub ≡ PointToPoint) ⊎ (Stub ≡ Transit) = is in elim none [ inl e ↦ absurd (cc) | inr e ↦ absurd (cc) ])
+
+pub wanted_made : (stub_router : Bool) (router : RouterId) (links : List LinkValue) (hosts : List Host) → AreSetUp links → length hosts ≤ max_hosts
+    → AllByRecursion CanBeMade (wanted_lsas stub_router router links hosts)
 unfolding wanted_lsas
-wanted_made stub_router router links up =
-    let own = flat_map (links_of_link stub_router) links in
+wanted_made stub_router router links hosts up few_hosts =
+    let of_links = flat_map (links_of_link stub_router) links in
+    let of_hosts = map host_link hosts in
     let few : length links ≤ 32 = up.few in
-    let short : 24 + 12 * length own ≤ 16356 = let some_links = all_few stub_router links up.each in omega (arith, some_links, few) in (
-      (λ number used. router_needs number own short (all_good stub_router links up.each) used),
+    let short : 24 + 12 * length (of_links ++ of_hosts) ≤ 16356 =
+    let some_links = all_few stub_router links up.each in omega (arith, some_links, few, few_hosts, length-append of_links of_hosts, length-map hosts host_link) in
+    let good : AllByRecursion IsGood (of_links ++ of_hosts) = both_lists IsGood of_links of_hosts (all_good stub_router links up.each) (mapped IsGood host_link hosts host_good) in (
+      (λ number used. router_needs number (of_links ++ of_hosts) short good used),
       all_networks CanBeMade router links (map_all IsSetUp (λ l. CanBeMade (network_of router l)) (λ l is number used. network_made router number l used is) links up.each),
     )
 

@@ -8,13 +8,14 @@ use Rattle.std.proofs.lemmas.List.Concat.{flat_map-append}
 use Rattle.std.proofs.lemmas.Slice.Eq.{bytes_eq-Decides}
 use Rattle.ospf_area.specs.State.{LinkValue}
 use Rattle.ospf_base.specs.Bytes.{number_at, number_bytes}
+use Rattle.ospf_base.specs.declared.host.Host.{Host}
 use Rattle.ospf_base.specs.declared.interface.InterfaceKind.{InterfaceKind}
 use Rattle.ospf_base.specs.declared.interface.InterfaceKind.TheVariants as kind
 use Rattle.ospf_lsa.specs.Lsa.{HasLinks, HasRouters, IsLsa, IsNetworkLsa, IsRouterLsa}
 use Rattle.ospf_lsa.specs.declared.fault.LsaFault.TheVariants as fault
 use Rattle.ospf_neighbour.specs.Neighbour.{NeighbourValue}
 use Rattle.ospf_neighbour.specs.Interface.Machine.{is_down}
-use Rattle.ospf_originate.specs.Wants.Wanted.{attached_routers, is_full, links_of_link, router_link, subnet_link}
+use Rattle.ospf_originate.specs.Wants.Wanted.{attached_routers, host_link, is_full, links_of_link, own_links, router_link, subnet_link}
 use Rattle.ospf_originate.proofs.Wants.Words.{aside, broadcast_link, is_full_before, is_full_behind, links_of_kind}
 use Rattle.ospf_originate.specs.Wants.Wanted.WantedValue.{RouterLsa, NetworkLsa}
 use Rattle.ospf_base.specs.Sums.{contents}
@@ -27,7 +28,7 @@ use Rattle.ospf_lsa.specs.Value.{contents_bytes, network_value, router_value}
 use Rattle.ospf_lsa.specs.declared.link.Link.{Link}
 use Rattle.ospf_lsa.specs.declared.header.LsaHeader.{LsaHeader}
 use Rattle.ospf_originate.specs.Wants.Made.{says}
-use Rattle.ospf_originate.specs.Wants.Said.{behind, is_end, links_bytes, router_link_bytes, lower_bytes, higher_bytes}
+use Rattle.ospf_originate.specs.Wants.Said.{behind, host_bytes, is_end, links_bytes, router_link_bytes, lower_bytes, higher_bytes}
 use Rattle.ospf_originate.proofs.Wants.MadeLemmas.{bytes_eq-append}
 
 -- which of two is asked first is the same
@@ -309,6 +310,16 @@ unfolding links_bytes
 all_behind stub_router links i start past =
     ap (λ (ls : List LinkValue). behind (flat_map (links_bytes stub_router) ls) start) (take_all i links past)
     ∙ ap (λ (zs : List ℕ). behind zs start) (sym (links_of_links link_bytes (links_of_link stub_router) links))
+
+-- and the links to hosts behind them
+pub own_behind : (stub_router : Bool) (links : List LinkValue) (hosts : List Host) (start mid after : Option (List ℕ)) → mid ≡ behind (flat_map link_bytes (flat_map (links_of_link stub_router) links)) start
+    → after ≡ behind (flat_map host_bytes hosts) mid → after ≡ behind (flat_map link_bytes (own_links stub_router links hosts)) start
+own_behind stub_router links hosts start mid after is_mid is =
+    let of_links : List Link = flat_map (links_of_link stub_router) links in
+    is ∙ ap (λ (o : Option (List ℕ)). behind (flat_map host_bytes hosts) o) is_mid
+    ∙ sym (behind-append (flat_map link_bytes of_links) (flat_map host_bytes hosts) start)
+    ∙ ap (λ (zs : List ℕ). behind (flat_map link_bytes of_links ++ zs) start) (sym (flat_map-map link_bytes host_link hosts))
+    ∙ ap (λ (zs : List ℕ). behind zs start) (sym (flat_map-append link_bytes of_links (map host_link hosts)))
 
 -- the routers attached to a network
 pub attached_behind : (router : RouterId) (ns : List NeighbourValue) (start mid own after : Option (List ℕ)) → mid ≡ behind (flat_map (lower_bytes router) ns) start → own ≡ behind (router_bytes router) mid

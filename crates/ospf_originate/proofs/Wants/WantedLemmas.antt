@@ -1,15 +1,17 @@
 -- Wanted LSAs are the router's own, each alone of its key.
 use Rattle.std.proofs.Common.{◌≡◌, ◌≢◌, ◌++◌, Bool, true, false, List, [], ◌∷◌, Some, cond, filter, map, inl, inr, refl, sym, ap, subst, if◌then◌else◌}
-use Rattle.std.specs.List.{AllByRecursion, flat_map}
+use Rattle.std.specs.List.{AllByRecursion}
+use Rattle.ospf_base.specs.declared.host.Host.{Host}
 use Rattle.ospf_base.specs.declared.ids.Kind.TheVariants.{Router, Network}
 use Rattle.ospf_base.specs.declared.ids.LsaKey.{LsaKey}
 use Rattle.ospf_base.specs.declared.ids.RouterId.{RouterId}
 use Rattle.ospf_lsdb.proofs.MapLemmas.{bool_cases}
 use Rattle.ospf_base.specs.Keys.{same_key}
 use Rattle.ospf_base.proofs.SameKeys.{same_key-eq, same_key-refl}
+use Rattle.ospf_lsa.specs.declared.link.Link.{Link}
 use Rattle.ospf_area.specs.State.{LinkValue}
 use Rattle.ospf_originate.specs.Wants.SetUp.{AreApart}
-use Rattle.ospf_originate.specs.Wants.Wanted.{WantedValue, is_dr_of, links_of_link, network_of, wanted_lsas, wanted_key, wanted_of}
+use Rattle.ospf_originate.specs.Wants.Wanted.{WantedValue, is_dr_of, network_of, own_links, wanted_lsas, wanted_key, wanted_of}
 use Rattle.ospf_originate.specs.Wants.Wanted.WantedValue.{RouterLsa}
 
 -- what a link gives, if anything
@@ -54,9 +56,9 @@ network_router : (router : RouterId) (l : LinkValue) → (wanted_key (network_of
 unfolding network_of
 network_router router l = refl
 
-pub wanted_own : (stub_router : Bool) (router : RouterId) (links : List LinkValue) → AllByRecursion (λ w. (wanted_key w).router ≡ router) (wanted_lsas stub_router router links)
+pub wanted_own : (stub_router : Bool) (router : RouterId) (links : List LinkValue) (hosts : List Host) → AllByRecursion (λ w. (wanted_key w).router ≡ router) (wanted_lsas stub_router router links hosts)
 unfolding wanted_lsas
-wanted_own stub_router router links =
+wanted_own stub_router router links hosts =
     (refl, all_networks (λ w. (wanted_key w).router ≡ router) router links (every (λ l. (wanted_key (network_of router l)).router ≡ router) (network_router router) links))
 
 -- ---- each is alone of its key
@@ -68,9 +70,9 @@ other_address : (router : RouterId) (l o : LinkValue) → o.iface.settings.addre
 unfolding network_of
 other_address router l o differ = other_key _ _ (λ same. differ (sym (ap (λ (k : LsaKey). k.id) same)))
 
-other_kind : (stub_router : Bool) (router : RouterId) (links : List LinkValue) (l : LinkValue) → same_key (wanted_key (RouterLsa router (flat_map (links_of_link stub_router) links))) (wanted_key (network_of router l)) ≡ false
+other_kind : (router : RouterId) (own : List Link) (l : LinkValue) → same_key (wanted_key (RouterLsa router own)) (wanted_key (network_of router l)) ≡ false
 unfolding network_of
-other_kind stub_router router links l = other_key _ _ (λ same. let kinds : Router ≡ Network = ap (λ (k : LsaKey). k.kind) same in cc)
+other_kind router own l = other_key _ _ (λ same. let kinds : Router ≡ Network = ap (λ (k : LsaKey). k.kind) same in cc)
 
 pub map_all : {X : Type 0} → (P Q : X → Type 0) → ((x : X) → P x → Q x) → (xs : List X) → AllByRecursion P xs → AllByRecursion Q xs
 map_all P Q to [] all = tt
@@ -104,10 +106,11 @@ networks_alone router (l ∷ ls) apart =
     (all_networks (λ v. same_key (wanted_key (network_of router l)) (wanted_key v) ≡ false) router ls
     (map_all (λ o. o.iface.settings.address.0 ≢ l.iface.settings.address.0) (λ o. same_key (wanted_key (network_of router l)) (wanted_key (network_of router o)) ≡ false) (other_address router l) ls apart.0)))
 
-pub wanted_alone : (stub_router : Bool) (router : RouterId) (links : List LinkValue) → AreApart links
-    → AllByRecursion (λ v. wanted_of (wanted_lsas stub_router router links) (wanted_key v) ≡ Some v) (wanted_lsas stub_router router links)
+pub wanted_alone : (stub_router : Bool) (router : RouterId) (links : List LinkValue) (hosts : List Host) → AreApart links
+    → AllByRecursion (λ v. wanted_of (wanted_lsas stub_router router links hosts) (wanted_key v) ≡ Some v) (wanted_lsas stub_router router links hosts)
 unfolding wanted_lsas
-wanted_alone stub_router router links apart =
-    alone_in_front (RouterLsa router (flat_map (links_of_link stub_router) links)) (networks router links) (networks_alone router links apart)
-    (all_networks (λ v. same_key (wanted_key (RouterLsa router (flat_map (links_of_link stub_router) links))) (wanted_key v) ≡ false) router links
-    (every (λ l. same_key (wanted_key (RouterLsa router (flat_map (links_of_link stub_router) links))) (wanted_key (network_of router l)) ≡ false) (other_kind stub_router router links) links))
+wanted_alone stub_router router links hosts apart =
+    let own = own_links stub_router links hosts in
+    alone_in_front (RouterLsa router own) (networks router links) (networks_alone router links apart)
+    (all_networks (λ v. same_key (wanted_key (RouterLsa router own)) (wanted_key v) ≡ false) router links
+    (every (λ l. same_key (wanted_key (RouterLsa router own)) (wanted_key (network_of router l)) ≡ false) (other_kind router own) links))

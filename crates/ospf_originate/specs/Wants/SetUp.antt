@@ -23,6 +23,10 @@ AreApart (l ∷ ls) =
 abbrev pub max_links : ℕ
 max_links = 32
 
+-- the most hosts that a router has
+abbrev pub max_hosts : ℕ
+max_hosts = 32
+
 -- not too many, each set up, of different addresses
 pub record AreSetUp (links : List LinkValue) : Type 0 where
   pub few : length links ≤ max_links

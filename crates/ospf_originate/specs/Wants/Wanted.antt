@@ -2,6 +2,7 @@
 -- 12.4.2; for a stub router RFC 6987).
 use Rattle.std.specs.Prelude.{◌==◌, ◌&&◌, ◌||◌, ◌∷◌, ◌++◌, ℕ, Bool, true, false, List, [], Option, map, filter, find, nat_lt, bit_and, if◌then◌else◌}
 use Rattle.std.specs.List.{list_any, flat_map}
+use Rattle.ospf_base.specs.declared.host.Host.{Host}
 use Rattle.ospf_base.specs.declared.ids.Kind.TheVariants.{Router, Network}
 use Rattle.ospf_base.specs.declared.ids.LsaKey.{LsaKey}
 use Rattle.ospf_base.specs.declared.ids.RouterId.{RouterId}
@@ -82,6 +83,21 @@ links_of_link stub_router a =
       | kind.Broadcast ↦ (if is_transit a then network_link stub_router a else subnet_link a) ∷ []
     ]
 
+-- to a host that the router reaches directly (12.4.1), or to an address of its own (appendix C.7).
+-- A stub router's keeps its metric, as all links to stub networks do (RFC 6987)
+abbrev pub host_link : Host → Link
+host_link h =
+    record { id = h.address.0; link_data = 0xffffffff; kind = Stub; metric = h.cost }
+
+-- the links that the interfaces make
+abbrev pub interface_links : Bool → List LinkValue → List Link
+interface_links stub_router links = flat_map (links_of_link stub_router) links
+
+-- the links of the router-LSA: those of the interfaces, and after them those to the hosts, all in
+-- configuration order (12.4.1)
+abbrev pub own_links : Bool → List LinkValue → List Host → List Link
+own_links stub_router links hosts = interface_links stub_router links ++ map host_link hosts
+
 -- ---- network-LSAs
 
 -- the routers of the network (12.4.2): the fully adjacent ones whose Router IDs are less than
@@ -101,9 +117,9 @@ network_of router a =
 
 -- a router wants its router-LSA, and the network-LSAs of those links of which it is the
 -- Designated Router, which are in configuration order (12.4)
-unfoldable pub wanted_lsas : Bool → RouterId → List LinkValue → List WantedValue
-wanted_lsas stub_router router links =
-    RouterLsa router (flat_map (links_of_link stub_router) links)
+unfoldable pub wanted_lsas : Bool → RouterId → List LinkValue → List Host → List WantedValue
+wanted_lsas stub_router router links hosts =
+    RouterLsa router (own_links stub_router links hosts)
     ∷ map (network_of router) (filter is_dr_of links)
 
 -- what names a wanted LSA (12.1)

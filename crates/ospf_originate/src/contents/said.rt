@@ -12,14 +12,14 @@ ghost use Rattle.ospf_lsa.specs.Link.{link_bytes};
 ghost use Rattle.ospf_lsa.specs.Value.{network_value, router_value};
 ghost use Rattle.ospf_lsa.specs.declared.link.Link.{Link};
 ghost use Rattle.ospf_originate.specs.Wants.Made.{says};
-ghost use Rattle.ospf_originate.specs.Wants.Said.{behind, is_end, links_bytes, router_link_bytes, lower_bytes, higher_bytes};
-ghost use Rattle.ospf_originate.specs.Wants.Wanted.{attached_routers, is_full, links_of_link, router_link};
+ghost use Rattle.ospf_originate.specs.Wants.Said.{behind, is_end, host_bytes, links_bytes, router_link_bytes, lower_bytes, higher_bytes};
+ghost use Rattle.ospf_originate.specs.Wants.Wanted.{attached_routers, interface_links, is_full, own_links, router_link};
 ghost use Rattle.ospf_originate.specs.Wants.Wanted.WantedValue.{RouterLsa, NetworkLsa};
 
-use crate::contents::wants::{broadcast_link, is_full, router_link, subnet_link};
+use crate::contents::wants::{broadcast_link, host_link, is_full, router_link, subnet_link};
 use ospf_area::AreaLink;
 use ospf_base::{
-    Age, InterfaceKind, LSA_HEADER, NETWORK_LSA, OPTIONS, ROUTER_LSA, RouterId, u16_at,
+    Age, Host, InterfaceKind, LSA_HEADER, NETWORK_LSA, OPTIONS, ROUTER_LSA, RouterId, u16_at,
 };
 use ospf_lsa::{ENTRIES_AT, LENGTH_AT, LINK_SIZE, Link, LsaHeader, LsaView, NUMBER_AT, OPTIONS_AT};
 use ospf_neighbour::Neighbour;
@@ -31,12 +31,14 @@ pub fn says_router(
     stub_router: bool,
     router: RouterId,
     links: &[AreaLink],
+    hosts: &[Host],
 ) -> bool
     ensures { result ≡ says (contents copy.now)
-        (RouterLsa router (flat_map (links_of_link stub_router) links.now)) }
+        (RouterLsa router (own_links stub_router links.now hosts.now)) }
 {
     let lsa = copy.as_bytes();
-    let rest = behind_own_links(Some(&lsa[ENTRIES_AT..]), stub_router, links);
+    let rest = behind_interfaces(Some(&lsa[ENTRIES_AT..]), stub_router, links);
+    let rest = behind_hosts(rest, hosts);
     is_router_lsa(copy, router, rest)
 }
 
@@ -53,20 +55,33 @@ pub fn says_network(copy: &LsaView<'_>, router: RouterId, link: &AreaLink) -> bo
     is_network_lsa(copy, settings.address.0, router, settings.mask, rest)
 }
 
-// What follows the links of the router-LSA.
+// What follows the links that the interfaces make.
 #[tactic(auto, using(crate::proofs::Wants::SaidLemmas::behind_more, crate::proofs::Wants::SaidLemmas::behind_none))]
-fn behind_own_links<'a>(
+fn behind_interfaces<'a>(
     bytes: Option<&'a [u8]>,
     stub_router: bool,
     links: &[AreaLink],
 ) -> Option<&'a [u8]>
     ensures { option_copied result ≡ behind
-        (flat_map link_bytes (flat_map (links_of_link stub_router) links.now))
+        (flat_map link_bytes (interface_links stub_router links.now))
         (option_copied bytes.entry) }
 {
     let mut rest = bytes;
     for link in links {
         rest = behind_links_at(rest, stub_router, link);
+    }
+    rest
+}
+
+// What follows the links to hosts.
+#[tactic(auto, using(crate::proofs::Wants::SaidLemmas::behind_more, crate::proofs::Wants::SaidLemmas::behind_none))]
+fn behind_hosts<'a>(bytes: Option<&'a [u8]>, hosts: &[Host]) -> Option<&'a [u8]>
+    ensures { option_copied result ≡ behind (flat_map host_bytes hosts.now)
+        (option_copied bytes.entry) }
+{
+    let mut rest = bytes;
+    for host in hosts {
+        rest = behind_link(rest, &host_link(host));
     }
     rest
 }

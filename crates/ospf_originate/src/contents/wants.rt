@@ -1,17 +1,20 @@
 //! The LSAs of its own that a router wants.
 
 ghost use Rattle.std.specs.Prelude.{◌≡◌, ◌++◌, ◌∷◌, [], IfOk, OnOk, map, filter, nat_lt, ◌&&◌, ◌==◌, if◌then◌else◌};
-ghost use Rattle.std.specs.List.{list_any, flat_map};
+ghost use Rattle.std.specs.List.{list_any};
 ghost use Rattle.ospf_neighbour.specs.Neighbour.{NeighbourValue};
-ghost use Rattle.ospf_originate.specs.Wants.Wanted.{is_full, is_dr_of, is_transit, router_link, network_link, subnet_link, links_of_link, attached_routers, network_of, wanted_lsas, wanted_key};
+ghost use Rattle.ospf_originate.specs.Wants.Wanted.{is_full, is_dr_of, is_transit, router_link, network_link, subnet_link, links_of_link, host_link, interface_links, own_links, attached_routers, network_of, wanted_lsas, wanted_key};
 ghost use Rattle.ospf_originate.specs.Wants.Own.{wanted_value};
 
 use ospf_area::AreaLink;
-use ospf_base::{InterfaceKind, Kind, LsaKey, RouterId};
+use ospf_base::{Host, InterfaceKind, Kind, LsaKey, RouterId};
 use ospf_lsa::{Link, LinkKind};
 use ospf_neighbour::iface::IfaceState;
 use ospf_neighbour::{Neighbour, NeighbourState};
 use std::alloc::{AllocError, Global};
+
+/// The mask of a link to a host: its network is one address (RFC 2328, section 12.4.1).
+const HOST_MASK: u32 = 0xffff_ffff;
 
 /// The largest metric, which a stub router gives to links that lead on (RFC 6987).
 const MAX_LINK_METRIC: u16 = 0xffff;
@@ -61,9 +64,9 @@ pub fn is_dr_of(link: &AreaLink) -> bool
     matches!(link.iface.state, IfaceState::Dr) && some_full(link.neighbours.all())
 }
 
-/// The LSAs that a router wants (RFC 2328, section 12.4), over its links in configuration
-/// order: its router-LSA, and the network-LSA of each link of which it is the Designated Router
-/// and fully adjacent to someone.
+/// The LSAs that a router wants (RFC 2328, section 12.4), over its links and its hosts in
+/// configuration order: its router-LSA, and the network-LSA of each link of which it is the
+/// Designated Router and fully adjacent to someone.
 ///
 /// `AllocError` where memory runs out.
 #[tactic(auto, unfolding(crate::specs::Wants::Wanted::wanted_lsas))]
@@ -71,12 +74,13 @@ pub fn wanted(
     stub_router: bool,
     router: RouterId,
     links: &[AreaLink],
+    hosts: &[Host],
     alloc: Global,
 ) -> Result<Vec<OwnLsa>, AllocError>
     ensures { IfOk result (λ v. map wanted_value v.items
-        ≡ wanted_lsas stub_router router links.now) }
+        ≡ wanted_lsas stub_router router links.now hosts.now) }
 {
-    let own = own_links(stub_router, links, alloc)?;
+    let own = own_links(stub_router, links, hosts, alloc)?;
     let mut all = Vec::new(alloc);
     all.push(OwnLsa::Router { router, links: own })?;
     for link in links {
@@ -116,6 +120,18 @@ pub(crate) fn subnet_link(link: &AreaLink) -> Link
     }
 }
 
+// The link to a host.
+pub(crate) fn host_link(host: &Host) -> Link
+    ensures { result ≡ host_link host.now }
+{
+    Link {
+        id: host.address.0,
+        link_data: HOST_MASK,
+        kind: LinkKind::Stub,
+        metric: host.cost,
+    }
+}
+
 // The link of a broadcast interface.
 pub(crate) fn broadcast_link(stub_router: bool, link: &AreaLink) -> Link
     ensures { result
@@ -137,14 +153,40 @@ fn some_full(neighbours: &[Neighbour]) -> bool
 }
 
 // The links of the router-LSA.
-fn own_links(stub_router: bool, links: &[AreaLink], alloc: Global) -> Result<Vec<Link>, AllocError>
-    ensures { IfOk result (λ v. v.items ≡ flat_map (links_of_link stub_router) links.now) }
+fn own_links(
+    stub_router: bool,
+    links: &[AreaLink],
+    hosts: &[Host],
+    alloc: Global,
+) -> Result<Vec<Link>, AllocError>
+    ensures { IfOk result (λ v. v.items ≡ own_links stub_router links.now hosts.now) }
+{
+    let mut out = interface_links(stub_router, links, alloc)?;
+    let to_hosts = host_links(hosts, alloc)?;
+    out.extend_from_slice(&to_hosts)?;
+    Ok(out)
+}
+
+// The links that the interfaces make.
+fn interface_links(
+    stub_router: bool,
+    links: &[AreaLink],
+    alloc: Global,
+) -> Result<Vec<Link>, AllocError>
+    ensures { IfOk result (λ v. v.items ≡ interface_links stub_router links.now) }
 {
     let mut out = Vec::new(alloc);
     for link in links {
         push_links(&mut out, stub_router, link, alloc)?;
     }
     Ok(out)
+}
+
+// The links to hosts.
+fn host_links(hosts: &[Host], alloc: Global) -> Result<Vec<Link>, AllocError>
+    ensures { IfOk result (λ v. v.items ≡ map host_link hosts.now) }
+{
+    hosts.iter().map(host_link).collect(alloc)
 }
 
 // Puts the links of a link at the end.

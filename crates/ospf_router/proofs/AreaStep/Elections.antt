@@ -57,19 +57,19 @@ quietly s l n n' true link link' sent e =
 
 -- ---- a place of a list after it was written
 
-set_at : {X : Type 0} (xs : List X) (l : ℕ) (x y : X) → slice_get xs l ≡ Some y → slice_get (set xs l x) l ≡ Some x
+pub set_at : {X : Type 0} (xs : List X) (l : ℕ) (x y : X) → slice_get xs l ≡ Some y → slice_get (set xs l x) l ≡ Some x
 set_at [] l x y at = absurd (none-some y at)
 set_at (z ∷ zs) zero x y at = refl
 set_at (z ∷ zs) (suc l) x y at = set_at zs l x y at
 
-set_other : {X : Type 0} (xs : List X) (l k : ℕ) (x : X) → (k ≡ l → ⊥) → slice_get (set xs l x) k ≡ slice_get xs k
+pub set_other : {X : Type 0} (xs : List X) (l k : ℕ) (x : X) → (k ≡ l → ⊥) → slice_get (set xs l x) k ≡ slice_get xs k
 set_other [] l k x other = refl
 set_other (z ∷ zs) zero zero x other = absurd (other refl)
 set_other (z ∷ zs) zero (suc k) x other = refl
 set_other (z ∷ zs) (suc l) zero x other = refl
 set_other (z ∷ zs) (suc l) (suc k) x other = set_other zs l k x (λ e. other (ap suc e))
 
-same_or_not : (k l : ℕ) → (k ≡ l) ⊎ (k ≡ l → ⊥)
+pub same_or_not : (k l : ℕ) → (k ≡ l) ⊎ (k ≡ l → ⊥)
 same_or_not zero zero = inl refl
 same_or_not zero (suc l) = inr (λ e. omega (arith, e))
 same_or_not (suc k) zero = inr (λ e. omega (arith, e))

@@ -111,7 +111,7 @@ pub record IsAlike (i j : Iface) : Type 0 where
   pub settings : j.settings ≡ i.settings
   pub state : j.state ≡ i.state
 
-hello_alike : (i : Iface) → IsAlike i (hello_ticked i)
+pub hello_alike : (i : Iface) → IsAlike i (hello_ticked i)
 hello_alike i = by_test (is_down i.state)
   where
     by_test : (b : Bool) → IsAlike i (if b then i else record i { hello_in = (if nat_le i.hello_in 1 then i.settings.hello else i.hello_in - 1) })

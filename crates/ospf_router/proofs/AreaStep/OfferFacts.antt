@@ -85,12 +85,12 @@ released_waits key n j w = without_key_cases key n.retransmission j w
 
 -- ---- an offer
 
-after-router : (o : Offer) (key : LsaKey) (h : LsaHeader) (tick : ℕ) (n : NeighbourValue) → (after_offer o key h tick n).router ≡ n.router
+pub after-router : (o : Offer) (key : LsaKey) (h : LsaHeader) (tick : ℕ) (n : NeighbourValue) → (after_offer o key h tick n).router ≡ n.router
 after-router PassesOver key h tick n = refl
 after-router Satisfies key h tick n = refl
 after-router Lists key h tick n = refl
 
-after-state : (o : Offer) (key : LsaKey) (h : LsaHeader) (tick : ℕ) (n : NeighbourValue) → (after_offer o key h tick n).state ≡ n.state
+pub after-state : (o : Offer) (key : LsaKey) (h : LsaHeader) (tick : ℕ) (n : NeighbourValue) → (after_offer o key h tick n).state ≡ n.state
 after-state PassesOver key h tick n = refl
 after-state Satisfies key h tick n = refl
 after-state Lists key h tick n = refl

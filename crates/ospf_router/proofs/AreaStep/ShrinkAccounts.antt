@@ -98,7 +98,7 @@ IsTold heard l n (Acknowledges i) = IsAcknowledged heard l n.router i
 IsTold heard l n (IsSent i) = Unit {0}
 IsTold heard l n (Restarts number) = Unit {0}
 
-changed-shrinks : (heard : Option Received) (l : ℕ) (change : AdjacencyChange) (tick : ℕ) (n : NeighbourValue) → IsTold heard l n change → ShrinksTo heard l n (neighbour_changed change tick n)
+pub changed-shrinks : (heard : Option Received) (l : ℕ) (change : AdjacencyChange) (tick : ℕ) (n : NeighbourValue) → IsTold heard l n change → ShrinksTo heard l n (neighbour_changed change tick n)
 changed-shrinks heard l (Acknowledges i) tick n told = unlisted-shrinks heard l i n told
 changed-shrinks heard l (IsSent i) tick n told = resent-shrinks heard l i tick n
 changed-shrinks heard l (Restarts number) tick n told = restarts-as heard l n number tick n.state refl

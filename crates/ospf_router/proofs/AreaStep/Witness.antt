@@ -20,6 +20,7 @@ at_tick t = record {
   stub_router = false;
   passes_over = false;
   links = [];
+  hosts = [];
   database = [];
   direct = [];
   numbering = [];

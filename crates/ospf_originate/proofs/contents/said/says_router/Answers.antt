@@ -1,12 +1,13 @@
 use Rattle.std.proofs.Common.{◌∙◌}
 use Rattle.std.specs.List.{flat_map}
 use Rattle.ospf_lsa.specs.Link.{link_bytes}
-use Rattle.ospf_originate.specs.Wants.Wanted.{links_of_link}
-use Rattle.ospf_originate.proofs.Wants.SaidLemmas.{body_behind}
+use Rattle.ospf_originate.specs.Wants.Wanted.{own_links}
+use Rattle.ospf_originate.proofs.Wants.SaidLemmas.{body_behind, own_behind}
 use Rattle.ospf_originate.proofs.contents.said.says_router.Goals as goal
 
 pub returns : goal.returns
 returns c =
-    let links = flat_map (links_of_link c.args.stub_router) c.args.links.now in
+    let links = own_links c.args.stub_router c.args.links.now c.args.hosts.now in
     c.is_router_lsa.ensures links
-    (c.behind_own_links-rest.ensures ∙ body_behind (flat_map link_bytes links) c.args.copy.now c.as_bytes-lsa.result.now c.as_bytes-lsa.ensures.bytes)
+    (own_behind c.args.stub_router c.args.links.now c.args.hosts.now _ _ _ c.behind_interfaces-rest.ensures c.behind_hosts-rest.ensures
+    ∙ body_behind (flat_map link_bytes links) c.args.copy.now c.as_bytes-lsa.result.now c.as_bytes-lsa.ensures.bytes)

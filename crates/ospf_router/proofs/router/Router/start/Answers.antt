@@ -13,11 +13,14 @@ invariant_of-result c =
     let many = config.interfaces.ok.0 in
     let most = config.few_interfaces in
     let count : length config.interfaces.items ≤ 32 = omega (arith, many, most) in
+    let hosts = config.hosts.ok.0 in
+    let few_hosts = config.few_hosts in
+    let few : length config.hosts.items ≤ 32 = omega (arith, hosts, few_hosts) in
     let same = as_many config.router_id config.interfaces.items c.in-Ok.area.links is.links in
     let len = c.len.ensures in (
       record {
         kept = record {
-          fit = area_fit c.starts_sound.ensures config c.args.dd_start _ c.in-Ok.area is count;
+          fit = area_fit c.starts_sound.ensures config c.args.dd_start _ c.in-Ok.area is count few;
           sound = area_sound config c.args.dd_start _ c.in-Ok.area is;
         };
         has_routes = subst (λ (t : List Route). AreRoutes c.in-Ok.area.router c.in-Ok.area.database t) (sym (ap (λ (r : RoutesValue). r.table) c.new.ensures)) (start_routes config c.args.dd_start _ c.in-Ok.area is);
