@@ -10,7 +10,7 @@ _ospfd() {
     case $command in
     "") ;;
     table) options="--without --json --help" ;;
-    failures) options="--each --strict --json --carrier --help" ;;
+    failures) options="--each --strict --json --json2 --harm --carrier --help" ;;
     lsas) options="--dot --json --help" ;;
     edit) options="--down --cost --drain --help" ;;
     diff) options="--root --help" files=yes ;;

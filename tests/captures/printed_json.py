@@ -184,6 +184,13 @@ class Printed:
             sys.exit(f"ospfd {' '.join(words)}: not one line, of {origin}:\n{said}")
         return self.keep(schema, f"ospfd {' '.join(words)}, of {origin}", said)
 
+    def ask_lines(self, schema, origin, words, text):
+        """A value on each line, of which the first alone is about the input."""
+        values = [self.keep(schema, f"ospfd {' '.join(words)}, of {origin}", line)
+                  for line in self.run(words, text).splitlines()]
+        if [("version" in value) for value in values] != [True] + [False] * (len(values) - 1):
+            sys.exit(f"ospfd {' '.join(words)}: the first line alone is about the input, of {origin}")
+
     def look_at_database(self, name, text):
         self.ask("lsas-1", name, ["lsas", "--json"], text)
         tables = self.ask("table-all-1", name, ["table", "--json", "all"], text)
@@ -195,6 +202,10 @@ class Printed:
             self.ask("failures-all-1", name, ["failures", "--json", *each, "all"], text)
             self.ask("failures-1", name, ["failures", "--json", *each, "--carrier", "switch", roots[0]], text)
             self.ask("failures-all-1", name, ["failures", "--json", *each, "--carrier", "switch", "all"], text)
+            for carrier in "process", "switch":
+                words = ["failures", "--json=2", *each, "--carrier", carrier]
+                self.ask_lines("failures-2", name, [*words, roots[0]], text)
+                self.ask_lines("failures-all-2", name, [*words, "all"], text)
 
     def write_configs(self, place, texts):
         paths = [os.path.join(place, f"{at}.toml") for at in range(1, len(texts) + 1)]

@@ -41,6 +41,23 @@ FAILURES = [
     ("loss", {"loss": "gone"}, ["cost", "hops"]),
     ("loss", {"loss": "cost"}, ["cut", "gone"]),
 ]
+FAILURE_LINES = [
+    *(row for row in FAILURES if row[0] != "unknown_costs"),
+    *((member, {"kind": ...}, COUNTS) for member in ("lost", "own", "rerouted")),
+    ("worst_rise", {}, ROUTE_COSTS),
+    ("unknown_costs", {}, INTERFACES[1:]),
+    ("subnet", {"kind": "link"}, PREFIXES),
+    ("subnet", {"kind": "router"}, ["10.0.0.0/30"]),
+    ("network", {"kind": "network"}, ADDRESSES),
+    ("network", {"kind": "attachment"}, ADDRESSES),
+    ("network", {"kind": "router"}, ["10.0.0.1"]),
+    ("routers", {"kind": "router"}, [["1.1.1"], [1], "1.1.1.1", ["1.1.1.1", "1.1.1.1"]]),
+    ("version", {}, [1, 3, "2"]),
+    ("lsas", {}, [-1, 2**64, "7"]),
+    ("left_out", {}, [-1, 2**64, "7"]),
+    ("outside", {}, [0, 1, "false"]),
+    ("warnings", {}, [[1], "none", [[]]]),
+]
 WRONG = {
     "lsas-1": [
         *((member, {}, ADDRESSES) for member in ("router", "id", "from")),
@@ -64,6 +81,9 @@ WRONG = {
     "table-all-1": [*ROUTES, ("root", {}, [*ADDRESSES, "all"])],
     "failures-1": [*FAILURES, ("cut", {}, [2**33])],
     "failures-all-1": [*FAILURES, ("cut", {}, [2**64]), ("routers", {}, [-1, 2**32 + 1, "7"])],
+    "failures-2": [*FAILURE_LINES, ("lost", {}, [2**33])],
+    "failures-all-2": [*FAILURE_LINES, ("lost", {}, [2**64]),
+                       ("routers_affected", {}, [-1, 2**32 + 1, "7"])],
     "check-1": [
         ("code", {"code": "A3 Area"}, [*CODES, "A12 Cost", "A13 NoNeighbor"]),
         ("code", {"code": "A12 Cost"}, ["A5 Hello", "A13 NoNeighbor"]),
@@ -110,6 +130,7 @@ WRONG = {
 # Members that an object may lack, a member that may be null at this key, and members of any text.
 OPTIONAL = {(schema, member) for schema in ("failures-1", "failures-all-1")
             for member in ("routes", "unknown_costs")}
+OPTIONAL |= {(schema, "routes") for schema in ("failures-2", "failures-all-2")}
 NULLABLE = {("check-1", "value", "port")}
 FREE = {("check-1", "file"), ("check-1", "meaning")}
 OF_EACH_TYPE = ["no such word", 1.5, True, None, [0], {"no": 0}]

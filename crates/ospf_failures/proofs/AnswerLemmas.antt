@@ -1,5 +1,5 @@
 -- How what is asked of failures ends.
-use Rattle.std.proofs.Common.{◌≡◌, ◌≢◌, ◌∙◌, ◌⊎◌, ◌++◌, ◌∷◌, ◌↔◌, ℕ, Bool, true, false, IsTrue, List, [], ap, sym, refl, subst, inl, inr, Option, IfSome, string_bytes}
+use Rattle.std.proofs.Common.{◌≡◌, ◌≢◌, ◌∙◌, ◌⊎◌, ◌++◌, ◌∷◌, ◌↔◌, ℕ, Bool, true, false, IsTrue, List, [], ap, sym, refl, subst, inl, inr, Option, None, Some, IfSome, string_bytes}
 use Rattle.std.specs.Io.KnownBytes.{Appends}
 use Rattle.ospf_graph.specs.EdgeLists.Listed.{advertisements_of}
 use Rattle.ospf_files.specs.Status.{failure_line, failure_status}
@@ -10,7 +10,7 @@ use Rattle.ospf_files.specs.declared.status.Status.{Status}
 use Rattle.ospf_files.specs.declared.status.Status.TheVariants as status
 use Rattle.ospf_files.specs.declared.streams.FailedStreams.{FailedStreams}
 use Rattle.ospf_table.proofs.Lines.{map_some}
-use Rattle.ospf_table.specs.Line.{Reads}
+use Rattle.ospf_table.specs.Line.{LeavesOut, Reads}
 use Rattle.ospf_whatif.specs.Failure.{HasLarge}
 use Rattle.ospf_whatif.specs.Carrier.{AreHiddenBy}
 use Rattle.ospf_whatif.specs.declared.carrier.Carrier.{Carrier}
@@ -22,7 +22,7 @@ use Rattle.std.specs.Prelude.{IfOk, String}
 use Rattle.std.specs.declared.alloc.AllocError.{AllocError}
 use Rattle.std.specs.declared.alloc.Global.{Global}
 use Rattle.std.specs.declared.result.Result.{Result}
-use Rattle.ospf_failures.specs.Answer.{FailuresEndsBy, IsFailuresAnswerBegun, IsFailuresAnswerOf, IsFailuresAnswered, IsFailuresCutShort, IsFailuresEnding, IsUnreported, IsFailuresRefusal, IsFailuresRefusalBegun, IsRefusalOf, IsFailuresRefusalTold, IsFailuresSaid, IsUnserved, IsFailuresWarningBegun, IsEndBy, IsAllPrinted, IsRebuilding, SaysOf, TellsHidden, WarnsOfAll, end_by, in_answer, in_refusal, in_warning, is_answered, is_refused, names_of, of_name}
+use Rattle.ospf_failures.specs.Answer.{FailuresEndsBy, IsFailuresAnswerBegun, IsFailuresAnswerOf, IsFailuresAnswered, IsFailuresCutShort, IsFailuresEnding, IsUnreported, IsFailuresRefusal, IsFailuresRefusalBegun, IsRefusalOf, IsFailuresRefusalTold, IsFailuresSaid, IsUnserved, IsFailuresWarningBegun, IsEndBy, IsAllPrinted, IsRebuilding, SaysOf, TellsHidden, WarnsOfAll, end_by, head_of, in_answer, in_refusal, in_warning, is_answered, is_refused, names_of, of_name}
 use Rattle.ospf_failures.specs.Without.{IsFaultOfNames, IsFirstUnnamed}
 use Rattle.ospf_failures.specs.declared.answer.FailuresAnswer.{FailuresAnswer}
 use Rattle.ospf_failures.specs.declared.answer.FailuresJob.{FailuresJob}
@@ -47,12 +47,28 @@ end_is P Q true false true cuts is = (refl, λ e unmet. elim unmet [ inl p ↦ (
 end_is P Q true false false cuts is = (refl, inr (λ q. let t : false ≡ true = is.1 q in cc))
 end_is P Q false cut listed cuts is = (refl, λ e unmet. cc)
 
-pub answer_made : (input : Option (List ℕ)) (job : FailuresJob) (answer : FailuresAnswer) (listing : List (List ℕ)) → IfSome input (λ bytes. Reads bytes [] listing)
+both_some : {A : Type 0} (o : Option A) (P Q R : A → Type 0) → ((a : A) → P a → Q a → R a) → IfSome o P → IfSome o Q → IfSome o R
+both_some None P Q R f p q = p
+both_some (Some a) P Q R f p q = f a p q
+
+pub answer_made : (input : Option (List ℕ)) (job : FailuresJob) (answer : FailuresAnswer) (listing : List (List ℕ)) (left_out : ℕ) (body : List ℕ)
+    → IfSome input (λ bytes. Reads bytes [] listing) → IfSome input (λ bytes. LeavesOut bytes left_out)
     → (IsRebuilding job → HasLarge (advertisements_of listing) → ⊥) → WarnsOfAll job listing (string_bytes answer.warning)
-    → SaysOf job (advertisements_of listing) (string_bytes answer.said.text) answer.said.end → IfSome input (IsFailuresAnswerOf job answer)
-answer_made input job answer listing reads small warned says =
-    map_some input (λ bytes. Reads bytes [] listing) (IsFailuresAnswerOf job answer)
-    (λ bytes read. record { listing = listing; reads = read; small = small; warned = warned; says = says }) reads
+    → SaysOf job (advertisements_of listing) body answer.said.end
+    → string_bytes answer.said.text ≡ head_of job listing left_out (string_bytes answer.warning) ++ body → IfSome input (IsFailuresAnswerOf job answer)
+answer_made input job answer listing left_out body reads leaves small warned says text =
+    both_some input (λ bytes. Reads bytes [] listing) (λ bytes. LeavesOut bytes left_out) (IsFailuresAnswerOf job answer)
+    (λ bytes read leaves_out. record {
+      listing = listing;
+      reads = read;
+      left_out = left_out;
+      leaves_out = leaves_out;
+      small = small;
+      warned = warned;
+      body = body;
+      says = says;
+      text_is = text;
+    }) reads leaves
 
 pub told_hidden : (carrier : Carrier) (adverts : List Advertisement) (hidden seen : List HiddenCost) (found : Result (String Global) AllocError) → seen ≡ hidden
     → AreHiddenBy carrier adverts hidden → IfOk found (λ text. string_bytes text ≡ hidden_text seen) → IfOk found (λ text. TellsHidden carrier adverts (string_bytes text))

@@ -7,7 +7,7 @@ use Rattle.std.proofs.lemmas.List.{append-nil, append_assoc, map-append, map_pus
 use Rattle.std.proofs.lemmas.List.Concat.{flat_map-append}
 use Rattle.std.proofs.lemmas.List.Elements.{All-contains, All-push, Contains-get_or, filter-append}
 use Rattle.std.proofs.lemmas.List.Kept.{AllPairs-cons, AllPairs-filter}
-use Rattle.std.proofs.lemmas.List.Sums.{count_by-le-length, sum_by_push}
+use Rattle.std.proofs.lemmas.List.Sums.{count_by-le-length, fold_push, sum_by_push}
 use Rattle.ospf_table.specs.Changes.{is_cut, is_dearer, is_gone, is_moved, totals_of}
 use Rattle.ospf_base.specs.declared.ids.RouterId.{RouterId}
 use Rattle.ospf_graph.proofs.ListLemmas.{member_cases, member_head, member_later}
@@ -26,7 +26,9 @@ use Rattle.ospf_whatif.specs.declared.failure.AreaFailure.TheVariants.{Attachmen
 use Rattle.ospf_whatif.proofs.LessLemmas.{kept_of, of_kept}
 use Rattle.ospf_failures.proofs.FoundLemmas.{all_seen, effect_by, same_failures}
 use Rattle.ospf_failures.proofs.ReportLemmas.{other_from, other_to}
-use Rattle.ospf_failures.specs.Overall.{AreOveralls, IsOverall, IsOverallOf, IsTableBefore, IsSight, IsSightFrom, IsSoFar, Sees, SeesMore, failing_router, lines_kept, overall_cmp, roots_in, sight_lines, sights_kept, sums_of}
+use Rattle.ospf_harm.specs.Harm.{HasHarmRoom, harm_at, harm_plus, is_rerouted, loses_other, loses_own, no_harm}
+use Rattle.ospf_harm.specs.declared.harm.Harm.{Harm}
+use Rattle.ospf_failures.specs.Overall.{AreOveralls, IsOverall, IsOverallOf, IsTableBefore, IsSight, IsSightFrom, IsSoFar, Sees, SeesMore, failing_router, harm_of, lines_kept, overall_cmp, roots_in, sight_lines, sights_kept, sums_of}
 use Rattle.ospf_table.specs.Sums.{HasSumRoom, has_changes, one_if, sums_plus}
 use Rattle.ospf_failures.specs.Reports.{SightValue, is_of}
 use Rattle.ospf_failures.specs.declared.overall.Before.{Before}
@@ -123,6 +125,7 @@ module _ (carrier : Carrier) (A : List Advertisement) (fs : List AreaFailure) (a
       seen = λ k d lt. sight_is (get_or so_far.sights k d) (so_far.seen k d lt);
     };
     sums_are = so_far.sums_are;
+    harm_is = so_far.harm_is;
     lines_are = so_far.lines_are;
     sights_are = so_far.sights_are;
   }
@@ -140,6 +143,9 @@ sums_more sights s = λ i. record {
   hops = sum_by_push (λ (t : SightValue). (totals_of t.1).hops) sights s i;
   routers = count_push (λ (t : SightValue). has_changes t.1) sights s i;
 }
+
+harm_more : (f : AreaFailure) (sights : List SightValue) (s : SightValue) → harm_of f (sights ++ s ∷ []) ≡ harm_plus (harm_of f sights) (harm_at f s.1)
+harm_more f sights s = fold_push (λ (h : Harm) (t : SightValue). harm_plus h (harm_at f t.1)) no_harm sights s
 
 module _ (left : List Advertisement) (befores : List Before) (wanted : RouteDetail) (i : ℕ) (b : Before) (lt : i < length befores) (is : b ≡ get_or befores i b) (old new : Overall)
     (so_far : IsSoFar left befores wanted (roots_of (take i befores)) old) where
@@ -159,6 +165,7 @@ module _ (left : List Advertisement) (befores : List Before) (wanted : RouteDeta
     routers = so_far.routers ∙ sym (kept_more true e ∙ append-nil (filter (other_than old.failure) (roots_of (take i befores))));
     seen = so_far.seen;
     sums_are = so_far.sums_are;
+    harm_is = so_far.harm_is;
     lines_are = so_far.lines_are;
     sights_are = so_far.sights_are;
   }
@@ -189,6 +196,9 @@ module _ (left : List Advertisement) (befores : List Before) (wanted : RouteDeta
             ∙ ap (λ (f : AreaFailure). filter (other_than f) (roots_of (take (i + 1) befores))) (sym more.same);
         seen = All-push (IsSightFrom left befores) so_far.sights s so_far.seen (b, (i, lt, sym is), refl, more.effect);
         sums_are = more.sums_are ∙ ap (λ (t : Sums). sums_plus t more.changes) so_far.sums_are ∙ sym (sums_more so_far.sights s);
+        harm_is =
+            more.harm_is ∙ ap (λ (h : Harm). harm_plus h (harm_at old.failure more.changes)) so_far.harm_is ∙ sym (harm_more old.failure so_far.sights s)
+            ∙ ap (λ (f : AreaFailure). harm_of f (so_far.sights ++ s ∷ [])) (sym more.same);
         lines_are =
             more.lines_are ∙ ap (λ (l : List ℕ). l ++ lines_kept wanted old.failure (s ∷ [])) so_far.lines_are ∙ sym (lines_more s)
             ∙ ap (λ (f : AreaFailure). lines_kept wanted f (so_far.sights ++ s ∷ [])) (sym more.same);
@@ -242,6 +252,38 @@ room_after left b wanted old new n m (inl none) is room =
 room_after left b wanted old new n m (inr more) is room =
     subst (HasSumRoom n) (sym more.sums_are) (room_plus n old.sums more.changes more.few (subst (λ (k : ℕ). HasSumRoom k old.sums) (sym is) room))
 
+-- the same of harm
+pub harm_room_at_start : (n : ℕ) (h : Harm) → n < 2 ^ 64 → h ≡ no_harm → HasHarmRoom n h
+harm_room_at_start n h few is = subst (HasHarmRoom n) (sym is) (record { lost = omega arith; rerouted = omega arith; own = omega arith })
+
+pub harm_room_for_one : (n : ℕ) (h : Harm) → 0 < n → HasHarmRoom n h → HasHarmRoom 1 h
+harm_room_for_one n h some room = record {
+  lost = (let r = room.lost in omega arith);
+  rerouted = (let r = room.rerouted in omega arith);
+  own = (let r = room.own in omega arith);
+}
+
+harm_room_plus : (n : ℕ) (h : Harm) (f : AreaFailure) (changes : List RouteChange) → length changes < 2 ^ 64 → HasHarmRoom (n + 1) h → HasHarmRoom n (harm_plus h (harm_at f changes))
+harm_room_plus n h f changes few room = record {
+  lost = (let r = room.lost in let k = count_by-le-length (loses_other f) changes in omega arith);
+  rerouted = (let r = room.rerouted in let k = count_by-le-length is_rerouted changes in omega arith);
+  own = (let r = room.own in let k = count_by-le-length (loses_own f) changes in omega arith);
+}
+
+pub harm_room_after : (left : List Advertisement) (b : Before) (wanted : RouteDetail) (old new : Overall) (n m : ℕ) → Sees left b wanted old new → n + 1 ≡ m → HasHarmRoom m old.harm
+    → HasHarmRoom n new.harm
+harm_room_after left b wanted old new n m (inl none) is room =
+    subst (λ (o : Overall). HasHarmRoom n o.harm) (sym none.1) (less n m old.harm is room)
+  where
+    less : (n m : ℕ) (h : Harm) → n + 1 ≡ m → HasHarmRoom m h → HasHarmRoom n h
+    less n m h is room = record {
+      lost = (let r = room.lost in omega arith);
+      rerouted = (let r = room.rerouted in omega arith);
+      own = (let r = room.own in omega arith);
+    }
+harm_room_after left b wanted old new n m (inr more) is room =
+    subst (HasHarmRoom n) (sym more.harm_is) (harm_room_plus n old.harm old.failure more.changes more.few (subst (λ (k : ℕ). HasHarmRoom k old.harm) (sym is) room))
+
 -- ---- all failures
 
 pub overalls_are : (carrier : Carrier) (A : List Advertisement) (wanted : RouteDetail) (single failures : List AreaFailure) (bs : List Breakdown) (befores : List Before)
@@ -277,13 +319,14 @@ no_sights detail.Lines = refl
 no_sights detail.Routes = refl
 
 -- of no router yet
-pub none_yet : (left : List Advertisement) (befores : List Before) (wanted : RouteDetail) (o : Overall) → o.sums ≡ sums_of [] → string_bytes o.lines ≡ [] → o.sights.items ≡ []
-    → IsSoFar left befores wanted [] o
-none_yet left befores wanted o sums lines sights = record {
+pub none_yet : (left : List Advertisement) (befores : List Before) (wanted : RouteDetail) (o : Overall) → o.sums ≡ sums_of [] → o.harm ≡ no_harm → string_bytes o.lines ≡ []
+    → o.sights.items ≡ [] → IsSoFar left befores wanted [] o
+none_yet left befores wanted o sums harm lines sights = record {
   sights = [];
   routers = refl;
   seen = λ k d lt. absurd (omega arith);
   sums_are = sums;
+  harm_is = harm;
   lines_are = lines ∙ no_lines o.failure wanted;
   sights_are = sights ∙ no_sights wanted;
 }

@@ -1,6 +1,6 @@
 -- What is printed of the failures of the area whose LSAs are the lines
 -- of an input, and how that ends.
-use Rattle.std.specs.Prelude.{◌≡◌, ◌≢◌, ◌⊎◌, ◌&&◌, ◌||◌, ℕ, Bool, not, true, false, List, [], ◌∷◌, ◌++◌, IfSome, Option, String, if◌then◌else◌, codes, string_bytes, vec_items}
+use Rattle.std.specs.Prelude.{◌≡◌, ◌≢◌, ◌⊎◌, ◌&&◌, ◌||◌, ℕ, Bool, not, true, false, List, [], ◌∷◌, ◌++◌, IfSome, IsPermutation, Option, String, if◌then◌else◌, codes, string_bytes, vec_items}
 use Rattle.std.specs.Io.KnownBytes.{Appends}
 use Rattle.std.specs.declared.alloc.Global.{Global}
 use Rattle.ospf_base.specs.Text.{number_text}
@@ -16,7 +16,7 @@ use Rattle.ospf_files.specs.declared.status.Failure.{Failure}
 use Rattle.ospf_files.specs.declared.status.Status.{Status}
 use Rattle.ospf_files.specs.declared.status.Status.TheVariants as status
 use Rattle.ospf_files.specs.declared.streams.FailedStreams.{FailedStreams}
-use Rattle.ospf_table.specs.Line.{Reads, Refuses}
+use Rattle.ospf_table.specs.Line.{LeavesOut, Reads, Refuses}
 use Rattle.ospf_table.specs.Output.{unlisted_line}
 use Rattle.ospf_table.specs.Outside.{reasons_text}
 use Rattle.ospf_table.specs.Refusal.{refusal_line}
@@ -26,6 +26,9 @@ use Rattle.ospf_whatif.specs.Carrier.{AreHiddenBy}
 use Rattle.ospf_whatif.specs.declared.carrier.Carrier.{Carrier}
 use Rattle.ospf_whatif.specs.declared.carrier.Carrier.TheVariants.{Direct}
 use Rattle.ospf_whatif.specs.declared.hidden.HiddenCost.{HiddenCost}
+use Rattle.std.specs.List.Sorted.{IsSorted}
+use Rattle.ospf_failures.specs.HarmLines.{overall_harm_cmp, overalls_harm_text, overalls_lines, report_harm_cmp, reports_harm_text, reports_lines}
+use Rattle.ospf_failures.specs.Head.{head_line}
 use Rattle.ospf_failures.specs.Json.{overalls_json, reports_json}
 use Rattle.ospf_failures.specs.Overall.{AreOveralls, CutsSomewhere, overalls_text}
 use Rattle.ospf_failures.specs.Warnings.{hidden_text}
@@ -137,6 +140,20 @@ abbrev pub changes_text
     : FailuresForm → Bool → RouterId → List HiddenCost → List ReportValue → List ℕ
 changes_text form.Text each root hidden printed = reports_text each printed
 changes_text form.Json each root hidden printed = reports_json each root hidden printed
+changes_text form.JsonLines each root hidden printed = reports_lines each root hidden printed
+changes_text form.Harm each root hidden printed = reports_harm_text each printed
+
+-- they are printed by how much they harm
+pub record AreReportsByHarm (printed shown : List ReportValue) : Type 0 where
+  pub permuted : IsPermutation printed shown
+  pub in_order : IsSorted report_harm_cmp shown
+
+-- in the order of their form
+abbrev pub AreShownReports : FailuresForm → List ReportValue → List ReportValue → Type 0
+AreShownReports form.Text printed shown = shown ≡ printed
+AreShownReports form.Json printed shown = shown ≡ printed
+AreShownReports form.JsonLines printed shown = AreReportsByHarm printed shown
+AreShownReports form.Harm printed shown = AreReportsByHarm printed shown
 
 -- the reports of the area whose links are carried so at the root, in a form
 pub record SaysChanges (carrier : Carrier) (adverts : List Advertisement) (root : RouterId)
@@ -146,30 +163,50 @@ pub record SaysChanges (carrier : Carrier) (adverts : List Advertisement) (root 
   pub is_table : IsTable adverts root table
   pub printed : List ReportValue
   pub reported : IsReported carrier adverts root table printed
+  pub shown : List ReportValue
+  pub are_shown : AreShownReports form printed shown
   pub hidden : List HiddenCost
   pub are_hidden : AreHiddenBy carrier adverts hidden
-  pub text_is : text ≡ changes_text form each root hidden printed
+  pub text_is : text ≡ changes_text form each root hidden shown
   pub ends : IsEndBy strict (IsUnmetAt adverts root printed) end
 
 -- how much is stored about the routes that change, by whether each of them is printed
 abbrev pub detail_of : Bool → FailuresForm → RouteDetail
 detail_of true form.Text = detail.Lines
 detail_of true form.Json = detail.Routes
+detail_of true form.JsonLines = detail.Routes
+detail_of true form.Harm = detail.Lines
 detail_of false form = detail.Sums
 
 -- what is printed over all routers, in a form
 abbrev pub added_text : FailuresForm → Bool → List HiddenCost → List Overall → List ℕ
 added_text form.Text each hidden printed = overalls_text printed
 added_text form.Json each hidden printed = overalls_json each hidden printed
+added_text form.JsonLines each hidden printed = overalls_lines each hidden printed
+added_text form.Harm each hidden printed = overalls_harm_text printed
+
+-- they are printed by how much they harm
+pub record AreOverallsByHarm (printed shown : List Overall) : Type 0 where
+  pub permuted : IsPermutation printed shown
+  pub in_order : IsSorted overall_harm_cmp shown
+
+-- in the order of the form
+abbrev pub AreShownOveralls : FailuresForm → List Overall → List Overall → Type 0
+AreShownOveralls form.Text printed shown = shown ≡ printed
+AreShownOveralls form.Json printed shown = shown ≡ printed
+AreShownOveralls form.JsonLines printed shown = AreOverallsByHarm printed shown
+AreShownOveralls form.Harm printed shown = AreOverallsByHarm printed shown
 
 -- what each failure changes at all routers where links are carried so, in a form
 pub record SaysOverall (carrier : Carrier) (adverts : List Advertisement) (each strict : Bool)
     (form : FailuresForm) (text : List ℕ) (end : FailuresStatus) : Type 0 where
   pub printed : List Overall
   pub are : AreOveralls carrier adverts (detail_of each form) printed
+  pub shown : List Overall
+  pub are_shown : AreShownOveralls form printed shown
   pub hidden : List HiddenCost
   pub are_hidden : AreHiddenBy carrier adverts hidden
-  pub text_is : text ≡ added_text form each hidden printed
+  pub text_is : text ≡ added_text form each hidden shown
   pub ends : IsEndBy strict (IsUnmetSomewhere adverts printed) end
 
 -- what is asked of the area, and the status that it ends with
@@ -214,15 +251,35 @@ WarnsOfAll job listing text =
     (own : List ℕ) × WarnsOf job (advertisements_of listing) own
     × (text ≡ own ++ reasons_of job listing)
 
+-- the line before those of failures: in version 2 of the JSON what was read, and the warning
+abbrev pub form_head : FailuresForm → List (List ℕ) → ℕ → List ℕ → List ℕ
+form_head form.Text listing left_out warning = []
+form_head form.Json listing left_out warning = []
+form_head form.JsonLines listing left_out warning = head_line listing left_out warning
+form_head form.Harm listing left_out warning = []
+
+-- that of what is asked
+abbrev pub head_of : FailuresJob → List (List ℕ) → ℕ → List ℕ → List ℕ
+head_of (Root root each strict form carrier) listing left_out warning =
+    form_head form listing left_out warning
+head_of (All each strict form carrier) listing left_out warning =
+    form_head form listing left_out warning
+head_of (Without root names addresses) listing left_out warning = []
+
 -- the answer of the area whose LSAs the lines of the input are, none of whose routers has too many
--- links where router-LSAs are made again; and what it warns of
+-- links where router-LSAs are made again; and what it warns of. A line about the input may come
+-- before what is asked
 pub record IsFailuresAnswer (job : FailuresJob) (end : FailuresStatus) (input text warning : List ℕ)
     : Type 0 where
   pub listing : List (List ℕ)
   pub reads : Reads input [] listing
+  pub left_out : ℕ
+  pub leaves_out : LeavesOut input left_out
   pub small : IsRebuilding job → HasLarge (advertisements_of listing) → ⊥
   pub warned : WarnsOfAll job listing warning
-  pub says : SaysOf job (advertisements_of listing) text end
+  pub body : List ℕ
+  pub says : SaysOf job (advertisements_of listing) body end
+  pub text_is : text ≡ head_of job listing left_out warning ++ body
 
 -- the answer is written to standard output, its warning to standard error, and the status is that
 -- of the answer

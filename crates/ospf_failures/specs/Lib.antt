@@ -3,5 +3,7 @@ pub mod Reports
 pub mod Overall
 pub mod Json
 pub mod Warnings
+pub mod HarmLines
+pub mod Head
 pub mod Without
 pub mod Answer

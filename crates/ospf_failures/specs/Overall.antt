@@ -1,5 +1,5 @@
 -- What each failure of an area changes in the tables of all its routers.
-use Rattle.std.specs.Prelude.{◌≡◌, ◌↔◌, ◌<◌, ◌^◌, ℕ, true, false, List, [], ◌∷◌, ◌++◌, ◌⊎◌, All, AllPairs, Any, Contains, IsPermutation, codes, count_by, filter, flat_map, length, map, not, string_bytes, sum_by}
+use Rattle.std.specs.Prelude.{◌≡◌, ◌↔◌, ◌<◌, ◌^◌, ℕ, true, false, List, [], ◌∷◌, ◌++◌, ◌⊎◌, All, AllPairs, Any, Contains, IsPermutation, codes, count_by, filter, flat_map, fold, length, map, not, string_bytes, sum_by}
 use Rattle.std.specs.Cmp.Lexicographic.{slice_cmp}
 use Rattle.std.specs.List.Sorted.{IsSorted}
 use Rattle.std.specs.Ordering.{nat_cmp, ordering_then}
@@ -23,6 +23,8 @@ use Rattle.ospf_whatif.specs.declared.failure.AreaFailure.TheVariants.{Router}
 use Rattle.ospf_table.specs.Changes.{change_line, totals_of}
 use Rattle.ospf_table.specs.Sums.{has_changes, sums_line, sums_plus}
 use Rattle.ospf_table.specs.declared.sums.Sums.{Sums}
+use Rattle.ospf_harm.specs.Harm.{harm_at, harm_plus, no_harm}
+use Rattle.ospf_harm.specs.declared.harm.Harm.{Harm}
 use Rattle.ospf_failures.specs.Reports.{SightValue, is_of, failure_place}
 use Rattle.ospf_failures.specs.Together.{AreSingle, IsEffectBy}
 use Rattle.ospf_failures.specs.declared.overall.Before.{Before}
@@ -62,6 +64,10 @@ sums_of sights = record {
   routers = count_by (λ s. has_changes s.1) sights;
 }
 
+-- how much the failure harms all of these routers, added up
+abbrev pub harm_of : AreaFailure → List SightValue → Harm
+harm_of f sights = fold (λ h s. harm_plus h (harm_at f s.1)) no_harm sights
+
 -- a line for each route that changes at a router, which begins with the router
 abbrev pub sight_lines : AreaFailure → SightValue → List ℕ
 sight_lines failure sight =
@@ -83,6 +89,7 @@ pub record IsOverall (carrier : Carrier) (single : List AreaFailure) (adverts : 
   pub sights : List SightValue
   pub are_sights : AreSights carrier single adverts o.failure sights
   pub sums_are : o.sums ≡ sums_of sights
+  pub harm_is : o.harm ≡ harm_of o.failure sights
   pub lines_are : string_bytes o.lines ≡ lines_kept wanted o.failure sights
   pub sights_are : o.sights.items ≡ sights_kept wanted sights
 
@@ -153,6 +160,7 @@ pub record IsSoFar (left : List Advertisement) (befores : List Before) (wanted :
   pub routers : map (λ s. s.0) sights ≡ filter (λ r. not (is_of r o.failure)) roots
   pub seen : All (IsSightFrom left befores) sights
   pub sums_are : o.sums ≡ sums_of sights
+  pub harm_is : o.harm ≡ harm_of o.failure sights
   pub lines_are : string_bytes o.lines ≡ lines_kept wanted o.failure sights
   pub sights_are : o.sights.items ≡ sights_kept wanted sights
 
@@ -167,6 +175,7 @@ pub record IsOverallOf (adverts : List Advertisement) (befores : List Before) (w
 pub record KeepsMore (wanted : RouteDetail) (sight : SightValue) (old new : Overall) : Type 0 where
   pub same : new.failure ≡ old.failure
   pub sums_are : new.sums ≡ old.sums
+  pub harm_is : new.harm ≡ old.harm
   pub lines_are :
       string_bytes new.lines ≡ string_bytes old.lines ++ lines_kept wanted old.failure (sight ∷ [])
   pub sights_are : new.sights.items ≡ old.sights.items ++ sights_kept wanted (sight ∷ [])
@@ -180,6 +189,7 @@ pub record SeesMore (left : List Advertisement) (before : Before) (wanted : Rout
   pub other : is_of before.root old.failure ≡ false
   pub same : new.failure ≡ old.failure
   pub sums_are : new.sums ≡ sums_plus old.sums changes
+  pub harm_is : new.harm ≡ harm_plus old.harm (harm_at old.failure changes)
   pub lines_are : string_bytes new.lines
       ≡ string_bytes old.lines ++ lines_kept wanted old.failure ((before.root, changes) ∷ [])
   pub sights_are :

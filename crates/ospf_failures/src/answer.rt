@@ -5,21 +5,26 @@ ghost use Rattle.ospf_graph.specs.EdgeLists.Listed.{advertisement_of, advertisem
 ghost use Rattle.ospf_files.specs.Streams.{written_on};
 ghost use Rattle.ospf_files.specs.declared.status.Status.{Status};
 ghost use Rattle.ospf_files.specs.declared.streams.FailedStreams.{FailedStreams};
-ghost use Rattle.ospf_table.specs.Line.{Reads, Refuses};
+ghost use Rattle.ospf_table.specs.Line.{LeavesOut, Reads, Refuses};
 ghost use Rattle.ospf_whatif.specs.Failure.{HasLarge, IsLarge};
 ghost use Rattle.ospf_whatif.specs.declared.carrier.Carrier.{Carrier};
-ghost use Rattle.ospf_failures.specs.Answer.{FailuresEndsBy, IsFailuresAnswerOf, IsRebuilding, IsFailuresAnswered, IsFailuresCutShort, IsFailuresEnding, IsUnreported, HasRouter, IsFirstLarge, IsRefusalOf, IsFailuresRefusalTold, IsFailuresSaid, IsUnserved, IsAllPrinted, SaysChanges, SaysOf, SaysOverall, TellsHidden, TellsOfRoot, WarnsOf, WarnsOfAll, added_text, changes_text, detail_of, end_by, names_of, reasons_of};
+ghost use Rattle.ospf_failures.specs.Answer.{FailuresEndsBy, IsFailuresAnswerOf, IsRebuilding, IsFailuresAnswered, IsFailuresCutShort, IsFailuresEnding, IsUnreported, HasRouter, IsFirstLarge, IsRefusalOf, IsFailuresRefusalTold, IsFailuresSaid, IsUnserved, IsAllPrinted, SaysChanges, SaysOf, SaysOverall, TellsHidden, TellsOfRoot, WarnsOf, WarnsOfAll, added_text, changes_text, detail_of, end_by, form_head, head_of, names_of, reasons_of};
 ghost use Rattle.ospf_failures.specs.declared.answer.FailuresJob.{FailuresJob};
 ghost use Rattle.ospf_graph.specs.Routes.{IsTable};
 ghost use Rattle.ospf_graph.specs.declared.route.Route.{Route};
 ghost use Rattle.ospf_failures.specs.Reports.{IsReported};
 ghost use Rattle.ospf_failures.specs.Without.{IsFaultOfNames, IsFirstUnnamed};
 
+use crate::head::head_line;
 use crate::overall::{
-    Overall, RouteDetail, cuts_somewhere, overalls, overalls_json, overalls_text,
+    Overall, RouteDetail, cuts_somewhere, overalls, overalls_harm_text, overalls_json,
+    overalls_lines, overalls_text,
 };
 use crate::progress::Progress;
-use crate::report::{Report, has_cut, reports, reports_json, reports_text};
+use crate::report::{
+    Report, has_cut, reports, reports_harm_text, reports_json, reports_lines, reports_text,
+};
+use crate::shown::{shown_overalls, shown_reports};
 use crate::warnings::hidden_text;
 use crate::without::text_without;
 use ospf_base::{Addr, Kind, RouterId};
@@ -27,7 +32,7 @@ use ospf_files::{FailedStreams, Failure, Status};
 use ospf_graph::edges::is_listed;
 use ospf_lsa::{Links, Listing, LsaView};
 use ospf_spf::RouteTable;
-use ospf_table::{EntryFault, TableFault, read_listing, reasons_text};
+use ospf_table::{CountedListing, EntryFault, TableFault, read_counted, reasons_text};
 use ospf_whatif::{Carrier, HiddenCost, hidden_costs_by};
 use std::alloc::{AllocError, Global};
 use std::io::{BufRead, Write};
@@ -44,6 +49,10 @@ pub enum FailuresForm {
     Text,
     /// As one value of JSON, on a line.
     Json,
+    /// As JSON of version 2: a line about the input, and then an object on each line, by harm.
+    JsonLines,
+    /// In lines of text that say how much each failure harms, by harm.
+    Harm,
 }
 
 /// What is asked of the failures of an area.
@@ -223,6 +232,24 @@ struct PrintedText {
     end: FailuresStatus,
 }
 
+impl PrintedText {
+    ghost use Rattle.std.specs.Prelude.{◌≡◌, ◌++◌, IfOk, string_bytes};
+
+    // The same below another text.
+    fn below(self, head: String) -> Result<PrintedText, AllocError>
+        ensures text { IfOk result (λ said. string_bytes said.text
+            ≡ string_bytes head ++ string_bytes self.text) }
+        ensures end { IfOk result (λ said. said.end ≡ self.end) }
+    {
+        let mut text = head;
+        text.push_str(&self.text)?;
+        Ok(PrintedText {
+            text,
+            end: self.end,
+        })
+    }
+}
+
 // What will be printed.
 #[derive(Drop)]
 struct FailuresAnswer {
@@ -288,10 +315,14 @@ fn answer_of<R: BufRead + Drop, P: Progress>(
     ensures whole { IfOk result (λ answer. IsAllPrinted answer.said.end) }
     ensures fault { IfErr result (IsUnreported (R.remaining input) job.now) }
 {
-    let listing = listing_of(alloc, job, input)?;
-    let warning = warnings_of(alloc, &listing, job)?;
-    match said_of(alloc, rt, job, listing, progress) {
-        Ok(said) => Ok(FailuresAnswer { warning, said }),
+    let read = listing_of(alloc, job, input)?;
+    let warning = warnings_of(alloc, &read.listing, job)?;
+    let head = head_of(alloc, job, &read, &warning)?;
+    match said_of(alloc, rt, job, read.listing, progress) {
+        Ok(body) => {
+            let said = body.below(head)?;
+            Ok(FailuresAnswer { warning, said })
+        }
         Err(fault) => Err(fault),
     }
 }
@@ -302,26 +333,63 @@ fn listing_of<R: BufRead + Drop>(
     alloc: Global,
     job: &FailuresJob,
     input: R,
-) -> Result<Listing, Unreported>
-    ensures whole { IfOk result (λ listing. IfSome (R.remaining input)
-        (λ bytes. Reads bytes [] listing)) }
-    ensures small { IfOk result (λ listing. IsRebuilding job.now →
-        HasLarge (advertisements_of listing) → ⊥) }
+) -> Result<CountedListing, Unreported>
+    ensures whole { IfOk result (λ read. IfSome (R.remaining input)
+        (λ bytes. Reads bytes [] read.listing)) }
+    ensures counted { IfOk result (λ read. IfSome (R.remaining input)
+        (λ bytes. LeavesOut bytes read.left_out)) }
+    ensures small { IfOk result (λ read. IsRebuilding job.now →
+        HasLarge (advertisements_of read.listing) → ⊥) }
     ensures fault { IfErr result (IsUnreported (R.remaining input) job.now) }
 {
-    let listing = match read_listing(alloc, input) {
-        Ok(listing) => listing,
+    let read = match read_counted(alloc, input) {
+        Ok(read) => read,
         Err(TableFault::Entry { number, fault }) => {
             return Err(line_refused(alloc, number, fault));
         }
         Err(TableFault::Failure(failure)) => return Err(Unreported::Failure(failure)),
     };
     if !job.is_rebuilding() {
-        return Ok(listing);
+        return Ok(read);
     }
-    match first_large(&listing) {
+    match first_large(&read.listing) {
         Some(router) => Err(router_refused(alloc, router)),
-        None => Ok(listing),
+        None => Ok(read),
+    }
+}
+
+// The line about what was read, if one comes before those of failures.
+fn head_of(
+    alloc: Global,
+    job: &FailuresJob,
+    read: &CountedListing,
+    warning: &str,
+) -> Result<String, AllocError>
+    ensures { IfOk result (λ text. string_bytes text
+        ≡ head_of job.now read.now.listing read.now.left_out warning.now) }
+{
+    match job {
+        FailuresJob::Root { form, .. } => form_head(alloc, *form, read, warning),
+        FailuresJob::All { form, .. } => form_head(alloc, *form, read, warning),
+        FailuresJob::Without { .. } => Ok(String::new(alloc)),
+    }
+}
+
+// That of a form.
+fn form_head(
+    alloc: Global,
+    form: FailuresForm,
+    read: &CountedListing,
+    warning: &str,
+) -> Result<String, AllocError>
+    ensures { IfOk result (λ text. string_bytes text
+        ≡ form_head form read.now.listing read.now.left_out warning.now) }
+{
+    match form {
+        FailuresForm::JsonLines => head_line(alloc, &read.listing, read.left_out, warning),
+        FailuresForm::Text => Ok(String::new(alloc)),
+        FailuresForm::Json => Ok(String::new(alloc)),
+        FailuresForm::Harm => Ok(String::new(alloc)),
     }
 }
 
@@ -515,8 +583,9 @@ fn changes_said(
 {
     let printed = reports_at(alloc, rt, at.0, at.1, root)?;
     let hidden = hidden_costs_by(alloc, at.1, at.0)?;
-    let text = changes_text(alloc, &printed, root, each, form, &hidden)?;
     let end = end_of(strict, has_cut(&printed), is_listed(at.0, root));
+    let shown = shown_reports(form, printed);
+    let text = changes_text(alloc, &shown, root, each, form, &hidden)?;
     Ok(PrintedText { text, end })
 }
 
@@ -554,8 +623,9 @@ fn overalls_said<P: Progress>(
 {
     let printed = overalls(alloc, rt, at.0, at.1, detail_of(each, form), progress)?;
     let hidden = hidden_costs_by(alloc, at.1, at.0)?;
-    let text = added_text(alloc, &printed, each, form, &hidden)?;
     let end = end_of(strict, cuts_somewhere(&printed), has_router(at.0));
+    let shown = shown_overalls(form, printed);
+    let text = added_text(alloc, &shown, each, form, &hidden)?;
     Ok(PrintedText { text, end })
 }
 
@@ -586,6 +656,8 @@ fn changes_text(
     match form {
         FailuresForm::Text => reports_text(alloc, printed, each),
         FailuresForm::Json => reports_json(alloc, printed, root, each, hidden),
+        FailuresForm::JsonLines => reports_lines(alloc, printed, root, each, hidden),
+        FailuresForm::Harm => reports_harm_text(alloc, printed, each),
     }
 }
 
@@ -603,6 +675,8 @@ fn added_text(
     match form {
         FailuresForm::Text => overalls_text(alloc, printed),
         FailuresForm::Json => overalls_json(alloc, printed, each, hidden),
+        FailuresForm::JsonLines => overalls_lines(alloc, printed, each, hidden),
+        FailuresForm::Harm => overalls_harm_text(alloc, printed),
     }
 }
 
@@ -616,6 +690,8 @@ fn detail_of(each: bool, form: FailuresForm) -> RouteDetail
     match form {
         FailuresForm::Text => RouteDetail::Lines,
         FailuresForm::Json => RouteDetail::Routes,
+        FailuresForm::JsonLines => RouteDetail::Routes,
+        FailuresForm::Harm => RouteDetail::Lines,
     }
 }
 

@@ -12,15 +12,19 @@ ghost use Rattle.ospf_whatif.specs.declared.carrier.Carrier.{Carrier};
 ghost use Rattle.ospf_table.specs.Changes.{change_line};
 ghost use Rattle.serde_json.specs.Data.{array, no_members};
 ghost use Rattle.serde_json.specs.View.{items_of, members_view, view};
+ghost use Rattle.ospf_harm.specs.Harm.{HasHarmRoom, no_harm};
+ghost use Rattle.ospf_failures.specs.HarmLines.{overall_harm_cmp, overall_harm_line, overall_harm_rank, overall_line_data, overalls_harm_text, overalls_lines, summed_members};
 ghost use Rattle.ospf_failures.specs.Json.{overall_data, overall_members, overalls_json, sight_data};
 ghost use Rattle.ospf_failures.specs.Overall.{AreOveralls, CutsSomewhere, IsOverallOf, IsTableBefore, IsSoFar, KeepsMore, Sees, failing_router, overall_cmp, overall_rank, overalls_text, roots_in, sight_lines, sums_of};
 ghost use Rattle.ospf_failures.specs.Together.{IsComputable};
 ghost use Rattle.ospf_table.specs.Sums.{HasSumRoom};
 
+use crate::harmed::put_harmed;
 use crate::progress::Progress;
 use crate::report::{is_of, place_of};
 use crate::warnings::put_hidden;
 use ospf_base::RouterId;
+use ospf_harm::{Harm, data_line};
 use ospf_lsa::Listing;
 use ospf_spf::RouteTable;
 use ospf_table::{Sums, add_changes, change_line, counted_members, objects_line, sums_line};
@@ -69,6 +73,7 @@ impl Model for Sight {
 pub struct Overall {
     failure: AreaFailure,
     sums: Sums,
+    harm: Harm,
     lines: String,
     sights: Vec<Sight>,
 }
@@ -134,6 +139,48 @@ pub fn overalls_json(
         objects.push(overall.value(alloc, each, hidden)?)?;
     }
     objects_line(alloc, objects)
+}
+
+/// The lines of all failures, in their order, with how much each harms.
+///
+/// `AllocError` where memory runs out.
+pub fn overalls_harm_text(alloc: Global, overalls: &[Overall]) -> Result<String, AllocError>
+    ensures { IfOk result (λ text. string_bytes text ≡ overalls_harm_text overalls.now) }
+{
+    let mut text = String::new(alloc);
+    for overall in overalls {
+        text.push_str(&overall.lines)?;
+        text.push_str(&overall.harm_line(alloc)?)?;
+    }
+    Ok(text)
+}
+
+/// All failures as JSON of version 2, an object on each line, in their order.
+///
+/// `AllocError` where memory runs out.
+pub fn overalls_lines(
+    alloc: Global,
+    overalls: &[Overall],
+    each: bool,
+    hidden: &[HiddenCost],
+) -> Result<String, AllocError>
+    ensures { IfOk result (λ text. string_bytes text
+        ≡ overalls_lines each hidden.now overalls.now) }
+{
+    let mut text = String::new(alloc);
+    for overall in overalls {
+        let value = overall.line_value(alloc, each, hidden)?;
+        text.push_str(&data_line(alloc, &value)?)?;
+    }
+    Ok(text)
+}
+
+/// Puts failures into the order of their harm: those come first that lose most routes.
+pub fn sort_overalls_by_harm(overalls: &mut Vec<Overall>)
+    ensures same { IsPermutation overalls.old.items overalls.new.items }
+    ensures in_order { IsSorted overall_harm_cmp overalls.new.items }
+{
+    overalls.sort_unstable_by_key(|overall| overall.harm_rank());
 }
 
 /// Whether some failure cuts a prefix off, at some router.
@@ -341,8 +388,10 @@ fn effect_at(
 impl Overall {
     // A failure with nothing counted yet.
     fn none(alloc: Global, failure: AreaFailure) -> Overall
+        // Nothing counted, and nothing kept.
         ensures failure { result.failure ≡ failure }
         ensures sums { result.sums ≡ sums_of [] }
+        ensures harm { result.harm ≡ no_harm }
         ensures lines { string_bytes result.lines ≡ [] }
         ensures sights { result.sights.items ≡ [] }
     {
@@ -356,6 +405,7 @@ impl Overall {
         Overall {
             failure,
             sums,
+            harm: Harm::none(),
             lines: String::new(alloc),
             sights: Vec::new(alloc),
         }
@@ -375,6 +425,7 @@ impl Overall {
         requires outage { IsOutage (advertisements_of listing.now) outage.now }
         requires before { IsTableBefore (advertisements_of listing.now) before.now }
         requires room { HasSumRoom 1 self.old.sums }
+        requires harm_room { HasHarmRoom 1 self.old.harm }
         // One table more is seen, and added to those before.
         ensures { OnOk result (Sees
             (without_all outage.now.failures.items (advertisements_of listing.now)) before.now
@@ -385,6 +436,7 @@ impl Overall {
         }
         let changes = effect_at(alloc, listing, area, outage, before)?;
         self.sums = self.sums.plus(&changes);
+        self.harm = self.harm.plus(&self.failure, &changes);
         self.keep(alloc, before.root, changes, detail)
     }
 
@@ -426,15 +478,72 @@ impl Overall {
         ensures { IfOk result (λ members. members_view members.entries
             ≡ overall_members each self.now no_members) }
     {
-        let s = self.sums;
-        let mut members = counted_members(alloc, &self.failure, s.cut, s.gone, s.cost, s.hops)?;
-        put(&mut members, alloc, "routers", Value::from(s.routers))?;
+        let mut members = self.counted(alloc)?;
+        put(
+            &mut members,
+            alloc,
+            "routers",
+            Value::from(self.sums.routers),
+        )?;
         if !each {
             return Ok(members);
         }
         let routes = routes_value(alloc, &self.sights)?;
         put(&mut members, alloc, "routes", routes)?;
         Ok(members)
+    }
+
+    // How many routes it changes.
+    fn counted(&self, alloc: Global) -> Result<Map<String, Value>, AllocError>
+        ensures { IfOk result (λ members. members_view members.entries
+            ≡ summed_members self.now.failure self.now.sums) }
+    {
+        let s = self.sums;
+        counted_members(alloc, &self.failure, s.cut, s.gone, s.cost, s.hops)
+    }
+
+    // It as a JSON object of version 2.
+    fn line_value(
+        &self,
+        alloc: Global,
+        each: bool,
+        hidden: &[HiddenCost],
+    ) -> Result<Value, AllocError>
+        ensures { IfOk result (λ value. view value
+            ≡ overall_line_data each hidden.now self.now) }
+    {
+        let mut members = self.counted(alloc)?;
+        put_harmed(alloc, &mut members, &self.failure, self.harm, hidden)?;
+        put(
+            &mut members,
+            alloc,
+            "routers_affected",
+            Value::from(self.sums.routers),
+        )?;
+        if !each {
+            return Ok(Value::Object(members));
+        }
+        let routes = routes_value(alloc, &self.sights)?;
+        put(&mut members, alloc, "routes", routes)?;
+        Ok(Value::Object(members))
+    }
+
+    // Its line, with how much it harms.
+    fn harm_line(&self, alloc: Global) -> Result<String, AllocError>
+        ensures { IfOk result (λ line. string_bytes line ≡ overall_harm_line self.now) }
+    {
+        let (failure, harm, routers) = (self.failure, self.harm, self.sums.routers);
+        let line = format!(in alloc; "{failure} {harm} routers {routers}\n")?;
+        Ok(line)
+    }
+
+    // What it is ordered by, where the worst harm comes first.
+    fn harm_rank(&self) -> Rank
+        ensures { result ≡ overall_harm_rank self.now }
+    {
+        let h = self.harm;
+        let numbers = [h.lost, h.rerouted, h.rise as u128, h.own];
+        (Reverse(numbers), place_of(self.failure))
     }
 
     // What it is ordered by.

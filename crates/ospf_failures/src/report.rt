@@ -1,6 +1,6 @@
 //! What the failures of an area change in a router's table.
 
-ghost use Rattle.std.specs.Prelude.{◌≡◌, ◌↔◌, List, All, AllPairs, Contains, IfOk, IsPermutation, IsTrue, string_bytes};
+ghost use Rattle.std.specs.Prelude.{◌≡◌, ◌↔◌, List, All, AllPairs, Contains, IfOk, IsPermutation, IsTrue, flat_map, string_bytes};
 ghost use Rattle.std.specs.List.{AllZip};
 ghost use Rattle.std.specs.List.Sorted.{IsSorted};
 ghost use Rattle.ospf_graph.specs.Advertisements.{Advertisement};
@@ -11,15 +11,19 @@ ghost use Rattle.ospf_whatif.specs.Outage.{IsAreaGraph, IsKeptRoot};
 ghost use Rattle.ospf_whatif.specs.Single.{AreFailures, IsFailureBefore};
 ghost use Rattle.ospf_whatif.specs.declared.carrier.Carrier.{Carrier};
 ghost use Rattle.ospf_whatif.specs.declared.failure.AreaFailure.{AreaFailure};
+ghost use Rattle.ospf_table.specs.Changes.{change_line};
+ghost use Rattle.ospf_failures.specs.HarmLines.{report_harm_cmp, reports_harm_text, reports_lines};
 ghost use Rattle.ospf_failures.specs.Json.{reports_json};
 ghost use Rattle.ospf_failures.specs.Reports.{HasCut, IsOtherFailure, IsReportOf, IsReported, is_of, failure_place, report_cmp, reports_text};
 ghost use Rattle.ospf_failures.specs.Together.{IsComputable};
 
+use crate::harmed::put_harmed;
 use crate::warnings::put_hidden;
 use ospf_base::RouterId;
+use ospf_harm::{Harm, data_line, harm_line};
 use ospf_lsa::Listing;
 use ospf_spf::RouteTable;
-use ospf_table::{Totals, add_changes, counted_members, failure_lines, objects_line};
+use ospf_table::{Totals, add_changes, change_line, counted_members, failure_lines, objects_line};
 use ospf_whatif::{
     AreaFailure, AreaGraph, Breakdown, Carrier, HiddenCost, KeptRoot, Outage, RouteChange,
     breakdowns, failures_by, single_failures,
@@ -57,7 +61,8 @@ impl Report {
     ghost use Rattle.ospf_table.specs.Changes.{failure_lines, totals_of};
     ghost use Rattle.serde_json.specs.Data.{no_members};
     ghost use Rattle.serde_json.specs.View.{members_view, view};
-    ghost use Rattle.ospf_failures.specs.Json.{report_data, report_members};
+    ghost use Rattle.ospf_failures.specs.HarmLines.{report_harm, report_harm_lines, report_harm_rank, report_line_data};
+    ghost use Rattle.ospf_failures.specs.Json.{report_data, report_members, totals_members};
     ghost use Rattle.ospf_failures.specs.Reports.{rank_of};
 
     /// The report of a failure that makes these changes.
@@ -114,15 +119,7 @@ impl Report {
         ensures { IfOk result (λ members. members_view members.entries
             ≡ report_members each root self.now no_members) }
     {
-        let t = self.totals;
-        let mut members = counted_members(
-            alloc,
-            &self.failure,
-            t.cut as u128,
-            t.gone as u128,
-            t.cost as u128,
-            t.hops as u128,
-        )?;
+        let mut members = self.counted(alloc)?;
         if !each {
             return Ok(members);
         }
@@ -130,6 +127,73 @@ impl Report {
         add_changes(alloc, root, &self.changes, &mut routes)?;
         put(&mut members, alloc, "routes", Value::Array(routes))?;
         Ok(members)
+    }
+
+    // How many prefixes it changes.
+    fn counted(&self, alloc: Global) -> Result<Map<String, Value>, AllocError>
+        ensures { IfOk result (λ members. members_view members.entries
+            ≡ totals_members self.now.0 (totals_of self.now.1) no_members) }
+    {
+        let t = self.totals;
+        counted_members(
+            alloc,
+            &self.failure,
+            t.cut as u128,
+            t.gone as u128,
+            t.cost as u128,
+            t.hops as u128,
+        )
+    }
+
+    // It as a JSON object of version 2, at a root.
+    fn line_value(
+        &self,
+        alloc: Global,
+        root: RouterId,
+        each: bool,
+        hidden: &[HiddenCost],
+    ) -> Result<Value, AllocError>
+        ensures { IfOk result (λ value. view value
+            ≡ report_line_data each root hidden.now self.now) }
+    {
+        let mut object = self.counted(alloc)?;
+        put_harmed(alloc, &mut object, &self.failure, self.harm(), hidden)?;
+        if !each {
+            return Ok(Value::Object(object));
+        }
+        let mut routes = Vec::new(alloc);
+        add_changes(alloc, root, &self.changes, &mut routes)?;
+        put(&mut object, alloc, "routes", Value::Array(routes))?;
+        Ok(Value::Object(object))
+    }
+
+    // How much it harms.
+    fn harm(&self) -> Harm
+        ensures { result ≡ report_harm self.now }
+    {
+        Harm::of(&self.failure, &self.changes)
+    }
+
+    // What is printed of it with how much it harms.
+    fn harm_lines(&self, alloc: Global, each: bool) -> Result<String, AllocError>
+        ensures { IfOk result (λ lines. string_bytes lines ≡ report_harm_lines each self.now) }
+    {
+        let mut lines = if each {
+            change_lines(alloc, &self.failure, &self.changes)?
+        } else {
+            String::new(alloc)
+        };
+        lines.push_str(&harm_line(alloc, &self.failure, self.harm())?)?;
+        Ok(lines)
+    }
+
+    // What it is ordered by, where the worst harm comes first.
+    fn harm_rank(&self) -> HarmRank
+        ensures { result ≡ report_harm_rank self.now }
+    {
+        let h = self.harm();
+        let numbers = [h.lost, h.rerouted, h.rise as u128, h.own];
+        (Reverse(numbers), place_of(self.failure))
     }
 
     // What it is ordered by.
@@ -214,6 +278,54 @@ pub fn reports_json(
     objects_line(alloc, objects)
 }
 
+/// The lines of reports, in their order, with how much each failure harms.
+///
+/// `AllocError` where memory runs out.
+pub fn reports_harm_text(
+    alloc: Global,
+    reports: &[Report],
+    each: bool,
+) -> Result<String, AllocError>
+    ensures { IfOk result (λ text. string_bytes text ≡ reports_harm_text each reports.now) }
+{
+    let mut text = String::new(alloc);
+    for report in reports {
+        text.push_str(&report.harm_lines(alloc, each)?)?;
+    }
+    Ok(text)
+}
+
+/// Reports for a root as JSON of version 2, an object on each line, in their order. To the members
+/// of `reports_json` it adds what fails, as `routers`, `subnet` and `network`, and how much it
+/// harms, as `lost`, `own`, `rerouted` and `worst_rise`.
+///
+/// `AllocError` where memory runs out.
+pub fn reports_lines(
+    alloc: Global,
+    reports: &[Report],
+    root: RouterId,
+    each: bool,
+    hidden: &[HiddenCost],
+) -> Result<String, AllocError>
+    ensures { IfOk result (λ text. string_bytes text
+        ≡ reports_lines each root hidden.now reports.now) }
+{
+    let mut text = String::new(alloc);
+    for report in reports {
+        let value = report.line_value(alloc, root, each, hidden)?;
+        text.push_str(&data_line(alloc, &value)?)?;
+    }
+    Ok(text)
+}
+
+/// Puts reports into the order of their harm: those come first that lose most routes.
+pub fn sort_reports_by_harm(reports: &mut Vec<Report>)
+    ensures same { IsPermutation reports.old.items reports.new.items }
+    ensures in_order { IsSorted report_harm_cmp reports.new.items }
+{
+    reports.sort_unstable_by_key(|report| report.harm_rank());
+}
+
 /// Whether some failure cuts a prefix off.
 pub fn has_cut(reports: &[Report]) -> bool
     ensures { IsTrue result ↔ HasCut reports.now }
@@ -223,6 +335,25 @@ pub fn has_cut(reports: &[Report]) -> bool
 
 // What comes first of numbers that a report is ordered by, and what decides where these are equal.
 type Rank = (Reverse<[usize; 4]>, [u32; 5]);
+
+// The same, for the numbers of harm.
+type HarmRank = (Reverse<[u128; 4]>, [u32; 5]);
+
+// A line for each route that a failure changes.
+fn change_lines(
+    alloc: Global,
+    failure: &AreaFailure,
+    changes: &[RouteChange],
+) -> Result<String, AllocError>
+    ensures { IfOk result (λ lines. string_bytes lines
+        ≡ flat_map (change_line failure.now) changes.now) }
+{
+    let mut lines = String::new(alloc);
+    for change in changes {
+        lines.push_str(&change_line(alloc, failure, change)?)?;
+    }
+    Ok(lines)
+}
 
 // What decides between failures that change equally many.
 pub(crate) fn place_of(failure: AreaFailure) -> [u32; 5]

@@ -50,7 +50,7 @@ pub(crate) fn put_hidden(
 }
 
 // The names of those that a failure brings about.
-fn hidden_values(
+pub(crate) fn hidden_values(
     alloc: Global,
     hidden: &[HiddenCost],
     failure: &AreaFailure,

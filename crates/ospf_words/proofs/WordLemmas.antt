@@ -14,9 +14,10 @@ use Rattle.ospf_base.specs.declared.ids.RouterId.{RouterId}
 use Rattle.ospf_base.specs.declared.ids.Addr.{Addr}
 use Rattle.ospf_words.specs.Job.{IsFaultOfNoValue, IsFaultOfValue, IsFaultOfWords}
 use Rattle.ospf_words.specs.Unasked.{HasForever, IsFirstWrong, IsForeverIn, IsJobIfAny, IsNoAddress, IsNoJob, IsNoNumber, IsNoRouter, IsUnasked, IsUncounted, IsUnending, IsUnendingRun, IsWrongValue, LacksInRun, in_lsas, in_run}
-use Rattle.ospf_words.specs.Words.{AreChoices, HasChange, IsFailuresForm, IsFlag, IsInspectJob, IsNumber, IsNumberIfAny, IsRunWith, IsTelling, Spell, command_app, endless_app, failures_form, lsas_asked, telling_of, words_for}
+use Rattle.ospf_words.specs.Words.{AreChoices, AreForms, HasChange, IsFailuresForm, IsFlag, IsInspectJob, IsNumber, IsNumberIfAny, IsRunWith, IsTelling, Spell, command_app, endless_app, failures_form, lsas_asked, telling_of, words_for}
 use Rattle.ospf_files.specs.declared.telling.Telling.TheVariants as telling
 use Rattle.ospf_failures.specs.declared.answer.FailuresForm.{FailuresForm}
+use Rattle.ospf_failures.specs.declared.answer.FailuresForm.TheVariants as told
 use Rattle.ospf_inspect.specs.declared.answer.Form.TheVariants as form
 use Rattle.ospf_inspect.specs.declared.answer.InspectJob.{InspectJob}
 use Rattle.ospf_inspect.specs.declared.answer.InspectJob.TheVariants.{Drawing, Lsas}
@@ -326,13 +327,15 @@ no_job_refused words (fault.Words e) none no_job is = inr (none, no_job)
 no_job_refused words (fault.Address w) none no_job is = absurd is
 no_job_refused words fault.Memory none no_job is = tt
 
--- in which form failures are, by their flag
-pub told_by : (text : Option (List ℕ)) (json : Bool) (f : FailuresForm) → f ≡ failures_form json → IsFlag text json → IsFailuresForm text f
-told_by text json f is flag = subst (IsFailuresForm text) (sym is) (go json flag)
-  where
-    go : (b : Bool) → IsFlag text b → IsFailuresForm text (failures_form b)
-    go true flag = flag
-    go false flag = flag
+-- in which form failures are, by their flags
+pub told_by : (rows : List Row) (json json2 harm : Bool) (f : FailuresForm) → Some f ≡ failures_form json json2 harm → AreForms rows json json2 harm → IsFailuresForm rows f
+told_by rows false false false f is flags = let same : told.Text ≡ f = cc in subst (IsFailuresForm rows) same flags
+told_by rows true false false f is flags = let same : told.Json ≡ f = cc in subst (IsFailuresForm rows) same flags
+told_by rows false true false f is flags = let same : told.JsonLines ≡ f = cc in subst (IsFailuresForm rows) same flags
+told_by rows false false true f is flags = let same : told.Harm ≡ f = cc in subst (IsFailuresForm rows) same flags
+told_by rows true true harm f is flags = absurd (none-some f (sym is))
+told_by rows true false true f is flags = absurd (none-some f (sym is))
+told_by rows false true true f is flags = absurd (none-some f (sym is))
 
 -- ---- runs without a last tick
 

@@ -1,5 +1,5 @@
 -- Why the program's words ask for no job.
-use Rattle.std.specs.Prelude.{◌≡◌, ◌≢◌, true, ◌<◌, ◌^◌, ◌⊎◌, ℕ, List, [], ◌∷◌, ◌++◌, Option, Some, None, Any, Contains, ⊤, codes, string_bytes}
+use Rattle.std.specs.Prelude.{◌≡◌, ◌≢◌, Bool, true, ◌<◌, ◌^◌, ◌⊎◌, ℕ, List, [], ◌∷◌, ◌++◌, Option, Some, None, Any, Contains, ⊤, codes, string_bytes}
 use Rattle.ospf_base.specs.Text.{IsDottedNumber}
 use Rattle.ospf_base.specs.declared.ids.Addr.{Addr}
 use Rattle.ospf_base.specs.declared.ids.RouterId.{RouterId}
@@ -10,7 +10,7 @@ use Rattle.ospf_whatif.specs.declared.carrier.Carrier.{Carrier}
 use Rattle.ospf_words.specs.declared.jobs.Job.{Job}
 use Rattle.ospf_words.specs.declared.jobs.JobFault.{JobFault}
 use Rattle.ospf_words.specs.declared.jobs.JobFault.TheVariants as fault
-use Rattle.ospf_words.specs.Words.{HasChange, HasTicks, IsCarrier, IsFlag, IsJobOf, IsNumber, Spell, command_app, endless_app, words_for}
+use Rattle.ospf_words.specs.Words.{AreForms, HasChange, HasTicks, IsCarrier, IsFlag, IsJobOf, IsNumber, Spell, command_app, endless_app, failures_form, words_for}
 
 -- the text spells no address
 abbrev pub IsNoAddress : Text → Type 0
@@ -89,10 +89,17 @@ HasNoChoice texts =
 abbrev pub IsNoCarrier : Option Text → Type 0
 IsNoCarrier text = (carrier : Carrier) → IsCarrier text carrier → ⊥
 
--- what `failures` lacks: a root, or a carrier by its word
+-- more than one form of failures is wanted
+abbrev pub AreSeveralForms : List Row → Type 0
+AreSeveralForms rows =
+    (json json2 harm : Bool) × AreForms rows json json2 harm
+    × (failures_form json json2 harm ≡ None)
+
+-- what `failures` lacks: a root, a single form, or a carrier by its word
 abbrev pub LacksInFailures : List Row → Type 0
 LacksInFailures rows =
-    (first_of (codes "root") rows ≡ None) ⊎ IsNoCarrier (first_of (codes "carrier") rows)
+    (first_of (codes "root") rows ≡ None) ⊎ AreSeveralForms rows
+    ⊎ IsNoCarrier (first_of (codes "carrier") rows)
 
 -- what `path` lacks: one of its ends, or a choice
 abbrev pub LacksInPath : List Row → Type 0

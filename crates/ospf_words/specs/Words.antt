@@ -88,15 +88,18 @@ check_app =
     (flag_rule (codes "json")))
     files_rule
 
--- the command `failures`: a root, three flags, and what carries the links
+-- the command `failures`: a root, three flags, what carries the links, and two flags more
 abbrev pub failures_app : App
 failures_app =
-    with_rule (with_rule (with_rule (with_rule (with_rule (new_app (codes "failures"))
+    with_rule (with_rule (with_rule (with_rule (with_rule (with_rule (with_rule
+    (new_app (codes "failures"))
     root_rule)
     (flag_rule (codes "each")))
     (flag_rule (codes "strict")))
     (flag_rule (codes "json")))
-    (option_rule (codes "carrier"))
+    (option_rule (codes "carrier")))
+    (flag_rule (codes "json2")))
+    (flag_rule (codes "harm"))
 
 -- the word for the file of a script
 abbrev pub script_rule : Rule
@@ -284,15 +287,28 @@ abbrev pub IsForm : Option Text → Form → Type 0
 IsForm text form.Text = IsFlag text false
 IsForm text form.Json = IsFlag text true
 
--- in which form failures are
-abbrev pub IsFailuresForm : Option Text → FailuresForm → Type 0
-IsFailuresForm text told.Text = IsFlag text false
-IsFailuresForm text told.Json = IsFlag text true
+-- whether the flags of the forms of failures are given
+pub record AreForms (rows : List Row) (json json2 harm : Bool) : Type 0 where
+  pub json_is : IsFlag (one_of (codes "json") rows) json
+  pub json2_is : IsFlag (one_of (codes "json2") rows) json2
+  pub harm_is : IsFlag (one_of (codes "harm") rows) harm
 
--- by its flag
-abbrev pub failures_form : Bool → FailuresForm
-failures_form true = told.Json
-failures_form false = told.Text
+-- in which form failures are
+abbrev pub IsFailuresForm : List Row → FailuresForm → Type 0
+IsFailuresForm rows told.Text = AreForms rows false false false
+IsFailuresForm rows told.Json = AreForms rows true false false
+IsFailuresForm rows told.JsonLines = AreForms rows false true false
+IsFailuresForm rows told.Harm = AreForms rows false false true
+
+-- by its flags, of which one at the most is given
+abbrev pub failures_form : Bool → Bool → Bool → Option FailuresForm
+failures_form false false false = Some told.Text
+failures_form true false false = Some told.Json
+failures_form false true false = Some told.JsonLines
+failures_form false false true = Some told.Harm
+failures_form true true harm = None
+failures_form true false true = None
+failures_form false true true = None
 
 -- what carries the links, by its word: any carrier, of which a process alone fails, where no word
 -- is given
@@ -309,7 +325,7 @@ pub record IsRootJob (rows : List Row) (root : RouterId) (each strict : Bool) (f
   pub root_is : ReadsRouterId text (Ok root)
   pub each_is : IsFlag (one_of (codes "each") rows) each
   pub strict_is : IsFlag (one_of (codes "strict") rows) strict
-  pub form_is : IsFailuresForm (one_of (codes "json") rows) f
+  pub form_is : IsFailuresForm rows f
   pub carrier_is : IsCarrier (first_of (codes "carrier") rows) carrier
 
 -- the same with `all` as its root
@@ -318,7 +334,7 @@ pub record IsAllJob (rows : List Row) (each strict : Bool) (f : FailuresForm) (c
   pub has_all : first_of (codes "root") rows ≡ Some (codes "all")
   pub each_is : IsFlag (one_of (codes "each") rows) each
   pub strict_is : IsFlag (one_of (codes "strict") rows) strict
-  pub form_is : IsFailuresForm (one_of (codes "json") rows) f
+  pub form_is : IsFailuresForm rows f
   pub carrier_is : IsCarrier (first_of (codes "carrier") rows) carrier
 
 -- what is asked of failures: by `failures` at a root, or with `all` as its root at all routers, and

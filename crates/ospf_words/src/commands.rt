@@ -126,8 +126,32 @@ fn with_failures<'a>(program: Command<'a>, alloc: Global) -> Result<Command<'a>,
         .arg(each_arg(alloc))?
         .arg(strict_arg(alloc))?
         .arg(value_arg(alloc))?
-        .arg(carrier_arg(alloc))?;
+        .arg(carrier_arg(alloc))?
+        .arg(json2_arg(alloc))?
+        .arg(harm_arg(alloc))?;
     program.subcommand(failures)
+}
+
+// Whether JSON of version 2 is printed.
+fn json2_arg<'a>(alloc: Global) -> Arg<'a>
+    ensures rule { rule_of result ≡ flag_rule (codes "json2") }
+    ensures local { result.global ≡ false }
+{
+    Arg::new(alloc, "json2")
+        .long("json2")
+        .action(ArgAction::SetTrue)
+        .help("Prints JSON of version 2, an object a line, by harm; also written `--json=2`")
+}
+
+// Whether failures are printed with how much they harm.
+fn harm_arg<'a>(alloc: Global) -> Arg<'a>
+    ensures rule { rule_of result ≡ flag_rule (codes "harm") }
+    ensures local { result.global ≡ false }
+{
+    Arg::new(alloc, "harm")
+        .long("harm")
+        .action(ArgAction::SetTrue)
+        .help("Prints what is lost apart from what fails itself, the worst harm first")
 }
 
 // Whether each route that changes is printed.

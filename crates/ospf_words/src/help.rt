@@ -113,7 +113,13 @@ pub(crate) const FAILURES_HELP: &str = "Output:
   FAILURE hops PREFIX COST HOPS
 If ROOT is `all`, these are totals over all routers, ` routers N` is the number of
 routers where anything changes, and the line of a route begins with its router.
-With --json it is one array, with an object for each failure.
+With --json it is one array, with an object for each failure. With --json=2 a line says
+what was read, and each line after it is an object, the worst harm first.
+With --harm the line of a failure is, the worst first,
+  FAILURE lost N rerouted N rise N own N
+                              how many prefixes are lost, though still advertised;
+                              cost more or have other next hops; the worst rise of a
+                              cost; and how many are lost with what fails itself
 A failure is one of
   R-S@SUBNET                  a link between two routers
   R:S@SUBNET                  the end of such a link at R, with --carrier switch

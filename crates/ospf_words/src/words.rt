@@ -314,7 +314,8 @@ fn parsed_addresses(alloc: Global, words: &[&str]) -> Result<Vec<Addr>, JobFault
     Ok(addresses)
 }
 
-// The values of `failures`: its job, if they have a root and no word but that of a carrier.
+// The values of `failures`: its job, if they have a root, one form at most, and no word but that
+// of a carrier.
 fn failures_job(alloc: Global, values: &ArgMatches<'_>) -> Result<Option<Job>, JobFault>
     ensures ok { IfOk result (IsJobIfAny (Some (codes "failures", rows_of (found_of values.now)))) }
     ensures fault { IfErr result (IsFaultOfValue
@@ -325,7 +326,12 @@ fn failures_job(alloc: Global, values: &ArgMatches<'_>) -> Result<Option<Job>, J
     };
     let each = has_flag(values, "each");
     let strict = has_flag(values, "strict");
-    let form = failures_form(has_flag(values, "json"));
+    let json = has_flag(values, "json");
+    let json2 = has_flag(values, "json2");
+    let harm = has_flag(values, "harm");
+    let Some(form) = failures_form(json, json2, harm) else {
+        return Ok(None);
+    };
     let Some(carrier) = carrier_of(word_of(values, "carrier")) else {
         return Ok(None);
     };
@@ -367,14 +373,18 @@ fn carrier_of(word: Option<&str>) -> Option<Carrier>
     None
 }
 
-// In which form failures are printed.
-fn failures_form(json: bool) -> FailuresForm
-    ensures { result ≡ failures_form json }
+// In which form failures are printed, by the flags, of which at most one is given.
+fn failures_form(json: bool, json2: bool, harm: bool) -> Option<FailuresForm>
+    ensures { result ≡ failures_form json json2 harm }
 {
-    if json {
-        FailuresForm::Json
-    } else {
-        FailuresForm::Text
+    match (json, json2, harm) {
+        (false, false, false) => Some(FailuresForm::Text),
+        (true, false, false) => Some(FailuresForm::Json),
+        (false, true, false) => Some(FailuresForm::JsonLines),
+        (false, false, true) => Some(FailuresForm::Harm),
+        (true, true, _) => None,
+        (true, false, true) => None,
+        (false, true, true) => None,
     }
 }
 
@@ -694,12 +704,22 @@ fn no_job(command: &mut Command<'_>, matches: &ArgMatches<'_>) -> JobFault
 fn apart(matches: &ArgMatches<'_>) -> &'static str {
     match matches.subcommand_name() {
         Some("table") => "neither `all` nor --json can be combined with ADDRESS or --without",
-        Some("failures") => "CARRIER is `direct`, `switch` or `process`",
+        Some("failures") => apart_in_failures(matches),
         Some("lsas") => "--json cannot be combined with --dot",
         Some("edit") => "at least one of --down, --cost and --drain is needed",
         Some("diff") => "only one of BEFORE and AFTER can be `-`",
         Some("check") => "--json cannot be combined with --all",
         Some("sim") | Some("run") => "--json needs --log",
         _ => "these arguments cannot be combined",
+    }
+}
+
+// The same for `failures`, which reads its forms before its carrier.
+fn apart_in_failures(matches: &ArgMatches<'_>) -> &'static str {
+    match matches.subcommand_matches("failures") {
+        Some(values) if carrier_of(word_of(values, "carrier")).is_some() => {
+            "only one of --json, --json=2 and --harm can be given"
+        }
+        _ => "CARRIER is `direct`, `switch` or `process`",
     }
 }

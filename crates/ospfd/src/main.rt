@@ -114,8 +114,16 @@ fn job_of<R: Runtime + AllocGlobal>(rt: &R) -> io::Result<Result<Job, JobFault>>
     let Some(words) = words_of(rt)? else {
         return Ok(Err(not_text(alloc)));
     };
-    let words: Vec<&str> = words.iter().map(|word| word.as_str()).collect(alloc)?;
+    let words: Vec<&str> = words
+        .iter()
+        .map(|word| plain_word(word.as_str()))
+        .collect(alloc)?;
     Ok(job(alloc, &words))
+}
+
+// The flag of one word that `--json=2` means, and any other word as it is.
+fn plain_word(word: &str) -> &str {
+    if word == "--json=2" { "--json2" } else { word }
 }
 
 // Checks the configurations in the files of these names, together if they are of one area.

@@ -727,6 +727,150 @@ fn failures_over_all_routers_are_told_as_json(rt: HostRuntime) -> Result<(), Fai
     Ok(())
 }
 
+// The first line of version 2 of the JSON, of an input without warnings.
+fn head_of_version_two(alloc: Global, lsas: u64) -> Result<String, Fail> {
+    let line = format!(in alloc;
+        "{{\"input\":{{\"left_out\":0,\"lsas\":{lsas}}},\"outside\":false,\"version\":2,\"warnings\":[]}}\n"
+    )?;
+    Ok(line)
+}
+
+// The LAN is lost with the network that fails; the stub behind the second router is lost with that router. Nothing else is.
+#[test]
+fn failures_are_told_as_json_of_version_two(rt: HostRuntime) -> Result<(), Fail> {
+    let alloc = rt.alloc();
+    let lsas = pair(alloc)?;
+    let mut out = head_of_version_two(alloc, 3)?;
+    out.push_str(
+        "{\"cost\":1,\"cut\":0,\"failure\":\"1.1.1.1@10.1.0.2\",\"gone\":0,\"hops\":1,\"kind\":\"attachment\",\"lost\":0,\
+        \"network\":\"10.1.0.2\",\"own\":0,\"rerouted\":2,\"routers\":[\"1.1.1.1\"],\"subnet\":null,\"unknown_costs\":[],\"worst_rise\":10}\n\
+        {\"cost\":0,\"cut\":0,\"failure\":\"@10.1.0.2\",\"gone\":1,\"hops\":1,\"kind\":\"network\",\"lost\":0,\
+        \"network\":\"10.1.0.2\",\"own\":1,\"rerouted\":1,\"routers\":[],\"subnet\":null,\"unknown_costs\":[],\"worst_rise\":0}\n\
+        {\"cost\":0,\"cut\":0,\"failure\":\"1.1.1.1-2.2.2.2\",\"gone\":0,\"hops\":1,\"kind\":\"links\",\"lost\":0,\
+        \"network\":null,\"own\":0,\"rerouted\":1,\"routers\":[\"1.1.1.1\",\"2.2.2.2\"],\"subnet\":null,\"unknown_costs\":[],\"worst_rise\":0}\n\
+        {\"cost\":0,\"cut\":0,\"failure\":\"2.2.2.2@10.1.0.2\",\"gone\":0,\"hops\":1,\"kind\":\"attachment\",\"lost\":0,\
+        \"network\":\"10.1.0.2\",\"own\":0,\"rerouted\":1,\"routers\":[\"2.2.2.2\"],\"subnet\":null,\"unknown_costs\":[],\"worst_rise\":0}\n\
+        {\"cost\":0,\"cut\":0,\"failure\":\"2.2.2.2\",\"gone\":1,\"hops\":0,\"kind\":\"router\",\"lost\":0,\
+        \"network\":null,\"own\":1,\"rerouted\":0,\"routers\":[\"2.2.2.2\"],\"subnet\":null,\"unknown_costs\":[],\"worst_rise\":0}\n",
+    )?;
+    let job = FailuresJob::Root {
+        root: FIRST,
+        each: false,
+        strict: true,
+        form: FailuresForm::JsonLines,
+        carrier: Carrier::Process,
+    };
+    expect_all(&rt, alloc, &lsas, job, DONE, &out)
+}
+
+// The subnet of the link is lost with it, at both ends; the stub behind the second router is lost to the first.
+#[test]
+fn failures_over_all_routers_are_told_as_json_of_version_two(rt: HostRuntime) -> Result<(), Fail> {
+    let alloc = rt.alloc();
+    let lsas = chain(alloc)?;
+    let mut out = head_of_version_two(alloc, 2)?;
+    out.push_str(
+        "{\"cost\":0,\"cut\":1,\"failure\":\"1.1.1.1-2.2.2.2@10.0.0.0/30\",\"gone\":2,\"hops\":0,\"kind\":\"link\",\"lost\":1,\
+        \"network\":null,\"own\":2,\"rerouted\":0,\"routers\":[\"1.1.1.1\",\"2.2.2.2\"],\"routers_affected\":2,\"routes\":[\
+        {\"before\":{\"cost\":10,\"hops\":[\"attached\"]},\"loss\":\"gone\",\"prefix\":\"10.0.0.0/30\",\"router\":\"1.1.1.1\"},\
+        {\"before\":{\"cost\":15,\"hops\":[\"10.0.0.1>2.2.2.2\"]},\"loss\":\"cut\",\"prefix\":\"192.168.2.0/24\",\"router\":\"1.1.1.1\"},\
+        {\"before\":{\"cost\":10,\"hops\":[\"attached\"]},\"loss\":\"gone\",\"prefix\":\"10.0.0.0/30\",\"router\":\"2.2.2.2\"}],\
+        \"subnet\":\"10.0.0.0/30\",\"unknown_costs\":[],\"worst_rise\":0}\n\
+        {\"cost\":0,\"cut\":0,\"failure\":\"2.2.2.2\",\"gone\":1,\"hops\":0,\"kind\":\"router\",\"lost\":0,\
+        \"network\":null,\"own\":1,\"rerouted\":0,\"routers\":[\"2.2.2.2\"],\"routers_affected\":1,\"routes\":[\
+        {\"before\":{\"cost\":15,\"hops\":[\"10.0.0.1>2.2.2.2\"]},\"loss\":\"gone\",\"prefix\":\"192.168.2.0/24\",\"router\":\"1.1.1.1\"}],\
+        \"subnet\":null,\"unknown_costs\":[],\"worst_rise\":0}\n\
+        {\"cost\":0,\"cut\":0,\"failure\":\"1.1.1.1\",\"gone\":0,\"hops\":0,\"kind\":\"router\",\"lost\":0,\
+        \"network\":null,\"own\":0,\"rerouted\":0,\"routers\":[\"1.1.1.1\"],\"routers_affected\":0,\"routes\":[],\
+        \"subnet\":null,\"unknown_costs\":[],\"worst_rise\":0}\n",
+    )?;
+    let job = FailuresJob::All {
+        each: true,
+        strict: true,
+        form: FailuresForm::JsonLines,
+        carrier: Carrier::Process,
+    };
+    expect_all(&rt, alloc, &lsas, job, FailuresStatus::Unmet, &out)
+}
+
+// What standard error gets is in the first line, too, and the failures that bring an unknown cost about name the interface.
+#[test]
+fn warnings_are_in_the_first_line(rt: HostRuntime) -> Result<(), Fail> {
+    let alloc = rt.alloc();
+    let input = lines(alloc, &stub_router_on_a_lan(alloc)?)?;
+    let err = "2.2.2.2@10.1.0.2: its cost after a failure of 1.1.1.1 is not in the LSAs\n";
+    let out = "{\"input\":{\"left_out\":0,\"lsas\":3},\"outside\":false,\"version\":2,\
+        \"warnings\":[\"2.2.2.2@10.1.0.2: its cost after a failure of 1.1.1.1 is not in the LSAs\"]}\n\
+        {\"cost\":0,\"cut\":1,\"failure\":\"2.2.2.2@10.1.0.2\",\"gone\":0,\"hops\":0,\"kind\":\"attachment\",\"lost\":1,\
+        \"network\":\"10.1.0.2\",\"own\":0,\"rerouted\":0,\"routers\":[\"2.2.2.2\"],\"subnet\":null,\"unknown_costs\":[],\"worst_rise\":0}\n\
+        {\"cost\":0,\"cut\":0,\"failure\":\"@10.1.0.2\",\"gone\":1,\"hops\":0,\"kind\":\"network\",\"lost\":0,\
+        \"network\":\"10.1.0.2\",\"own\":1,\"rerouted\":0,\"routers\":[],\"subnet\":null,\"unknown_costs\":[],\"worst_rise\":0}\n\
+        {\"cost\":0,\"cut\":0,\"failure\":\"1.1.1.1@10.1.0.2\",\"gone\":0,\"hops\":0,\"kind\":\"attachment\",\"lost\":0,\
+        \"network\":\"10.1.0.2\",\"own\":0,\"rerouted\":0,\"routers\":[\"1.1.1.1\"],\"subnet\":null,\
+        \"unknown_costs\":[\"2.2.2.2@10.1.0.2\"],\"worst_rise\":0}\n\
+        {\"cost\":0,\"cut\":0,\"failure\":\"1.1.1.1\",\"gone\":0,\"hops\":0,\"kind\":\"router\",\"lost\":0,\
+        \"network\":null,\"own\":0,\"rerouted\":0,\"routers\":[\"1.1.1.1\"],\"subnet\":null,\
+        \"unknown_costs\":[\"2.2.2.2@10.1.0.2\"],\"worst_rise\":0}\n";
+    let job = FailuresJob::Root {
+        root: SECOND,
+        each: false,
+        strict: false,
+        form: FailuresForm::JsonLines,
+        carrier: Carrier::Process,
+    };
+    expect_of(&rt, alloc, &job, &Case::over(&input, DONE, out, err))
+}
+
+// The worst harm comes first: what loses most, and then what moves most. The subnet of a link that fails is lost with it.
+#[test]
+fn failures_are_told_by_harm(rt: HostRuntime) -> Result<(), Fail> {
+    let alloc = rt.alloc();
+    let at_root = "1.1.1.1-2.2.2.2@10.0.0.0/30 lost 1 rerouted 0 rise 0 own 1\n\
+        2.2.2.2 lost 0 rerouted 0 rise 0 own 1\n";
+    let each = "1.1.1.1-2.2.2.2@10.0.0.0/30 gone 10.0.0.0/30\n\
+        1.1.1.1-2.2.2.2@10.0.0.0/30 cut 192.168.2.0/24\n\
+        1.1.1.1-2.2.2.2@10.0.0.0/30 lost 1 rerouted 0 rise 0 own 1\n\
+        2.2.2.2 gone 192.168.2.0/24\n\
+        2.2.2.2 lost 0 rerouted 0 rise 0 own 1\n";
+    let all = "1.1.1.1-2.2.2.2@10.0.0.0/30 lost 1 rerouted 0 rise 0 own 2 routers 2\n\
+        2.2.2.2 lost 0 rerouted 0 rise 0 own 1 routers 1\n\
+        1.1.1.1 lost 0 rerouted 0 rise 0 own 0 routers 0\n";
+    for (wants_each, out) in [(false, at_root), (true, each)] {
+        let job = FailuresJob::Root {
+            root: FIRST,
+            each: wants_each,
+            strict: false,
+            form: FailuresForm::Harm,
+            carrier: Carrier::Process,
+        };
+        expect_all(&rt, alloc, &chain(alloc)?, job, DONE, out)?;
+    }
+    let job = FailuresJob::All {
+        each: false,
+        strict: false,
+        form: FailuresForm::Harm,
+        carrier: Carrier::Process,
+    };
+    expect_all(&rt, alloc, &chain(alloc)?, job, DONE, all)
+}
+
+// Behind a switch the other end of a link keeps its subnet: it is lost with the end that fails, and is no other loss.
+#[test]
+fn subnet_of_an_end_is_lost_with_it(rt: HostRuntime) -> Result<(), Fail> {
+    let alloc = rt.alloc();
+    let out = "1.1.1.1:2.2.2.2@10.0.0.0/30 lost 1 rerouted 0 rise 0 own 1 routers 1\n\
+        2.2.2.2:1.1.1.1@10.0.0.0/30 lost 1 rerouted 0 rise 0 own 1 routers 2\n\
+        2.2.2.2 lost 0 rerouted 0 rise 0 own 1 routers 1\n\
+        1.1.1.1 lost 0 rerouted 0 rise 0 own 0 routers 0\n";
+    let job = FailuresJob::All {
+        each: false,
+        strict: false,
+        form: FailuresForm::Harm,
+        carrier: Carrier::Switch,
+    };
+    expect_all(&rt, alloc, &chain(alloc)?, job, DONE, out)
+}
+
 // What is wanted of the table of the first router without parts of the ring.
 fn expect_without(
     rt: &(impl Abort + AllocGlobal + Threads + Sync),

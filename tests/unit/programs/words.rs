@@ -2,14 +2,14 @@
 
 use super::program::outcome_of;
 use ospf_base::{Addr, RouterId};
-use ospf_failures::{Carrier, FailuresJob};
+use ospf_failures::{Carrier, FailuresForm, FailuresJob};
 use ospf_files::Telling;
 use ospf_words::{Job, RunJob, job};
 use std::alloc::Global;
 use std::test::Fail;
 
 // Words by name, the exit status, and how standard output and standard error begin.
-static WORDS: [(&str, &str, u8, &str, &str); 80] = [
+static WORDS: [(&str, &str, u8, &str, &str); 84] = [
     ("help", "--help", 0, "OSPF version 2 for one area\n", ""),
     ("help word", "help", 0, "OSPF version 2 for one area\n", ""),
     ("help of table", "table --help", 0, "Computes a routing", ""),
@@ -55,6 +55,10 @@ static WORDS: [(&str, &str, u8, &str, &str); 80] = [
     ("a carrier without a letter", "failures --carrier= all", 2, "", "error: CARRIER is `direct`, `switch` or `process`\n"),
     ("two carriers", "failures --carrier direct --carrier switch all", 2, "", "error: the argument '--carrier <CARRIER>' cannot be used multiple times"),
     ("a carrier at no address", "failures --carrier direct 1.1.1", 2, "", "1.1.1: not an address\n"),
+    ("two versions of JSON", "failures --json --json2 all", 2, "", "error: only one of --json, --json=2 and --harm can be given\n"),
+    ("harm as JSON", "failures --harm --json 1.1.1.1", 2, "", "error: only one of --json, --json=2 and --harm can be given\n"),
+    ("three forms", "failures --harm --json --json2 all", 2, "", "error: only one of --json, --json=2 and --harm can be given\n"),
+    ("two forms and an unknown carrier", "failures --harm --json --carrier cable all", 2, "", "error: CARRIER is `direct`, `switch` or `process`\n"),
     ("no file of an area", "check --area", 2, "", "error: "),
     (
         "unread file of an area",
@@ -329,6 +333,22 @@ fn reads_what_carries_links(rt: HostRuntime) -> Result<(), Fail> {
         return Err(Fail::from("words"));
     };
     assert!(rt; carrier == Carrier::Switch);
+    Ok(())
+}
+
+#[test]
+fn reads_the_form_of_failures(rt: HostRuntime) -> Result<(), Fail> {
+    for (words, wanted) in [
+        (["failures", "all", "--strict"], FailuresForm::Text),
+        (["failures", "--json", "all"], FailuresForm::Json),
+        (["failures", "all", "--json2"], FailuresForm::JsonLines),
+        (["failures", "--harm", "all"], FailuresForm::Harm),
+    ] {
+        let Ok(Job::Failures(FailuresJob::All { form, .. })) = job(rt.alloc(), &words) else {
+            return Err(Fail::from("words"));
+        };
+        assert!(rt; form == wanted);
+    }
     Ok(())
 }
 

@@ -12,10 +12,21 @@ returns-in_default-clause-ok c =
     let found = found_of c.args.values.now in
     in_failures (rows_of found) refl (inl (sym c.in_default.ensures))
 
+pub returns-in_default-failures_form-clause-ok : goal.returns-in_default-failures_form-clause-ok
+returns-in_default-failures_form-clause-ok c =
+    let found = found_of c.args.values.now in
+    in_failures (rows_of found) refl (inr (inl (
+      c.has_flag-json.result,
+      c.has_flag-json2.result,
+      c.has_flag-harm.result,
+      record { json_is = c.has_flag-json.ensures; json2_is = c.has_flag-json2.ensures; harm_is = c.has_flag-harm.ensures },
+      sym c.in_default-failures_form.ensures,
+    )))
+
 pub returns-in_default-carrier_of-clause-ok : goal.returns-in_default-carrier_of-clause-ok
 returns-in_default-carrier_of-clause-ok c =
     let found = found_of c.args.values.now in
-    in_failures (rows_of found) refl (inr (subst IsNoCarrier c.word_of-2.ensures c.in_default-carrier_of.ensures.none))
+    in_failures (rows_of found) refl (inr (inr (subst IsNoCarrier c.word_of-2.ensures c.in_default-carrier_of.ensures.none)))
 
 pub returns-in_err-root-clause-fault : goal.returns-in_err-root-clause-fault
 returns-in_err-root-clause-fault c =
@@ -37,7 +48,9 @@ returns-then-eq-clause-ok c =
         has_all = sym c.in-Some.ensures ∙ ap Some all;
         each_is = c.has_flag-each.ensures;
         strict_is = c.has_flag-strict.ensures;
-        form_is = told_by _ c.has_flag.result c.failures_form-form.result c.failures_form-form.ensures c.has_flag.ensures;
+        form_is = told_by (rows_of found) c.has_flag-json.result c.has_flag-json2.result c.has_flag-harm.result c.in-Some-failures_form.form
+            c.in-Some-failures_form.ensures
+            (record { json_is = c.has_flag-json.ensures; json2_is = c.has_flag-json2.ensures; harm_is = c.has_flag-harm.ensures });
         carrier_is = subst (λ o. IsCarrier o c.in-Some-carrier_of.carrier) c.word_of-2.ensures c.in-Some-carrier_of.ensures.some;
       },
     )
@@ -53,7 +66,9 @@ returns-clause-ok c =
         root_is = search (c.in_ok-root.ensures.value);
         each_is = c.has_flag-each.ensures;
         strict_is = c.has_flag-strict.ensures;
-        form_is = told_by _ c.has_flag.result c.failures_form-form.result c.failures_form-form.ensures c.has_flag.ensures;
+        form_is = told_by (rows_of found) c.has_flag-json.result c.has_flag-json2.result c.has_flag-harm.result c.in-Some-failures_form.form
+            c.in-Some-failures_form.ensures
+            (record { json_is = c.has_flag-json.ensures; json2_is = c.has_flag-json2.ensures; harm_is = c.has_flag-harm.ensures });
         carrier_is = subst (λ o. IsCarrier o c.in-Some-carrier_of.carrier) c.word_of-2.ensures c.in-Some-carrier_of.ensures.some;
       },
     )

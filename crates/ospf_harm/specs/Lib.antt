@@ -1,0 +1,2 @@
+pub mod Harm
+pub mod Element
