@@ -24,16 +24,18 @@ def see(name, got, wanted):
 
 
 def summary(text):
-    """A configuration in few words: the area, and a line for each interface."""
+    """A configuration in few words: the area, and a line for each interface and each host."""
     found, defaults = [], {"kind": "", "address": "", "cost": "cost "}
     for line in text.splitlines():
         key, _, value = line.partition(" = ")
         if key == "area":
             found.append(value.strip('"'))
-        elif key == "stub_router":
-            found[0] += " stub_router"
+        elif key in ("stub_router", "rfc3021"):
+            found[0] += f" {key}"
         elif line.startswith("[[interface]]"):
             found.append("")
+        elif line == "[[host]]":
+            found.append("host")
         elif value and key != "router_id":
             found[-1] += " " + defaults.get(key, f"{key} ") + value.strip('"')
     return [line.strip() for line in found]

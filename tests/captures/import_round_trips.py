@@ -23,7 +23,6 @@ ROUNDS = 40
 WORDS = {POINT_TO_POINT: "router", TRANSIT: "network", STUB: "stub", VIRTUAL: "virtual"}
 SETTLES = "start all\nup all\nsettle 300\nexpect settled\n"
 LINE = re.compile(r"[^ ]*: (left out|assumed): ([0-9.]+: .*?): .*")
-PREFIX = re.compile(r"[0-9.]+: stub ([0-9./]+) cost [0-9]+")
 
 
 def dotted(data):
@@ -139,7 +138,7 @@ def settled(program, place, files):
 
 
 def round_trip(program, place, name, lsas, *, is_plain):
-    """One database; whether nothing but host routes was left out of it."""
+    """One database; whether nothing was left out of it."""
     ended = imported("lsdb", "--ospfd", program, "--to", place, name)
     report = ended.stderr.splitlines()
     files = ended.stdout.split()
@@ -155,18 +154,13 @@ def round_trip(program, place, name, lsas, *, is_plain):
         differ = [router for router in {*got, *wanted} if got.get(router) != wanted.get(router)]
         fail(name, report, *((it, got.get(it), wanted.get(it)) for it in differ))
     left = [line for line in report if ": left out: " in line]
-    gone, added, _ = told(report)
-    hosts = {PREFIX.fullmatch(words)[1] for words in gone if "/32 cost" in words}
-    is_only_hosts = not added and all("/32 cost" in line for line in left)
-    if is_only_hosts:
-        whole = tables_of(program, lsas)
-        rest = {router: [route for route in routes if route.split()[0] not in hosts]
-                for router, routes in whole.items()}
-        if got != rest:
-            fail(f"{name}: the tables of the whole database", rest)
-    if is_plain and not is_only_hosts:
-        fail(f"{name}: more is left out than host routes", left)
-    return is_only_hosts
+    _, added, _ = told(report)
+    is_whole = not added and not left
+    if is_whole and got != tables_of(program, lsas):
+        fail(f"{name}: the tables of the whole database", tables_of(program, lsas))
+    if is_plain and not is_whole:
+        fail(f"{name}: something is left out", left)
+    return is_whole
 
 
 def number(address):
@@ -220,9 +214,11 @@ ODD = [
     ("6.6.6.6", 0, ["stub 172.16.6.6/32 cost 1"])]
 ODD_NETWORK = ("10.9.0.4", "4.4.4.4", ["4.4.4.4", "3.3.3.3", "5.5.5.5"])
 ODD_WANTED = {
-    "1.1.1.1": ["0.0.0.7", "point-to-point 10.0.4.1/30 cost 9",
-                "point-to-point 10.0.5.1/30 cost 3"],
-    "2.2.2.2": ["0.0.0.7", "broadcast 10.0.23.2/30 cost 1"],
+    "1.1.1.1": ["0.0.0.7 rfc3021", "point-to-point 10.0.0.0/31 cost 10",
+                "point-to-point 10.0.4.1/30 cost 9", "point-to-point 10.0.5.1/30 cost 3",
+                "host 172.16.1.1 cost 0"],
+    "2.2.2.2": ["0.0.0.7 rfc3021", "point-to-point 10.0.0.1/31 cost 10",
+                "broadcast 10.0.23.2/30 cost 1"],
     "3.3.3.3": ["0.0.0.7 stub_router", "point-to-point 10.0.34.3/29 cost 4",
                 "broadcast 10.9.0.3/24 cost 65535"],
     "4.4.4.4": ["0.0.0.7", "point-to-point 10.0.4.2/30 cost 9",
@@ -230,31 +226,23 @@ ODD_WANTED = {
                 "broadcast 10.9.1.1/24 cost 1 priority 0"],
     "5.5.5.5": ["0.0.0.7", "point-to-point 10.0.5.2/30 cost 3", "broadcast 10.9.0.5/24 cost 2",
                 "broadcast 10.9.1.2/24 cost 3 priority 0"]}
-SHORT = "the format has no /31 links"
 NO_ADDRESS = "unnumbered: the format needs an address with a subnet"
 ODD_REPORT = [
-    f"1: left out: 1.1.1.1: router 2.2.2.2 from 10.0.0.0 cost 10: {SHORT}",
-    f"1: left out: 1.1.1.1: stub 10.0.0.0/31 cost 10: {SHORT}",
     f"1: left out: 1.1.1.1: router 3.3.3.3 from 0.0.0.5 cost 7: {NO_ADDRESS}",
     "1: left out: 1.1.1.1: stub 10.0.4.0/30 cost 8: its link has cost 9",
     "1: assumed: 1.1.1.1: stub 10.0.4.0/30 cost 9: advertised with the link",
     "1: assumed: 1.1.1.1: stub 10.0.5.0/30 cost 3: advertised with the link",
     "1: left out: 1.1.1.1: virtual 4.4.4.4: virtual links are not simulated",
-    "1: left out: 1.1.1.1: stub 172.16.1.1/32 cost 0: the format has no host routes",
     "1: left out: 1.1.1.1: stub 0.0.0.0/0 cost 1: the format has no interface with such an address",
     "1: left out: 1.1.1.1: stub 172.16.2.0/24 cost 0: the format has no cost 0",
     "1: left out: 1.1.1.1: flag E: routes from outside the area are not imported",
-    "2: left out: 2.2.2.2: router 1.1.1.1 from 10.0.0.1 cost 10: the other end is left out: "
-    f"{SHORT}",
-    f"2: left out: 2.2.2.2: stub 10.0.0.0/31 cost 10: {SHORT}",
     "2: left out: 2.2.2.2: router 3.3.3.3 from 10.0.23.2 cost 1: one way only",
     f"3: left out: 3.3.3.3: router 1.1.1.1 from 0.0.0.6 cost 65535: {NO_ADDRESS}",
     "3: assumed: 3.3.3.3: cost 65535 to networks: the LSDB has no other of a stub router",
     "4: assumed: 4.4.4.4: stub 10.0.4.0/30 cost 9: advertised with the link",
     "4: assumed: 4.4.4.4: 10.9.0.4/24 priority 2: keeps it the Designated Router",
     "5: assumed: 5.5.5.5: stub 10.0.5.0/30 cost 3: advertised with the link",
-    "5: left out: 5.5.5.5: stub 10.9.0.0/24 cost 3: 10.9.0.0/24 is also a network of other routers",
-    "6: left out: 6.6.6.6: stub 172.16.6.6/32 cost 1: the format has no host routes"]
+    "5: left out: 5.5.5.5: stub 10.9.0.0/24 cost 3: 10.9.0.0/24 is also a network of other routers"]
 ODD_WHOLE = [
     ": left out: router 6.6.6.6: no interface that the format can express",
     ": assumed: 10.9.1.0/24 priority 0: keeps the stub networks of 4.4.4.4, 5.5.5.5 apart (A10 of "
@@ -327,8 +315,8 @@ def random_areas(program, folder):
 
 
 def check(program, folder):
-    """All databases; how many there are, of how many nothing but host routes was left out, and how
-    many random areas."""
+    """All databases; how many there are, of how many nothing was left out, and how many random
+    areas."""
     by_hand(program, folder)
     count = plain = 0
     for name, lsas in databases():

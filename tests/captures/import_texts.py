@@ -164,7 +164,8 @@ interface eth-rt2
 router ospf
  max-metric router-lsa administrative
 """}
-HOST = "a loopback: the format has no host routes"
+HOST = "a loopback: add it as a table [[host]], with its cost"
+SHORT = "a prefix of 31 bits is for point-to-point links"
 TRIANGLE_WANTED = {
     "1.1.1.1": ["0.0.0.0", "point-to-point 10.0.1.1/24 cost 10 hello 2 dead 8",
                 "point-to-point 10.0.2.1/24 cost 30 hello 2 dead 12 retransmit 3 transmit_delay 2"],
@@ -180,7 +181,7 @@ TRIANGLE_REPORT = [
     "rt2.conf:5: assumed: eth-rt1 10.0.1.2/24: dead 8: four times hello",
     "rt2.conf:14: left out: dummy0 192.168.2.1/24: passive: written with priority 0, it sends "
     "Hellos",
-    f"rt3.conf:3: left out: lo 127.0.0.1/8: {HOST}",
+    "rt3.conf:3: left out: lo 127.0.0.1/8: a loopback",
     f"rt3.conf:4: left out: lo 3.3.3.3/32: {HOST}",
     "rt3.conf: assumed: router_id 3.3.3.3: the file gives none: the highest address"]
 # By hand: 3.3.3.3 is a stub router, so 1.1.1.1 reaches what is behind it by 2.2.2.2 only if it has
@@ -327,7 +328,7 @@ AUTH = "authentication: packets are sent without it"
 EFFECT = "no effect on the LSDB of the area"
 BAD_ADDRESS = "the format has no interface with such an address"
 ALL_OF_FRR_REPORT = [
-    "3: left out: eth0 10.0.0.1/31: the format has no /31 links",
+    f"3: left out: eth0 10.0.0.1/31: {SHORT}",
     f"5: left out: ip ospf authentication message-digest: {AUTH}",
     f"6: left out: ip ospf message-digest-key ..: {AUTH}",
     "8: left out: eth1 10.0.1.1/30: network type point-to-multipoint",
@@ -449,8 +450,9 @@ eth7             DOWN
 eth6             UP             10.0.0/24
 """}
 BIRD_WANTED = {"10.255.0.1": [
-    "0.0.0.0 stub_router",
+    "0.0.0.0 stub_router rfc3021",
     "point-to-point 10.0.0.1/30 cost 15 priority 7 hello 5 dead 15 retransmit 6 transmit_delay 2",
+    "point-to-point 10.0.1.1/31 cost 15 priority 7 hello 5 dead 15 retransmit 6 transmit_delay 2",
     "point-to-point 10.0.5.1/24 cost 15 priority 7 hello 5 dead 15 retransmit 6 transmit_delay 2",
     "point-to-point 10.6.0.1/24 cost 10"]}
 BIRD_REPORT = [
@@ -468,8 +470,7 @@ BIRD_REPORT = [
     "r1.conf:27: left out: stub: stub areas and NSSAs are written as normal areas",
     "r1.conf:27: left out: wait 40: the wait timer is RouterDeadInterval",
     "r1.conf:29: left out: protocol ospf v3 six: OSPFv3",
-    "addresses:1: left out: lo 10.255.0.1/32: the format has no host routes",
-    "addresses:3: left out: eth1 10.0.1.1/31: the format has no /31 links",
+    "addresses:1: left out: lo 10.255.0.1/32: add it as a table [[host]], with its cost",
     "addresses:5: left out: eth9 10.9.0.1/24: area 0.0.0.1",
     "addresses:6: left out: br0 10.5.0.1/24: network type nbma",
     "addresses:7: assumed: wg0 10.6.0.1/24: point-to-point: by the name",
@@ -668,7 +669,7 @@ METRIC = "cost 10: no metric in the file: 10000 Mbit/s by the name"
 JUNOS_BRACES_REPORT = [
     "6: assumed: ge-0/0/0.0 10.0.0.1/30: dead 8: four times hello",
     f"8: assumed: xe-0/0/1.0 10.0.1.1/24: {METRIC}",
-    "9: left out: ge-0/0/2.0 10.0.2.0/31: the format has no /31 links",
+    f"9: left out: ge-0/0/2.0 10.0.2.0/31: {SHORT}",
     "11: left out: ge-0/0/4.0 10.0.4.1/24: the interface is down",
     "12: left out: ge-0/0/5.7 10.0.5.1/24: area 0.0.0.7",
     f"13: left out: lo0.0 10.255.0.1/32: {HOST}",

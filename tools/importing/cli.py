@@ -413,7 +413,7 @@ class Reader:
         if device.is_down:
             link.why_not = model.DOWN
         elif self.is_loopback(device) and not self.is_loopback_network(device):
-            link.why_not = f"a loopback: {model.NO_HOSTS}"
+            link.why_not = "a loopback" if address.ip.is_loopback else f"a loopback: {model.HOST}"
         said = [device.passive, {at: it for (name, at), it in self.passive.items()
                                  if name == device.name}]
         passive = [it for it in (device.of(given, address.ip) for given in said) if it is not None]

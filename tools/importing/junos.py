@@ -208,7 +208,7 @@ class Reader:
         device = name.partition(".")[0]
         link.why_not = given.get("why_not") or self.faults.get(name) or self.faults.get(device)
         if name.startswith("lo0."):
-            link.why_not = link.why_not or f"a loopback: {model.NO_HOSTS}"
+            link.why_not = link.why_not or f"a loopback: {model.HOST}"
         link.is_passive = given.get("passive", False)
         link.kind = given.get("kind") or (
             model.POINT_TO_POINT if POINT_TO_POINT.match(name) else model.BROADCAST)

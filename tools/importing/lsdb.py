@@ -5,7 +5,7 @@ import lsas
 from page_parts import program
 
 from . import model
-from .model import Link, Place, Router, address_of, interface_of
+from .model import Host, Link, Place, Router, address_of, interface_of
 
 MAX_METRIC = 0xFFFF
 FLAGS = {"B": model.OTHER_AREAS, "E": model.OUTSIDE, "V": model.VIRTUAL,
@@ -40,8 +40,8 @@ class Item:
         # Of a point-to-point link the stubs that may be its subnet, its other end, its subnet, and
         # the stub that has it.
         self.stubs, self.peer, self.subnet, self.stub = [], None, None, None
-        # The interface that it becomes, or why it is left out.
-        self.link, self.why, self.is_done = None, None, False
+        # The interface or the host that it becomes, or why it is left out.
+        self.link, self.host, self.why, self.is_done = None, None, None, False
 
     def take(self, subnet):
         """Takes a subnet, and the stub that has it if there is one."""
@@ -193,6 +193,22 @@ class Lsdb:
                                f"{item.router}: {STUB} {item.subnet} cost {cost}",
                                "advertised with the link")
 
+    def hosts(self):
+        """Stub networks of one address: hosts (RFC 2328, C.7)."""
+        for item in self.all_of(STUB):
+            address = item.prefix[0]
+            if item.prefix.prefixlen < 32 or not is_unicast(address):
+                continue
+            mine = self.items[item.router]
+            if any(it.host and it.host.address == address for it in mine):
+                self.leave(item, "another host of this router has this address")
+            elif any(it.link and it.link.address.ip == address for it in mine):
+                self.leave(item, "an interface of this router has this address")
+            elif sum(it.host is not None for it in mine) == model.MOST:
+                self.leave(item, f"more than {model.MOST} hosts")
+            else:
+                item.host, item.is_done = Host(address, item.cost), True
+
     def stubs(self):
         """Stub networks: broadcast interfaces without neighbors."""
         by_prefix = collections.defaultdict(list)
@@ -239,6 +255,7 @@ class Lsdb:
             self.leave(item, model.VIRTUAL)
         self.transit()
         self.point_to_point()
+        self.hosts()
         self.stubs()
         found = [self.router(name, items) for name, items in self.items.items()]
         count = sum(it.link is not None for it in self.alone)
@@ -256,6 +273,7 @@ class Lsdb:
         for item in made[model.MOST:]:
             item.link = self.leave(item, f"more than {model.MOST} interfaces")
         router.links = [it.link for it in made[:model.MOST]]
+        router.hosts = [it.host for it in items if it.host]
         if router.is_stub_router and any(it.kind == NETWORK for it in made):
             self.report.assume(self.place(name), f"{name}: cost {MAX_METRIC} to networks",
                                "the LSDB has no other of a stub router")
@@ -297,6 +315,10 @@ def of_neither(item, other):
         return None
     network = interface_of(f"{item.at}/{model.LENGTHS[1]}").network
     return network if other.at in network else None
+
+
+def is_unicast(address):
+    return model.OCTETS[0] <= address.packed[0] <= model.OCTETS[1]
 
 
 def with_length(address, network):

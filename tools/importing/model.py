@@ -11,7 +11,8 @@ import re
 import lsas
 
 POINT_TO_POINT, BROADCAST = "point-to-point", "broadcast"
-# Lengths of a prefix, interfaces of a router, and what the first octet of an address may be.
+# Lengths of a prefix, interfaces of a router and hosts as well, and what the first octet of an
+# address may be. A point-to-point link may have 31 bits too (RFC 3021).
 LENGTHS, MOST, OCTETS = (1, 30), 32, (1, 223)
 RANGES = {"cost": (1, 65535), "priority": (0, 255), "hello": (1, 65535), "dead": (1, 65535),
           "retransmit": (1, 65535), "transmit_delay": (1, 3600), "mtu": (576, 9000)}
@@ -24,7 +25,8 @@ AUTHENTICATION = "authentication: packets are sent without it"
 OUTSIDE = "routes from outside the area are not imported"
 OTHER_AREAS = "routes to and from other areas are not computed"
 NO_EFFECT = "no effect on the LSDB of the area"
-NO_HOSTS = "the format has no host routes"
+HOST = "add it as a table [[host]], with its cost"
+NO_31 = "a prefix of 31 bits is for point-to-point links"
 UNNUMBERED = "unnumbered: the format needs an address with a subnet"
 VIRTUAL = "virtual links are not simulated"
 NORMAL = "stub areas and NSSAs are written as normal areas"
@@ -103,14 +105,18 @@ class Link:
         if self.why_not:
             return self.why_not
         if length == 32:
-            return UNNUMBERED if self.kind == POINT_TO_POINT else NO_HOSTS
-        if length == 31:
-            return "the format has no /31 links"
-        if not LENGTHS[0] <= length <= LENGTHS[1] or not OCTETS[0] <= octet <= OCTETS[1]:
+            return UNNUMBERED if self.kind == POINT_TO_POINT else HOST
+        if length < LENGTHS[0] or not OCTETS[0] <= octet <= OCTETS[1]:
             return "the format has no interface with such an address"
+        if length == 31:
+            return None if self.kind == POINT_TO_POINT else NO_31
         if self.address.ip in (self.address.network[0], self.address.network[-1]):
             return "the address of the network or its broadcast address"
         return None
+
+
+# A host behind a router: its address, and the cost of the link to it.
+Host = collections.namedtuple("Host", "address cost")
 
 
 class Router:
@@ -118,7 +124,7 @@ class Router:
 
     def __init__(self, file):
         self.file, self.name, self.router_id, self.is_stub_router = file, None, None, False
-        self.links = []
+        self.links, self.hosts = [], []
 
     def need_router_id(self):
         if self.router_id is None:
@@ -226,10 +232,14 @@ def text_of(router, area, links):
     lines = [f"# {', '.join(names)}", f'router_id = "{router.router_id}"', f'area = "{area}"']
     if router.is_stub_router:
         lines.append("stub_router = true")
+    if any(link.address.network.prefixlen == 31 for link in links):
+        lines.append("rfc3021 = true")
     for link in links:
         lines += ["", f"[[interface]] # {plain(link.comment)}".rstrip(" #"),
                   f'kind = "{link.kind}"', f'address = "{link.address}"',
                   f"cost = {link.settings['cost']}"]
         lines += [f"{key} = {link.settings[key]}" for key, default in DEFAULTS.items()
                   if link.settings.get(key, default) != default]
+    for host in router.hosts:
+        lines += ["", "[[host]]", f'address = "{host.address}"', f"cost = {host.cost}"]
     return "".join(f"{line}\n" for line in lines)
