@@ -1,15 +1,17 @@
-"""The definitions of crates/*/specs: where each one is, which others it cites, and all that it rests on."""
+"""The definitions of crates/*/specs: where each one is, which others it cites, and all that it
+rests on."""
 import collections
 import functools
 import os
 import re
 
-TOP = os.path.dirname(os.path.dirname(os.path.abspath(__file__)))
+from rattle import DEFINITION, TOP
 
-# A definition: its kind and its name; a name; a token; and what binds names, in parentheses and after a lambda.
-DEFINITION = re.compile(r"(?:pub )?(?:abbrev|unfoldable|record|data)(?: pub)? (\S+)")
+# A name; a token; and what binds names, in parentheses and after a lambda.
 NAME = r"(?!λ)[^\W\d][\w'?!]*"
-TOKEN = re.compile(rf"\"(?:[^\"\\]|\\.)*\"|λ|\.{NAME}|{NAME}(?:\.[\w'?!]+)*|[(){{}};]|[^\s(){{}};\w]+|\d+")
+TOKEN = re.compile(
+    rf"\"(?:[^\"\\]|\\.)*\"|λ|\.{NAME}|{NAME}(?:\.[\w'?!]+)*|[(){{}};]|[^\s(){{}};\w]+|\d+"
+)
 BINDER = re.compile(rf"\s*((?:{NAME}\s+)+):\s")
 LAMBDA = re.compile(rf"\s*((?:{NAME}\s*)+)\.\s")
 USE = re.compile(r"(pub )?use ([\w.]+?)(?:\.\{(.*)\}| as (\w+))?;?$")
@@ -25,6 +27,7 @@ class Fault(Exception):
 
 
 # ---- modules of specs/ ----
+
 
 def file_of(crate, name):
     """The file of a module, from the top of the repository."""
@@ -44,7 +47,12 @@ class Module:
         self.path = file_of(crate, name)
         with open(os.path.join(TOP, self.path), encoding="utf-8") as file:
             lines = file.read().split("\n")
-        self.scope, self.public, self.definitions, self.constructors = {}, {}, {}, collections.defaultdict(list)
+        self.scope, self.public, self.definitions, self.constructors = (
+            {},
+            {},
+            {},
+            collections.defaultdict(list),
+        )
         first = next((n for n, line in enumerate(lines) if not line.startswith("--")), len(lines))
         self.head = lines[:first]
         for n in range(len(lines)):
@@ -56,7 +64,8 @@ class Module:
         self.divide(lines, first)
 
     def divide(self, lines, first):
-        """Finds the definitions. A comment between two equations belongs to the definition that they make."""
+        """Finds the definitions. A comment between two equations belongs to the definition that
+        they make."""
         starts = [n for n in range(first, len(lines)) if DEFINITION.match(lines[n])]
         tops = [above(lines, n, first) for n in starts]
         for n, top, end in zip(starts, tops, tops[1:] + [len(lines)]):
@@ -72,7 +81,8 @@ class Module:
                         self.constructors[found[1]].append(word)
 
     def find(self, name):
-        """The definition of a name that the module defines or hands on, if it is one; that of a constructor is its data's."""
+        """The definition of a name that the module defines or hands on, if it is one; that of a
+        constructor is its data's."""
         if name in self.definitions:
             return self.definitions[name].word
         if len(self.constructors.get(name, ())) == 1:
@@ -88,14 +98,15 @@ def above(lines, n, first):
 
 
 def used_at(lines, n, before=""):
-    """The `use` that begins on a line behind these words, if one does. Its names may go over several lines."""
+    """The `use` that begins on a line behind these words, if one does. Its names may go over
+    several lines."""
     line = lines[n].strip()
     if not re.match(rf"{before}(pub )?use ", line):
         return None
     while "{" in line and "}" not in line and n + 1 < len(lines):
         n += 1
         line += " " + lines[n].strip()
-    return USE.fullmatch(line[len(before):])
+    return USE.fullmatch(line[len(before) :])
 
 
 def targets(path, names, alias):
@@ -112,7 +123,8 @@ def targets(path, names, alias):
 
 @functools.lru_cache(maxsize=None)
 def module(crate, name):
-    """A module of a crate of ours, or None. One that Lib.antt hands on is the module of the crate that it stands in."""
+    """A module of a crate of ours, or None. One that Lib.antt hands on is the module of the crate
+    that it stands in."""
     if os.path.exists(os.path.join(TOP, file_of(crate, name))):
         return Module(crate, name)
     library = module(crate, "Lib") if name != "Lib" else None
@@ -126,8 +138,13 @@ def module(crate, name):
 def modules_of(crate):
     """The names of all modules of a crate."""
     specs = os.path.join(TOP, "crates", crate, "specs")
-    found = (os.path.relpath(os.path.join(at, file), specs) for at, _, files in os.walk(specs) for file in files if file.endswith(".antt"))
-    return sorted(path[:-len(".antt")].replace(os.sep, ".") for path in found)
+    found = (
+        os.path.relpath(os.path.join(at, file), specs)
+        for at, _, files in os.walk(specs)
+        for file in files
+        if file.endswith(".antt")
+    )
+    return sorted(path[: -len(".antt")].replace(os.sep, ".") for path in found)
 
 
 def placed(crate, names):
@@ -148,7 +165,8 @@ def is_ours(parts):
 
 
 def looked_up(target, rest):
-    """What a target of a `use` line stands for, where these names follow it: a definition, or a name from outside of specs/."""
+    """What a target of a `use` line stands for, where these names follow it: a definition, or a
+    name from outside of specs/."""
     if isinstance(target, Word):
         return target
     path, names = target[1], ([target[2]] if target[0] == "word" else []) + rest
@@ -157,7 +175,9 @@ def looked_up(target, rest):
         library = parts[1] if parts[0] == "Rattle" else parts[0]
         return Outside(library, names[0] if names else parts[-1])
     if parts[3] in ("declared", "contracts"):
-        at = next((n for n, part in enumerate(parts) if n > 3 and part[0].isupper()), len(parts) - 1)
+        at = next(
+            (n for n, part in enumerate(parts) if n > 3 and part[0].isupper()), len(parts) - 1
+        )
         return Outside(f"crates/{parts[1]}/src/{'/'.join(parts[4:at])}.rt", parts[at])
     place, names = placed(parts[1], parts[3:] + names)
     found = place.find(names[0]) if place and names else None
@@ -171,14 +191,19 @@ def sought(crate, name):
     folder = os.path.join(TOP, "crates", crate)
     if not os.path.isdir(folder) or not crate:
         raise Fault(f"no crate '{crate}'")
-    found = [module(crate, one).definitions[name].word for one in modules_of(crate) if name in module(crate, one).definitions]
+    found = [
+        module(crate, one).definitions[name].word
+        for one in modules_of(crate)
+        if name in module(crate, one).definitions
+    ]
     if not found:
         raise Fault(f"no definition '{name}' in crates/{crate}/specs")
     return found
 
 
 def one_word(crate, name):
-    """The one definition of a word; of a name that several modules have, `MODULE.WORD` names one."""
+    """The one definition of a word; of a name that several modules have, `MODULE.WORD` names
+    one."""
     if "." in name:
         place, _, last = name.rpartition(".")
         found = [word for word in sought(crate, last) if word.module == place]
@@ -187,7 +212,10 @@ def one_word(crate, name):
     else:
         found = sought(crate, name)
     if len(found) > 1:
-        raise Fault(f"'{name}' is defined in several modules of {crate}: ask for one, {', '.join(f'{it.module}.{name}' for it in found)}")
+        raise Fault(
+            f"'{name}' is defined in several modules of {crate}: ask for one, "
+            f"{', '.join(f'{it.module}.{name}' for it in found)}"
+        )
     return found[0]
 
 
@@ -197,13 +225,15 @@ def definition(word):
 
 # ---- which words a text cites ----
 
+
 class Scan:
-    """Goes over the text of a definition and finds the words that it cites, but for those that it binds itself."""
+    """Goes over the text of a definition and finds the words that it cites, but for those that it
+    binds itself."""
 
     def __init__(self, scope, defined, constructors, bound=()):
         self.scope, self.defined, self.constructors = scope, defined, constructors
         self.bound = [set(bound)]
-        self.cited, self.symbols = {}, set()
+        self.cited, self.symbols, self.names = {}, set(), {}
 
     def cite(self, path):
         """Notes what a name stands for, if it is bound nowhere nearer."""
@@ -215,6 +245,7 @@ class Scan:
             found = looked_up(self.scope[head], rest)
         if found is not None:
             self.cited.setdefault(found)
+            self.names[path] = found
 
     def pattern(self, text):
         """The left side of an equation binds its names, but for those of constructors."""
@@ -260,7 +291,8 @@ class Scan:
 
 
 def parts_of(lines):
-    """The lines of a definition without their comments, those that go on joined to the line that they belong to."""
+    """The lines of a definition without their comments, those that go on joined to the line that
+    they belong to."""
     parts = []
     for line in lines:
         line = re.sub(r"(^|\s)--(\s.*|$)", "", re.sub(r'"(?:[^"\\]|\\.)*"', '""', line))
@@ -287,18 +319,26 @@ def equation(part, names):
     if not found or found[1] not in names or re.match(rf"\s*{NAME} : ", part):
         return None
     left, equals, right = part.partition(" = ")
-    return (left[found.end():], right) if equals else None
+    return (left[found.end() :], right) if equals else None
 
 
 @functools.lru_cache(maxsize=None)
-def citations(word):
-    """What a definition cites, in the order in which it does, and its operators by the names that they were used by."""
+def scanned(word):
+    """The scan of a definition, with what it cites."""
     place = module(word.crate, word.module)
     it = place.definitions[word.name]
-    scan = Scan(place.scope, lambda name: place.find(name) if name in place.definitions or name in place.constructors else None, constructors_seen(place))
+    scan = Scan(
+        place.scope,
+        lambda name: place.find(name)
+        if name in place.definitions or name in place.constructors
+        else None,
+        constructors_seen(place),
+    )
     locals_ = local_names(it.lines)
     scan.bound[0] |= locals_
-    is_record, is_data = (re.match(rf"(?:pub )?{kind} ", it.lines[0]) for kind in ("record", "data"))
+    is_record, is_data = (
+        re.match(rf"(?:pub )?{kind} ", it.lines[0]) for kind in ("record", "data")
+    )
     lines = joined_locals(it.lines, locals_) if locals_ else parts_of(it.lines)
     for part in lines:
         part = re.sub(rf"^{DEFINITION.pattern}", "", part)
@@ -310,20 +350,39 @@ def citations(word):
             continue
         field = re.match(rf"\s+(?:pub )?({NAME}) : ", part)
         kept = [set(names) for names in scan.bound]
-        scan.text(part[field.end():] if field else part)
+        scan.text(part[field.end() :] if field else part)
         if field and (is_record or is_data):
             scan.bound = kept
         if field and is_record:
             scan.bound[0].add(field[1])
     scan.cited.pop(word, None)
-    return list(scan.cited) + operators(place.scope, scan.symbols)
+    return scan
+
+
+@functools.lru_cache(maxsize=None)
+def citations(word):
+    """What a definition cites, in the order in which it does, and its operators by the names that
+    they were used by."""
+    scan = scanned(word)
+    return list(scan.cited) + operators(module(word.crate, word.module).scope, scan.symbols)
+
+
+def names_in(word):
+    """The definitions that a definition cites, by the names that it has for them."""
+    return {name: one for name, one in scanned(word).names.items() if isinstance(one, Word)}
 
 
 def joined_locals(lines, names):
     """As `parts_of`, where each line of a local name begins a part too."""
     again = []
     for part in parts_of(lines):
-        pieces = re.split(rf"(?<= )(?=(?:{'|'.join(map(re.escape, sorted(names)))}) (?::|[^=]*? = ))", part) if not part.startswith(("abbrev", "unfoldable")) else [part]
+        pieces = (
+            re.split(
+                rf"(?<= )(?=(?:{'|'.join(map(re.escape, sorted(names)))}) (?::|[^=]*? = ))", part
+            )
+            if not part.startswith(("abbrev", "unfoldable"))
+            else [part]
+        )
         again.extend(" " * (n > 0) + piece for n, piece in enumerate(pieces))
     return again
 
@@ -348,15 +407,23 @@ def operators(scope, symbols):
     found = []
     for name, target in scope.items():
         signs = [sign for sign in name.split("◌") if sign]
-        if not re.match(NAME, name) and signs and target[0] == "word" and all(sign in symbols for sign in signs):
+        if (
+            not re.match(NAME, name)
+            and signs
+            and target[0] == "word"
+            and all(sign in symbols for sign in signs)
+        ):
             one = looked_up(target, [])
             if isinstance(one, Outside):
-                found.append(one._replace(name="".join(signs) if len(signs) == 1 else " ".join(signs)))
+                found.append(
+                    one._replace(name="".join(signs) if len(signs) == 1 else " ".join(signs))
+                )
     return found
 
 
 def closure(words):
-    """All definitions that these rest on, themselves among them, in the order in which they are met."""
+    """All definitions that these rest on, themselves among them, in the order in which they are
+    met."""
     met, wait = dict.fromkeys(words), collections.deque(words)
     while wait:
         for one in citations(wait.popleft()):
