@@ -1,48 +1,57 @@
 #!/usr/bin/env python3
-"""Shows what the checks of the crates took in the last gate, and what became dearer since the last release.
+"""Shows what the checks of the crates took in the last gate, and what became dearer since the last
+release.
 
-usage: bench/checks.py              a table of the crates that the last gate proved (out/costs), the dearest first
+usage: bench/checks.py              a table of the crates that the last gate proved (out/costs), the
+                                    dearest first
        bench/checks.py --dearer     only those that became dearer, one line each
-       bench/checks.py --keep       writes the figures of the last gate, which has to have proved all crates, into bench/costs.txt
+       bench/checks.py --keep       writes the figures of the last gate, which has to have proved
+                                    all crates, into bench/costs.txt
 
-A machine that is loaded or slower takes longer for everything, so a crate is dearer where it grew by more than a tenth, and by more than
-ten seconds, over what the crates of the run grew by in the median. A crate should cost at most 2.5 seconds a function.
+A machine that is loaded or slower takes longer for everything, so a crate is dearer where it grew
+by more than a tenth, and by more than ten seconds, over what the crates of the run grew by in the
+median. A crate should cost at most 2.5 seconds a function.
 """
 import os
-import re
 import statistics
 import sys
 
 TOP = os.path.dirname(os.path.dirname(os.path.abspath(__file__)))
-sys.path.insert(0, os.path.join(TOP, "tests", "gate"))
+sys.path[:0] = [os.path.join(TOP, "tests", "gate"), os.path.join(TOP, "tools")]
 sys.dont_write_bytecode = True
 from kit import MEASURED, costs_in  # noqa: E402
+from rattle import SIGNATURE, files_of  # noqa: E402
 
 LAST = os.path.join(TOP, "out", "costs")
 TENTH, SECONDS = 1.1, 10
-FUNCTION = re.compile(r"^[ \t]*(?:pub(?:\([a-z]+\))? )?(?:const |final |unsafe )*fn \w+", re.M)
-HEAD = "# What the checks of each crate take: the crate, what is checked, seconds of processor time, MB of memory.\n"
+HEAD = (
+    "# What the checks of each crate take: the crate, what is checked, seconds of processor time, "
+    "MB of memory.\n"
+)
 
 
 def functions(crate):
     """How many functions a crate has."""
     count = 0
-    for folder, _, names in os.walk(os.path.join(TOP, "crates", crate, "src")):
-        for name in names:
-            if name.endswith(".rt"):
-                with open(os.path.join(folder, name), encoding="utf-8") as file:
-                    count += len(FUNCTION.findall(file.read()))
+    for path in files_of(os.path.join(TOP, "crates", crate, "src"), ".rt"):
+        with open(path, encoding="utf-8") as file:
+            count += len(SIGNATURE.findall(file.read()))
     return count
 
 
 def dearer(now, before):
-    """The checks that became dearer: crate, kind, seconds before, as this machine would take them, and now."""
+    """The checks that became dearer: crate, kind, seconds before, as this machine would take them,
+    and now."""
     both = [it for it in now if before.get(it, (0, 0))[0]]
     if not both:
         return []
     pace = statistics.median(now[it][0] / before[it][0] for it in both)
     wanted = {it: before[it][0] * pace for it in both}
-    return sorted((*it, wanted[it], now[it][0]) for it in both if now[it][0] > max(wanted[it] * TENTH, wanted[it] + SECONDS))
+    return sorted(
+        (*it, wanted[it], now[it][0])
+        for it in both
+        if now[it][0] > max(wanted[it] * TENTH, wanted[it] + SECONDS)
+    )
 
 
 def put_dearer(now, before):
@@ -51,17 +60,26 @@ def put_dearer(now, before):
 
 
 def put_table(now, before):
-    print("| Crate | Check | Processor time, s | A function, s | Memory, MB | Before, s |\n|---|---|---|---|---|---|")
+    print(
+        "| Crate | Check | Processor time, s | A function, s | Memory, MB | Before, s "
+        "|\n|---|---|---|---|---|---|"
+    )
     for (crate, kind), (seconds, megabytes) in sorted(now.items(), key=lambda it: -it[1][0]):
         each = f"{seconds / functions(crate):.1f}" if functions(crate) else ""
-        print(f"| `{crate}` | {kind} | {seconds} | {each} | {megabytes} | {before.get((crate, kind), ('', ''))[0]} |")
+        print(
+            f"| `{crate}` | {kind} | {seconds} | {each} | {megabytes} | "
+            f"{before.get((crate, kind), ('', ''))[0]} |"
+        )
     print(f"all: {sum(seconds for seconds, _ in now.values()) / 60:.0f} minutes of processor time")
 
 
 def keep(now):
     with open(MEASURED, "w", encoding="utf-8") as file:
         file.write(HEAD)
-        file.writelines(f"{name} {kind} {seconds} {megabytes}\n" for (name, kind), (seconds, megabytes) in sorted(now.items()))
+        file.writelines(
+            f"{name} {kind} {seconds} {megabytes}\n"
+            for (name, kind), (seconds, megabytes) in sorted(now.items())
+        )
 
 
 def main():

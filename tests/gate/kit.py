@@ -1,22 +1,27 @@
 #!/usr/bin/env python3
-"""The toolchain's command `rt`, which sums the sources of each crate once where it would do so for each path between two crates.
+"""The toolchain's command `rt`, which sums the sources of each crate once where it would do so for
+each path between two crates.
 
 usage: tests/gate/kit.py WORD..        as rt WORD..
 
-A crate's stamp is a sum of its sources and of the stamps of the crates that it stands on. `rt` makes each of those anew wherever it
-is asked for: for the program, over its fifty crates, those of 64,000 crates. Here a call remembers the stamps that
-it has made, for as long as it lasts; the next one makes its own. So every stamp is the same.
+A crate's stamp is a sum of its sources and of the stamps of the crates that it stands on. `rt`
+makes each of those anew wherever it is asked for: for the program, over its fifty crates, those of
+64,000 crates. Here a call remembers the stamps that it has made, for as long as it lasts; the next
+one makes its own. So every stamp is the same.
 
-`rt ci` runs as many checks side by side as its own estimate of their memory allows, which is three to four times what they take. Here
-the estimate is what each crate was measured to take (bench/costs.txt) and a quarter more. Where COSTS names a file each check is noted
-there (tests/gate/noted). What is proved, and in which order, stays as it is.
+`rt ci` runs as many checks side by side as its own estimate of their memory allows, which is three
+to four times what they take. Here the estimate is what each crate was measured to take
+(bench/costs.txt) and a quarter more. Where COSTS names a file each check is noted there
+(tests/gate/noted). What is proved, and in which order, stays as it is.
 
-`rt ci` prints the verdict of a proof that it makes, and none of one that an earlier run made. So here what is kept of a proof has its
-verdict as well, in a file `verdict`: the prover's last line, and the lines that say what it rests on. Where VERDICTS names a file, a line
-is added for each proof that counts in this run, made now or kept: CRATE proof|tests: LINE; LINE ..
+`rt ci` prints the verdict of a proof that it makes, and none of one that an earlier run made. So
+here what is kept of a proof has its verdict as well, in a file `verdict`: the prover's last line,
+and the lines that say what it rests on. Where VERDICTS names a file, a line is added for each proof
+that counts in this run, made now or kept: CRATE proof|tests: LINE; LINE ..
 
-Other scripts that lean on the inside of the toolchain, which no document promises, ask for it here. Where something of it is not there
-they end with a line that tells so; with any toolchain that has it all they go on.
+Other scripts that lean on the inside of the toolchain, which no document promises, ask for it here.
+Where something of it is not there they end with a line that tells so; with any toolchain that has
+it all they go on.
 """
 import contextlib
 import importlib.machinery
@@ -34,7 +39,8 @@ MEASURED = os.path.join(os.path.dirname(os.path.dirname(HERE)), "bench", "costs.
 # A check may take a quarter more than the measured one.
 ROOM = 1.25
 MB = 1 << 20
-# What of a check's output is its verdict: the last line, and those that say what it rests on. How they stand in one line.
+# What of a check's output is its verdict: the last line, and those that say what it rests on. How
+# they stand in one line.
 OF_VERDICT, JOINT = re.compile(r"logic[= ]|statements |by-macro: |axioms |hides "), "; "
 NO_VERDICT = "kept from an earlier run, which kept no verdict"
 # The toolchains that these scripts were tried with, as `rt version` tells them.
@@ -43,9 +49,14 @@ TRIED = "rattle-kit-13b and rattle-kit-13f, logic dac8208d650f15bf"
 
 def end_without(what):
     """Ends where the toolchain has not what a script leans on."""
-    told = subprocess.run(["rt", "version"], stdin=subprocess.DEVNULL, stdout=subprocess.PIPE, text=True, check=False).stdout.strip()
+    told = subprocess.run(
+        ["rt", "version"], stdin=subprocess.DEVNULL, stdout=subprocess.PIPE, text=True, check=False
+    ).stdout.strip()
     name = os.path.basename(sys.argv[0])
-    sys.exit(f"{name}: not there in the toolchain: {what}; tried with {TRIED}, and this is {told or 'another'}")
+    sys.exit(
+        f"{name}: not there in the toolchain: {what}; tried with {TRIED}, and this is "
+        f"{told or 'another'}"
+    )
 
 
 def look_for(owner, what, *names):
@@ -96,12 +107,15 @@ def quicken(crate_type):
 
 
 def costs_in(path):
-    """What checks took, by crate and kind, as a file has it: seconds of processor time and MB; the last of several counts."""
+    """What checks took, by crate and kind, as a file has it: seconds of processor time and MB; the
+    last of several counts."""
     if not os.path.isfile(path):
         return {}
     with open(path, encoding="utf-8") as file:
         lines = [line.split() for line in file if line.strip() and not line.startswith("#")]
-    return {(name, kind): (int(seconds), int(megabytes)) for name, kind, seconds, megabytes in lines}
+    return {
+        (name, kind): (int(seconds), int(megabytes)) for name, kind, seconds, megabytes in lines
+    }
 
 
 def know_needs(module):
@@ -125,10 +139,14 @@ def verdict_in(said):
 
 
 def note_verdict(crate, tests, verdict):
-    """Adds the verdict of a proof to the run's, in a single write, since several proofs end side by side."""
+    """Adds the verdict of a proof to the run's, in a single write, since several proofs end side by
+    side."""
     if os.environ.get("VERDICTS"):
         file = os.open(os.environ["VERDICTS"], os.O_WRONLY | os.O_APPEND | os.O_CREAT, 0o644)
-        os.write(file, f"{crate.name} {'tests' if tests else 'proof'}: {verdict or NO_VERDICT}\n".encode())
+        os.write(
+            file,
+            f"{crate.name} {'tests' if tests else 'proof'}: {verdict or NO_VERDICT}\n".encode(),
+        )
         os.close(file)
 
 
@@ -154,7 +172,11 @@ def keep_verdicts(crate_type, kept_type):
     plain_prove, plain_keep, plain_give = crate_type.prove, kept_type.keep, kept_type.give
 
     def prove(crate, *commands):
-        begin = crate.out.seek(0, os.SEEK_END) if crate.out.readable() and crate.out.seekable() else None
+        begin = (
+            crate.out.seek(0, os.SEEK_END)
+            if crate.out.readable() and crate.out.seekable()
+            else None
+        )
         status = plain_prove(crate, *commands)
         crate.verdict = ""
         if begin is not None and not status:
@@ -172,15 +194,17 @@ def keep_verdicts(crate_type, kept_type):
     def give(kept, crate, tests, key):
         is_given = plain_give(kept, crate, tests, key)
         if is_given:
-            note_verdict(crate, tests, read_verdict(os.path.join(kept.place(crate, tests, key), "verdict")))
+            note_verdict(
+                crate, tests, read_verdict(os.path.join(kept.place(crate, tests, key), "verdict"))
+            )
         return is_given
 
     crate_type.prove, kept_type.keep, kept_type.give = prove, keep, give
 
 
 def know_below(crate_type):
-    """Has each crate find once which crates it needs. `rt` goes every way between two crates anew: 51 million calls for this repository,
-    a minute of processor time before the first proof."""
+    """Has each crate find once which crates it needs. `rt` goes every way between two crates anew:
+    51 million calls for this repository, a minute of processor time before the first proof."""
     plain = crate_type.below
 
     def below(crate):

@@ -1,5 +1,6 @@
-"""Checks a crate over the proved libraries that `rt ci` keeps on this machine, so that none below it is proved again: in seconds, where
-`rt check` first proves all that is below. What is not kept yet is proved, and kept.
+"""Checks a crate over the proved libraries that `rt ci` keeps on this machine, so that none below
+it is proved again: in seconds, where `rt check` first proves all that is below. What is not kept
+yet is proved, and kept.
 
 This leans on the inside of the toolchain's command `rt` (kit.py).
 """
@@ -31,7 +32,8 @@ class Over:
         return sorted(crate.below(), key=lambda it: len(it.below()))
 
     def place(self, crate):
-        """Puts the library of a crate in its place, those below being in theirs: the one that is kept, or else it is proved now. Whether it is proved."""
+        """Puts the library of a crate in its place, those below being in theirs: the one that is
+        kept, or else it is proved now. Whether it is proved."""
         key, mark = self.kept.key(crate), f"{crate.folder}/out/rlib/given"
         if self.library.text_of(mark) != key or not os.path.isdir(crate.rlib):
             shutil.rmtree(f"{crate.folder}/out/rlib", ignore_errors=True)
@@ -45,7 +47,8 @@ class Over:
         return True
 
     def take_or_prove(self, crate, key):
-        """Takes what is kept of the crate, also where another run is proving it; else proves it, and keeps it. Whether it is proved."""
+        """Takes what is kept of the crate, also where another run is proving it; else proves it,
+        and keeps it. Whether it is proved."""
         if self.kept.give(crate, False, key):
             return True
         with self.kept.in_turn(crate, False, key) as has_waited:
@@ -58,7 +61,8 @@ class Over:
         return True
 
     def says(self, crate, call):
-        """The status of a call; where it is not 0, what the call said is printed, but for what is proved."""
+        """The status of a call; where it is not 0, what the call said is printed, but for what is
+        proved."""
         with tempfile.TemporaryFile("a+", errors="replace") as crate.out:
             status = call()
             crate.out.seek(0)
@@ -68,14 +72,21 @@ class Over:
         return status
 
     def place_below(self, crate):
-        """Puts all libraries below a crate in their places; the name of the first one that is not proved, or nothing."""
+        """Puts all libraries below a crate in their places; the name of the first one that is not
+        proved, or nothing."""
         return next((it.name for it in self.below(crate) if not self.place(it)), None)
 
     def check(self, crate, flags=()):
-        """Checks a crate, those below being in their places, and takes up what an earlier check kept: its status."""
+        """Checks a crate, those below being in their places, and takes up what an earlier check
+        kept: its status."""
         with contextlib.suppress(Exception):
             self.rt.adopt(crate)
-        words = [self.library.RATTLE, "check", *crate.words(["--jobs", "1", *flags]), *self.library.KEPT]
+        words = [
+            self.library.RATTLE,
+            "check",
+            *crate.words(["--jobs", "1", *flags]),
+            *self.library.KEPT,
+        ]
         status = self.says(crate, lambda: crate.call(*words))
         with contextlib.suppress(Exception):
             self.rt.offer(crate, None)

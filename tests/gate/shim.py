@@ -12,12 +12,20 @@ class Shim:
         self.library = os.path.join(place, "refuse.so")
         self.count = os.path.join(place, "count")
         source = os.path.join(HERE, "refuse.c")
-        subprocess.run(["cc", "-O1", "-shared", "-fPIC", "-o", self.library, source, "-ldl"], check=True)
+        subprocess.run(
+            ["cc", "-O1", "-shared", "-fPIC", "-o", self.library, source, "-ldl"], check=True
+        )
 
     def run(self, words, number=0, **options):
         """Runs a program with the allocation of this number refused, or with none, at 0."""
-        names = {"LD_PRELOAD": self.library, "REFUSE_PLACE": str(number), "REFUSE_COUNT": self.count}
-        return subprocess.run(words, capture_output=True, env={**os.environ, **names}, timeout=60, **options)
+        names = {
+            "LD_PRELOAD": self.library,
+            "REFUSE_PLACE": str(number),
+            "REFUSE_COUNT": self.count,
+        }
+        return subprocess.run(
+            words, capture_output=True, env={**os.environ, **names}, timeout=60, **options
+        )
 
     def allocations(self):
         """How many allocations the last run made."""
