@@ -1,0 +1,12 @@
+pub mod Lists
+pub mod Accounted
+pub mod Outputs
+pub mod Issues
+pub mod Holds
+pub mod Admissions
+pub mod Neighbours
+pub mod Waiting
+pub mod Adjacencies
+pub mod All
+pub mod Reached
+pub mod Started

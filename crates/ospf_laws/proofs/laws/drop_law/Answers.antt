@@ -1,0 +1,10 @@
+use Rattle.ospf_laws.proofs.Accounted.{of_steps, drops}
+use Rattle.ospf_laws.proofs.Lists.{of_lists}
+use Rattle.ospf_laws.specs.Laws.{DropLaw}
+use Rattle.ospf_laws.proofs.laws.drop_law.Goals as goal
+
+pub returns : goal.returns
+returns c = record {
+  steps = of_steps DropLaw drops c.steps_are_lawful.ensures;
+  lists = of_lists DropLaw (of_steps DropLaw drops c.steps_are_lawful.ensures) c.steps_stay_kept.ensures;
+}

@@ -1,0 +1,11 @@
+use Rattle.ospf_laws.proofs.Accounted.{of_steps}
+use Rattle.ospf_laws.proofs.All.{listings}
+use Rattle.ospf_laws.proofs.Lists.{of_lists}
+use Rattle.ospf_laws.specs.Laws.{ListingLaw}
+use Rattle.ospf_laws.proofs.laws.listing_law.Goals as goal
+
+pub returns : goal.returns
+returns c = record {
+  steps = of_steps ListingLaw listings c.steps_are_lawful.ensures;
+  lists = of_lists ListingLaw (of_steps ListingLaw listings c.steps_are_lawful.ensures) c.steps_stay_kept.ensures;
+}

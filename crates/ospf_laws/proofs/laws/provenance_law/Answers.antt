@@ -1,0 +1,10 @@
+use Rattle.ospf_laws.proofs.Accounted.{of_steps, provenance}
+use Rattle.ospf_laws.proofs.Lists.{of_lists}
+use Rattle.ospf_laws.specs.Laws.{ProvenanceLaw}
+use Rattle.ospf_laws.proofs.laws.provenance_law.Goals as goal
+
+pub returns : goal.returns
+returns c = record {
+  steps = of_steps ProvenanceLaw provenance c.steps_are_lawful.ensures;
+  lists = of_lists ProvenanceLaw (of_steps ProvenanceLaw provenance c.steps_are_lawful.ensures) c.steps_stay_kept.ensures;
+}

@@ -1,0 +1,10 @@
+use Rattle.ospf_laws.proofs.Accounted.{of_steps, retransmission}
+use Rattle.ospf_laws.proofs.Lists.{of_lists}
+use Rattle.ospf_laws.specs.Laws.{RetransmissionLaw}
+use Rattle.ospf_laws.proofs.laws.retransmission_law.Goals as goal
+
+pub returns : goal.returns
+returns c = record {
+  steps = of_steps RetransmissionLaw retransmission c.steps_are_lawful.ensures;
+  lists = of_lists RetransmissionLaw (of_steps RetransmissionLaw retransmission c.steps_are_lawful.ensures) c.steps_stay_kept.ensures;
+}

@@ -1,0 +1,10 @@
+use Rattle.ospf_laws.proofs.Accounted.{of_steps, tables}
+use Rattle.ospf_laws.proofs.Lists.{of_lists}
+use Rattle.ospf_laws.specs.Laws.{TableLaw}
+use Rattle.ospf_laws.proofs.laws.table_law.Goals as goal
+
+pub returns : goal.returns
+returns c = record {
+  steps = of_steps TableLaw tables c.steps_are_lawful.ensures;
+  lists = of_lists TableLaw (of_steps TableLaw tables c.steps_are_lawful.ensures) c.steps_stay_kept.ensures;
+}

@@ -1,0 +1,4 @@
+pub mod Stepped
+pub mod Chains
+pub mod Laws
+pub mod OnTheWay
