@@ -5,4 +5,5 @@ pub mod Jobs
 pub mod Flat
 pub mod Joined
 pub mod Lawful
+pub mod Ended
 pub mod UdpWire

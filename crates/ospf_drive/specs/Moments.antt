@@ -5,10 +5,10 @@ use Rattle.ospf_fib.specs.PrefixIndex.Known.{Known, Table}
 use Rattle.ospf_area.specs.Outputs.{SentValue}
 use Rattle.ospf_router.specs.AreaStep.Step.{Event}
 use Rattle.ospf_router.specs.Routers.{RouterValue}
-use Rattle.ospf_router.specs.declared.router.Step.{Step}
 use Rattle.ospf_drive.specs.Machines.{Rules}
 use Rattle.ospf_drive.specs.Traffic.{Heard, Carried}
 use Rattle.ospf_drive.specs.Traffic.Heard.{Datagram, Tick, LinkUp, LinkDown, End}
+pub use Rattle.ospf_laws.specs.Chains.{Done}
 
 -- the router, the wire's traffic if it is reported, how often the wire has failed,
 -- and what the writer has published
@@ -47,12 +47,6 @@ is_heard_end _ = false
 -- none of them is the end of what is heard
 abbrev pub HasNoEnd : List Heard → Type 0
 HasNoEnd hs = AllByRecursion (λ h. is_heard_end h ≡ false) hs
-
--- a step that was made: the event, what it gave, and the router after it
-pub record Done : Type 0 where
-  pub event : Event
-  pub gives : Step
-  pub after : RouterValue
 
 -- the events of these steps
 abbrev pub events_done : List Done → List Event

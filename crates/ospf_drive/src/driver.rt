@@ -1,7 +1,7 @@
 //! The driver of one router.
 
 ghost use Rattle.std.specs.Prelude.{◌+◌, ◌<◌, ◌^◌};
-ghost use Rattle.ospf_drive.specs.Chains.{ChainsFrom};
+ghost use Rattle.ospf_drive.specs.Chains.{ChainsFrom, KeepsThroughout};
 ghost use Rattle.ospf_drive.specs.Moments.{at};
 ghost use Rattle.ospf_drive.specs.Drives.{Drives};
 ghost use Rattle.ospf_drive.specs.Whole.{Whole};
@@ -12,6 +12,7 @@ use crate::machine::Machine;
 use crate::turn::{Course, turn};
 use crate::wire::{LONGEST, Wire};
 use ospf_fib::{Told, Writer};
+use ospf_laws::steps_keep_laws;
 use std::alloc::Global;
 use std::sync::Wait;
 
@@ -41,10 +42,15 @@ pub fn drive<M: Machine, W: Wire, R: Wait + Drop, S: Wait>(
         (at (M.value machine.new) (W.traffic wire.new) (W.failed wire.new) writer.new) result }
     // And where its steps are those of a router, each of them keeps the laws of a step.
     ensures lawful { ChainsFrom (M.value machine.old) }
+    // And so each step that it makes keeps the nine laws of a step.
+    ensures laws { KeepsThroughout M.rules
+        (at (M.value machine.old) (W.traffic wire.old) (W.failed wire.old) writer.old)
+        (at (M.value machine.new) (W.traffic wire.new) (W.failed wire.new) writer.new) result }
 {
     // For the proof.
     drives_are_whole::<M>();
     chains_are_lawful();
+    steps_keep_laws();
     machine.router().keeps();
     take_turns(rt, alloc, machine, wire, writer)
 }

@@ -8,5 +8,4 @@ pub mod Neighbours
 pub mod Waiting
 pub mod Adjacencies
 pub mod All
-pub mod Reached
 pub mod Started

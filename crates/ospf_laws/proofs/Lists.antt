@@ -1,7 +1,7 @@
 -- A law of each step is one of each list of steps, since a step leaves a router that is kept.
 use Rattle.std.proofs.Common.{◌≡◌, List, [], ◌∷◌, Some, sym, subst, ◌∙◌}
 use Rattle.std.proofs.lemmas.Option.{same_Some}
-use Rattle.ospf_laws.specs.Chains.{AllKeep, AreSteps, HasKeptState, Made, OfEachList, OfEachStep}
+use Rattle.ospf_laws.specs.Chains.{AllKeep, AreSteps, Done, HasKeptState, OfEachList, OfEachStep}
 use Rattle.ospf_laws.specs.Stepped.{Stepped}
 use Rattle.ospf_router.specs.AreaStep.Lawful.{StepsStayKept}
 use Rattle.ospf_router.specs.AreaStep.Step.{Event}

@@ -27,18 +27,18 @@ OfEachStep Law =
     → (is : Steps e before t after) → Law (stepped e before t after is)
 
 -- a step that was made: what happened, what the step gave, and the router after it
-pub record Made : Type 0 where
+pub record Done : Type 0 where
   pub event : Event
   pub gives : Step
   pub after : RouterValue
 
 -- the steps follow on one another from a router, each by the exact rules
-abbrev pub AreSteps : RouterValue → List Made → Type 0
+abbrev pub AreSteps : RouterValue → List Done → Type 0
 AreSteps r [] = ⊤
 AreSteps r (m ∷ ms) = Steps m.event r m.gives m.after × AreSteps m.after ms
 
 -- a law holds of each of them
-abbrev pub AllKeep : (Law : Stepped → Type 0) (r : RouterValue) (ms : List Made)
+abbrev pub AllKeep : (Law : Stepped → Type 0) (r : RouterValue) (ms : List Done)
     → AreSteps r ms → Type 0
 AllKeep Law r [] is = ⊤
 AllKeep Law r (m ∷ ms) (one, rest) =
@@ -47,5 +47,5 @@ AllKeep Law r (m ∷ ms) (one, rest) =
 -- a law holds of each step of each list of exact steps
 abbrev pub OfEachList : (Stepped → Type 0) → Type 0
 OfEachList Law =
-    (r : RouterValue) (ms : List Made) → HasKeptState r → (are : AreSteps r ms)
+    (r : RouterValue) (ms : List Done) → HasKeptState r → (are : AreSteps r ms)
     → AllKeep Law r ms are

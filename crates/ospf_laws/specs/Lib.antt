@@ -1,4 +1,3 @@
 pub mod Stepped
 pub mod Chains
 pub mod Laws
-pub mod OnTheWay

@@ -2,7 +2,7 @@
 
 ghost use Rattle.ospf_laws.specs.Chains.{OfEachList, OfEachStep};
 ghost use Rattle.ospf_laws.specs.Laws.{AcknowledgementLaw, AdjacencyLaw, AdmissionLaw, DropLaw};
-ghost use Rattle.ospf_laws.specs.Laws.{IssueLaw, ListingLaw, ProvenanceLaw};
+ghost use Rattle.ospf_laws.specs.Laws.{IssueLaw, KeepsLaws, ListingLaw, ProvenanceLaw};
 ghost use Rattle.ospf_laws.specs.Laws.{RetransmissionLaw, TableLaw};
 
 use ospf_router::step::{steps_are_lawful, steps_stay_kept};
@@ -91,6 +91,15 @@ pub fn drop_law()
 pub fn adjacency_law()
     ensures steps { OfEachStep AdjacencyLaw }
     ensures lists { OfEachList AdjacencyLaw }
+{
+    steps_are_lawful();
+    steps_stay_kept();
+}
+
+/// All nine laws at once, as the calls that run routers promise them.
+pub fn steps_keep_laws()
+    ensures steps { OfEachStep KeepsLaws }
+    ensures lists { OfEachList KeepsLaws }
 {
     steps_are_lawful();
     steps_stay_kept();

@@ -16,7 +16,7 @@ use Rattle.ospf_world.proofs.NewFacts.{is_new, opened_new}
 -- ---- one more event
 
 -- an event does the same, however many datagrams count as offered
-does_at : (n : ℕ) (event : WorldEvent) (w w' : WorldValue) (result : Result (Unit {0}) WorldFault) → Does event w result w' → Does event (record w { offered = n }) result (record w' { offered = n })
+pub does_at : (n : ℕ) (event : WorldEvent) (w w' : WorldValue) (result : Result (Unit {0}) WorldFault) → Does event w result w' → Does event (record w { offered = n }) result (record w' { offered = n })
 does_at n event w w' result (Does.NoRouter none is same) = Does.NoRouter none is (ap (λ (v : WorldValue). record v { offered = n }) same)
 does_at n event w w' result (Does.AtRouter s s' changes steps ticks offered) = Does.AtRouter s s' changes steps ticks refl
 

@@ -8,6 +8,7 @@ pub mod RunFacts
 pub mod LendFacts
 pub mod NewFacts
 pub mod ExactFacts
+pub mod Reached
 pub mod ListFacts
 pub mod RandomFacts
 pub mod RoundFacts

@@ -6,6 +6,7 @@ pub mod Sounds
 pub mod Worlds
 pub mod Does
 pub mod Exact
+pub mod OnTheWay
 pub mod Watching
 pub mod Random
 pub mod Rounds

@@ -7,8 +7,10 @@
 //! What an event does is in `specs/Does`, whom a datagram is offered to in `specs/Offers`, what a
 //! watch sees in `specs/Watching`, and what is drawn at random in `specs/Draws`.
 //!
-//! One law is here because it needs whole routers: that there are networks to which the laws apply
-//! (`some_router_works`); one of them is shown event by event.
+//! Two laws are here. `worlds_keep_laws` says that each step on the way to a world keeps the nine
+//! laws of a step (`ospf_laws`), as the calls that step routers promise of theirs. And
+//! `some_router_works` says that there are networks to which the laws apply: it needs whole
+//! routers, and shows one network event by event.
 #![tactic(auto)]
 
 mod chance;
@@ -23,6 +25,7 @@ mod watch;
 mod watched;
 mod work_laws;
 mod world;
+mod worlds;
 
 pub use crate::chance::{Words, chosen, draw, drawn_at};
 pub use crate::networks::network_of;
@@ -32,5 +35,6 @@ pub use crate::walk::Walk;
 pub use crate::watch::{EventWatch, Unwatched};
 pub use crate::work_laws::some_router_works;
 pub use crate::world::World;
+pub use crate::worlds::worlds_keep_laws;
 pub use ospf_base::event::{WorldEvent, WorldFault};
 pub use ospf_headline::{Datagram, Holding, Issued, Logs, Run, Slot};

@@ -5,6 +5,7 @@ ghost use Rattle.ospf_world.specs.Draws.{drawn, drawn_past};
 ghost use Rattle.ospf_headline.specs.Headline.{Headline, IsReached};
 ghost use Rattle.ospf_router.specs.Steps.{is_dropped};
 ghost use Rattle.ospf_world.specs.Exact.{IsReachedExactly};
+ghost use Rattle.ospf_world.specs.OnTheWay.{KeepsBetween};
 ghost use Rattle.ospf_world.specs.Random.{IsRandom, Meets};
 ghost use Rattle.ospf_world.specs.Sounds.{IsSoundBetween};
 ghost use Rattle.ospf_world.specs.Ticks.{TicksGoOn};
@@ -45,6 +46,8 @@ impl World {
         ensures headline { Headline (world_of self.old) (world_of self.new) }
         ensures sound { IsSoundBetween (world_of self.old) (world_of self.new) }
         ensures ticks { TicksGoOn self.old self.new }
+        // Each step that a router takes on the way keeps the nine laws of a step.
+        ensures lawful { KeepsBetween self.old self.new }
     {
         self.draw_events_watched(generator, count, &mut Unwatched, alloc)
     }
@@ -72,6 +75,8 @@ impl World {
         ensures headline { Headline (world_of self.old) (world_of self.new) }
         ensures sound { IsSoundBetween (world_of self.old) (world_of self.new) }
         ensures ticks { TicksGoOn self.old self.new }
+        // Each step that a router takes on the way keeps the nine laws of a step.
+        ensures lawful { KeepsBetween self.old self.new }
     {
         // For the proof.
         headline();
@@ -103,6 +108,8 @@ impl World {
         ensures headline { Headline (world_of self.old) (world_of self.new) }
         ensures sound { IsSoundBetween (world_of self.old) (world_of self.new) }
         ensures ticks { TicksGoOn self.old self.new }
+        // Each step that a router takes on the way keeps the nine laws of a step.
+        ensures lawful { KeepsBetween self.old self.new }
     {
         let mut generator = Lcg64Xsh32::new(number, 0);
         self.draw_events(&mut generator, count, alloc)

@@ -4,6 +4,7 @@ ghost use Rattle.std.specs.Prelude.{◌≡◌, ◌≢◌, ◌++◌, [], IfOk, On
 ghost use Rattle.ospf_headline.specs.Headline.{Headline, IsReached};
 ghost use Rattle.ospf_router.specs.Steps.{is_dropped};
 ghost use Rattle.ospf_world.specs.Exact.{IsReachedExactly};
+ghost use Rattle.ospf_world.specs.OnTheWay.{KeepsBetween};
 ghost use Rattle.ospf_world.specs.Rounds.{AreNextOffers, AreOffered, HasNext, IsRound, IsRoundOf, OffersNext, slot_ticks, ticks};
 ghost use Rattle.ospf_world.specs.Sounds.{IsSoundBetween};
 ghost use Rattle.ospf_world.specs.Ticks.{TicksGoOn};
@@ -36,6 +37,8 @@ impl World {
         ensures headline { Headline (world_of self.old) (world_of self.new) }
         ensures sound { IsSoundBetween (world_of self.old) (world_of self.new) }
         ensures ticks { TicksGoOn self.old self.new }
+        // Each step that a router takes on the way keeps the nine laws of a step.
+        ensures lawful { KeepsBetween self.old self.new }
     {
         self.round_of(MOST_OFFERS, alloc)
     }
@@ -54,6 +57,8 @@ impl World {
         ensures headline { Headline (world_of self.old) (world_of self.new) }
         ensures sound { IsSoundBetween (world_of self.old) (world_of self.new) }
         ensures ticks { TicksGoOn self.old self.new }
+        // Each step that a router takes on the way keeps the nine laws of a step.
+        ensures lawful { KeepsBetween self.old self.new }
     {
         self.round_watched(most, &mut Unwatched, alloc)
     }
@@ -76,6 +81,8 @@ impl World {
         ensures headline { Headline (world_of self.old) (world_of self.new) }
         ensures sound { IsSoundBetween (world_of self.old) (world_of self.new) }
         ensures ticks { TicksGoOn self.old self.new }
+        // Each step that a router takes on the way keeps the nine laws of a step.
+        ensures lawful { KeepsBetween self.old self.new }
     {
         // For the proof.
         headline();

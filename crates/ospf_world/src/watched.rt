@@ -8,6 +8,7 @@ ghost use Rattle.ospf_headline.specs.World.{Comes};
 ghost use Rattle.ospf_router.specs.Steps.{is_dropped};
 ghost use Rattle.ospf_world.specs.Does.{Does};
 ghost use Rattle.ospf_world.specs.Exact.{IsReachedExactly};
+ghost use Rattle.ospf_world.specs.OnTheWay.{DoesAndKeeps};
 ghost use Rattle.ospf_world.specs.Sounds.{IsSoundBetween};
 ghost use Rattle.ospf_world.specs.Ticks.{TicksGoOn, ticked_by};
 ghost use Rattle.ospf_world.specs.Watching.{DoesTold};
@@ -43,6 +44,8 @@ impl World {
         ensures sound { IsSoundAcknowledgement event (world_of self.old) (world_of self.new) }
         ensures ticks { self.new.ticks ≡ self.old.ticks
             ++ ticked_by event result (length self.old.logs.datagrams) }
+        // The step that a router takes keeps the nine laws of a step.
+        ensures lawful { DoesAndKeeps event self.old result self.new }
     {
         watch.comes(self, &event);
         let result = self.step(event, alloc);
@@ -70,6 +73,8 @@ impl World {
         ensures headline { Headline (world_of self.old) (world_of self.new) }
         ensures sound { IsSoundBetween (world_of self.old) (world_of self.new) }
         ensures ticks { TicksGoOn self.old self.new }
+        // Each step that a router takes on the way keeps the nine laws of a step.
+        ensures lawful { IsRun DoesAndKeeps events.now self.old result self.new }
     {
         // For the proof.
         headline();

@@ -8,6 +8,7 @@ ghost use Rattle.ospf_headline.specs.World.{Comes};
 ghost use Rattle.ospf_router.specs.Steps.{is_dropped};
 ghost use Rattle.ospf_world.specs.Does.{Does};
 ghost use Rattle.ospf_world.specs.Exact.{IsReachedExactly};
+ghost use Rattle.ospf_world.specs.OnTheWay.{DoesAndKeeps};
 ghost use Rattle.ospf_world.specs.Rounds.{offers_of, sending_address};
 ghost use Rattle.ospf_world.specs.Sounds.{IsSoundBetween};
 ghost use Rattle.ospf_world.specs.Ticks.{TicksGoOn, ticked_by};
@@ -77,6 +78,8 @@ impl World {
         ensures sound { IsSoundAcknowledgement event (world_of self.old) (world_of self.new) }
         ensures ticks { self.new.ticks ≡ self.old.ticks
             ++ ticked_by event result (length self.old.logs.datagrams) }
+        // The step that a router takes keeps the nine laws of a step.
+        ensures lawful { DoesAndKeeps event self.old result self.new }
     {
         // For the proof.
         headline();
@@ -98,6 +101,8 @@ impl World {
         ensures headline { Headline (world_of self.old) (world_of self.new) }
         ensures sound { IsSoundBetween (world_of self.old) (world_of self.new) }
         ensures ticks { TicksGoOn self.old self.new }
+        // Each step that a router takes on the way keeps the nine laws of a step.
+        ensures lawful { IsRun DoesAndKeeps events.now self.old result self.new }
     {
         self.run_watched(events, &mut Unwatched, alloc)
     }
@@ -163,7 +168,7 @@ impl World {
     }
 
     /// What the type guarantees: some events led here, and each of them did exactly what `Does`
-    /// says, so that each step of a router on the way keeps the laws of a step (`StepLaws`).
+    /// says, so that each step of a router on the way keeps the nine laws (`worlds_keep_laws`).
     pub fn reached_exactly(&self)
         ensures { IsReachedExactly self.now }
     {

@@ -6,6 +6,6 @@ use Rattle.ospf_laws.proofs.laws.acknowledgement_law.Goals as goal
 
 pub returns : goal.returns
 returns c = record {
-  steps = of_steps AcknowledgementLaw acknowledgements c.steps_are_lawful.ensures;
-  lists = of_lists AcknowledgementLaw (of_steps AcknowledgementLaw acknowledgements c.steps_are_lawful.ensures) c.steps_stay_kept.ensures;
+  steps = search (of_steps AcknowledgementLaw acknowledgements);
+  lists = search (of_lists AcknowledgementLaw (of_steps AcknowledgementLaw acknowledgements c.steps_are_lawful.ensures));
 }

@@ -6,6 +6,6 @@ use Rattle.ospf_laws.proofs.laws.adjacency_law.Goals as goal
 
 pub returns : goal.returns
 returns c = record {
-  steps = of_steps AdjacencyLaw adjacencies c.steps_are_lawful.ensures;
-  lists = of_lists AdjacencyLaw (of_steps AdjacencyLaw adjacencies c.steps_are_lawful.ensures) c.steps_stay_kept.ensures;
+  steps = search (of_steps AdjacencyLaw adjacencies);
+  lists = search (of_lists AdjacencyLaw (of_steps AdjacencyLaw adjacencies c.steps_are_lawful.ensures));
 }

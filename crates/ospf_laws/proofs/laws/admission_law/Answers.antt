@@ -6,6 +6,6 @@ use Rattle.ospf_laws.proofs.laws.admission_law.Goals as goal
 
 pub returns : goal.returns
 returns c = record {
-  steps = of_steps AdmissionLaw admissions c.steps_are_lawful.ensures;
-  lists = of_lists AdmissionLaw (of_steps AdmissionLaw admissions c.steps_are_lawful.ensures) c.steps_stay_kept.ensures;
+  steps = search (of_steps AdmissionLaw admissions);
+  lists = search (of_lists AdmissionLaw (of_steps AdmissionLaw admissions c.steps_are_lawful.ensures));
 }

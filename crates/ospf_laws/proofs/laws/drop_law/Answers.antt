@@ -5,6 +5,6 @@ use Rattle.ospf_laws.proofs.laws.drop_law.Goals as goal
 
 pub returns : goal.returns
 returns c = record {
-  steps = of_steps DropLaw drops c.steps_are_lawful.ensures;
-  lists = of_lists DropLaw (of_steps DropLaw drops c.steps_are_lawful.ensures) c.steps_stay_kept.ensures;
+  steps = search (of_steps DropLaw drops);
+  lists = search (of_lists DropLaw (of_steps DropLaw drops c.steps_are_lawful.ensures));
 }

@@ -6,6 +6,6 @@ use Rattle.ospf_laws.proofs.laws.issue_law.Goals as goal
 
 pub returns : goal.returns
 returns c = record {
-  steps = of_steps IssueLaw issues c.steps_are_lawful.ensures;
-  lists = of_lists IssueLaw (of_steps IssueLaw issues c.steps_are_lawful.ensures) c.steps_stay_kept.ensures;
+  steps = search (of_steps IssueLaw issues);
+  lists = search (of_lists IssueLaw (of_steps IssueLaw issues c.steps_are_lawful.ensures));
 }

@@ -6,6 +6,6 @@ use Rattle.ospf_laws.proofs.laws.listing_law.Goals as goal
 
 pub returns : goal.returns
 returns c = record {
-  steps = of_steps ListingLaw listings c.steps_are_lawful.ensures;
-  lists = of_lists ListingLaw (of_steps ListingLaw listings c.steps_are_lawful.ensures) c.steps_stay_kept.ensures;
+  steps = search (of_steps ListingLaw listings);
+  lists = search (of_lists ListingLaw (of_steps ListingLaw listings c.steps_are_lawful.ensures));
 }

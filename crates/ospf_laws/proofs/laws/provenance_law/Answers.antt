@@ -5,6 +5,6 @@ use Rattle.ospf_laws.proofs.laws.provenance_law.Goals as goal
 
 pub returns : goal.returns
 returns c = record {
-  steps = of_steps ProvenanceLaw provenance c.steps_are_lawful.ensures;
-  lists = of_lists ProvenanceLaw (of_steps ProvenanceLaw provenance c.steps_are_lawful.ensures) c.steps_stay_kept.ensures;
+  steps = search (of_steps ProvenanceLaw provenance);
+  lists = search (of_lists ProvenanceLaw (of_steps ProvenanceLaw provenance c.steps_are_lawful.ensures));
 }

@@ -5,6 +5,6 @@ use Rattle.ospf_laws.proofs.laws.retransmission_law.Goals as goal
 
 pub returns : goal.returns
 returns c = record {
-  steps = of_steps RetransmissionLaw retransmission c.steps_are_lawful.ensures;
-  lists = of_lists RetransmissionLaw (of_steps RetransmissionLaw retransmission c.steps_are_lawful.ensures) c.steps_stay_kept.ensures;
+  steps = search (of_steps RetransmissionLaw retransmission);
+  lists = search (of_lists RetransmissionLaw (of_steps RetransmissionLaw retransmission c.steps_are_lawful.ensures));
 }

@@ -5,6 +5,6 @@ use Rattle.ospf_laws.proofs.laws.table_law.Goals as goal
 
 pub returns : goal.returns
 returns c = record {
-  steps = of_steps TableLaw tables c.steps_are_lawful.ensures;
-  lists = of_lists TableLaw (of_steps TableLaw tables c.steps_are_lawful.ensures) c.steps_stay_kept.ensures;
+  steps = search (of_steps TableLaw tables);
+  lists = search (of_lists TableLaw (of_steps TableLaw tables c.steps_are_lawful.ensures));
 }

@@ -5,6 +5,7 @@ use Rattle.ospf_world.proofs.ExactFacts.{told_exact}
 use Rattle.ospf_world.proofs.RandomFacts.{drawn_all, drawn_more, random_done, random_ends, random_leads, random_more, reached_on, same_on}
 use Rattle.ospf_world.proofs.TickFacts.{sound_between, ticks_further, ticks_nowhere}
 use Rattle.ospf_world.proofs.ToldFacts.{told_further, told_nowhere}
+use Rattle.ospf_world.proofs.Reached.{told_keeping}
 use Rattle.ospf_world.proofs.world.World.draw_events_watched.Goals as goal
 
 pub returns-in-Err-clause-random : goal.returns-in-Err-clause-random
@@ -81,3 +82,9 @@ returns-in-Err-clause-exact g c = told_exact _ _ _ _ (returns-in-Err-clause-told
 
 pub returns-clause-exact : goal.returns-clause-exact
 returns-clause-exact g c = told_exact _ _ _ _ c.loop-i.invariant.told c.reached_exactly.ensures
+
+pub returns-in-Err-clause-lawful : goal.returns-in-Err-clause-lawful
+returns-in-Err-clause-lawful g c = told_keeping _ _ _ _ (returns-in-Err-clause-told g c)
+
+pub returns-clause-lawful : goal.returns-clause-lawful
+returns-clause-lawful g c = told_keeping _ _ _ _ c.loop-i.invariant.told

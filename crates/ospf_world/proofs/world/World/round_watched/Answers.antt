@@ -7,6 +7,7 @@ use Rattle.ospf_world.proofs.RandomFacts.{reached_on}
 use Rattle.ospf_world.proofs.RoundFacts.{round_goes, round_leads, round_ticks_end}
 use Rattle.ospf_world.proofs.TickFacts.{sound_between, ticks_further, ticks_nowhere}
 use Rattle.ospf_world.proofs.ToldFacts.{run_told, told_further, told_nowhere}
+use Rattle.ospf_world.proofs.Reached.{told_keeping}
 use Rattle.ospf_world.proofs.world.World.round_watched.Goals as goal
 
 pub returns-in_default-clause-headline : goal.returns-in_default-clause-headline
@@ -57,3 +58,12 @@ returns-in_default-clause-told g c = told_nowhere _ _ _ _ refl
 
 pub returns-in-Ok-run_watched-clause-exact : goal.returns-in-Ok-run_watched-clause-exact
 returns-in-Ok-run_watched-clause-exact g c = told_exact _ _ _ _ c.offer.ensures.told c.run_watched.ensures.exact
+
+pub returns-in-Ok-run_watched-clause-lawful : goal.returns-in-Ok-run_watched-clause-lawful
+returns-in-Ok-run_watched-clause-lawful g c = told_keeping _ _ _ _ (returns-in-Ok-run_watched-clause-told g c)
+
+pub returns-clause-lawful : goal.returns-clause-lawful
+returns-clause-lawful g c = told_keeping _ _ _ _ (returns-clause-told g c)
+
+pub returns-in_default-clause-lawful : goal.returns-in_default-clause-lawful
+returns-in_default-clause-lawful g c = told_keeping _ _ _ _ (returns-in_default-clause-told g c)

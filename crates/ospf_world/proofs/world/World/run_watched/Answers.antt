@@ -6,6 +6,7 @@ use Rattle.ospf_world.proofs.ExactFacts.{told_exact}
 use Rattle.ospf_world.proofs.RunFacts.{done, ends_early, goes_err, goes_ok, run_comes, run_headline, run_reached, same_on}
 use Rattle.ospf_world.proofs.TickFacts.{sound_between, ticks_further, ticks_nowhere, ticks_once}
 use Rattle.ospf_world.proofs.ToldFacts.{run_told}
+use Rattle.ospf_world.proofs.Reached.{run_keeping}
 use Rattle.ospf_world.proofs.world.World.run_watched.Goals.{in-Ok, in-Err+else-is_memory}
 use Rattle.ospf_world.proofs.world.World.run_watched.Goals as goal
 
@@ -66,3 +67,9 @@ returns-then-is_memory-clause-exact g c = told_exact _ _ _ _ (run_told _ _ _ _ _
 
 pub returns-clause-exact : goal.returns-clause-exact
 returns-clause-exact g c = told_exact _ _ _ _ (run_told _ _ _ _ _ _ (returns-clause-told g c)) c.reached_exactly.ensures
+
+pub returns-then-is_memory-clause-lawful : goal.returns-then-is_memory-clause-lawful
+returns-then-is_memory-clause-lawful g c = run_keeping _ _ _ _ (returns-then-is_memory-clause-run g c)
+
+pub returns-clause-lawful : goal.returns-clause-lawful
+returns-clause-lawful g c = run_keeping _ _ _ _ (returns-clause-run g c)

@@ -3,6 +3,7 @@ use Rattle.ospf_router.specs.Steps.{is_dropped}
 use Rattle.ospf_world.specs.Worlds.{world_of}
 use Rattle.ospf_world.proofs.ComesFacts.{does_comes, does_same, does_tick}
 use Rattle.ospf_world.proofs.ExactFacts.{exact_on, exact_reached}
+use Rattle.ospf_world.proofs.Reached.{keeping}
 use Rattle.ospf_world.proofs.world.World.step.Goals as goal
 
 pub invariant_of-self : goal.invariant_of-self
@@ -31,3 +32,6 @@ returns-clause-sound c = rw (← c.self.view_is) (c.soundness.ensures is_dropped
 
 pub returns-clause-ticks : goal.returns-clause-ticks
 returns-clause-ticks c = rw (← c.self.view_is) (does_tick _ _ _ _ c.step.ensures)
+
+pub returns-clause-lawful : goal.returns-clause-lawful
+returns-clause-lawful c = rw (← c.self.view_is) (keeping _ _ _ _ c.step.ensures)

@@ -1,17 +1,23 @@
--- Each event that led to a world keeps the laws.
-use Rattle.std.proofs.Common.{◌≡◌, List, [], ◌∷◌, Option, Some, Result, Ok, Err, sym, ap, subst, ◌∙◌}
+-- Each event that led to a world keeps the laws, and so does each that leads on from one.
+use Rattle.std.proofs.Common.{◌≡◌, ℕ, List, [], ◌∷◌, Option, Some, Result, Ok, Err, take, refl, sym, ap, subst, ◌∙◌}
 use Rattle.std.proofs.lemmas.Option.{none-some, same_Some}
 use Rattle.ospf_base.specs.declared.event.event.WorldEvent.{WorldEvent}
 use Rattle.ospf_base.specs.declared.event.event.WorldFault.{WorldFault}
+use Rattle.ospf_base.specs.declared.event.event.WorldFault.TheVariants as fault
 use Rattle.ospf_headline.specs.Logs.{LogsValue}
+use Rattle.ospf_headline.specs.Runs.{GoesOver, IsRun, RunsOn}
 use Rattle.ospf_headline.specs.Slots.{SlotGoesOn, SlotSteps, SlotTakes, SlotValue, fed_by}
 use Rattle.ospf_headline.specs.World.{Running}
 use Rattle.ospf_laws.proofs.Accounted.{OfExact}
-use Rattle.ospf_laws.specs.OnTheWay.{KeepsAt, KeepsOnTheWay, OfEachWorld, SlotKeeps}
+use Rattle.ospf_laws.proofs.All.{all_laws}
+use Rattle.ospf_laws.specs.Laws.{KeepsLaws}
+use Rattle.ospf_world.specs.OnTheWay.{DoesAndKeeps, KeepsAt, KeepsBetween, KeepsOnTheWay, OfEachWorld, SlotKeeps}
 use Rattle.ospf_laws.specs.Stepped.{Stepped}
 use Rattle.ospf_router.specs.AreaStep.Step.{Event}
+use Rattle.ospf_world.proofs.ExactFacts.{does_at}
 use Rattle.ospf_world.specs.Does.{Does}
 use Rattle.ospf_world.specs.Exact.{RunsExactly, unoffered}
+use Rattle.ospf_world.specs.Watching.{CameRule, ComesRule, Told, Watched, counting}
 use Rattle.ospf_world.specs.Worlds.{WorldValue, configs_of, new_world}
 
 ok_err : (result : Result (Unit {0}) WorldFault) (f : WorldFault) → result ≡ Ok tt → result ≡ Err f → ⊥
@@ -57,3 +63,34 @@ module _ (Law : Stepped → Type 0) (law : OfExact Law) where
 
   pub of_worlds : OfEachWorld Law
   of_worlds w is = on_the_way is.0 (new_world (configs_of w)) (unoffered w) is.1
+
+-- ---- all nine laws, of what events do
+
+pub keeping : (event : WorldEvent) (before : WorldValue) (result : Result (Unit {0}) WorldFault) (after : WorldValue) → Does event before result after → DoesAndKeeps event before result after
+keeping event before result after does = record { does = does; keeps = keeps_at KeepsLaws all_laws event before result after does }
+
+goes_keeping : (event : WorldEvent) (w : WorldValue) (n : ℕ) (w' : WorldValue) (n' : ℕ) → GoesOver Does event w n w' n' → GoesOver DoesAndKeeps event w n w' n'
+goes_keeping event w n w' n' (GoesOver.IsTaken does same) = GoesOver.IsTaken (keeping event w (Ok tt) w' does) same
+goes_keeping event w n w' n' (GoesOver.IsRefused f does none count) = GoesOver.IsRefused f (keeping event w (Err f) w' does) none count
+
+runs_keeping : (events : List WorldEvent) (w : WorldValue) (n : ℕ) (w' : WorldValue) (n' : ℕ) → RunsOn Does events w n w' n' → RunsOn DoesAndKeeps events w n w' n'
+runs_keeping [] w n w' n' same = same
+runs_keeping (e ∷ events) w n w' n' (v, k, first, rest) = (v, k, goes_keeping e w n v k first, runs_keeping events v k w' n' rest)
+
+pub run_keeping : (events : List WorldEvent) (w w' : WorldValue) (result : Result ℕ WorldFault) → IsRun Does events w result w' → IsRun DoesAndKeeps events w result w'
+run_keeping events w w' result (IsRun.Done n runs is) = IsRun.Done n (runs_keeping events w 0 w' n runs) is
+run_keeping events w w' result (IsRun.EndsEarly i n event mid stopped runs get does is) =
+    IsRun.EndsEarly i n event mid stopped (runs_keeping (take i events) w 0 mid n runs) get (keeping event mid (Err (fault.Memory stopped)) w' does) is
+
+-- and of what a watch is told of
+exactly_told : {V : Type 0} (Comes : ComesRule V) (Came : CameRule V) (u v : Watched V) → Told Comes Came u v → (events : List WorldEvent) × RunsExactly events (unoffered u.0) (unoffered v.0)
+exactly_told Comes Came u v (Told.Nothing x) = ([], refl)
+exactly_told Comes Came u v (Told.Counts x y n more) = exactly_told Comes Came (counting n u) v more
+exactly_told Comes Came u v (Told.Goes event result x mid y does more) =
+    let rest = exactly_told Comes Came mid v more in
+    (event ∷ rest.0, (unoffered mid.0, result, does_at 0 event u.0 mid.0 result does.does, rest.1))
+
+pub told_keeping : {V : Type 0} (Comes : ComesRule V) (Came : CameRule V) (u v : Watched V) → Told Comes Came u v → KeepsBetween u.0 v.0
+told_keeping Comes Came u v told =
+    let (events, runs) = exactly_told Comes Came u v told in
+    record { events = events; runs = runs; keep = on_the_way KeepsLaws all_laws events (unoffered u.0) (unoffered v.0) runs }

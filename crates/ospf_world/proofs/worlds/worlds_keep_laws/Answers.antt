@@ -1,7 +1,7 @@
 use Rattle.ospf_laws.proofs.All.{all_laws}
-use Rattle.ospf_laws.proofs.Reached.{of_worlds}
+use Rattle.ospf_world.proofs.Reached.{of_worlds}
 use Rattle.ospf_laws.specs.Laws.{KeepsLaws}
-use Rattle.ospf_laws.proofs.worlds.worlds_keep_laws.Goals as goal
+use Rattle.ospf_world.proofs.worlds.worlds_keep_laws.Goals as goal
 
 pub returns : goal.returns
 returns c = of_worlds KeepsLaws all_laws
