@@ -69,7 +69,7 @@ running-is (s ∷ slots) r = go (is_slot_of r s) (running-is slots r)
     go true rest = refl
     go false rest = rest
 
-router_at-is : (w : WorldValue) (r : RouterId) → router_at (world_of w) r ≡ option_and_then (λ (s : SlotValue). s.running) (find (is_slot_of r.0) w.slots)
+pub router_at-is : (w : WorldValue) (r : RouterId) → router_at (world_of w) r ≡ option_and_then (λ (s : SlotValue). s.running) (find (is_slot_of r.0) w.slots)
 unfolding router_at running_in
 router_at-is w r = running-is w.slots r.0
 

@@ -7,5 +7,7 @@ pub mod Apart
 pub mod Same
 pub mod Rows
 pub mod Agreed
+pub mod Premises
+pub mod Headlines
 pub mod Among
 pub mod Deliveries

@@ -16,13 +16,16 @@ use Rattle.ospf_router.specs.Routers.{RouterValue, listing_of}
 use Rattle.ospf_script.specs.Words.{Text}
 use Rattle.ospf_script.specs.declared.command.View.{View}
 use Rattle.ospf_views.specs.Shown.{headed, shown_lines}
-use Rattle.ospf_world.specs.Worlds.{is_slot_of}
+use Rattle.ospf_world.specs.Worlds.{is_slot_of, world_of}
 use Rattle.ospf_world.specs.declared.walk.Walk.{Walk}
 use Rattle.ospf_views.specs.Datagrams.{datagram_lines}
 use Rattle.ospf_views.specs.Offered.{why_lines}
+use Rattle.ospf_commands.specs.Premise.{IsPremiseOf}
+use Rattle.ospf_views.specs.Disagreements.{why_headline_line}
 use Rattle.ospf_commands.specs.Shown.{said_line, walked_lines}
 use Rattle.ospf_commands.specs.Simulations.{Answer}
 use Rattle.ospf_commands.specs.Worlds.{IsNotLent, IsWalkFrom, LendsRouter, SlotValue, WorldValue}
+use Rattle.ospf_views.specs.declared.disagreement.Disagreement.{Disagreement}
 use Rattle.ospf_commands.specs.declared.simulation.Simulation.{Simulation}
 
 -- a text is printed
@@ -62,6 +65,15 @@ pub data IsWhyAnswered (r : RouterId) (link : ℕ) (neighbour : Option RouterId)
       → IsWhyAnswered r link neighbour s answer text
   is_not_explained : (f : WorldFault) → IsNotLent s.world r f → answer ≡ Err f → text ≡ []
       → IsWhyAnswered r link neighbour s answer text
+
+-- whether the premise of the headline holds for a running router is printed, or which router is the
+-- first that differs; or the answer says why not
+pub data IsWhyHeadlineAnswered (r : RouterId) (s : Simulation) (answer : Answer) (text : Text)
+    : Type 0 where
+  premise_is_told : (found : Option Disagreement) → IsPremiseOf (world_of s.world) r (Ok found)
+      → answer ≡ Ok tt → text ≡ why_headline_line r found → IsWhyHeadlineAnswered r s answer text
+  premise_is_not_told : (f : WorldFault) → IsPremiseOf (world_of s.world) r (Err f)
+      → answer ≡ Err f → text ≡ [] → IsWhyHeadlineAnswered r s answer text
 
 -- how many datagrams are shown: as many as requested, else 16
 abbrev pub most_shown : Option ℕ → ℕ

@@ -6,7 +6,7 @@ use Rattle.ospf_script.specs.Words.{Text}
 use Rattle.ospf_script.specs.declared.command.Command.{Command}
 use Rattle.ospf_script.specs.declared.command.Command.TheVariants as command
 use Rattle.ospf_script.specs.declared.command.Many.{Many}
-use Rattle.ospf_commands.specs.Asked.{AreDatagramsShown, AreDropsShown, AreLsasShown, IsTextSaid, IsViewShown, IsWalked, IsWhyAnswered}
+use Rattle.ospf_commands.specs.Asked.{AreDatagramsShown, AreDropsShown, AreLsasShown, IsTextSaid, IsViewShown, IsWalked, IsWhyAnswered, IsWhyHeadlineAnswered}
 use Rattle.ospf_commands.specs.Judged.{JudgedSo}
 use Rattle.ospf_commands.specs.Deliveries.Losses.{lose_somewhere, losses_of}
 use Rattle.ospf_commands.specs.Deliveries.Many.{ComesAbout}
@@ -56,6 +56,8 @@ DoesCommand (command.Walk from address choices) s answer text s' =
 DoesCommand (command.Say said) s answer text s' = IsTextSaid said answer text × (s' ≡ s)
 DoesCommand (command.Why r link neighbour) s answer text s' =
     IsWhyAnswered r link neighbour s answer text × (s' ≡ s)
+DoesCommand (command.WhyHeadline r) s answer text s' =
+    IsWhyHeadlineAnswered r s answer text × (s' ≡ s)
 DoesCommand (command.Datagrams r most) s answer text s' =
     AreDatagramsShown r most s answer text × (s' ≡ s)
 DoesCommand (command.Drops r) s answer text s' = AreDropsShown r s answer text × (s' ≡ s)

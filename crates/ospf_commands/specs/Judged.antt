@@ -17,9 +17,12 @@ use Rattle.ospf_script.specs.declared.expected.Wanted.{Wanted}
 use Rattle.ospf_commands.specs.Expectations.{IsMet, unmet_line, unmet_lines}
 use Rattle.ospf_world.specs.declared.walk.Walk.{Walk}
 use Rattle.ospf_views.specs.Sight.{area_listed}
+use Rattle.ospf_commands.specs.Premise.{IsPremise}
+use Rattle.ospf_views.specs.Disagreements.{from_line}
 use Rattle.ospf_commands.specs.Shown.{walk_line}
 use Rattle.ospf_commands.specs.Simulations.{Answer}
 use Rattle.ospf_commands.specs.Worlds.{IsNotLent, IsWalkFrom, LendsRouter, SlotValue, WorldValue}
+use Rattle.ospf_views.specs.declared.disagreement.Disagreement.{Disagreement}
 use Rattle.ospf_commands.specs.declared.simulation.Simulation.{Simulation}
 
 -- ---- a router
@@ -134,6 +137,20 @@ pub data IsOfAll (w : WorldValue) (answer : Answer) (text : Text) (unmet : Bool)
       → text ≡ unmet_line expected.Agree ++ apart_line two → unmet ≡ true
       → IsOfAll w answer text unmet
 
+-- ---- the premise of the headline
+
+-- it holds; or it does not, and that is printed with the first router that differs; or the answer
+-- says why that is not known
+pub data IsOfHeadline (router : Option RouterId) (w : WorldValue) (answer : Answer) (text : Text)
+    (unmet : Bool) : Type 0 where
+  headline_holds : IsPremise router w (Ok None) → answer ≡ Ok tt → text ≡ [] → unmet ≡ false
+      → IsOfHeadline router w answer text unmet
+  headline_fails : (d : Disagreement) → IsPremise router w (Ok (Some d)) → answer ≡ Ok tt
+      → text ≡ unmet_line (expected.Headline router) ++ from_line d → unmet ≡ true
+      → IsOfHeadline router w answer text unmet
+  headline_is_not_judged : (f : WorldFault) → IsPremise router w (Err f) → answer ≡ Err f
+      → text ≡ [] → unmet ≡ true → IsOfHeadline router w answer text unmet
+
 -- ---- any expectation
 
 -- what is printed, by whether the network is known to have settled last time
@@ -153,6 +170,8 @@ IsJudged (expected.Router r wanted) s answer text unmet =
 IsJudged (expected.Walk from address cost) s answer text unmet =
     IsOfWalk (expected.Walk from address cost) from address cost s.world answer text unmet
 IsJudged expected.Agree s answer text unmet = IsOfAll s.world answer text unmet
+IsJudged (expected.Headline router) s answer text unmet =
+    IsOfHeadline router s.world answer text unmet
 IsJudged expected.Settled s answer text unmet = IsOfSettling s.is_settled answer text unmet
 
 -- from then on it is known that an expectation was not met

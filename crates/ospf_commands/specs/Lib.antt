@@ -8,5 +8,7 @@ pub mod Asked
 pub mod Expectations
 pub mod Judged
 pub mod Agreement
+pub mod Premise
+pub mod Headlines
 pub mod Commands
 pub mod Deliveries

@@ -2,9 +2,10 @@
 
 ghost use Rattle.std.specs.Prelude.{◌≡◌, IfErr, IfOk, OnErr, string_bytes};
 ghost use Rattle.ospf_files.specs.Streams.{IsOutputCut};
-ghost use Rattle.ospf_commands.specs.Asked.{AreDatagramsShown, AreDropsShown, AreLsasBelow, AreLsasShown, IsTextSaid, IsViewShown, IsWalked, IsWhyAnswered, lsas_heading};
+ghost use Rattle.ospf_commands.specs.Asked.{AreDatagramsShown, AreDropsShown, AreLsasBelow, AreLsasShown, IsTextSaid, IsViewShown, IsWalked, IsWhyAnswered, IsWhyHeadlineAnswered, lsas_heading};
 ghost use Rattle.ospf_commands.specs.Printed.{IsPrinted, IsPrintedBegun};
 
+use crate::premise::disagreement;
 use crate::show::{said_line, write_walked};
 use crate::simulation::Simulation;
 use ospf_base::{Addr, RouterId};
@@ -13,7 +14,7 @@ use ospf_inspect::lsas_text;
 use ospf_journal::drop_lines;
 use ospf_router::Router;
 use ospf_script::View;
-use ospf_views::{datagram_lines, why_lines, write_shown};
+use ospf_views::{datagram_lines, why_headline_line, why_lines, write_shown};
 use ospf_world::WorldFault;
 use std::alloc::{AllocError, Global};
 use std::io::Write;
@@ -123,6 +124,31 @@ pub(crate) fn show_why<O: Write>(
         }
         None => Ok(Err(WorldFault::NoLink)),
     }
+}
+
+// Prints whether the premise of the headline holds for a running router, or why not; if that fails,
+// a beginning of it.
+pub(crate) fn show_premise<O: Write>(
+    simulation: &Simulation,
+    router: RouterId,
+    out: &mut O,
+    alloc: Global,
+    streams: &mut FailedStreams,
+) -> Result<Result<(), WorldFault>, Failure>
+    ensures answered { IfOk result (λ answer. IsPrinted
+        (IsWhyHeadlineAnswered router simulation.now) answer
+        (O.contents out.old) (O.contents out.new)) }
+    ensures begun { OnErr result (IsPrintedBegun (IsWhyHeadlineAnswered router simulation.now)
+        (O.contents out.old) (O.contents out.new)) }
+    ensures cut { IfErr result (IsOutputCut streams.new) }
+{
+    let found = match disagreement(&simulation.world, router, alloc) {
+        Ok(found) => found,
+        Err(fault) => return Ok(Err(fault)),
+    };
+    let line = why_headline_line(alloc, router, &found)?;
+    streams.write(out, &line)?;
+    Ok(Ok(()))
 }
 
 // Prints the last datagrams that a round offers to a running router; if that fails, a beginning of

@@ -6,7 +6,9 @@ ghost use Rattle.ospf_commands.specs.Commands.{EventComesAbout, IsDone, IsDoneBe
 ghost use Rattle.ospf_commands.specs.Deliveries.Progress.{ToldOn};
 ghost use Rattle.ospf_world.specs.Watching.{Told};
 
-use crate::asked::{say, show, show_datagrams, show_drops, show_lsas, show_walk, show_why};
+use crate::asked::{
+    say, show, show_datagrams, show_drops, show_lsas, show_premise, show_walk, show_why,
+};
 use crate::delivery::{Losses, Watch, lose_somewhere, run_many};
 use crate::judge::judge;
 use crate::rounds::{run_batches, run_events, run_rounds};
@@ -65,6 +67,7 @@ pub fn run_command<O: Write, V: Watch>(
             let place = (*router, *link);
             show_why(simulation, place, *neighbour, out, alloc, streams)
         }
+        Command::WhyHeadline { router } => show_premise(simulation, *router, out, alloc, streams),
         Command::Datagrams { router, most } => {
             show_datagrams(simulation, *router, *most, out, alloc, streams)
         }

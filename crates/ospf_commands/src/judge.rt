@@ -7,16 +7,20 @@ ghost use Rattle.ospf_commands.specs.Shown.{walk_line};
 ghost use Rattle.ospf_files.specs.Streams.{IsOutputCut};
 ghost use Rattle.ospf_script.specs.declared.expected.Expected.TheVariants as expected;
 ghost use Rattle.ospf_commands.specs.Expectations.{unmet_line};
+ghost use Rattle.ospf_commands.specs.Premise.{IsPremise};
+ghost use Rattle.ospf_views.specs.Disagreements.{from_line};
 
 use crate::agreement::{apart, some_run};
 use crate::expectations::{is_met, unmet_line, write_unmet};
+use crate::premise::{any_disagreement, disagreement};
 use crate::show::walk_line;
 use crate::simulation::Simulation;
 use ospf_base::{Addr, RouterId};
 use ospf_files::{FailedStreams, Failure};
 use ospf_headline::WalkEnd;
 use ospf_script::{Expected, Wanted};
-use ospf_world::{Walk, WorldFault};
+use ospf_views::{Disagreement, from_line};
+use ospf_world::{Walk, World, WorldFault};
 use std::alloc::{AllocError, Global};
 use std::fmt::{self, Display, Formatter};
 use std::io::Write;
@@ -62,6 +66,9 @@ pub(crate) fn judge<O: Write>(
             cost,
         } => judge_walk(simulation, (*from, *address), *cost, out, alloc, streams),
         Expected::Agree => judge_agreement(simulation, out, alloc, streams),
+        Expected::Headline { router } => {
+            judge_headline(simulation, *router, out, alloc, streams)
+        }
         Expected::Settled => judge_settling(simulation, out, alloc, streams),
     }
 }
@@ -189,6 +196,50 @@ fn tell_nobody<O: Write>(
     Ok(Ok(()))
 }
 
+// An expectation that the premise of the headline holds.
+fn judge_headline<O: Write>(
+    simulation: &mut Simulation,
+    router: Option<RouterId>,
+    out: &mut O,
+    alloc: Global,
+    streams: &mut FailedStreams,
+) -> Result<Result<(), WorldFault>, Failure>
+    ensures judged { IfOk result (λ answer. IsPrinted (JudgedSo (expected.Headline router)
+        simulation.old simulation.new) answer (O.contents out.old) (O.contents out.new)) }
+    ensures begun { OnErr result (IsPrintedBegun (JudgedSo (expected.Headline router)
+        simulation.old simulation.new) (O.contents out.old) (O.contents out.new)) }
+    ensures cut { IfErr result (IsOutputCut streams.new) }
+    ensures world { simulation.new.world ≡ simulation.old.world }
+{
+    match premise_of(&simulation.world, router, alloc) {
+        Ok(None) => Ok(Ok(())),
+        Ok(Some(found)) => {
+            simulation.is_unmet = true;
+            let lines = unmet_headline_lines(alloc, router, &found)?;
+            streams.write(out, &lines)?;
+            Ok(Ok(()))
+        }
+        Err(fault) => {
+            simulation.is_unmet = true;
+            Ok(Err(fault))
+        }
+    }
+}
+
+// Whether it holds for a router, or for all that run if none is given.
+fn premise_of(
+    world: &World,
+    router: Option<RouterId>,
+    alloc: Global,
+) -> Result<Option<Disagreement>, WorldFault>
+    ensures { IsPremise router world.now result }
+{
+    match router {
+        Some(router) => disagreement(world, router, alloc),
+        None => any_disagreement(world, alloc),
+    }
+}
+
 // An expectation that the last settling holds.
 fn judge_settling<O: Write>(
     simulation: &mut Simulation,
@@ -255,6 +306,21 @@ fn nobody_lines(alloc: Global) -> Result<String, AllocError>
 {
     let mut lines = unmet_line(alloc, &Expected::Agree)?;
     lines.push_str("no router is running\n")?;
+    Ok(lines)
+}
+
+// The lines if the premise of the headline does not hold.
+fn unmet_headline_lines(
+    alloc: Global,
+    router: Option<RouterId>,
+    found: &Disagreement,
+) -> Result<String, AllocError>
+    ensures { IfOk result (λ lines. string_bytes lines
+        ≡ unmet_line (expected.Headline router) ++ from_line found.now) }
+{
+    let mut lines = unmet_line(alloc, &Expected::Headline { router })?;
+    let line = from_line(alloc, found)?;
+    lines.push_str(&line)?;
     Ok(lines)
 }
 

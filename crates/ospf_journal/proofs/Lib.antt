@@ -2,3 +2,4 @@ mod IfaceFacts
 pub mod Enumerated
 pub mod CountedLemmas
 pub mod ObjectLemmas
+pub mod Listings

@@ -6,3 +6,4 @@ pub mod Objects
 pub mod Causes
 pub mod Counted
 pub mod Laws
+pub mod Differences

@@ -6,12 +6,13 @@
 //! `JournalLine` and `Object` write a change as a line of text and as a JSON object (`specs/Lines`,
 //! `specs/Objects`); it is a law that the object is JSON (`objects_are_json`). `dropped_of` returns
 //! why a router drops a datagram that it receives, and `drop_lines` how many it dropped, as lines
-//! (`specs/Counted`).
+//! (`specs/Counted`). `difference_between` returns what one listing has that another has not.
 #![tactic(auto)]
 
 mod cause;
 mod change;
 mod counted;
+mod differs;
 mod laws;
 mod line;
 mod object;
@@ -22,6 +23,7 @@ mod told;
 pub use crate::cause::dropped_of;
 pub use crate::change::{DroppedAt, RouterChange};
 pub use crate::counted::drop_lines;
+pub use crate::differs::{Difference, difference_between};
 pub use crate::laws::objects_are_json;
 pub use crate::line::{JournalLine, iface_text};
 pub use crate::object::Object;

@@ -5,7 +5,7 @@ use Rattle.std.proofs.Common.{rules, arith, ◌≡◌, ◌==◌, ◌⊎◌, if�
 use Rattle.ospf_base.specs.declared.ids.Addr.{Addr}
 use Rattle.ospf_base.specs.declared.prefix.Prefix.{Prefix}
 use Rattle.ospf_base.specs.declared.ids.RouterId.{RouterId}
-use Rattle.ospf_script.specs.Commands.{BeginsWalk}
+use Rattle.ospf_script.specs.Commands.{BeginsWalk, IsRouterAlone}
 use Rattle.ospf_neighbour.specs.Text.{state_text}
 use Rattle.ospf_neighbour.specs.declared.machine.NeighbourState.{NeighbourState}
 use Rattle.ospf_neighbour.specs.declared.machine.NeighbourState.TheVariants as state
@@ -14,7 +14,7 @@ use Rattle.ospf_script.specs.Laws.{IsOneExpected}
 use Rattle.ospf_script.specs.Values.{AreManySpelled, AreSomeSpelled, IsDecimal, IsHopWord, IsPrefix, IsRouterWord}
 use Rattle.ospf_script.specs.Words.{Text}
 use Rattle.ospf_script.specs.declared.expected.Expected.{Expected}
-use Rattle.ospf_script.specs.declared.expected.Expected.TheVariants.{Router, Walk, Agree, Settled}
+use Rattle.ospf_script.specs.declared.expected.Expected.TheVariants.{Router, Walk, Agree, Headline, Settled}
 use Rattle.ospf_script.specs.declared.expected.Wanted.TheVariants.{Neighbour, NoNeighbour, Dr, Route, NoRoute}
 use Rattle.ospf_script.proofs.Hopping.{hop_one}
 use Rattle.ospf_script.proofs.OneValue.{address_one, decimal_one, router_one}
@@ -31,6 +31,7 @@ IsFirst (Router router (Route prefix cost hops)) w = w ≡ codes "route"
 IsFirst (Router router (NoRoute prefix)) w = w ≡ codes "no"
 IsFirst (Walk from address cost) w = w ≡ codes "walk"
 IsFirst Agree w = w ≡ codes "agree"
+IsFirst (Headline router) w = w ≡ codes "headline"
 IsFirst Settled w = w ≡ codes "settled"
 
 begins : (e : Expected) (w : Text) (ws : List Text) → IsExpected (w ∷ ws) e → IsFirst e w
@@ -42,6 +43,8 @@ begins (Router router (Route prefix cost hops)) w ws h = h.0
 begins (Router router (NoRoute prefix)) w (a ∷ b ∷ c ∷ []) h = h.0
 begins (Walk from address cost) w (a ∷ b ∷ ws) h = h.0
 begins Agree w [] h = h
+begins (Headline None) w [] h = h
+begins (Headline (Some router)) w (a ∷ []) h = h.0
 begins Settled w [] h = h
 begins e w ws h = absurd h
 
@@ -60,6 +63,7 @@ kind_of (Router router (Route prefix cost hops)) = 1394
 kind_of (Router router (NoRoute prefix)) = 622
 kind_of (Walk from address cost) = 1143
 kind_of Agree = 1377
+kind_of (Headline router) = 2152
 kind_of Settled = 1907
 
 neighbour_kind : (w : Text) → IsNeighbour w → kind w ≡ 1126
@@ -75,6 +79,7 @@ kind_first (Router router (Route prefix cost hops)) w is = ap kind is
 kind_first (Router router (NoRoute prefix)) w is = ap kind is
 kind_first (Walk from address cost) w is = ap kind is
 kind_first Agree w is = ap kind is
+kind_first (Headline router) w is = ap kind is
 kind_first Settled w is = ap kind is
 
 kind_is : (e : Expected) (w : Text) (ws : List Text) → IsExpected (w ∷ ws) e → kind w ≡ kind_of e
@@ -149,20 +154,30 @@ pub behind_link_one : (ws : List Text) (r s : RouterId) (m n : ℕ) (us vs : Lis
 behind_link_one (x ∷ y ∷ ws) r s m n us vs h k = sym h.2 ∙ k.2
 behind_link_one _ r s m n us vs h k = absurd h
 
+-- behind `headline`
+pub only_headline : (w : Text) (ws : List Text) → ((router : RouterId) → IsRouterAlone (w ∷ ws) router → ⊥) → (e : Expected) → IsExpected (codes "headline" ∷ w ∷ ws) e → ⊥
+unfolding key kind kind_of
+only_headline w [] none (Headline (Some router)) h = none router h.1
+only_headline w (a ∷ ws) none (Headline (Some router)) h = h
+only_headline w ws none (Headline None) h = h
+only_headline w ws none (Router router (Neighbour other state)) h = let is : 2152 ≡ 1126 = kind_is (Router router (Neighbour other state)) (codes "headline") (w ∷ ws) h in omega (arith, is)
+only_headline w ws none e h = let is : 2152 ≡ kind_of e = kind_is e (codes "headline") (w ∷ ws) h in omega (arith, is)
+
 -- where the first word is none of these, a route is expected
 pub only_known : (w : Text) (ws : List Text) → (w ∷ ws ≡ codes "agree" ∷ [] → ⊥) → (w ∷ ws ≡ codes "settled" ∷ [] → ⊥) → (w ≡ codes "full" → ⊥) → (IsNeighbour w → ⊥)
-    → (w ≡ codes "dr" → ⊥) → (w ≡ codes "no" → ⊥) → (w ≡ codes "walk" → ⊥) → (e : Expected) → IsExpected (w ∷ ws) e → IsOfRoute (w ∷ ws)
-only_known w [] agree settled full neighbour dr absent walk Agree h = absurd (agree (ap (λ x. x ∷ []) h))
-only_known w [] agree settled full neighbour dr absent walk Settled h = absurd (settled (ap (λ x. x ∷ []) h))
-only_known w (a ∷ ws) agree settled full neighbour dr absent walk Agree h = absurd h
-only_known w (a ∷ ws) agree settled full neighbour dr absent walk Settled h = absurd h
-only_known w ws agree settled full neighbour dr absent walk (Router router (Neighbour other state)) h =
+    → (w ≡ codes "dr" → ⊥) → (w ≡ codes "no" → ⊥) → (w ≡ codes "walk" → ⊥) → (w ≡ codes "headline" → ⊥) → (e : Expected) → IsExpected (w ∷ ws) e → IsOfRoute (w ∷ ws)
+only_known w [] agree settled full neighbour dr absent walk headline Agree h = absurd (agree (ap (λ x. x ∷ []) h))
+only_known w [] agree settled full neighbour dr absent walk headline Settled h = absurd (settled (ap (λ x. x ∷ []) h))
+only_known w (a ∷ ws) agree settled full neighbour dr absent walk headline Agree h = absurd h
+only_known w (a ∷ ws) agree settled full neighbour dr absent walk headline Settled h = absurd h
+only_known w ws agree settled full neighbour dr absent walk headline (Router router (Neighbour other state)) h =
     elim (begins (Router router (Neighbour other state)) w ws h) [ inl is ↦ absurd (full is) | inr is ↦ absurd (neighbour is) ]
-only_known w ws agree settled full neighbour dr absent walk (Router router (NoNeighbour link)) h = absurd (absent (begins (Router router (NoNeighbour link)) w ws h))
-only_known w ws agree settled full neighbour dr absent walk (Router router (Dr link elected backup)) h = absurd (dr (begins (Router router (Dr link elected backup)) w ws h))
-only_known w ws agree settled full neighbour dr absent walk (Router router (Route prefix cost hops)) h = (ws, ap (λ x. x ∷ ws) h.0)
-only_known w ws agree settled full neighbour dr absent walk (Router router (NoRoute prefix)) h = absurd (absent (begins (Router router (NoRoute prefix)) w ws h))
-only_known w ws agree settled full neighbour dr absent walk (Walk from address cost) h = absurd (walk (begins (Walk from address cost) w ws h))
+only_known w ws agree settled full neighbour dr absent walk headline (Router router (NoNeighbour link)) h = absurd (absent (begins (Router router (NoNeighbour link)) w ws h))
+only_known w ws agree settled full neighbour dr absent walk headline (Router router (Dr link elected backup)) h = absurd (dr (begins (Router router (Dr link elected backup)) w ws h))
+only_known w ws agree settled full neighbour dr absent walk headline (Router router (Route prefix cost hops)) h = (ws, ap (λ x. x ∷ ws) h.0)
+only_known w ws agree settled full neighbour dr absent walk headline (Router router (NoRoute prefix)) h = absurd (absent (begins (Router router (NoRoute prefix)) w ws h))
+only_known w ws agree settled full neighbour dr absent walk headline (Walk from address cost) h = absurd (walk (begins (Walk from address cost) w ws h))
+only_known w ws agree settled full neighbour dr absent walk headline (Headline router) h = absurd (headline (begins (Headline router) w ws h))
 
 text_is : (w text : Text) → IsUtf8 text → (IsUtf8 w → ⊥) → w ≡ text → ⊥
 text_is w text utf8 not is = not (subst IsUtf8 (sym is) utf8)
@@ -174,6 +189,7 @@ only_text w ws agree settled not =
     only_known w ws agree settled (text_is w (codes "full") (search rules) not)
     (λ is. elim is [ inl british ↦ text_is w (codes "neighbour") (search rules) not british | inr american ↦ text_is w (codes "neighbor") (search rules) not american ])
     (text_is w (codes "dr") (search rules) not) (text_is w (codes "no") (search rules) not) (text_is w (codes "walk") (search rules) not)
+    (text_is w (codes "headline") (search rules) not)
 
 -- ---- states
 
@@ -267,6 +283,8 @@ one_of (Router r (NoRoute p)) (Router s (NoNeighbour n)) (v ∷ w ∷ a ∷ b �
 one_of (Walk r x m) (Walk s y n) (w ∷ a ∷ b ∷ ws) h k =
     let one = router_one a r s h.1 k.1 in let two = address_one b x y h.2 k.2 in let three = arrival_one ws m n h.3 k.3 in cc
 one_of Agree Agree (w ∷ []) h k = refl
+one_of (Headline None) (Headline None) (w ∷ []) h k = refl
+one_of (Headline (Some r)) (Headline (Some s)) (w ∷ a ∷ []) h k = ap (λ x. Headline (Some x)) (router_one a r s h.1 k.1)
 one_of Settled Settled (w ∷ []) h k = refl
 one_of (Router r (Neighbour s x)) (Router t (Neighbour u y)) ws h k = absurd h
 one_of (Router r (NoNeighbour m)) (Router s (NoNeighbour n)) ws h k = absurd h
@@ -277,11 +295,16 @@ one_of (Router r (NoNeighbour m)) (Router s (NoRoute q)) ws h k = absurd h
 one_of (Router r (NoRoute p)) (Router s (NoNeighbour n)) ws h k = absurd h
 one_of (Walk r x m) (Walk s y n) ws h k = absurd h
 one_of Agree Agree ws h k = absurd h
+one_of (Headline None) (Headline (Some s)) (w ∷ []) h k = absurd k
+one_of (Headline (Some r)) (Headline None) (w ∷ a ∷ []) h k = absurd k
+one_of (Headline None) (Headline j) ws h k = absurd h
+one_of (Headline (Some r)) (Headline j) ws h k = absurd h
 one_of Settled Settled ws h k = absurd h
 one_of e f [] h k = absurd h
 one_of (Walk r x m) (Router t (Neighbour u y)) (w ∷ ws) h k = absurd (differ w ws (Walk r x m) (Router t (Neighbour u y)) h k (λ same. omega (arith, same)))
 one_of Agree (Router t (Neighbour u y)) (w ∷ ws) h k = absurd (differ w ws Agree (Router t (Neighbour u y)) h k (λ same. omega (arith, same)))
 one_of Settled (Router t (Neighbour u y)) (w ∷ ws) h k = absurd (differ w ws Settled (Router t (Neighbour u y)) h k (λ same. omega (arith, same)))
+one_of (Headline i) (Router t (Neighbour u y)) (w ∷ ws) h k = absurd (differ w ws (Headline i) (Router t (Neighbour u y)) h k (λ same. omega (arith, same)))
 one_of e f (w ∷ ws) h k = absurd (differ w ws e f h k (λ same. omega (arith, same)))
 
 pub expected_one : (ws : List Text) (e f : Expected) → IsExpected ws e → IsExpected ws f → IsOneExpected e f

@@ -6,7 +6,7 @@ use Rattle.ospf_base.specs.declared.ids.Addr.{Addr}
 use Rattle.ospf_base.specs.declared.ids.RouterId.{RouterId}
 use Rattle.ospf_base.specs.declared.event.event.WorldEvent.{WorldEvent}
 use Rattle.ospf_base.specs.declared.event.event.WorldEvent.TheVariants as event
-use Rattle.ospf_script.specs.Commands.{AreDatagramWords, AreNumbers, AreRoundWords, BeginsWalk, IsAddressAlone, IsAll, IsCountAlone, IsDelivery, IsLossWords, IsRouterAlone, IsRouterAndLink, IsStart, IsSwitch, IsWalkWords, IsWhy, TakesWords, TakesEventWords, TakesMany, name_of_command, name_of_event, name_of_many}
+use Rattle.ospf_script.specs.Commands.{AreDatagramWords, AreNumbers, AreRoundWords, BeginsWalk, IsAddressAlone, IsAll, IsCountAlone, IsDelivery, IsLossWords, IsRouterAlone, IsRouterAndLink, IsStart, IsSwitch, IsWalkWords, IsWhy, IsWhyHeadline, TakesWords, TakesEventWords, TakesMany, name_of_command, name_of_event, name_of_many}
 use Rattle.ospf_script.specs.Laws.{IsOneCommand, WordsSpellOneCommand}
 use Rattle.ospf_script.specs.Values.{IsDecimal, IsFloor, IsRouterWord, no_floor}
 use Rattle.ospf_script.specs.Words.{Text}
@@ -17,6 +17,7 @@ use Rattle.ospf_script.specs.declared.command.Many.TheVariants as many
 use Rattle.ospf_script.specs.declared.name.Name.{Name}
 use Rattle.ospf_script.specs.declared.name.Name.TheVariants as names
 use Rattle.ospf_script.proofs.Expecting.{expected_one, spelled_one}
+use Rattle.ospf_script.proofs.Plain.{headline_is_no_router}
 use Rattle.ospf_script.proofs.OneValue.{address_one, decimal_one, floor_one, percent_one, router_one}
 use Rattle.ospf_script.proofs.Unspelled.{IsOfEvents, event_name, many_name, word_is_one}
 
@@ -65,6 +66,16 @@ why_one ws r s m n None (Some j) h k = absurd h
 why_one (a ∷ b ∷ []) r s m n (Some i) None h k = absurd h
 why_one ws r s m n (Some i) None h k = absurd k
 why_one ws r s m n (Some i) (Some j) h k = absurd h
+
+why_headline_one : (ws : List Text) (r s : RouterId) → IsWhyHeadline ws r → IsWhyHeadline ws s → r ≡ s
+why_headline_one (a ∷ b ∷ []) r s h k = router_one b r s h.1 k.1
+why_headline_one ws r s h k = absurd h
+
+-- the word `headline` is no router whose link is asked about
+why_not_headline : (ws : List Text) (r s : RouterId) (m : ℕ) (i : Option RouterId) → IsWhy ws r m i → IsWhyHeadline ws s → ⊥
+why_not_headline (a ∷ b ∷ []) r s m None h k = headline_is_no_router a r k.0 h.0
+why_not_headline (a ∷ b ∷ []) r s m (Some i) h k = h
+why_not_headline ws r s m i h k = k
 
 datagrams_one : (ws : List Text) (r s : RouterId) (i j : Option ℕ) → AreDatagramWords ws r i → AreDatagramWords ws s j → (r ≡ s) × (i ≡ j)
 datagrams_one (a ∷ []) r s None None h k = (router_one a r s h k, refl)
@@ -209,6 +220,9 @@ takes_one ws (command.Say text) (command.Say other) e h k = h ∙ sym k
 takes_one ws (command.Why r m i) (command.Why s n j) e h k =
     let all = why_one ws r s m n i j h k in
     let one = all.0 in let two = all.1 in let three = all.2 in cc
+takes_one ws (command.WhyHeadline r) (command.WhyHeadline s) e h k = ap command.WhyHeadline (why_headline_one ws r s h k)
+takes_one ws (command.Why r m i) (command.WhyHeadline s) e h k = absurd (why_not_headline ws r s m i h k)
+takes_one ws (command.WhyHeadline r) (command.Why s n j) e h k = absurd (why_not_headline ws s r n j k h)
 takes_one ws (command.Datagrams r i) (command.Datagrams s j) e h k =
     let all = datagrams_one ws r s i j h k in
     let one = all.0 in let two = all.1 in cc

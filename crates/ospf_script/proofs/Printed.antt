@@ -19,7 +19,7 @@ use Rattle.ospf_base.specs.declared.prefix.Prefix.{Prefix}
 use Rattle.ospf_graph.specs.Text.{hop_text}
 use Rattle.ospf_graph.specs.declared.hop.NextHop.{NextHop}
 use Rattle.ospf_graph.specs.declared.hop.NextHop.TheVariants.{Attached, PointToPoint, Lan}
-use Rattle.ospf_script.specs.Commands.{AreDatagramWords, AreNumbers, AreRoundWords, BeginsWalk, IsAddressAlone, IsCountAlone, IsDelivery, IsLossWords, IsOne, IsRouterAlone, IsRouterAndLink, IsThree, IsTwo, IsWhy, SpellsCommand, TakesEventWords, TakesMany, TakesWords, spaced}
+use Rattle.ospf_script.specs.Commands.{AreDatagramWords, AreNumbers, AreRoundWords, BeginsWalk, IsAddressAlone, IsCountAlone, IsDelivery, IsLossWords, IsOne, IsRouterAlone, IsRouterAndLink, IsThree, IsTwo, IsWhy, IsWhyHeadline, SpellsCommand, TakesEventWords, TakesMany, TakesWords, spaced}
 use Rattle.ospf_base.specs.declared.event.event.WorldEvent.{WorldEvent}
 use Rattle.ospf_base.specs.declared.event.event.WorldEvent.TheVariants as event
 use Rattle.ospf_neighbour.specs.Text.{state_text}
@@ -471,6 +471,16 @@ why_again ws r n (Some q) h =
     (word (codes "why") (omega arith) refl, (dots r.0, (decimal_word n small.1, (dots q.0, tt))))
     (refl, (router_spelled r small.0, decimal_spelled n small.1, router_spelled q small.2))
 
+why_headline_small : (ws : List Text) (r : RouterId) → IsWhyHeadline ws r → r.0 < 2 ^ 32
+why_headline_small (a ∷ b ∷ []) r h = h.1.1
+why_headline_small ws r h = absurd h
+
+why_headline_again : (ws : List Text) (r : RouterId) → IsWhyHeadline ws r → Again (command.WhyHeadline r)
+why_headline_again ws r h =
+    by_words (command.WhyHeadline r) (codes "why" ∷ codes "headline" ∷ number_text r.0 ∷ []) (one (codes "why headline ") (number_text r.0))
+    (word (codes "why") (omega arith) refl, (word (codes "headline") (omega arith) refl, (dots r.0, tt)))
+    (refl, (refl, router_spelled r (why_headline_small ws r h)))
+
 datagrams_small : (ws : List Text) (r : RouterId) (n : ℕ) → IsTwo (λ a b. IsRouterWord a r × IsDecimal 64 b n) ws → (r.0 < 2 ^ 32) × (n < 2 ^ 64)
 datagrams_small = link_small
 
@@ -630,11 +640,23 @@ arrival_again from address ws (Some cost) hf ha h =
     (expect, (word (codes "walk") (omega arith) refl, (dots from.0, (dots address.0, (word (codes "arrived") (omega arith) refl, (decimal_word cost small, tt))))))
     (refl, (refl, router_spelled from hf, address_spelled address ha, (refl, decimal_spelled cost small)))
 
+headline_small : (ws : List Text) (r : RouterId) → IsExpected ws (expected.Headline (Some r)) → r.0 < 2 ^ 32
+headline_small (w ∷ a ∷ []) r h = h.1.1
+headline_small ws r h = absurd h
+
+headline_again : (ws : List Text) (r : Option RouterId) → IsExpected ws (expected.Headline r) → Again (command.Expect (expected.Headline r))
+headline_again ws None h = (refl, refl)
+headline_again ws (Some r) h =
+    by_words (command.Expect (expected.Headline (Some r))) (codes "expect" ∷ codes "headline" ∷ number_text r.0 ∷ []) (one (codes "expect headline ") (number_text r.0))
+    (expect, (word (codes "headline") (omega arith) refl, (dots r.0, tt)))
+    (refl, (refl, router_spelled r (headline_small ws r h)))
+
 expected_again : (ws : List Text) (e : Expected) → IsExpected ws e → Again (command.Expect e)
 expected_again ws (expected.Router r w) h = wanted_again ws r w h
 expected_again (w ∷ a ∷ b ∷ ws) (expected.Walk from address cost) h = arrival_again from address ws cost h.1.1 h.2.1 h.3
 expected_again ws (expected.Walk from address cost) h = absurd h
 expected_again ws expected.Agree h = (refl, refl)
+expected_again ws (expected.Headline r) h = headline_again ws r h
 expected_again ws expected.Settled h = (refl, refl)
 
 -- ---- all commands
@@ -666,6 +688,7 @@ again [] (command.Say text) all h =
 again (w ∷ ws) (command.Say text) all h =
     by_words (command.Say text) (codes "say" ∷ w ∷ ws) (ap (λ (l : Text). codes "say " ++ l) h) (word (codes "say") (omega arith) refl, all) (refl, h)
 again ws (command.Why r n q) all h = why_again ws r n q h
+again ws (command.WhyHeadline r) all h = why_headline_again ws r h
 again ws (command.Datagrams r most) all h = datagrams_again ws r most h
 again ws (command.Drops r) all h =
     named (command.Drops r) (codes "drops") r.0 (word (codes "drops") (omega arith) refl) refl (refl, router_spelled r (router_small ws r h))

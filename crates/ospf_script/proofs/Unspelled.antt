@@ -6,7 +6,7 @@ use Rattle.ospf_base.specs.declared.ids.Addr.{Addr}
 use Rattle.ospf_base.specs.declared.ids.RouterId.{RouterId}
 use Rattle.ospf_base.specs.declared.event.event.WorldEvent.{WorldEvent}
 use Rattle.ospf_base.specs.declared.event.event.WorldEvent.TheVariants as event
-use Rattle.ospf_script.specs.Commands.{AreDatagramWords, AreNumbers, AreRoundWords, IsLossWords, IsNamedCommand, IsRouterAlone, IsRouterAndLink, IsUnreadable, IsWalkWords, IsWhy, SpellsCommand, TakesWords, name_of_command, name_of_event, name_of_many, spaced}
+use Rattle.ospf_script.specs.Commands.{AreDatagramWords, AreNumbers, AreRoundWords, IsLossWords, IsNamedCommand, IsRouterAlone, IsRouterAndLink, IsUnreadable, IsWalkWords, IsWhy, IsWhyHeadline, SpellsCommand, TakesWords, name_of_command, name_of_event, name_of_many, spaced}
 use Rattle.ospf_script.specs.Names.{IsWordOf}
 use Rattle.ospf_base.specs.Text.{IsBlank}
 use Rattle.ospf_script.specs.Words.{Text, line_words}
@@ -85,11 +85,13 @@ no_round ws h (command.Many m) is = subst IsOfEvents is.0 (many_name m)
 no_round ws h (command.Round count most) is = h (count, most) is.1
 no_round ws h c is = let e = is.0 in cc
 
-pub no_why : (ws : List Text) → ((found : RouterId × ℕ × Option RouterId) → IsWhy ws found.0 found.1 found.2 → ⊥) → IsNone names.Why ws
-no_why ws h (command.Event e) is = subst IsOfEvents is.0 (event_name e)
-no_why ws h (command.Many m) is = subst IsOfEvents is.0 (many_name m)
-no_why ws h (command.Why router link neighbour) is = h (router, link, neighbour) is.1
-no_why ws h c is = let e = is.0 in cc
+pub no_why : (ws : List Text) → ((router : RouterId) → IsWhyHeadline ws router → ⊥) → ((found : RouterId × ℕ × Option RouterId) → IsWhy ws found.0 found.1 found.2 → ⊥)
+    → IsNone names.Why ws
+no_why ws g h (command.Event e) is = subst IsOfEvents is.0 (event_name e)
+no_why ws g h (command.Many m) is = subst IsOfEvents is.0 (many_name m)
+no_why ws g h (command.Why router link neighbour) is = h (router, link, neighbour) is.1
+no_why ws g h (command.WhyHeadline router) is = g router is.1
+no_why ws g h c is = let e = is.0 in cc
 
 pub no_datagrams : (ws : List Text) → ((found : RouterId × Option ℕ) → AreDatagramWords ws found.0 found.1 → ⊥) → IsNone names.Datagrams ws
 no_datagrams ws h (command.Event e) is = subst IsOfEvents is.0 (event_name e)

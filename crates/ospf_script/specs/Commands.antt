@@ -78,6 +78,10 @@ IsWhy ws router link None = IsRouterAndLink ws router link
 IsWhy ws router link (Some neighbour) =
     IsThree (λ a b c. IsRouterWord a router × IsDecimal 64 b link × IsRouterWord c neighbour) ws
 
+-- the word `headline`, and a Router ID
+abbrev pub IsWhyHeadline : List Text → RouterId → Type 0
+IsWhyHeadline ws router = IsTwo (λ a b. (a ≡ codes "headline") × IsRouterWord b router) ws
+
 -- how many of a hundred deliveries are lost, the number of a generator, and an address in the one
 -- network where that is, if it is given
 abbrev pub IsLossWords : List Text → ℕ → ℕ → Option Addr → Type 0
@@ -178,6 +182,7 @@ name_of_command (command.Show view router) = name.Show view
 name_of_command (command.Walk from address choices) = name.Walk
 name_of_command (command.Say text) = name.Say
 name_of_command (command.Why router link neighbour) = name.Why
+name_of_command (command.WhyHeadline router) = name.Why
 name_of_command (command.Datagrams router most) = name.Datagrams
 name_of_command (command.Drops router) = name.Drops
 name_of_command (command.Lsas router) = name.Lsas
@@ -197,6 +202,7 @@ TakesWords (command.Show view router) ws = IsRouterAlone ws router
 TakesWords (command.Walk from address choices) ws = IsWalkWords ws from address choices.items
 TakesWords (command.Say text) ws = string_bytes text ≡ spaced ws
 TakesWords (command.Why router link neighbour) ws = IsWhy ws router link neighbour
+TakesWords (command.WhyHeadline router) ws = IsWhyHeadline ws router
 TakesWords (command.Datagrams router most) ws = AreDatagramWords ws router most
 TakesWords (command.Drops router) ws = IsRouterAlone ws router
 TakesWords (command.Lsas router) ws = IsRouterAlone ws router

@@ -10,7 +10,7 @@ use Rattle.ospf_neighbour.specs.Text.{state_text}
 use Rattle.ospf_neighbour.specs.declared.machine.NeighbourState.{NeighbourState}
 use Rattle.ospf_neighbour.specs.declared.machine.NeighbourState.TheVariants.{Full}
 use Rattle.ospf_script.specs.declared.expected.Expected.{Expected}
-use Rattle.ospf_script.specs.declared.expected.Expected.TheVariants.{Router, Walk, Agree, Settled}
+use Rattle.ospf_script.specs.declared.expected.Expected.TheVariants.{Router, Walk, Agree, Headline, Settled}
 use Rattle.ospf_script.specs.declared.expected.Wanted.{Wanted}
 use Rattle.ospf_script.specs.declared.expected.Wanted.TheVariants.{Neighbour, NoNeighbour, Dr, Route, NoRoute}
 
@@ -63,9 +63,16 @@ IsWanted router (NoRoute prefix) (v ∷ w ∷ a ∷ b ∷ []) =
     (v ≡ codes "no") × (w ≡ codes "route") × IsRouterWord a router × IsPrefix b prefix
 IsWanted router _ _ = ⊥
 
+-- the word `headline`, and a Router ID, where one is given
+abbrev pub SpellsHeadline : Option RouterId → List Text → Type 0
+SpellsHeadline None (w ∷ []) = w ≡ codes "headline"
+SpellsHeadline (Some router) (w ∷ a ∷ []) = (w ≡ codes "headline") × IsRouterWord a router
+SpellsHeadline _ _ = ⊥
+
 -- the words behind `expect`
 abbrev pub IsExpected : List Text → Expected → Type 0
 IsExpected ws (Router router wanted) = IsWanted router wanted ws
+IsExpected ws (Headline router) = SpellsHeadline router ws
 IsExpected (w ∷ a ∷ b ∷ ws) (Walk from address cost) =
     (w ≡ codes "walk") × IsRouterWord a from × IsAddress b address × SpellsArrival ws cost
 IsExpected (w ∷ []) Agree = w ≡ codes "agree"

@@ -19,7 +19,7 @@ use Rattle.ospf_script.specs.declared.command.Many.TheVariants as many
 use Rattle.ospf_script.specs.declared.command.View.{View}
 use Rattle.ospf_script.specs.declared.command.View.TheVariants as view
 use Rattle.ospf_script.specs.declared.expected.Expected.{Expected}
-use Rattle.ospf_script.specs.declared.expected.Expected.TheVariants.{Router, Walk, Agree, Settled}
+use Rattle.ospf_script.specs.declared.expected.Expected.TheVariants.{Router, Walk, Agree, Headline, Settled}
 use Rattle.ospf_script.specs.declared.expected.Wanted.{Wanted}
 use Rattle.ospf_script.specs.declared.expected.Wanted.TheVariants.{Neighbour, NoNeighbour, Dr, Route, NoRoute}
 
@@ -70,6 +70,8 @@ expected_text (Walk from address cost) =
     codes "expect walk " ++ number_text from.0 ++ codes " " ++ number_text address.0
     ++ codes " arrived" ++ given_text decimal cost
 expected_text Agree = codes "expect agree"
+expected_text (Headline router) =
+    codes "expect headline" ++ given_text (λ (r : RouterId). number_text r.0) router
 expected_text Settled = codes "expect settled"
 
 -- the command of an event
@@ -119,6 +121,7 @@ command_text (command.Say text) = codes "say " ++ string_bytes text
 command_text (command.Why router link neighbour) =
     codes "why " ++ number_text router.0 ++ codes " " ++ decimal link
     ++ given_text (λ (r : RouterId). number_text r.0) neighbour
+command_text (command.WhyHeadline router) = codes "why headline " ++ number_text router.0
 command_text (command.Datagrams router most) =
     codes "datagrams " ++ number_text router.0 ++ given_text decimal most
 command_text (command.Drops router) = codes "drops " ++ number_text router.0

@@ -59,6 +59,11 @@ pub enum Command {
         link: usize,
         neighbour: Option<RouterId>,
     },
+    /// `why headline R`: whether every router that this one reaches runs and lists the same LSAs
+    /// as it is printed; and if not, which one does not.
+    WhyHeadline {
+        router: RouterId,
+    },
     /// `datagrams R [MOST]`: the last datagrams that a round offers to the router are printed, at
     /// most so many where that is given, each as the line that delivers it.
     Datagrams {

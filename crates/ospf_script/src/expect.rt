@@ -10,6 +10,7 @@ ghost use Rattle.ospf_script.specs.declared.expected.Expected.{Expected};
 use crate::expected::{Expected, Wanted};
 use crate::fault::CommandFault;
 use crate::several::values_in;
+use crate::shapes::router_in;
 use crate::values::{address_of, number_of, prefix_of, router_of, text_of};
 use crate::walk::ends_in;
 use crate::words::{first_word, is_alone, one_word, three_words, two_words};
@@ -52,6 +53,7 @@ fn plain_in(text: &[u8]) -> Option<Expected>
         "dr" => dr_in(rest),
         "no" => absent_in(rest),
         "walk" => arrival_in(rest),
+        "headline" => headline_in(rest),
         _ => None,
     }
 }
@@ -190,6 +192,17 @@ fn arrival_in(text: &[u8]) -> Option<Expected>
         address,
         cost,
     })
+}
+
+// What `headline` and the words after it expect.
+fn headline_in(text: &[u8]) -> Option<Expected>
+    ensures { Finds result (IsExpected (codes "headline" ∷ line_words text.now)) }
+{
+    let Some((_word, _rest)) = first_word(text) else {
+        return Some(Expected::Headline { router: None });
+    };
+    let router = Some(router_in(text)?);
+    Some(Expected::Headline { router })
 }
 
 // The word `arrived`, and a cost where one is given.

@@ -21,6 +21,11 @@ pub enum Expected {
     },
     /// `agree`: all routers that run list the same.
     Agree,
+    /// `headline [R]`: every router that the router reaches in what it lists runs, and lists the
+    /// same LSAs; where no router is given, so it is for every router that runs.
+    Headline {
+        router: Option<RouterId>,
+    },
     /// `settled`: the last `settle` ended because nothing changed any more,
     /// and nothing has happened since.
     Settled,

@@ -13,7 +13,9 @@ use crate::expect::expected_in;
 use crate::fault::CommandFault;
 use crate::name::Name;
 use crate::say::text_in;
-use crate::shapes::{datagrams_in, loss_in, numbers_in, rounds_in, router_in, switch_in, why_in};
+use crate::shapes::{
+    datagrams_in, loss_in, numbers_in, rounds_in, router_in, switch_in, why_headline_in, why_in,
+};
 use crate::values::number_of;
 use crate::walk::walk_in;
 use crate::words::{first_word, one_word};
@@ -133,6 +135,9 @@ fn of_forms(name: Name, text: &[u8]) -> Option<Command>
             Some(Command::Round { count, most })
         }
         Name::Why => {
+            if let Some(router) = why_headline_in(text) {
+                return Some(Command::WhyHeadline { router });
+            }
             let (router, link, neighbour) = why_in(text)?;
             Some(Command::Why {
                 router,

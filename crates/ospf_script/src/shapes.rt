@@ -1,6 +1,6 @@
 //! The words after the names of commands.
 
-ghost use Rattle.ospf_script.specs.Commands.{AreDatagramWords, AreNumbers, AreRoundWords, IsAddressAlone, IsLossWords, IsRouterAlone, IsRouterAndLink, IsSwitch, IsWhy};
+ghost use Rattle.ospf_script.specs.Commands.{AreDatagramWords, AreNumbers, AreRoundWords, IsAddressAlone, IsLossWords, IsRouterAlone, IsRouterAndLink, IsSwitch, IsWhy, IsWhyHeadline};
 ghost use Rattle.ospf_script.specs.Words.{Finds, line_words};
 
 use crate::values::{address_of, number_of, percent_of, router_of};
@@ -59,6 +59,17 @@ pub(crate) fn why_in(text: &[u8]) -> Option<(RouterId, usize, Option<RouterId>)>
     let router = router_of(router)?;
     let link = number_of(link)? as usize;
     Some((router, link, Some(router_of(neighbour)?)))
+}
+
+// The word `headline` and a Router ID.
+pub(crate) fn why_headline_in(text: &[u8]) -> Option<RouterId>
+    ensures { Finds result (IsWhyHeadline (line_words text.now)) }
+{
+    let (word, router) = two_words(text)?;
+    if word != b"headline".as_slice() {
+        return None;
+    }
+    router_of(router)
 }
 
 // A Router ID, and how many datagrams at most, where that is given.

@@ -59,6 +59,7 @@ impl Display for Command {
                 link,
                 neighbour,
             } => write!(f, "why {router} {link}{}", Given(*neighbour)),
+            Command::WhyHeadline { router } => write!(f, "why headline {router}"),
             Command::Datagrams { router, most } => {
                 write!(f, "datagrams {router}{}", Given(*most))
             }
@@ -95,6 +96,7 @@ impl Display for Expected {
                 cost,
             } => write!(f, "expect walk {from} {address} arrived{}", Given(*cost)),
             Expected::Agree => f.write_str("expect agree"),
+            Expected::Headline { router } => write!(f, "expect headline{}", Given(*router)),
             Expected::Settled => f.write_str("expect settled"),
         }
     }

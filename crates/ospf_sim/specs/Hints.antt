@@ -37,14 +37,14 @@ form_text (name.Show view.Table) = codes "table R"
 form_text name.Walk = codes "walk R ADDRESS [CHOICE..]"
 form_text (name.Show view.Floor) = codes "floor R"
 form_text name.Say = codes "say WORD.."
-form_text name.Why = codes "why R LINK [NEIGHBOUR]"
+form_text name.Why = codes "why R LINK [NEIGHBOUR], or why headline R"
 form_text name.Datagrams = codes "datagrams R [MOST]"
 form_text name.Drops = codes "drops R"
 form_text name.Lsas = codes "lsas R"
 form_text name.Loss = codes "loss PERCENT NUMBER [ADDRESS]"
 form_text name.Expect =
     codes
-    "expect full R S, expect neighbour R S STATE, expect no neighbour R LINK, expect dr R LINK ADDRESS [BACKUP], expect route R PREFIX COST [HOP..], expect no route R PREFIX, expect walk R ADDRESS arrived [COST], expect agree, or expect settled"
+    "expect full R S, expect neighbour R S STATE, expect no neighbour R LINK, expect dr R LINK ADDRESS [BACKUP], expect route R PREFIX COST [HOP..], expect no route R PREFIX, expect walk R ADDRESS arrived [COST], expect agree, expect headline [R], or expect settled"
 form_text name.Label = codes "label on, or label off"
 
 -- the hint for a first word: the list of commands if it is not a command name, else the form of the

@@ -94,13 +94,13 @@ fn form_of(name: Name) -> &'static str
         Name::Show(View::Floor) => "floor R",
         Name::Walk => "walk R ADDRESS [CHOICE..]",
         Name::Say => "say WORD..",
-        Name::Why => "why R LINK [NEIGHBOUR]",
+        Name::Why => "why R LINK [NEIGHBOUR], or why headline R",
         Name::Datagrams => "datagrams R [MOST]",
         Name::Drops => "drops R",
         Name::Lsas => "lsas R",
         Name::Loss => "loss PERCENT NUMBER [ADDRESS]",
         Name::Expect =>
-            "expect full R S, expect neighbour R S STATE, expect no neighbour R LINK, expect dr R LINK ADDRESS [BACKUP], expect route R PREFIX COST [HOP..], expect no route R PREFIX, expect walk R ADDRESS arrived [COST], expect agree, or expect settled",
+            "expect full R S, expect neighbour R S STATE, expect no neighbour R LINK, expect dr R LINK ADDRESS [BACKUP], expect route R PREFIX COST [HOP..], expect no route R PREFIX, expect walk R ADDRESS arrived [COST], expect agree, expect headline [R], or expect settled",
         Name::Label => "label on, or label off",
     }
 }

@@ -8,3 +8,4 @@ pub mod Offered
 pub mod Datagrams
 pub mod Sight
 pub mod RecordFiles
+pub mod Disagreements

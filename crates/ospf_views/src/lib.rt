@@ -7,6 +7,7 @@
 
 mod datagrams;
 mod detail;
+mod disagreement;
 mod drops;
 mod headed;
 mod misfit;
@@ -19,6 +20,7 @@ mod waits;
 
 pub use crate::datagrams::datagram_lines;
 pub use crate::detail::{Detail, detail_of};
+pub use crate::disagreement::{Disagreement, from_line, why_headline_line};
 pub use crate::drops::{drop_reason, dropped_detail};
 pub use crate::headed::write_shown;
 pub use crate::offered::why_lines;

@@ -168,6 +168,8 @@ fn asking(rt: HostRuntime) -> Result<(), Fail> {
     spells(&rt, alloc, "why 1.1.1.1 2", &why(None), "why 1.1.1.1 2")?;
     let one = why(Some(TWO));
     spells(&rt, alloc, " why  1.1.1.1 02 2.2.2.2", &one, "why 1.1.1.1 2 2.2.2.2")?;
+    let headline = Command::WhyHeadline { router: ONE };
+    spells(&rt, alloc, " why  headline 1.1.1.1", &headline, "why headline 1.1.1.1")?;
     let loss = |percent: u8, network: Option<Addr>| Command::Loss {
         percent,
         number: 7,
@@ -336,11 +338,15 @@ fn expecting_of_all(rt: HostRuntime) -> Result<(), Fail> {
     expects(&rt, alloc, line, walk(Some(u64::MAX)), printed)?;
     expects(&rt, alloc, "expect  agree ", Expected::Agree, "expect agree")?;
     expects(&rt, alloc, " expect settled", Expected::Settled, "expect settled")?;
+    let headline = |router: Option<RouterId>| Expected::Headline { router };
+    expects(&rt, alloc, "expect headline ", headline(None), "expect headline")?;
+    let line = "expect headline 1.1.1.1";
+    expects(&rt, alloc, " expect  headline 1.1.1.1", headline(Some(ONE)), line)?;
     Ok(())
 }
 
 // Each is refused for one reason.
-const UNREADABLE: [&[u8]; 122] = [
+const UNREADABLE: [&[u8]; 127] = [
     b"cut",
     b"cut all",
     b"cut 10.0.0",
@@ -364,6 +370,11 @@ const UNREADABLE: [&[u8]; 122] = [
     b"expect agree all",
     b"expect Agree",
     b"expect settled 1",
+    b"expect headline all",
+    b"expect headline 1.1.1.1 2.2.2.2",
+    b"expect headlines",
+    b"why headline",
+    b"why headline 1.1.1.1 0",
     b"expect walk 1.1.1.1 10.9.9.9",
     b"expect walk 1.1.1.1 arrived",
     b"expect walk 1.1.1.1 10.9.9.9 arrives",
@@ -487,14 +498,14 @@ fn hints(rt: HostRuntime) -> Result<(), Fail> {
         (b"settle x", "settle MAX"),
         (b"label", "label on, or label off"),
         (b"up all 0", "up R LINK, or up all"),
-        (b"why", "why R LINK [NEIGHBOUR]"),
+        (b"why", "why R LINK [NEIGHBOUR], or why headline R"),
         (b"datagrams", "datagrams R [MOST]"),
         (b"drops 1.1.1.1 0", "drops R"),
         (b"lsas all", "lsas R"),
         (b"loss 101 7", "loss PERCENT NUMBER [ADDRESS]"),
         (
             b"expect fully",
-            "expect full R S, expect neighbour R S STATE, expect no neighbour R LINK, expect dr R LINK ADDRESS [BACKUP], expect route R PREFIX COST [HOP..], expect no route R PREFIX, expect walk R ADDRESS arrived [COST], expect agree, or expect settled",
+            "expect full R S, expect neighbour R S STATE, expect no neighbour R LINK, expect dr R LINK ADDRESS [BACKUP], expect route R PREFIX COST [HOP..], expect no route R PREFIX, expect walk R ADDRESS arrived [COST], expect agree, expect headline [R], or expect settled",
         ),
         (b"tick", "tick R"),
         (b" start  1.1.1.1 ", "start R DD [FLOOR], or start all"),

@@ -4,6 +4,7 @@ ghost use Rattle.std.specs.Prelude.{◌≡◌, ◌<◌, IfOk, OnErr, length, opt
 ghost use Rattle.ospf_headline.specs.Headline.{Headline, IsReached};
 ghost use Rattle.ospf_router.specs.Steps.{is_dropped};
 ghost use Rattle.ospf_commands.specs.Deliveries.Batches.{AreTaken, IsBatch, IsBatchOf, IsNextWave, TakesWave, waiting_offers};
+ghost use Rattle.ospf_world.specs.Exact.{IsReachedExactly};
 ghost use Rattle.ospf_world.specs.Sounds.{IsSoundBetween};
 ghost use Rattle.ospf_world.specs.Ticks.{TicksGoOn};
 ghost use Rattle.ospf_world.specs.Watching.{Told};
@@ -36,10 +37,13 @@ pub fn batch<W: EventWatch>(
     ensures told { Told W.comes_gives W.came_gives (world.old, watch.old) (world.new, watch.new) }
     // What holds of every network holds of this one again, and its log of ticks continues.
     ensures reached { IsReached is_dropped (world_of world.new) }
+    ensures exact { IsReachedExactly world.new }
     ensures headline { Headline (world_of world.old) (world_of world.new) }
     ensures sound { IsSoundBetween (world_of world.old) (world_of world.new) }
     ensures ticks { TicksGoOn world.old world.new }
 {
+    // For the proof.
+    world.reached_exactly();
     batch_of(world, MOST_WAVES, watch, alloc)
 }
 

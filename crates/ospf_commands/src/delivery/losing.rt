@@ -4,6 +4,7 @@ ghost use Rattle.std.specs.Prelude.{◌≡◌, IfOk, OnErr, option_map};
 ghost use Rattle.ospf_headline.specs.Headline.{Headline, IsReached};
 ghost use Rattle.ospf_router.specs.Steps.{is_dropped};
 ghost use Rattle.ospf_commands.specs.Deliveries.Losses.{AreNextKept, AreOfferedBut, IsLosingRound, LosesNext};
+ghost use Rattle.ospf_world.specs.Exact.{IsReachedExactly};
 ghost use Rattle.ospf_world.specs.Rounds.{HasNext};
 ghost use Rattle.ospf_world.specs.Sounds.{IsSoundBetween};
 ghost use Rattle.ospf_world.specs.Ticks.{TicksOn};
@@ -32,6 +33,7 @@ pub fn round_losing<W: EventWatch>(
     ensures told { Told W.comes_gives W.came_gives (world.old, watch.old) (world.new, watch.new) }
     // What holds of every network holds of this one again, and its log of ticks continues.
     ensures reached { IsReached is_dropped (world_of world.new) }
+    ensures exact { IsReachedExactly world.new }
     ensures headline { Headline (world_of world.old) (world_of world.new) }
     ensures sound { IsSoundBetween (world_of world.old) (world_of world.new) }
     ensures ticks { TicksOn (world_of world.old) world.old.ticks (world_of world.new)
@@ -42,6 +44,7 @@ pub fn round_losing<W: EventWatch>(
     soundness();
     runs_lead_on();
     world.reached();
+    world.reached_exactly();
     let Ok(ticks) = ticks_of(world.slots(), alloc) else {
         return Err(WorldFault::Memory { stopped: false });
     };

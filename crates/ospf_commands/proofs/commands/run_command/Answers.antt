@@ -1,7 +1,7 @@
 use Rattle.std.proofs.Common.{ap, refl}
 use Rattle.ospf_commands.proofs.Deliveries.ProgressFacts.{on_events, on_nowhere, on_same_world}
 use Rattle.ospf_script.specs.declared.command.Command.TheVariants as command
-use Rattle.ospf_commands.specs.Asked.{AreDatagramsShown, AreDropsShown, AreLsasShown, IsViewShown, IsWhyAnswered}
+use Rattle.ospf_commands.specs.Asked.{AreDatagramsShown, AreDropsShown, AreLsasShown, IsViewShown, IsWhyAnswered, IsWhyHeadlineAnswered}
 use Rattle.ospf_commands.specs.declared.simulation.Simulation.{Simulation}
 use Rattle.ospf_commands.proofs.Done.{asked_begun, asked_done, begun_as, done_as}
 use Rattle.ospf_commands.proofs.commands.run_command.Goals as goal
@@ -43,6 +43,16 @@ pub returns-in-Why-clause-begun : goal.returns-in-Why-clause-begun
 returns-in-Why-clause-begun g c =
     begun_as _ (command.Why c.in-Why.router c.in-Why.link c.in-Why.neighbour) _ _ _ _ _ c.in-Why.is
     (asked_begun (IsWhyAnswered c.in-Why.router c.in-Why.link c.in-Why.neighbour) _ _ _ _ c.show_why.ensures.begun)
+
+pub returns-in-WhyHeadline-clause-done : goal.returns-in-WhyHeadline-clause-done
+returns-in-WhyHeadline-clause-done g c =
+    done_as _ (command.WhyHeadline c.in-WhyHeadline.router) _ _ _ _ _ c.in-WhyHeadline.is
+    (asked_done (IsWhyHeadlineAnswered c.in-WhyHeadline.router) _ _ _ _ c.show_premise.ensures.answered)
+
+pub returns-in-WhyHeadline-clause-begun : goal.returns-in-WhyHeadline-clause-begun
+returns-in-WhyHeadline-clause-begun g c =
+    begun_as _ (command.WhyHeadline c.in-WhyHeadline.router) _ _ _ _ _ c.in-WhyHeadline.is
+    (asked_begun (IsWhyHeadlineAnswered c.in-WhyHeadline.router) _ _ _ _ c.show_premise.ensures.begun)
 
 pub returns-in-Datagrams-clause-done : goal.returns-in-Datagrams-clause-done
 returns-in-Datagrams-clause-done g c =
@@ -100,6 +110,9 @@ returns-in-Say-clause-told g c = on_nowhere _ _ _ _ _ refl
 
 pub returns-in-Why-clause-told : goal.returns-in-Why-clause-told
 returns-in-Why-clause-told g c = on_nowhere _ _ _ _ _ refl
+
+pub returns-in-WhyHeadline-clause-told : goal.returns-in-WhyHeadline-clause-told
+returns-in-WhyHeadline-clause-told g c = on_nowhere _ _ _ _ _ refl
 
 pub returns-in-Datagrams-clause-told : goal.returns-in-Datagrams-clause-told
 returns-in-Datagrams-clause-told g c = on_nowhere _ _ _ _ _ refl

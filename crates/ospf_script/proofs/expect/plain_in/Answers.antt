@@ -22,4 +22,4 @@ returns-in_default-clause-none c =
     (only_known _ _ (λ e. agree (first ∙ e)) (λ e. settled (first ∙ e)) (λ e. c.in_default.not-full (text ∙ e))
     (λ is. elim is [ inl british ↦ c.in_default.not-neighbour (text ∙ british) | inr american ↦ c.in_default.not-neighbor (text ∙ american) ])
     (λ e. c.in_default.not-dr (text ∙ e)) (λ e. c.in_default.not-no (text ∙ e))
-    (λ e. c.in_default.not-walk (text ∙ e)))
+    (λ e. c.in_default.not-walk (text ∙ e)) (λ e. c.in_default.not-headline (text ∙ e)))

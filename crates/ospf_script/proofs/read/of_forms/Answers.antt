@@ -9,8 +9,9 @@ returns-in_err-count-in-Round-clause-none c =
 
 pub returns-in_err-router-in-Why-clause-none : goal.returns-in_err-router-in-Why-clause-none
 returns-in_err-router-in-Why-clause-none c =
+    let other = c.in_default-why_headline_in.ensures in
     let none = rw c.in_err-router-in-Why.was at c.why_in.ensures in
-    if_none c.from_residual-in_err-router-in-Why.result _ (λ has. rw c.in-Why.is (no_why _ none))
+    if_none c.from_residual-in_err-router-in-Why.result _ (λ has. rw c.in-Why.is (no_why _ other none))
 
 pub returns-in_err-percent-in-Loss-clause-none : goal.returns-in_err-percent-in-Loss-clause-none
 returns-in_err-percent-in-Loss-clause-none c =

@@ -2,6 +2,7 @@ use Rattle.std.proofs.Common.{◌≡◌, [], ap, refl, rules, ◌∙◌}
 use Rattle.ospf_router.specs.Steps.{is_dropped}
 use Rattle.ospf_world.specs.Rounds.{ticks}
 use Rattle.ospf_world.specs.Worlds.{world_of}
+use Rattle.ospf_world.proofs.ExactFacts.{told_exact}
 use Rattle.ospf_world.proofs.RandomFacts.{reached_on}
 use Rattle.ospf_commands.proofs.Deliveries.LossFacts.{losing_goes, losing_leads, losing_ticks_end}
 use Rattle.ospf_world.proofs.TickFacts.{sound_between, ticks_further, ticks_nowhere}
@@ -53,3 +54,12 @@ returns-clause-told g c = search (rules, run_told)
 
 pub returns-in_default-clause-told : goal.returns-in_default-clause-told
 returns-in_default-clause-told g c = told_nowhere _ _ _ _ refl
+
+pub returns-in-Ok-run_watched-clause-exact : goal.returns-in-Ok-run_watched-clause-exact
+returns-in-Ok-run_watched-clause-exact g c = told_exact _ _ _ _ (returns-in-Ok-run_watched-clause-told g c) c.reached_exactly.ensures
+
+pub returns-clause-exact : goal.returns-clause-exact
+returns-clause-exact g c = told_exact _ _ _ _ (returns-clause-told g c) c.reached_exactly.ensures
+
+pub returns-in_default-clause-exact : goal.returns-in_default-clause-exact
+returns-in_default-clause-exact g c = c.reached_exactly.ensures
