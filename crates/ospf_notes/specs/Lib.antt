@@ -5,3 +5,6 @@ pub mod Misfits
 pub mod Refused
 pub mod Others
 pub mod Faulty
+pub mod LsaChanges
+pub mod LsaLines
+pub mod LsaLogs

@@ -9,10 +9,13 @@ use crate::capture::{Capture, record_of};
 use crate::dropped::{Heard, dropped_in};
 use crate::faulty::Faulty;
 use crate::line::StatusLine;
+use crate::lsa_changes::{KnownLsas, LsaChange};
+use crate::lsa_log::LsaLog;
 use crate::misfits::{MisfitShown, Misfits};
 use crate::others::Others;
 use crate::refused::{RefusedLsa, RefusedShown};
 use crate::tables::Tables;
+use ospf_area::Outputs;
 use ospf_base::{Addr, MOST_INTERFACES, RouterId};
 use ospf_config::Interface;
 use ospf_files::{Failure, NamedFile, tell_unwritten};
@@ -47,6 +50,9 @@ pub struct Noted<F: Write + Drop, T: Write + Drop, O: Write + Drop> {
     /// Where a journal is written, if one is, and the name of that file.
     pub journal: Option<Journal<F>>,
     pub log: Option<String>,
+    /// Where a journal of LSAs is written, if one is, and the name of that file.
+    pub lsas: Option<LsaLog<F>>,
+    pub lsas_name: Option<String>,
 }
 
 /// The notes of one router. The notes of all routers of a run share a capture, tables, counts and a
@@ -71,6 +77,8 @@ pub struct Notes<R: Wait + Clock + Copy + Drop, F: Write + Drop, T: Write + Drop
     counts: Option<Vec<DropCounts>>,
     // What was seen of the router, if a journal is written.
     seen: Option<Seen>,
+    // The LSAs that it listed, if a journal of LSAs is written.
+    known: Option<KnownLsas>,
     teller: Teller,
 }
 
@@ -91,6 +99,7 @@ impl<R: Wait + Clock + Copy + Drop, F: Write + Drop, T: Write + Drop, O: Write +
     ) -> Result<Notes<R, F, T, O>, AllocError> {
         let (of, drops, shows) = (noted.of, noted.drops, noted.line.has_terminal());
         let (captures, logs) = (noted.capture.is_some(), noted.journal.is_some());
+        let lists = noted.lsas.is_some();
         let every = noted.tables.as_ref().map(|it| it.every());
         let mut shared = Shared::new(alloc, noted);
         shared.capture(Ok(capture_head(alloc)?));
@@ -108,7 +117,8 @@ impl<R: Wait + Clock + Copy + Drop, F: Write + Drop, T: Write + Drop, O: Write +
             full: 0,
             heard: None,
             counts: first_counts(drops, &[], alloc)?,
-            seen: first_seen(logs, alloc),
+            seen: logs.then_some(Seen::nothing(alloc)),
+            known: lists.then_some(KnownLsas::none(alloc)),
             teller: Teller::none(alloc),
         })
     }
@@ -122,6 +132,14 @@ impl<R: Wait + Clock + Copy + Drop, F: Write + Drop, T: Write + Drop, O: Write +
     pub fn is_logged(&self) -> bool {
         match &self.shared.lock(&self.rt).journal {
             Some(journal) => journal.is_written(),
+            None => true,
+        }
+    }
+
+    /// Whether the journal of LSAs, if there is one, is complete so far.
+    pub fn are_lsas_logged(&self) -> bool {
+        match &self.shared.lock(&self.rt).lsas {
+            Some(lsas) => lsas.is_written(),
             None => true,
         }
     }
@@ -143,6 +161,7 @@ impl<R: Wait + Clock + Copy + Drop, F: Write + Drop, T: Write + Drop, O: Write +
             count_dropped(counts, Some(at.link), Some(at.cause));
         }
         self.log(router, step, dropped);
+        self.log_lsas(router, step);
         if self.has_ticked {
             self.has_ticked = false;
             self.print_table(router);
@@ -167,6 +186,22 @@ impl<R: Wait + Clock + Copy + Drop, F: Write + Drop, T: Write + Drop, O: Write +
         }
         let mut all = self.shared.lock(&self.rt);
         all.log(self.alloc, self.ticks, self.teller.router, changes);
+    }
+
+    // Writes what became of the LSAs that the router lists into the journal of LSAs, if one is
+    // written.
+    fn log_lsas(&mut self, router: &Router, step: &Step) {
+        let Some(known) = &mut self.known else {
+            return;
+        };
+        let changes = changed_lsas(known, self.teller.router, router, &step.out, self.alloc);
+        if let Ok(changes) = &changes {
+            if changes.is_empty() {
+                return;
+            }
+        }
+        let mut all = self.shared.lock(&self.rt);
+        all.log_lsas(self.alloc, self.ticks, self.teller.router, changes);
     }
 
     // Reports a neighbour that has an LSA which the router refuses, if there is one to report.
@@ -235,7 +270,8 @@ impl<R: Wait + Clock + Copy + Drop, F: Write + Drop, T: Write + Drop, O: Write +
             full: 0,
             heard: None,
             counts,
-            seen: first_seen(self.seen.is_some(), self.alloc),
+            seen: self.seen.is_some().then_some(Seen::nothing(self.alloc)),
+            known: self.known.is_some().then_some(KnownLsas::none(self.alloc)),
             teller,
         })
     }
@@ -294,6 +330,10 @@ struct Shared<F: Write + Drop, T: Write + Drop, O: Write + Drop> {
     journal: Option<Journal<F>>,
     // The name of its file.
     log: Option<String>,
+    // `None` if no journal of LSAs is written.
+    lsas: Option<LsaLog<F>>,
+    // The name of its file.
+    lsas_name: Option<String>,
     // Why tables are no longer printed.
     failure: Option<Failure>,
     line: StatusLine<T>,
@@ -315,6 +355,8 @@ impl<F: Write + Drop, T: Write + Drop, O: Write + Drop> Shared<F, T, O> {
             ending: noted.ending,
             journal: noted.journal,
             log: noted.log,
+            lsas: noted.lsas,
+            lsas_name: noted.lsas_name,
             failure: None,
             line: noted.line,
             drops: Some(Vec::new(alloc)),
@@ -373,6 +415,25 @@ impl<F: Write + Drop, T: Write + Drop, O: Write + Drop> Shared<F, T, O> {
         journal.write(alloc, ticks, router, changes);
         if was_written && !journal.is_written() {
             tell_lost(&self.log, &mut self.line);
+        }
+    }
+
+    // Writes what became of LSAs of a router into the journal of LSAs. When that fails, this is
+    // reported once.
+    fn log_lsas(
+        &mut self,
+        alloc: Global,
+        ticks: u64,
+        router: RouterId,
+        changes: Result<Vec<LsaChange>, AllocError>,
+    ) {
+        let Some(lsas) = &mut self.lsas else {
+            return;
+        };
+        let was_written = lsas.is_written();
+        lsas.write(alloc, ticks, router, changes);
+        if was_written && !lsas.is_written() {
+            tell_lost(&self.lsas_name, &mut self.line);
         }
     }
 
@@ -492,20 +553,26 @@ fn first_counts(
     interfaces: &[Interface],
     alloc: Global,
 ) -> Result<Option<Vec<DropCounts>>, AllocError> {
-    if is_counted {
-        Ok(Some(none_dropped_on(interfaces, alloc)?))
-    } else {
-        Ok(None)
+    if !is_counted {
+        return Ok(None);
     }
+    Ok(Some(none_dropped_on(interfaces, alloc)?))
 }
 
-// What is known of a router before its first step, if a journal is written.
-fn first_seen(is_wanted: bool, alloc: Global) -> Option<Seen> {
-    if is_wanted {
-        Some(Seen::nothing(alloc))
-    } else {
-        None
+// What became of the LSAs that a router lists, by a step with these outputs.
+fn changed_lsas(
+    known: &mut KnownLsas,
+    own: RouterId,
+    router: &Router,
+    out: &Outputs,
+    alloc: Global,
+) -> Result<Vec<LsaChange>, AllocError> {
+    if let Some(area) = router.area() {
+        if known.is_still(out, &area.database) {
+            return Ok(Vec::new(alloc));
+        }
     }
+    known.follow(own, &out.taken, router.listing(alloc)?, alloc)
 }
 
 // Puts it in memory that can be shared.

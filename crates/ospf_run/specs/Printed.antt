@@ -1,7 +1,9 @@
 -- What is printed about routers whose drivers have ended, and what is reported on standard error.
-use Rattle.std.specs.Prelude.{◌≡◌, ◌==◌, if◌then◌else◌, ℕ, Bool, true, false, List, [], ◌++◌, Option, None, Some, Ok, Err, codes, decimal, flat_map, cond}
+use Rattle.std.specs.Prelude.{◌≡◌, ◌==◌, if◌then◌else◌, ℕ, Bool, true, false, List, [], ◌++◌, Option, None, Some, Ok, Err, codes, decimal, flat_map, map, cond}
 use Rattle.std.specs.List.{list_any}
 use Rattle.std.specs.Io.KnownBytes.{Appends}
+use Rattle.hex.specs.Hex.{encode_lower}
+use Rattle.ospf_area.specs.State.{AreaValue}
 use Rattle.ospf_base.specs.Text.{number_text}
 use Rattle.ospf_base.specs.declared.ids.RouterId.{RouterId}
 use Rattle.ospf_drive.specs.Faults.{drive_fault_text}
@@ -12,6 +14,7 @@ use Rattle.ospf_files.specs.declared.status.Failure.{Failure}
 use Rattle.ospf_files.specs.declared.status.Status.{Status}
 use Rattle.ospf_files.specs.declared.status.Status.TheVariants as status
 use Rattle.ospf_journal.specs.Counted.{drop_lines}
+use Rattle.ospf_lsdb.specs.Database.{entries, lsa_of}
 use Rattle.ospf_router.specs.Routers.{RouterValue, greatest_in}
 use Rattle.ospf_script.specs.Texts.{floor_text}
 use Rattle.ospf_files.specs.Shown.{lookup_line, routes_text}
@@ -48,17 +51,33 @@ abbrev pub viewed_lines : Bool → View → RouterValue → List ℕ
 viewed_lines false view router = []
 viewed_lines true view router = view_lines view router
 
+-- all LSAs of a router's LSDB in the order of their keys, each at its present age, those at MaxAge
+-- too (12.2); a router that has stopped has none
+abbrev pub lsdb_of : Option AreaValue → List (List ℕ)
+lsdb_of None = []
+lsdb_of (Some s) = map lsa_of (entries s.database)
+
+-- an LSA of the LSDB as a line of hexadecimal digits
+abbrev pub lsdb_line : List ℕ → List ℕ
+lsdb_line lsa = encode_lower lsa ++ codes "\n"
+
+-- all LSAs of a router's LSDB, a line each, if they are wanted
+abbrev pub lsdb_lines : Bool → RouterValue → List ℕ
+lsdb_lines false x = []
+lsdb_lines true x = flat_map lsdb_line (lsdb_of x.area)
+
 -- what was dropped, if this router dropped it
 abbrev pub drops_of : RouterId → Drops → List ℕ
 drops_of router drops = if drops.router.0 == router.0 then drop_lines drops.links.items else []
 
--- the extras of a router, after its table and a lookup: its neighbours, its listing, what it
--- dropped, the floor of its numbers
+-- the extras of a router, after its table and a lookup: its neighbours, its listing, its LSDB, what
+-- it dropped, the floor of its numbers
 abbrev pub extra_lines : Extras → RouterId → RouterValue → List ℕ
 extra_lines extras router x =
     viewed_lines extras.neighbours view.Neighbours x
     ++ (viewed_lines extras.listing view.Listing x
-    ++ (flat_map (drops_of router) extras.drops.items ++ floor_lines extras.floor x))
+    ++ (lsdb_lines extras.lsdb x
+    ++ (flat_map (drops_of router) extras.drops.items ++ floor_lines extras.floor x)))
 
 -- the Router ID
 abbrev pub router_id_line : RouterId → List ℕ

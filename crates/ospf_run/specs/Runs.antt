@@ -96,6 +96,7 @@ pub record Asked : Type 0 where
   pub floor : Option (List ℕ)
   pub neighbours : Bool
   pub listing : Bool
+  pub lsdb : Bool
   pub drops : Bool
 
 -- the text of the requested floor
@@ -114,14 +115,16 @@ asked_of settings = record {
   floor = floor_of settings;
   neighbours = settings.neighbours;
   listing = settings.listing;
+  lsdb = settings.lsdb;
   drops = settings.drops;
 }
 
--- what is printed besides tables and lookups: neighbours and listing, if requested; no drops, if
--- they are not requested; and a floor, if one is given
+-- what is printed besides tables and lookups: neighbours, listing and LSDB, if requested; no drops,
+-- if they are not requested; and a floor, if one is given
 pub record AreExtras (asked : Asked) (extras : Extras) : Type 0 where
   pub neighbours : extras.neighbours ≡ asked.neighbours
   pub listing : extras.listing ≡ asked.listing
+  pub lsdb : extras.lsdb ≡ asked.lsdb
   pub no_drops : asked.drops ≡ false → extras.drops.items ≡ []
   pub floor : extras.floor ≡ is_some asked.floor
 

@@ -5,6 +5,7 @@ ghost use Rattle.std.specs.Io.KnownBytes.{Appends};
 ghost use Rattle.ospf_files.specs.Streams.{IsBegun, IsOutputCut};
 ghost use Rattle.ospf_run.specs.Printed.{drops_of, extra_lines, floor_line, floor_lines, viewed_lines};
 
+use crate::lsdb::print_lsdb;
 use crate::outcome::{Drops, Extras};
 use ospf_base::RouterId;
 use ospf_files::{FailedStreams, Failure};
@@ -15,8 +16,8 @@ use ospf_views::write_view;
 use std::alloc::{AllocError, Global};
 use std::io::Write;
 
-/// Prints the extras of a router that are wanted: its neighbours, its listing, what it dropped, and
-/// the floor of its numbers.
+/// Prints the extras of a router that are wanted: its neighbours, its listing, its LSDB, what it
+/// dropped, and the floor of its numbers.
 pub(crate) fn print_extras<O: Write>(
     alloc: Global,
     id: RouterId,
@@ -40,6 +41,7 @@ pub(crate) fn print_extras<O: Write>(
         streams,
     )?;
     print_viewed(alloc, extras.listing, View::Listing, router, out, streams)?;
+    print_lsdb(alloc, extras.lsdb, router, out, streams)?;
     print_drops(alloc, id, &extras.drops, out, streams)?;
     print_floor(alloc, router, extras.floor, out, streams)
 }

@@ -14,6 +14,7 @@ mod begin;
 mod extras;
 mod finish;
 mod look;
+mod lsdb;
 mod outcome;
 mod over;
 mod print;

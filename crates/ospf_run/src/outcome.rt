@@ -44,6 +44,8 @@ pub struct Extras {
     pub neighbours: bool,
     /// Its listing.
     pub listing: bool,
+    /// All LSAs of its LSDB.
+    pub lsdb: bool,
     /// What all the routers dropped.
     pub drops: Vec<Drops>,
     /// The floor of its numbers.

@@ -30,8 +30,8 @@ use std::time::Clock;
 /// up. The run ends after the last tick, if there is a last one, or when it is asked to end. Then
 /// each router whose driver reached the end is written to `out`, in the order of the files:
 /// `router` and its Router ID, its routing table, the result of a lookup in it, if an address is
-/// given, its neighbours, its listing and what it dropped, if requested, and the floor of its
-/// numbers, if one is given. Why another driver ended is reported on `err`. Meanwhile the tap
+/// given, its neighbours, its listing, its LSDB and what it dropped, if requested, and the floor of
+/// its numbers, if one is given. Why another driver ended is reported on `err`. Meanwhile the tap
 /// receives what happens to each router, each time from the router's thread.
 ///
 /// These end the run before a socket is opened, the first that holds, each with a report on `err`:

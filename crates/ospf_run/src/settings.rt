@@ -25,6 +25,8 @@ pub struct Settings {
     pub neighbours: bool,
     /// Whether the LSAs that each router lists are printed.
     pub listing: bool,
+    /// Whether all LSAs of each router's LSDB are printed, in hexadecimal.
+    pub lsdb: bool,
     /// Whether to print how many packets each router dropped.
     pub drops: bool,
 }
@@ -48,6 +50,7 @@ impl Settings {
         Extras {
             neighbours: self.neighbours,
             listing: self.listing,
+            lsdb: self.lsdb,
             drops,
             floor: self.floor.is_some(),
         }

@@ -135,6 +135,7 @@ fn run<R: Net + Threads + Wait + Clock + Copy + Send + Drop + 'static, O: Write,
         floor: Some(String::from_str(alloc, floor)?),
         neighbours: false,
         listing: false,
+        lsdb: false,
         drops: false,
     };
     let text = format!(in alloc; "{CONFIG}port = 17109\n")?;
