@@ -25,13 +25,6 @@ pub zip_more : {X Y : Type 0} (R : X → Y → Type 0) (xs : List X) (i : ℕ) (
     → AllZip R (take (i + 1) xs) (ys ++ y ∷ [])
 zip_more R xs i x ys y lt is zip r = rw (take_more xs i x lt, ← is) (all_zipped_more R (take i xs) ys x y zip r)
 
--- more of each behind them
-pub zip_append : {X Y : Type 0} (R : X → Y → Type 0) (xs more : List X) (ys others : List Y) → AllZip R xs ys → AllZip R more others → AllZip R (xs ++ more) (ys ++ others)
-zip_append R [] more [] others h k = k
-zip_append R [] more (y ∷ ys) others h k = absurd h
-zip_append R (x ∷ xs) more [] others h k = absurd h
-zip_append R (x ∷ xs) more (y ∷ ys) others h k = (h.0, zip_append R xs more ys others h.1 k)
-
 -- this holds of what is found, unless memory runs out
 abbrev pub IsFound : {B X : Type 0} → (B → X → Type 0) → B → Result X AllocError → Type 0
 IsFound R b found = IfOk found (R b)

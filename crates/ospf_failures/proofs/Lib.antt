@@ -6,3 +6,4 @@ pub mod OverallLemmas
 pub mod JsonLemmas
 pub mod WithoutLemmas
 pub mod RouterLemmas
+pub mod RootLemmas

@@ -1,8 +1,10 @@
 -- What each failure of an area changes in the tables of all its routers.
-use Rattle.std.specs.Prelude.{◌≡◌, ◌↔◌, ◌<◌, ◌^◌, ℕ, true, false, List, [], ◌∷◌, ◌++◌, ◌⊎◌, All, AllPairs, Any, Contains, IsPermutation, codes, count_by, filter, flat_map, fold, length, map, not, string_bytes, sum_by}
+use Rattle.std.specs.Prelude.{◌≡◌, ◌↔◌, ◌<◌, ◌^◌, ℕ, true, false, List, [], ◌∷◌, ◌+◌, ◌++◌, ◌⊎◌, All, AllPairs, Any, Contains, IsPermutation, Vec, codes, count_by, filter, flat_map, fold, length, map, not, string_bytes, sum_by}
 use Rattle.std.specs.Cmp.Lexicographic.{slice_cmp}
+use Rattle.std.specs.List.{AllZip, zip}
 use Rattle.std.specs.List.Sorted.{IsSorted}
 use Rattle.std.specs.Ordering.{nat_cmp, ordering_then}
+use Rattle.std.specs.declared.alloc.Global.{Global}
 use Rattle.std.specs.declared.cmp.Ordering.{Ordering}
 use Rattle.std.specs.declared.cmp.Reverse.{Reverse}
 use Rattle.ospf_base.specs.Text.{number_text}
@@ -13,7 +15,7 @@ use Rattle.ospf_graph.specs.declared.route.Route.{Route}
 use Rattle.ospf_whatif.specs.Carrier.{IsFailureBy}
 use Rattle.ospf_whatif.specs.Effect.{IsEffectIn}
 use Rattle.ospf_whatif.specs.Failure.{without_all}
-use Rattle.ospf_whatif.specs.Outage.{IsKeptRoot}
+use Rattle.ospf_whatif.specs.Outage.{IsKeptRoot, IsOutage}
 use Rattle.ospf_whatif.specs.Single.{IsFailureBefore}
 use Rattle.ospf_whatif.specs.declared.carrier.Breakdown.{Breakdown}
 use Rattle.ospf_whatif.specs.declared.carrier.Carrier.{Carrier}
@@ -21,13 +23,14 @@ use Rattle.ospf_whatif.specs.declared.effect.RouteChange.{RouteChange}
 use Rattle.ospf_whatif.specs.declared.failure.AreaFailure.{AreaFailure}
 use Rattle.ospf_whatif.specs.declared.failure.AreaFailure.TheVariants.{Router}
 use Rattle.ospf_table.specs.Changes.{change_line, totals_of}
-use Rattle.ospf_table.specs.Sums.{has_changes, sums_line, sums_plus}
+use Rattle.ospf_table.specs.Sums.{HasSumRoom, has_changes, sums_line, sums_plus}
 use Rattle.ospf_table.specs.declared.sums.Sums.{Sums}
-use Rattle.ospf_harm.specs.Harm.{harm_at, harm_plus, no_harm}
+use Rattle.ospf_harm.specs.Harm.{HasHarmRoom, harm_at, harm_plus, no_harm}
 use Rattle.ospf_harm.specs.declared.harm.Harm.{Harm}
 use Rattle.ospf_failures.specs.Reports.{SightValue, is_of, failure_place}
 use Rattle.ospf_failures.specs.Together.{AreSingle, IsEffectBy}
-use Rattle.ospf_failures.specs.declared.overall.Before.{Before}
+use Rattle.ospf_failures.specs.declared.roots.Before.{Before}
+use Rattle.ospf_failures.specs.declared.roots.FailureOutage.{FailureOutage}
 use Rattle.ospf_failures.specs.declared.overall.RouteDetail.{RouteDetail}
 use Rattle.ospf_failures.specs.declared.overall.RouteDetail.TheVariants as detail
 use Rattle.ospf_failures.specs.declared.overall.Overall.{Overall}
@@ -148,28 +151,51 @@ pub record IsTableBefore (adverts : List Advertisement) (b : Before) : Type 0 wh
   pub kept : IsKeptRoot adverts b.kept
   pub root_is : b.kept.root ≡ b.root
 
--- what failures that leave this of the area change in the table of one of these routers
-abbrev pub IsSightFrom : List Advertisement → List Before → SightValue → Type 0
-IsSightFrom left befores sight =
-    (b : Before) × Contains befores b × (b.root ≡ sight.0) × IsEffectIn left b.root b.table sight.1
+-- a failure, and what it and all that fails with it take from the graph of the area
+pub record IsOutageOf (adverts : List Advertisement) (b : Breakdown) (o : FailureOutage)
+    : Type 0 where
+  pub failure_is : o.failure ≡ b.failure
+  pub parts_are : o.outage.failures.items ≡ b.parts.items
+  pub outage : IsOutage adverts o.outage
+
+-- what failures take from the graph of the area
+abbrev pub AreOutages : List Advertisement → List FailureOutage → Type 0
+AreOutages adverts outages = All (λ o. IsOutage adverts o.outage) outages
+
+-- what the outage leaves of the area
+abbrev pub left_after_outage : List Advertisement → FailureOutage → List Advertisement
+left_after_outage adverts o = without_all o.outage.failures.items adverts
+
+-- what failures that leave this of the area change in the table of a router
+pub record IsSightFrom (adverts left : List Advertisement) (sight : SightValue) : Type 0 where
+  pub table : List Route
+  pub is_table : IsTable adverts sight.0 table
+  pub effect : IsEffectIn left sight.0 table sight.1
+  pub few : length sight.1 < 2 ^ 64
 
 -- the result so far, over some of the routers
-pub record IsSoFar (left : List Advertisement) (befores : List Before) (wanted : RouteDetail)
+pub record IsSoFar (adverts left : List Advertisement) (wanted : RouteDetail)
     (roots : List RouterId) (o : Overall) : Type 0 where
   pub sights : List SightValue
   pub routers : map (λ s. s.0) sights ≡ filter (λ r. not (is_of r o.failure)) roots
-  pub seen : All (IsSightFrom left befores) sights
+  pub seen : All (IsSightFrom adverts left) sights
   pub sums_are : o.sums ≡ sums_of sights
   pub harm_is : o.harm ≡ harm_of o.failure sights
   pub lines_are : string_bytes o.lines ≡ lines_kept wanted o.failure sights
   pub sights_are : o.sights.items ≡ sights_kept wanted sights
 
--- what a failure and all that fails with it change in the tables of these routers
-pub record IsOverallOf (adverts : List Advertisement) (befores : List Before) (wanted : RouteDetail)
-    (b : Breakdown) (o : Overall) : Type 0 where
-  pub failure_is : o.failure ≡ b.failure
-  pub so_far :
-      IsSoFar (without_all b.parts.items adverts) befores wanted (map (λ r. r.root) befores) o
+-- what an outage changes in the tables of these routers
+pub record IsSeenAt (adverts : List Advertisement) (wanted : RouteDetail) (roots : List RouterId)
+    (outage : FailureOutage) (o : Overall) : Type 0 where
+  pub failure_is : o.failure ≡ outage.failure
+  pub so_far : IsSoFar adverts (left_after_outage adverts outage) wanted roots o
+
+-- what each of these outages changes there
+abbrev pub AreSeenAt
+    : List Advertisement → RouteDetail → List FailureOutage → List RouterId → Vec Overall Global
+    → Type 0
+AreSeenAt adverts wanted outages roots overalls =
+    AllZip (IsSeenAt adverts wanted roots) outages overalls.items
 
 -- what is kept of one router more
 pub record KeepsMore (wanted : RouteDetail) (sight : SightValue) (old new : Overall) : Type 0 where
@@ -199,3 +225,50 @@ pub record SeesMore (left : List Advertisement) (before : Before) (wanted : Rout
 abbrev pub Sees : List Advertisement → Before → RouteDetail → Overall → Overall → Type 0
 Sees left before wanted old new =
     ((is_of before.root old.failure ≡ true) × (new ≡ old)) ⊎ SeesMore left before wanted old new
+
+-- at each of some outages one router more
+abbrev pub AreSeenMore
+    : List Advertisement → Before → RouteDetail → List FailureOutage → List Overall → List Overall
+    → Type 0
+AreSeenMore adverts before wanted outages old new =
+    AllZip (λ p o. Sees (left_after_outage adverts p.0) before wanted p.1 o) (zip outages old) new
+
+-- one router more can be added
+pub record HasRoomForOne (o : Overall) : Type 0 where
+  pub sums : HasSumRoom 1 o.sums
+  pub harm : HasHarmRoom 1 o.harm
+
+-- ---- at two groups of routers
+
+-- what is found at both can be added
+pub record FitTogether (a b : Overall) : Type 0 where
+  pub cut : a.sums.cut + b.sums.cut < 2 ^ 128
+  pub gone : a.sums.gone + b.sums.gone < 2 ^ 128
+  pub cost : a.sums.cost + b.sums.cost < 2 ^ 128
+  pub hops : a.sums.hops + b.sums.hops < 2 ^ 128
+  pub routers : a.sums.routers + b.sums.routers < 2 ^ 64
+  pub lost : a.harm.lost + b.harm.lost < 2 ^ 128
+  pub rerouted : a.harm.rerouted + b.harm.rerouted < 2 ^ 128
+  pub own : a.harm.own + b.harm.own < 2 ^ 128
+
+-- the sums of both
+abbrev pub sums_and : Sums → Sums → Sums
+sums_and s t = record {
+  cut = s.cut + t.cut;
+  gone = s.gone + t.gone;
+  cost = s.cost + t.cost;
+  hops = s.hops + t.hops;
+  routers = s.routers + t.routers;
+}
+
+-- what is found of a failure at both
+pub record IsSumOfBoth (a b both : Overall) : Type 0 where
+  pub same : both.failure ≡ a.failure
+  pub sums_are : both.sums ≡ sums_and a.sums b.sums
+  pub harm_is : both.harm ≡ harm_plus a.harm b.harm
+  pub lines_are : string_bytes both.lines ≡ string_bytes a.lines ++ string_bytes b.lines
+  pub sights_are : both.sights.items ≡ a.sights.items ++ b.sights.items
+
+-- of each failure
+abbrev pub AreSumsOfBoth : List Overall → List Overall → List Overall → Type 0
+AreSumsOfBoth some more both = AllZip (λ p o. IsSumOfBoth p.0 p.1 o) (zip some more) both

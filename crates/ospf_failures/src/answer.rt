@@ -192,7 +192,7 @@ impl From<FailuresStatus> for ExitCode {
 ///
 /// `Ended(Memory)` says that memory ran out, and `Ended(Stream)` that a read or a write failed. The
 /// cause is reported on `err`, as far as that can be written, and no more than a beginning is
-/// printed. `progress` receives how many failures are done.
+/// printed. `progress` receives how many routers are done.
 pub fn failures_text<R: BufRead + Drop, O: Write, E: Write, P: Progress>(
     rt: &(impl AllocGlobal + Threads + Sync),
     job: &FailuresJob,

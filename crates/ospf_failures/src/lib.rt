@@ -9,6 +9,7 @@ mod head;
 mod overall;
 mod progress;
 mod report;
+mod roots;
 mod shown;
 mod warnings;
 mod without;

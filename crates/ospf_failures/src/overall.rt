@@ -1,7 +1,6 @@
 //! What each failure of an area changes in the tables of all its routers.
 
 ghost use Rattle.std.specs.Prelude.{◌≡◌, ◌↔◌, ◌++◌, ◌∷◌, [], All, IfOk, IsPermutation, IsTrue, OnOk, codes, flat_map, map, string_bytes};
-ghost use Rattle.std.specs.List.{AllZip};
 ghost use Rattle.std.specs.List.Sorted.{IsSorted};
 ghost use Rattle.ospf_base.specs.Text.{number_text};
 ghost use Rattle.ospf_graph.specs.EdgeLists.Listed.{advertisements_of};
@@ -12,35 +11,29 @@ ghost use Rattle.ospf_whatif.specs.declared.carrier.Carrier.{Carrier};
 ghost use Rattle.ospf_table.specs.Changes.{change_line};
 ghost use Rattle.serde_json.specs.Data.{array, no_members};
 ghost use Rattle.serde_json.specs.View.{items_of, members_view, view};
-ghost use Rattle.ospf_harm.specs.Harm.{HasHarmRoom, no_harm};
+ghost use Rattle.ospf_harm.specs.Harm.{no_harm};
 ghost use Rattle.ospf_failures.specs.HarmLines.{overall_harm_cmp, overall_harm_line, overall_harm_rank, overall_line_data, overalls_harm_text, overalls_lines, summed_members};
 ghost use Rattle.ospf_failures.specs.Json.{overall_data, overall_members, overalls_json, sight_data};
-ghost use Rattle.ospf_failures.specs.Overall.{AreOveralls, CutsSomewhere, IsOverallOf, IsTableBefore, IsSoFar, KeepsMore, Sees, failing_router, overall_cmp, overall_rank, overalls_text, roots_in, sight_lines, sums_of};
-ghost use Rattle.ospf_failures.specs.Together.{IsComputable};
-ghost use Rattle.ospf_table.specs.Sums.{HasSumRoom};
+ghost use Rattle.ospf_failures.specs.Overall.{AreOveralls, CutsSomewhere, FitTogether, HasRoomForOne, IsSumOfBoth, IsTableBefore, KeepsMore, Sees, overall_cmp, overall_rank, overalls_text, sight_lines, sums_of};
 
 use crate::harmed::put_harmed;
 use crate::progress::Progress;
 use crate::report::{is_of, place_of};
+use crate::roots::{Before, outages_of, overalls_at, roots_of};
 use crate::warnings::put_hidden;
 use ospf_base::RouterId;
 use ospf_harm::{Harm, data_line};
 use ospf_lsa::Listing;
-use ospf_spf::RouteTable;
 use ospf_table::{Sums, add_changes, change_line, counted_members, objects_line, sums_line};
 use ospf_whatif::{
-    AreaFailure, AreaGraph, Breakdown, Carrier, HiddenCost, KeptRoot, Outage, RouteChange,
-    breakdowns, failures_by, single_failures,
+    AreaFailure, AreaGraph, Carrier, HiddenCost, Outage, RouteChange, breakdowns, failures_by,
+    single_failures,
 };
-use rayon::prelude::*;
 use serde_json::{Map, Value, put};
 use std::alloc::{AllocError, Global};
 use std::cmp::Reverse;
 use std::marker::Model;
 use std::thread::Threads;
-
-// Failures are processed in at most this many parts; after each, progress is reported.
-const PARTS: usize = 16;
 
 /// What is stored about the routes that a failure changes, besides their number.
 #[derive(Clone, Copy, Debug, PartialEq, Eq)]
@@ -80,7 +73,7 @@ pub struct Overall {
 
 /// What each failure of an area changes in the tables of all its routers but the one that fails, in
 /// the order in which it is printed. As `reports` does for one root, with sums over the routers and
-/// with the routes that `detail` asks for. `progress` receives how many failures are done. With
+/// with the routes that `detail` asks for. `progress` receives how many routers are done. With
 /// `Direct` no router-LSA may have more than 1,361 links.
 ///
 /// `AllocError` where memory runs out.
@@ -100,9 +93,10 @@ pub fn overalls<P: Progress>(
     let failures = failures_by(alloc, carrier, &single)?;
     let breakdowns = breakdowns(alloc, carrier, &single, &failures)?;
     let area = AreaGraph::of(alloc, listing)?;
-    let befores = befores_of(alloc, listing, &area, &single)?;
+    let outages = outages_of(alloc, rt, listing, &area, &breakdowns)?;
+    let roots = roots_of(alloc, &single)?;
     let at = (listing, &area);
-    let mut overalls = overalls_of(alloc, rt, at, &breakdowns, &befores, detail, progress)?;
+    let mut overalls = overalls_at(alloc, rt, at, &outages, &roots, detail, progress)?;
     sort(&mut overalls);
     Ok(overalls)
 }
@@ -190,204 +184,9 @@ pub fn cuts_somewhere(overalls: &[Overall]) -> bool
     overalls.iter().any(|overall| overall.sums.cut > 0)
 }
 
-// A router, its table and its shortest paths before anything fails.
-#[derive(Drop)]
-pub(crate) struct Before {
-    root: RouterId,
-    table: RouteTable,
-    kept: KeptRoot,
-}
-
-// All routers, with their tables.
-fn befores_of(
-    alloc: Global,
-    listing: &Listing,
-    area: &AreaGraph,
-    failures: &[AreaFailure],
-) -> Result<Vec<Before>, AllocError>
-    requires { IsAreaGraph (advertisements_of listing.now) area.now }
-    ensures roots { IfOk result (λ befores. map (λ b. b.root) befores.items
-        ≡ roots_in failures.now) }
-    ensures tables { IfOk result (λ befores. All (IsTableBefore (advertisements_of listing.now))
-        befores.items) }
-{
-    let mut befores = Vec::new(alloc);
-    for failure in failures {
-        add_before(alloc, listing, area, failure, &mut befores)?;
-    }
-    Ok(befores)
-}
-
-// Adds the router that fails.
-fn add_before(
-    alloc: Global,
-    listing: &Listing,
-    area: &AreaGraph,
-    failure: &AreaFailure,
-    befores: &mut Vec<Before>,
-) -> Result<(), AllocError>
-    requires { IsAreaGraph (advertisements_of listing.now) area.now }
-    ensures roots { OnOk result (map (λ b. b.root) befores.new.items
-        ≡ map (λ b. b.root) befores.old.items ++ failing_router failure.now) }
-    ensures tables { OnOk result (All (IsTableBefore (advertisements_of listing.now))
-        befores.old.items →
-        All (IsTableBefore (advertisements_of listing.now)) befores.new.items) }
-{
-    match *failure {
-        AreaFailure::Router(root) => {
-            let table = RouteTable::of(alloc, listing, root)?;
-            let kept = KeptRoot::of(alloc, area, root)?;
-            befores.push(Before { root, table, kept })?;
-            Ok(())
-        }
-        AreaFailure::Link { .. } => Ok(()),
-        AreaFailure::End { .. } => Ok(()),
-        AreaFailure::Links { .. } => Ok(()),
-        AreaFailure::Attachment { .. } => Ok(()),
-        AreaFailure::Network(_) => Ok(()),
-    }
-}
-
-// What each of these failures changes in the tables of all routers, with all that fails together
-// with it, part by part.
-fn overalls_of<P: Progress>(
-    alloc: Global,
-    rt: &(impl Threads + Sync),
-    at: (&Listing, &AreaGraph),
-    breakdowns: &[Breakdown],
-    befores: &[Before],
-    detail: RouteDetail,
-    progress: &mut P,
-) -> Result<Vec<Overall>, AllocError>
-    requires graph { IsAreaGraph (advertisements_of at.0.now) at.1.now }
-    requires tables { All (IsTableBefore (advertisements_of at.0.now)) befores.now }
-    requires small { All (IsComputable (advertisements_of at.0.now)) breakdowns.now }
-    ensures { IfOk result (λ overalls.
-        AllZip (IsOverallOf (advertisements_of at.entry.0.now) befores.now detail) breakdowns.now
-        overalls.items) }
-{
-    let most = breakdowns.len() / PARTS + 1;
-    let mut overalls = Vec::new(alloc);
-    let mut rest = breakdowns;
-    while !rest.is_empty() {
-        let (part, behind) = rest.split_at(most.min(rest.len()));
-        let mut found = part_of(alloc, rt, at.0, at.1, part, befores, detail)?;
-        overalls.append(&mut found)?;
-        progress.comes(overalls.len(), breakdowns.len());
-        rest = behind;
-    }
-    Ok(overalls)
-}
-
-// What each failure of a part changes in the tables of all routers.
-fn part_of(
-    alloc: Global,
-    rt: &(impl Threads + Sync),
-    listing: &Listing,
-    area: &AreaGraph,
-    breakdowns: &[Breakdown],
-    befores: &[Before],
-    detail: RouteDetail,
-) -> Result<Vec<Overall>, AllocError>
-    requires graph { IsAreaGraph (advertisements_of listing.now) area.now }
-    requires tables { All (IsTableBefore (advertisements_of listing.now)) befores.now }
-    requires small { All (IsComputable (advertisements_of listing.now)) breakdowns.now }
-    ensures { IfOk result (λ overalls.
-        AllZip (IsOverallOf (advertisements_of listing.now) befores.now detail) breakdowns.now
-        overalls.items) }
-{
-    breakdowns
-        .par_iter()
-        .with_min_len(1)
-        .map(
-            |breakdown: &Breakdown| -> Result<Overall, AllocError>
-                requires graph { IsAreaGraph (advertisements_of listing.now) area.now }
-                requires tables { All (IsTableBefore (advertisements_of listing.now)) befores.now }
-                requires small { IsComputable (advertisements_of listing.now) breakdown.now }
-                ensures { IfOk result (IsOverallOf (advertisements_of listing.entry.now)
-                    befores.entry.now detail breakdown.now) }
-            { overall_of(alloc, listing, area, breakdown, befores, detail) },
-        )
-        .collect::<Result<Vec<Overall>, AllocError>>(rt, alloc)?
-}
-
-// What a failure changes in the tables of all routers, with all that fails together with it.
-fn overall_of(
-    alloc: Global,
-    listing: &Listing,
-    area: &AreaGraph,
-    breakdown: &Breakdown,
-    befores: &[Before],
-    detail: RouteDetail,
-) -> Result<Overall, AllocError>
-    requires graph { IsAreaGraph (advertisements_of listing.now) area.now }
-    requires tables { All (IsTableBefore (advertisements_of listing.now)) befores.now }
-    requires small { IsComputable (advertisements_of listing.now) breakdown.now }
-    ensures { IfOk result (IsOverallOf (advertisements_of listing.now) befores.now detail
-        breakdown.now) }
-{
-    let outage = Outage::of_all(alloc, listing, area, &breakdown.parts)?;
-    let overall = overall_in(
-        alloc,
-        listing,
-        area,
-        &outage,
-        breakdown.failure,
-        befores,
-        detail,
-    )?;
-    Ok(overall)
-}
-
-// What a failure that takes this changes in the tables of all routers.
-fn overall_in(
-    alloc: Global,
-    listing: &Listing,
-    area: &AreaGraph,
-    outage: &Outage,
-    failure: AreaFailure,
-    befores: &[Before],
-    detail: RouteDetail,
-) -> Result<Overall, AllocError>
-    requires graph { IsAreaGraph (advertisements_of listing.now) area.now }
-    requires outage { IsOutage (advertisements_of listing.now) outage.now }
-    requires tables { All (IsTableBefore (advertisements_of listing.now)) befores.now }
-    // What the outage does to each of these tables, added up.
-    ensures failure { IfOk result (λ overall. overall.failure ≡ failure) }
-    ensures seen { IfOk result (IsSoFar
-        (without_all outage.now.failures.items (advertisements_of listing.now)) befores.now detail
-        (map (λ b. b.root) befores.now)) }
-{
-    let mut overall = Overall::none(alloc, failure);
-    for before in befores {
-        overall.see(alloc, listing, area, outage, before, detail)?;
-    }
-    Ok(overall)
-}
-
-// What a failure that takes this changes in the table of a router.
-fn effect_at(
-    alloc: Global,
-    listing: &Listing,
-    area: &AreaGraph,
-    outage: &Outage,
-    before: &Before,
-) -> Result<Vec<RouteChange>, AllocError>
-    requires graph { IsAreaGraph (advertisements_of listing.now) area.now }
-    requires outage { IsOutage (advertisements_of listing.now) outage.now }
-    requires before { IsTableBefore (advertisements_of listing.now) before.now }
-    ensures { IfOk result (λ changes. IsEffectIn
-        (without_all outage.now.failures.items (advertisements_of listing.now)) before.now.root
-        before.now.table changes.items) }
-{
-    before
-        .kept
-        .effect(alloc, listing, area, outage, &before.table)
-}
-
 impl Overall {
-    // A failure with nothing counted yet.
-    fn none(alloc: Global, failure: AreaFailure) -> Overall
+    /// A failure with nothing counted yet.
+    pub(crate) fn none(alloc: Global, failure: AreaFailure) -> Overall
         // Nothing counted, and nothing kept.
         ensures failure { result.failure ≡ failure }
         ensures sums { result.sums ≡ sums_of [] }
@@ -411,8 +210,8 @@ impl Overall {
         }
     }
 
-    // Adds what the failure changes in the table of a router, unless that is what fails.
-    fn see(
+    /// Adds what the failure changes in the table of a router, unless that is what fails.
+    pub(crate) fn see(
         &mut self,
         alloc: Global,
         listing: &Listing,
@@ -424,8 +223,7 @@ impl Overall {
         requires graph { IsAreaGraph (advertisements_of listing.now) area.now }
         requires outage { IsOutage (advertisements_of listing.now) outage.now }
         requires before { IsTableBefore (advertisements_of listing.now) before.now }
-        requires room { HasSumRoom 1 self.old.sums }
-        requires harm_room { HasHarmRoom 1 self.old.harm }
+        requires room { HasRoomForOne self.old }
         // One table more is seen, and added to those before.
         ensures { OnOk result (Sees
             (without_all outage.now.failures.items (advertisements_of listing.now)) before.now
@@ -438,6 +236,30 @@ impl Overall {
         self.sums = self.sums.plus(&changes);
         self.harm = self.harm.plus(&self.failure, &changes);
         self.keep(alloc, before.root, changes, detail)
+    }
+
+    /// Adds what was found of the same failure at other routers, which come behind.
+    pub(crate) fn add(&mut self, more: Overall) -> Result<(), AllocError>
+        requires { FitTogether self.old more }
+        ensures { OnOk result (IsSumOfBoth self.old more self.new) }
+    {
+        let mut sights = more.sights;
+        self.sums = Sums {
+            cut: self.sums.cut + more.sums.cut,
+            gone: self.sums.gone + more.sums.gone,
+            cost: self.sums.cost + more.sums.cost,
+            hops: self.sums.hops + more.sums.hops,
+            routers: self.sums.routers + more.sums.routers,
+        };
+        self.harm = Harm {
+            lost: self.harm.lost + more.harm.lost,
+            rerouted: self.harm.rerouted + more.harm.rerouted,
+            rise: self.harm.rise.max(more.harm.rise),
+            own: self.harm.own + more.harm.own,
+        };
+        self.lines.push_str(&more.lines)?;
+        self.sights.append(&mut sights)?;
+        Ok(())
     }
 
     // Keeps what is wanted of the routes that change at a router.
@@ -554,6 +376,26 @@ impl Overall {
         let numbers = [s.cut, s.gone, s.cost, s.hops];
         (Reverse(numbers), place_of(self.failure))
     }
+}
+
+// What a failure that takes this changes in the table of a router.
+fn effect_at(
+    alloc: Global,
+    listing: &Listing,
+    area: &AreaGraph,
+    outage: &Outage,
+    before: &Before,
+) -> Result<Vec<RouteChange>, AllocError>
+    requires graph { IsAreaGraph (advertisements_of listing.now) area.now }
+    requires outage { IsOutage (advertisements_of listing.now) outage.now }
+    requires before { IsTableBefore (advertisements_of listing.now) before.now }
+    ensures { IfOk result (λ changes. IsEffectIn
+        (without_all outage.now.failures.items (advertisements_of listing.now)) before.now.root
+        before.now.table changes.items) }
+{
+    before
+        .kept
+        .effect(alloc, listing, area, outage, &before.table)
 }
 
 // What comes first of numbers that a failure is ordered by, and what decides where these are equal.

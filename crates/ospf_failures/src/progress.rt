@@ -1,7 +1,7 @@
-//! Progress of the calculation over failures.
+//! Progress of the calculation over routers.
 
-/// Receives how many failures are done. The results do not depend on what it does with that.
+/// Receives how many routers are done. The results do not depend on what it does with that.
 pub trait Progress {
-    /// So many of them have been gone through at all routers.
+    /// All failures have been gone through at so many of them.
     fn comes(&mut self, done: usize, count: usize);
 }
