@@ -6,3 +6,4 @@ pub mod WordLemmas
 pub mod AnswerLemmas
 pub mod WantedLemmas
 pub mod KindLemmas
+pub mod ReadBackLemmas

@@ -1,7 +1,5 @@
 -- The report of a command that changes LSAs, for LSAs that are read as lines of text.
-use Rattle.std.specs.Prelude.{◌≡◌, ◌≢◌, ◌⊎◌, ◌++◌, ℕ, List, [], Option, Result, Ok, Err, IfSome, codes, string_bytes, vec_items}
-use Rattle.std.specs.List.{flat_map}
-use Rattle.hex.specs.Hex.{encode_lower}
+use Rattle.std.specs.Prelude.{◌≡◌, ◌≢◌, ◌⊎◌, ℕ, List, [], Option, Result, Ok, Err, IfSome, string_bytes, vec_items}
 use Rattle.ospf_base.specs.declared.ids.RouterId.{RouterId}
 use Rattle.ospf_graph.specs.EdgeLists.Listed.{advertisements_of}
 use Rattle.ospf_files.specs.Report.{IsReportPrinted}
@@ -14,6 +12,8 @@ use Rattle.ospf_table.specs.declared.table.EntryFault.{EntryFault}
 use Rattle.ospf_whatif.specs.Failure.{HasLarge}
 use Rattle.ospf_edit.specs.Change.{AreChangedBy}
 use Rattle.ospf_edit.specs.Large.{IsFirstTooLarge, too_large_line}
+use Rattle.ospf_edit.specs.Lines.{hex_lines}
+use Rattle.ospf_edit.specs.ReadBack.{IsReadAgainAs}
 use Rattle.ospf_edit.specs.Words.{AreJobChanges, IsFirstUnknown}
 use Rattle.ospf_edit.specs.declared.change.Change.{Change}
 use Rattle.ospf_edit.specs.declared.words.EditJob.{EditJob}
@@ -23,26 +23,20 @@ abbrev pub HasWords : EditJob → Type 0
 HasWords job =
     ((vec_items job.down ≢ []) ⊎ (vec_items job.costs ≢ [])) ⊎ (vec_items job.drains ≢ [])
 
--- an LSA as a line of hexadecimal digits
-abbrev pub lsa_line : List ℕ → List ℕ
-lsa_line lsa = encode_lower lsa ++ codes "\n"
-
--- the LSAs of a listing, in its order
-abbrev pub hex_lines : List (List ℕ) → List ℕ
-hex_lines lsas = flat_map lsa_line lsas
-
 -- the report says this on standard error and prints that on standard output
 pub record ReportSays (report : Report) (warnings text : List ℕ) (status : ℕ) : Type 0 where
   pub warnings_are : string_bytes report.warnings ≡ warnings
   pub text_is : string_bytes report.text ≡ text
   pub status_is : report.status ≡ status
 
--- the LSAs of a listing after changes, and how many were left out
+-- the LSAs of a listing after changes, and how many were left out. What is printed is read again as
+-- the changed area
 pub record IsChangedReport (changes : List Change) (listing : List (List ℕ)) (left_out : ℕ)
     (report : Report) : Type 0 where
   pub after : List (List ℕ)
   pub changed_area : AreChangedBy changes listing after
   pub says : ReportSays report (left_out_text left_out) (hex_lines after) 0
+  pub is_read_again : IsReadAgainAs (hex_lines after) after
 
 -- after the changes that the words of the job name
 abbrev pub IsEdited : EditJob → List (List ℕ) → ℕ → Report → Type 0

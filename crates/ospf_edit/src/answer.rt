@@ -5,9 +5,11 @@ ghost use Rattle.ospf_graph.specs.EdgeLists.Listed.{advertisements_of};
 ghost use Rattle.ospf_files.specs.Status.{code_of};
 ghost use Rattle.ospf_files.specs.Streams.{written_on};
 ghost use Rattle.ospf_whatif.specs.Failure.{HasLarge};
-ghost use Rattle.ospf_edit.specs.Answer.{HasWords, IsChangedReport, IsEditPrinted, IsEditResult, IsEditReportOf, ReportSays, lsa_line, hex_lines};
+ghost use Rattle.ospf_edit.specs.Answer.{HasWords, IsChangedReport, IsEditPrinted, IsEditResult, IsEditReportOf, ReportSays};
 ghost use Rattle.ospf_edit.specs.Change.{AreChangedBy, HasRightCost};
 ghost use Rattle.ospf_edit.specs.Large.{IsFirstTooLarge, too_large_line};
+ghost use Rattle.ospf_edit.specs.Lines.{hex_lines, lsa_line};
+ghost use Rattle.hex.specs.Hex.{IsBytes};
 ghost use Rattle.ospf_table.specs.Refusal.{refusal_line};
 
 use crate::applied::apply;
@@ -153,7 +155,8 @@ fn applied(alloc: Global, listing: Listing, changes: &[Change]) -> Result<Listin
 
 // The LSAs of a listing as lines.
 fn hex_lines(alloc: Global, listing: &Listing) -> Result<String, AllocError>
-    ensures { IfOk result (λ text. string_bytes text ≡ hex_lines listing.now) }
+    ensures text { IfOk result (λ text. string_bytes text ≡ hex_lines listing.now) }
+    ensures bytes { IfOk result (λ text. All IsBytes listing.now) }
 {
     let mut text = String::new(alloc);
     for lsa in listing.lsas() {
@@ -165,10 +168,19 @@ fn hex_lines(alloc: Global, listing: &Listing) -> Result<String, AllocError>
 
 // An LSA as a line.
 fn lsa_line(alloc: Global, lsa: &Lsa) -> Result<String, AllocError>
-    ensures { IfOk result (λ text. string_bytes text ≡ lsa_line lsa.now) }
+    ensures text { IfOk result (λ text. string_bytes text ≡ lsa_line lsa.now) }
+    ensures bytes { IsBytes lsa.now }
 {
     let view = lsa.view();
-    let mut line = hex::encode(alloc, view.as_bytes())?;
+    hex_line(alloc, view.as_bytes())
+}
+
+// Bytes as a line of hexadecimal digits.
+fn hex_line(alloc: Global, bytes: &[u8]) -> Result<String, AllocError>
+    ensures text { IfOk result (λ text. string_bytes text ≡ lsa_line bytes.now) }
+    ensures bytes { IsBytes bytes.now }
+{
+    let mut line = hex::encode(alloc, bytes)?;
     line.push_str("\n")?;
     Ok(line)
 }

@@ -1,5 +1,6 @@
 //! Laws: each holds of all routers and their interfaces.
 
+ghost use Rattle.ospf_edit.specs.ReadBack.{ListingsAreReadAgain};
 ghost use Rattle.ospf_edit.specs.Wanted.{CostsAreWanted, DrainsAreWanted};
 
 /// Where a router becomes a stub router (RFC 6987), it wants exactly the links that `Change::Drain`
@@ -12,4 +13,10 @@ pub fn drains_are_wanted()
 /// `Change::Cost` makes of those that it wanted before (RFC 2328, section 12.4.1).
 pub fn costs_are_wanted()
     ensures { CostsAreWanted }
+{}
+
+/// What is printed of a listing is read again as this listing, and as no other: every command that
+/// reads it answers for exactly these LSAs.
+pub fn listings_are_read_again()
+    ensures { ListingsAreReadAgain }
 {}

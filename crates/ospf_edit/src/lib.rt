@@ -16,5 +16,5 @@ mod words;
 pub use crate::answer::{edit_report, edit_text};
 pub use crate::applied::apply;
 pub use crate::change::Change;
-pub use crate::laws::{costs_are_wanted, drains_are_wanted};
+pub use crate::laws::{costs_are_wanted, drains_are_wanted, listings_are_read_again};
 pub use crate::words::EditJob;
