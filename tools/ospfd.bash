@@ -16,14 +16,14 @@ _ospfd() {
     diff) options="--root --help" files=yes ;;
     check) options="--explain --all --area --json --help" files=yes ;;
     sim) options="--dot --pcap --log --json --strict --help" files=yes ;;
-    run) options="--tick --lookup --floor --neighbours --listing --drops --every --until-eof --pcap --log --json --help" files=yes ;;
+    run) options="--tick --lookup --floor --neighbours --listing --lsdb --drops --every --until-eof --pcap --log --log-lsas --json --help" files=yes ;;
     help) [ "$COMP_CWORD" -gt 2 ] || options=$commands ;;
     *) options="--help" ;;
     esac
     case $command$before in
     run--tick | run--lookup | run--floor | run--every | table--without | edit--down | edit--cost | edit--drain | diff--root) options='' files='' ;;
     failures--carrier) options="direct switch process" ;;
-    sim--dot | sim--pcap | sim--log | run--pcap | run--log) options='' files=yes ;;
+    sim--dot | sim--pcap | sim--log | run--pcap | run--log | run--log-lsas) options='' files=yes ;;
     esac
     # Outside of a completion, as in a test, there is nothing to set.
     [ -z "$files" ] || compopt -o filenames 2> /dev/null

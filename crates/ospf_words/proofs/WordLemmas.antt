@@ -276,6 +276,11 @@ pub journal_apart : {T : Type 0} (log : Option T) (json : Bool) → (json ≡ fa
 journal_apart log json (inl plain) is = plain
 journal_apart log json (inr some) is = absurd (let same : false ≡ true = ap is_some (sym is) ∙ some in cc)
 
+-- a flag that cannot be set is not
+pub false_unless : (b : Bool) → (b ≡ true → ⊥) → b ≡ false
+false_unless true never = absurd (never refl)
+false_unless false never = refl
+
 -- a text that is none is of no word
 pub no_text : {T : Type 0} (text : T → List ℕ) (log : Option T) (found : Option (List ℕ)) (none : Bool) → is_some log ≡ not none → none ≡ true
     → option_map text log ≡ found → found ≡ None

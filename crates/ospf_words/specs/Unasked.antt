@@ -112,11 +112,15 @@ abbrev pub IsJsonAlone : List Row → Type 0
 IsJsonAlone rows =
     IsFlag (one_of (codes "json") rows) true × (first_of (codes "log") rows ≡ None)
 
+-- the lines of journals are wanted as JSON, and neither the journal of routers nor that of LSAs is
+abbrev pub IsJsonWithNoLog : List Row → Type 0
+IsJsonWithNoLog rows = IsJsonAlone rows × (first_of (codes "log-lsas") rows ≡ None)
+
 -- what `run` lacks besides its ticks: the number of milliseconds, files, or a journal for its JSON
 abbrev pub LacksInRun : List Row → Type 0
 LacksInRun rows =
     IsNoNumber (one_of (codes "tick") rows) ⊎ (all_of (codes "files") rows ≡ None)
-    ⊎ IsJsonAlone rows
+    ⊎ IsJsonWithNoLog rows
 
 -- what `sim` lacks: a script, files, or a journal for its JSON
 abbrev pub LacksInSim : List Row → Type 0

@@ -40,12 +40,25 @@ abbrev pub root_rule : Rule
 root_rule = one_rule (codes "root")
 
 -- any number of words
-abbrev pub addresses_rule : Rule
-addresses_rule = record (new_rule (codes "addresses")) {
+abbrev pub any_rule : Text → Rule
+any_rule name = record (new_rule name) {
   action = Some Append;
   range = Some (record { start_inclusive = 0; end_inclusive = usize_max });
   value_names = 1;
 }
+
+-- one word or more
+abbrev pub several_rule : Text → Rule
+several_rule name = record (new_rule name) {
+  required = true;
+  action = Some Append;
+  range = Some (record { start_inclusive = 1; end_inclusive = usize_max });
+  value_names = 1;
+}
+
+-- the words for the addresses that are looked up
+abbrev pub addresses_rule : Rule
+addresses_rule = any_rule (codes "addresses")
 
 -- an option of this name that may be given more than once, with a word each time
 abbrev pub repeated_rule : Text → Rule
@@ -69,14 +82,9 @@ table_app =
     (repeated_rule (codes "without")))
     (flag_rule (codes "json"))
 
--- one word or more
+-- the words for the files of configurations
 abbrev pub files_rule : Rule
-files_rule = record (new_rule (codes "files")) {
-  required = true;
-  action = Some Append;
-  range = Some (record { start_inclusive = 1; end_inclusive = usize_max });
-  value_names = 1;
-}
+files_rule = several_rule (codes "files")
 
 -- the command `check`: four flags, and files
 abbrev pub check_app : App
@@ -113,12 +121,7 @@ lsas_app =
 
 -- any number of numbers of 32 bits
 abbrev pub choices_rule : Rule
-choices_rule = record (new_rule (codes "choices")) {
-  action = Some Append;
-  range = Some (record { start_inclusive = 0; end_inclusive = usize_max });
-  value_names = 1;
-  parser = Some (Unsigned 0 4294967295);
-}
+choices_rule = record (any_rule (codes "choices")) { parser = Some (Unsigned 0 4294967295) }
 
 -- the command `path`: a router, an address, then choices
 abbrev pub path_app : App
@@ -176,7 +179,7 @@ every_rule = record (option_rule (codes "every")) { parser = Some (Unsigned 1 10
 -- the command `run`: ticks of this rule, files, and options
 abbrev pub run_app : Rule → App
 run_app ticks =
-    with_rule (with_rule (with_rule (with_rule (with_rule (with_rule
+    with_rule (with_rule (with_rule (with_rule (with_rule (with_rule (with_rule (with_rule
     (with_rule (with_rule (with_rule (with_rule (with_rule (with_rule (with_rule
     (new_app (codes "run"))
     ticks)
@@ -187,10 +190,12 @@ run_app ticks =
     (option_rule (codes "pcap")))
     (flag_rule (codes "neighbours")))
     (flag_rule (codes "listing")))
+    (flag_rule (codes "lsdb")))
     (flag_rule (codes "drops")))
     every_rule)
     (flag_rule (codes "until-eof")))
     (option_rule (codes "log")))
+    (option_rule (codes "log-lsas")))
     (flag_rule (codes "json"))
 
 -- the program, before its commands
@@ -473,7 +478,7 @@ HasTicks rows (Some ticks) =
 HasTicks rows None = first_of (codes "ticks") rows ≡ Some (codes "forever")
 
 -- the ticks, the files and the options that `clap` reads after `run`; no journal is JSON where
--- there is none
+-- there is neither of the two
 pub record IsRunJob (rows : List Row) (r : RunJob) : Type 0 where
   pub ticks : HasTicks rows r.ticks
   pub tick_text : Text
@@ -489,10 +494,12 @@ pub record IsRunJob (rows : List Row) (r : RunJob) : Type 0 where
   pub until_eof : IsFlag (one_of (codes "until-eof") rows) r.until_eof
   pub neighbours : IsFlag (one_of (codes "neighbours") rows) r.neighbours
   pub listing : IsFlag (one_of (codes "listing") rows) r.listing
+  pub lsdb : IsFlag (one_of (codes "lsdb") rows) r.lsdb
   pub drops : IsFlag (one_of (codes "drops") rows) r.drops
   pub log : option_map string_bytes r.log ≡ first_of (codes "log") rows
+  pub log_lsas : option_map string_bytes r.log_lsas ≡ first_of (codes "log-lsas") rows
   pub json : IsFlag (one_of (codes "json") rows) r.json
-  pub apart : r.log ≡ None → r.json ≡ false
+  pub apart : r.log ≡ None → r.log_lsas ≡ None → r.json ≡ false
 
 -- the job of a run with these ticks
 abbrev pub IsRunWith : List Row → Option ℕ → Job → Type 0

@@ -252,6 +252,8 @@ pub(crate) const SIM_HELP: &str = "Lines of a script:
   neighbours R, listing R, lsas R, table R, floor R
                               print what the router knows
   why R LINK [NEIGHBOUR]      print what a link waits for
+  why headline R              print whether all routers that R reaches run and have
+                              the same LSDB, or which one does not
   datagrams R [MOST]          print the last packets that a round offers to it
   drops R                     print how many it has dropped, by link and cause
   walk R ADDRESS [CHOICE..]   print the path from R to ADDRESS
@@ -259,7 +261,7 @@ pub(crate) const SIM_HELP: &str = "Lines of a script:
   expect full R S, expect neighbour R S STATE, expect no neighbour R LINK,
   expect dr R LINK ADDRESS [BACKUP], expect route R PREFIX COST [HOP..],
   expect no route R PREFIX, expect walk R ADDRESS arrived [COST],
-  expect agree, expect settled
+  expect agree, expect settled, expect headline [R]
                               print what was found if it is not so
   say WORD..                  print the words; everything after # is a comment
 With `-` as SCRIPT each line of standard input is answered before the next is read,
@@ -289,6 +291,8 @@ pub(crate) const RUN_HELP: &str = "Output at the end, for each router in the ord
   KIND ID R NUMBER SUM        with --listing, a line for each LSA: router or network,
                               Link State ID, Advertising Router, LS sequence
                               number, checksum
+  HEX                         with --lsdb, a line for each LSA, all of it, as `table`
+                              reads them
   drops LINK CAUSE N          with --drops, how many packets were dropped, and why
   floor NUMBER                with --floor, the highest sequence number it has used
   FILE: U2 Send               on standard error, in place of these, if it failed

@@ -106,6 +106,8 @@ pub struct RunJob {
     pub neighbours: bool,
     /// Whether the LSAs that each router lists are printed at the end.
     pub listing: bool,
+    /// Whether all LSAs of each router's database are printed at the end, in hexadecimal.
+    pub lsdb: bool,
     /// Whether it is printed at the end how many packets each router dropped.
     pub drops: bool,
     /// After how many ticks the tables are printed, again and again.
@@ -114,7 +116,9 @@ pub struct RunJob {
     pub pcap: Option<String>,
     /// The file into which a journal is written.
     pub log: Option<String>,
-    /// Whether the journal's lines are JSON.
+    /// The file into which a journal of LSAs is written.
+    pub log_lsas: Option<String>,
+    /// Whether the lines of both journals are JSON.
     pub json: bool,
     /// The names of the configurations' files.
     pub files: Vec<String>,

@@ -1,6 +1,7 @@
 //! What the words of the command line ask for.
 #![tactic(auto)]
 
+mod arguments;
 mod build;
 mod commands;
 mod help;

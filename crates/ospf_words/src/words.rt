@@ -652,13 +652,15 @@ fn run_with(
     let floor = owned_if_any(alloc, word_of(values, "floor"))?;
     let pcap = owned_if_any(alloc, word_of(values, "pcap"))?;
     let log = owned_if_any(alloc, word_of(values, "log"))?;
+    let log_lsas = owned_if_any(alloc, word_of(values, "log-lsas"))?;
     let every = values.get_one::<u64>("every");
     let until_eof = has_flag(values, "until-eof");
     let neighbours = has_flag(values, "neighbours");
     let listing = has_flag(values, "listing");
+    let lsdb = has_flag(values, "lsdb");
     let drops = has_flag(values, "drops");
     let json = has_flag(values, "json");
-    if json && log.is_none() {
+    if is_json_alone(json, &log, &log_lsas) {
         return Ok(None);
     }
     Ok(Some(Job::Run(RunJob {
@@ -669,13 +671,22 @@ fn run_with(
         floor,
         neighbours,
         listing,
+        lsdb,
         drops,
         every,
         pcap,
         log,
+        log_lsas,
         json,
         files,
     })))
+}
+
+// Whether JSON is wanted, and neither of two journals.
+fn is_json_alone(json: bool, log: &Option<String>, log_lsas: &Option<String>) -> bool
+    ensures { IsTrue result ↔ ((json ≡ true) × (log.now ≡ None) × (log_lsas.now ≡ None)) }
+{
+    json && log.is_none() && log_lsas.is_none()
 }
 
 // The address that a word spells, if there is one.
@@ -709,7 +720,8 @@ fn apart(matches: &ArgMatches<'_>) -> &'static str {
         Some("edit") => "at least one of --down, --cost and --drain is needed",
         Some("diff") => "only one of BEFORE and AFTER can be `-`",
         Some("check") => "--json cannot be combined with --all",
-        Some("sim") | Some("run") => "--json needs --log",
+        Some("sim") => "--json needs --log",
+        Some("run") => "--json needs --log or --log-lsas",
         _ => "these arguments cannot be combined",
     }
 }

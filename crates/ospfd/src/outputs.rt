@@ -1,6 +1,7 @@
 //! The files that are written besides standard output.
 
 use ospf_files::tell_unwritten;
+use ospf_notes::LsaLog;
 use ospf_views::records::Journal;
 use std::fs;
 use std::io::{self, ErrorKind, Write};
@@ -11,6 +12,7 @@ use std::rt::Runtime;
 pub(crate) struct Written<'a> {
     pub(crate) pcap: Option<&'a str>,
     pub(crate) log: Option<&'a str>,
+    pub(crate) log_lsas: Option<&'a str>,
 }
 
 impl Written<'_> {
@@ -18,6 +20,7 @@ impl Written<'_> {
     pub(crate) const NONE: Written<'static> = Written {
         pcap: None,
         log: None,
+        log_lsas: None,
     };
 }
 
@@ -26,6 +29,7 @@ impl Written<'_> {
 pub(crate) struct OutputFiles<F: Write + Drop> {
     pub(crate) capture: Option<F>,
     pub(crate) journal: Option<Journal<F>>,
+    pub(crate) lsas: Option<LsaLog<F>>,
 }
 
 /// The files of these names, emptied. If one cannot be written, this is reported, and the result is
@@ -43,10 +47,21 @@ pub(crate) fn open_written<R: Runtime, E: Write>(
         },
         None => None,
     };
-    match open_journal(rt, written.log, json, err)? {
-        Some(journal) => Ok(Some(OutputFiles { capture, journal })),
-        None => Ok(None),
-    }
+    let Some(journal) = open_journal(rt, written.log, json, err)? else {
+        return Ok(None);
+    };
+    let lsas = match written.log_lsas {
+        Some(name) => match create_file(rt, name, err)? {
+            Some(file) => Some(LsaLog::new(file, json)),
+            None => return Ok(None),
+        },
+        None => None,
+    };
+    Ok(Some(OutputFiles {
+        capture,
+        journal,
+        lsas,
+    }))
 }
 
 /// A journal in the file of this name, emptied, if one is wanted. If it cannot be written, this is

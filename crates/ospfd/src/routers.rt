@@ -1,7 +1,7 @@
 //! Runs of routers over UDP.
 
 use crate::names::tell_overwritten;
-use crate::outputs::{OutputFiles, Written, open_written};
+use crate::outputs::{Written, open_written};
 use ospf_drive::udp::{Stop, prepare};
 use ospf_files::{FailedStreams, Failure, NamedFile, Status, read_files};
 use ospf_notes::{Noted, Notes, StatusLine, Tables};
@@ -39,8 +39,10 @@ where
     R::File: Send + 'static,
 {
     let (printer, input) = console;
-    let (pcap, log, json, every) = (job.pcap.take(), job.log.take(), job.json, job.every);
-    if tell_overwritten(None, &job.files, &[pcap.as_deref(), log.as_deref()], err) {
+    let (pcap, log, log_lsas) = (job.pcap.take(), job.log.take(), job.log_lsas.take());
+    let (json, every) = (job.json, job.every);
+    let names = [pcap.as_deref(), log.as_deref(), log_lsas.as_deref()];
+    if tell_overwritten(None, &job.files, &names, err) {
         return Ok(Status::Words);
     }
     let (settings, files) = settings_of(rt, job, input)?;
@@ -49,23 +51,26 @@ where
         Ok(_) => Written {
             pcap: pcap.as_deref(),
             log: log.as_deref(),
+            log_lsas: log_lsas.as_deref(),
         },
         Err(Stop::Obstacle(_)) => Written::NONE,
         Err(Stop::Failure(_)) => return Err(io::Error::from(ErrorKind::OutOfMemory)),
     };
-    let Some(OutputFiles { capture, journal }) = open_written(rt, written, json, err)? else {
+    let Some(opened) = open_written(rt, written, json, err)? else {
         return Ok(Status::Stream);
     };
     let noted = Noted {
         of: settings.ticks,
-        capture,
+        capture: opened.capture,
         pcap,
         line,
         tables: tables_of(rt, every, printer)?,
         ending: another(&settings.ending)?,
         drops: settings.drops,
-        journal,
+        journal: opened.journal,
         log,
+        lsas: opened.lsas,
+        lsas_name: log_lsas,
     };
     run_noted(rt, &settings, &files, noted, out, err)
 }
@@ -101,7 +106,7 @@ fn run_noted<
     let alloc = rt.alloc();
     let notes = Notes::new(*rt, alloc, noted)?;
     let status = ospf_run::run_routers(rt, alloc, settings, files, &notes, out, err);
-    if !notes.is_written() || !notes.is_logged() {
+    if !notes.is_written() || !notes.is_logged() || !notes.are_lsas_logged() {
         return Ok(Status::Stream);
     }
     Ok(status_after(status, notes.failure(), err))
@@ -191,6 +196,7 @@ fn settings_of<R: AllocGlobal + Threads, I: Read + Send + Drop + 'static>(
             floor: job.floor,
             neighbours: job.neighbours,
             listing: job.listing,
+            lsdb: job.lsdb,
             drops: job.drops,
         },
         job.files,

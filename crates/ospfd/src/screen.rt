@@ -83,7 +83,7 @@ impl<R: Runtime + Clock + Drop, T: Write + Drop, F: Write + Drop> Watch for Scre
     }
 }
 
-/// Shows on a terminal how many failures of an area are done.
+/// Shows on a terminal at how many routers the failures of an area are done.
 #[derive(Drop)]
 pub(crate) struct FailuresLine<R: Clock + Drop, T: Write + Drop> {
     rt: R,
@@ -102,7 +102,7 @@ impl<R: Clock + Drop, T: Write + Drop> Progress for FailuresLine<R, T> {
         if done == count {
             self.line.erase();
         } else if let Some(terminal) = self.line.begin(&self.rt) {
-            let _ = write!(terminal, "\r\x1b[K{done} of {count} failures");
+            let _ = write!(terminal, "\r\x1b[K{done} of {count} routers");
         }
     }
 }

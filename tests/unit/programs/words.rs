@@ -9,7 +9,7 @@ use std::alloc::Global;
 use std::test::Fail;
 
 // Words by name, the exit status, and how standard output and standard error begin.
-static WORDS: [(&str, &str, u8, &str, &str); 84] = [
+static WORDS: [(&str, &str, u8, &str, &str); 87] = [
     ("help", "--help", 0, "OSPF version 2 for one area\n", ""),
     ("help word", "help", 0, "OSPF version 2 for one area\n", ""),
     ("help of table", "table --help", 0, "Computes a routing", ""),
@@ -85,8 +85,11 @@ static WORDS: [(&str, &str, u8, &str, &str); 84] = [
     ("JSON of no log in sim", "sim --json a b.toml", 2, "", "error: --json needs --log\n"),
     ("JSON of a log in sim", "sim --json --log a.log a b.toml", 5, "", "a: not read\n"),
     ("an unread script of a strict simulation", "sim --strict a b.toml", 5, "", "a: not read\n"),
-    ("JSON of no log in a run", "run --json 60 a.toml", 2, "", "error: --json needs --log\n"),
-    ("JSON of no log in a run without end", "run --json forever a.toml", 2, "", "error: --json needs --log\n"),
+    ("JSON of no log in a run", "run --json 60 a.toml", 2, "", "error: --json needs --log or --log-lsas\n"),
+    ("JSON of no log in a run without end", "run --json forever a.toml", 2, "", "error: --json needs --log or --log-lsas\n"),
+    ("a log of LSAs in sim", "sim --log-lsas x a b.toml", 2, "", "error: unexpected argument '--log-lsas'"),
+    ("a log of LSAs in no file", "run 60 a.toml --log-lsas", 2, "", "error: a value is required for '--log-lsas <FILE>'"),
+    ("an LSDB in a file", "run --lsdb=x 60 a.toml", 2, "", "error: unexpected value 'x' for '--lsdb'"),
     ("a run without end of no file", "run forever", 2, "", "error: the following required arguments were not provided"),
     ("help of a run without end", "run forever --help", 0, "Runs a router", ""),
     ("a run of a word", "run never a.toml", 2, "", "error: invalid value 'never'"),
@@ -433,7 +436,22 @@ fn reads_a_run_without_a_last_tick(rt: HostRuntime) -> Result<(), Fail> {
     assert_eq!(rt; run.every, Some(10));
     assert_eq!(rt; run.log.as_deref(), Some("area.log"));
     assert!(rt; run.json);
+    assert!(rt; !run.lsdb && run.log_lsas.is_none());
     assert_eq!(rt; run.files.len(), 1);
     assert!(rt; job(rt.alloc(), &["run", "never", "a.toml"]).is_err());
+    Ok(())
+}
+
+#[test]
+fn reads_what_is_told_of_lsas(rt: HostRuntime) -> Result<(), Fail> {
+    let words = ["run", "--lsdb", "--json", "--log-lsas", "lsas.log", "60", "a.toml"];
+    let run = run_of(rt.alloc(), &words)?;
+    assert!(rt; run.lsdb && !run.listing);
+    assert_eq!(rt; run.log_lsas.as_deref(), Some("lsas.log"));
+    assert!(rt; run.json && run.log.is_none());
+    let plain = run_of(rt.alloc(), &["run", "--listing", "--log", "a.log", "forever", "a.toml"])?;
+    assert!(rt; plain.listing && !plain.lsdb && !plain.json);
+    assert_eq!(rt; plain.log.as_deref(), Some("a.log"));
+    assert!(rt; plain.log_lsas.is_none());
     Ok(())
 }
