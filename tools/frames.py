@@ -1,4 +1,5 @@
-"""IP packets of protocol 89, their fragments, and ARP, as bytes: what `tools/bridge` reads and makes, without a socket."""
+"""IP packets of protocol 89, their fragments, and ARP, as bytes: what `tools/bridge` reads and
+makes, without a socket."""
 import collections
 import socket
 import struct
@@ -9,7 +10,9 @@ IP_HEADER = 20
 SERVICE, LIFE = 0xC0, 1
 MORE, OFFSET, UNIT = 0x2000, 0x1FFF, 8
 # AllSPFRouters and AllDRouters, each with its Ethernet address (RFC 1112, section 6.4).
-GROUPS = {socket.inet_aton(f"224.0.0.{last}"): bytes((0x01, 0x00, 0x5E, 0, 0, last)) for last in (5, 6)}
+GROUPS = {
+    socket.inet_aton(f"224.0.0.{last}"): bytes((0x01, 0x00, 0x5E, 0, 0, last)) for last in (5, 6)
+}
 BROADCAST = b"\xff" * 6
 # A datagram of a router is a source, a destination and a packet, of at most so many bytes.
 ADDRESSES, LONGEST = 8, 16384
@@ -33,7 +36,8 @@ def ones_sum(data):
 
 
 def read_ip(data):
-    """The IP packet, or the fragment of one, at the front of what a device received; Ethernet may have filled it up behind."""
+    """The IP packet, or the fragment of one, at the front of what a device received; Ethernet may
+    have filled it up behind."""
     if len(data) < IP_HEADER:
         raise Dropped("packets shorter than an IP header")
     if data[0] >> 4 != 4:
@@ -48,13 +52,34 @@ def read_ip(data):
         raise Dropped("packets with a wrong header checksum")
     if data[9] != OSPF:
         raise Dropped("packets of another protocol")
-    return Ip(bytes(data[12:16]), bytes(data[16:20]), identifier, (place & OFFSET) * UNIT, bool(place & MORE), bytes(data[size:total]))
+    return Ip(
+        bytes(data[12:16]),
+        bytes(data[16:20]),
+        identifier,
+        (place & OFFSET) * UNIT,
+        bool(place & MORE),
+        bytes(data[size:total]),
+    )
 
 
 def ip_packet(ip):
     """An IP packet, or a fragment of one, as a router sends it."""
     place = ip.offset // UNIT | (MORE if ip.more else 0)
-    head = struct.pack(">BBHHHBBH", 0x45, SERVICE, IP_HEADER + len(ip.body), ip.identifier, place, LIFE, OSPF, 0) + ip.source + ip.destination
+    head = (
+        struct.pack(
+            ">BBHHHBBH",
+            0x45,
+            SERVICE,
+            IP_HEADER + len(ip.body),
+            ip.identifier,
+            place,
+            LIFE,
+            OSPF,
+            0,
+        )
+        + ip.source
+        + ip.destination
+    )
     return head[:10] + struct.pack(">H", ~ones_sum(head) & 0xFFFF) + head[12:] + ip.body
 
 
@@ -66,7 +91,12 @@ def fragments_of(ip, mtu):
     if room <= 0:
         raise Dropped("packets for a device with too small an MTU")
     cuts = range(0, len(ip.body), room)
-    return [ip_packet(ip._replace(offset=at, more=at + room < len(ip.body), body=ip.body[at:at + room])) for at in cuts]
+    return [
+        ip_packet(
+            ip._replace(offset=at, more=at + room < len(ip.body), body=ip.body[at : at + room])
+        )
+        for at in cuts
+    ]
 
 
 class Part:
@@ -76,7 +106,8 @@ class Part:
         self.began, self.pieces, self.bytes, self.end = began, {}, 0, None
 
     def fits(self, ip):
-        """Whether a fragment overlaps none that came, lies before the end, where that is known, and is no second last one."""
+        """Whether a fragment overlaps none that came, lies before the end, where that is known, and
+        is no second last one."""
         end = ip.offset + len(ip.body)
         apart = all(end <= at or at + len(body) <= ip.offset for at, body in self.pieces.items())
         last = max((at + len(body) for at, body in self.pieces.items()), default=0)
@@ -92,11 +123,16 @@ class Part:
 
     def whole(self):
         """The body, once nothing is missing."""
-        return b"".join(self.pieces[at] for at in sorted(self.pieces)) if self.bytes == self.end else None
+        return (
+            b"".join(self.pieces[at] for at in sorted(self.pieces))
+            if self.bytes == self.end
+            else None
+        )
 
 
 class Fragments:
-    """IP packets of which fragments came, within limits: of seconds, of packets, of bytes in all and of pieces of one."""
+    """IP packets of which fragments came, within limits: of seconds, of packets, of bytes in all
+    and of pieces of one."""
 
     SECONDS, PACKETS, BYTES, PIECES = 30, 64, 1 << 20, 512
 
@@ -109,16 +145,21 @@ class Fragments:
         return part
 
     def forget(self, now, key, room):
-        """Makes room for a fragment: packets that wait for too long are given up, and the oldest others where they are too large, or one
-        too many for a new one."""
+        """Makes room for a fragment: packets that wait for too long are given up, and the oldest
+        others where they are too large, or one too many for a new one."""
         for other, part in list(self.parts.items()):
-            is_too_much = self.bytes + room > self.BYTES or key not in self.parts and len(self.parts) >= self.PACKETS
+            is_too_much = (
+                self.bytes + room > self.BYTES
+                or key not in self.parts
+                and len(self.parts) >= self.PACKETS
+            )
             if now - part.began >= self.SECONDS or other != key and is_too_much:
                 self.take_out(other)
                 self.lost += 1
 
     def add(self, ip, now):
-        """The body of the packet that this fragment makes whole; None where some are missing yet."""
+        """The body of the packet that this fragment makes whole; None where some are missing
+        yet."""
         if not ip.body or (ip.more and len(ip.body) % UNIT):
             raise Dropped("fragments with an impossible length")
         if ip.offset + len(ip.body) > LONGEST:
@@ -145,7 +186,8 @@ def arp(kind, mac, address, to_mac, to_address):
 
 
 class Link:
-    """An interface of a router and the device that it is joined to, without their sockets: what is handed on, and what is counted."""
+    """An interface of a router and the device that it is joined to, without their sockets: what is
+    handed on, and what is counted."""
 
     NEIGHBOURS = 1024
 
@@ -160,14 +202,16 @@ class Link:
         self.left[reason] += count
 
     def know(self, address, mac):
-        """Keeps a neighbour's Ethernet address; of too many the one goes that was silent for longest."""
+        """Keeps a neighbour's Ethernet address; of too many the one goes that was silent for
+        longest."""
         self.neighbours[address] = mac
         self.neighbours.move_to_end(address)
         if len(self.neighbours) > self.NEIGHBOURS:
             self.neighbours.popitem(last=False)
 
     def datagram_of(self, data, mac, now):
-        """The datagram for the router of what the device received from an Ethernet address; None where there is none."""
+        """The datagram for the router of what the device received from an Ethernet address; None
+        where there is none."""
         try:
             ip = read_ip(data)
             if ip.destination not in (*GROUPS, self.address):
@@ -188,7 +232,8 @@ class Link:
         return ip.source + ip.destination + body
 
     def packets_of(self, datagram, mac, mtu):
-        """What the device is to send of a datagram of the router: each with the Ethernet address it is for and its kind."""
+        """What the device is to send of a datagram of the router: each with the Ethernet address it
+        is for and its kind."""
         try:
             if not ADDRESSES <= len(datagram) <= ADDRESSES + LONGEST:
                 raise Dropped("datagrams of the router that are not OSPF packets")
@@ -213,7 +258,8 @@ class Link:
         return [(to, IP, packet) for packet in made]
 
     def answer_of(self, data, mac):
-        """What the device is to answer to an ARP packet: where the router's address is asked for, its own Ethernet address."""
+        """What the device is to answer to an ARP packet: where the router's address is asked for,
+        its own Ethernet address."""
         if len(data) < ETHERNET_ADDRESSES.size:
             return []
         *kinds, kind, sender, address, _, target = ETHERNET_ADDRESSES.unpack_from(data)
@@ -230,9 +276,15 @@ class Link:
     def lines(self, name):
         """What was counted, for the reader."""
         done = self.done
-        ways = [f"{way} {done[f'packets {way}']} packets ({done[f'fragments {way}']} fragments)" for way in ("in", "out")]
+        ways = [
+            f"{way} {done[f'packets {way}']} packets ({done[f'fragments {way}']} fragments)"
+            for way in ("in", "out")
+        ]
         yield f"{name}: {', '.join(ways)}, {done['ARP answers']} ARP answers"
         if self.fragments.lost + len(self.fragments.parts):
-            yield f"  left out: {self.fragments.lost + len(self.fragments.parts)} packets with missing fragments"
+            yield (
+                f"  left out: {self.fragments.lost + len(self.fragments.parts)} "
+                "packets with missing fragments"
+            )
         for reason, count in sorted(self.left.items()):
             yield f"  left out: {count} {reason}"
