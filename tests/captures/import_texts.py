@@ -29,6 +29,7 @@ interface r2-eth0
 ip address 10.0.2.1/24
 interface r2-eth1
 ip address 10.0.3.3/24
+int r2-eth1
 ip ospf priority 5
 router ospf
 ospf router-id 10.0.255.2
@@ -123,7 +124,8 @@ router ospf
     "rt2.conf": """\
 hostname rt2
 interface lo
- ip address 2.2.2.2/32
+ ip address 2.2.2.2/24
+ ip ospf cost 3
 interface eth-rt1
  ip address 10.0.1.2/24
  ip ospf network point-to-point
@@ -139,7 +141,8 @@ interface dummy0
 router ospf
  ospf router-id 2.2.2.2
  passive-interface dummy0
- network 2.2.2.2/32 area 0
+ passive-interface lo
+ network 2.2.2.0/24 area 0
  network 10.0.0.0/8 area 0
  network 192.168.2.0/24 area 0
 """,
@@ -168,29 +171,85 @@ HOST = "a loopback: add it as a table [[host]], with its cost"
 SHORT = "a prefix of 31 bits is for point-to-point links"
 TRIANGLE_WANTED = {
     "1.1.1.1": ["0.0.0.0", "point-to-point 10.0.1.1/24 cost 10 hello 2 dead 8",
-                "point-to-point 10.0.2.1/24 cost 30 hello 2 dead 12 retransmit 3 transmit_delay 2"],
+                "point-to-point 10.0.2.1/24 cost 30 hello 2 dead 12 retransmit 3 transmit_delay 2",
+                "host 1.1.1.1 cost 0"],
     "2.2.2.2": ["0.0.0.0", "point-to-point 10.0.1.2/24 cost 10 hello 2 dead 8",
-                "point-to-point 10.0.3.2/24 cost 10", "broadcast 192.168.2.1/24 cost 3 priority 0"],
+                "point-to-point 10.0.3.2/24 cost 10", "broadcast 192.168.2.1/24 cost 3 priority 0",
+                "host 2.2.2.2 cost 3"],
     "3.3.3.3": ["0.0.0.0 stub_router", "point-to-point 10.0.2.3/24 cost 30 hello 2 dead 12",
-                "point-to-point 10.0.3.3/24 cost 10"]}
+                "point-to-point 10.0.3.3/24 cost 10", "host 3.3.3.3 cost 0"]}
+LOOPBACK = "cost 0: no cost in the file: that of a loopback"
 TRIANGLE_REPORT = [
-    f"rt1.conf:3: left out: lo 1.1.1.1/32: {HOST}",
+    f"rt1.conf:3: assumed: lo 1.1.1.1/32: {LOOPBACK}",
     "rt1.conf:6: assumed: eth-rt2 10.0.1.1/24: dead 8: four times hello",
     "rt1.conf:22: left out: log-adjacency-changes: no effect on the LSDB of the area",
-    f"rt2.conf:3: left out: lo 2.2.2.2/32: {HOST}",
-    "rt2.conf:5: assumed: eth-rt1 10.0.1.2/24: dead 8: four times hello",
-    "rt2.conf:14: left out: dummy0 192.168.2.1/24: passive: written with priority 0, it sends "
+    "rt2.conf:6: assumed: eth-rt1 10.0.1.2/24: dead 8: four times hello",
+    "rt2.conf:15: left out: dummy0 192.168.2.1/24: passive: written with priority 0, it sends "
     "Hellos",
     "rt3.conf:3: left out: lo 127.0.0.1/8: a loopback",
-    f"rt3.conf:4: left out: lo 3.3.3.3/32: {HOST}",
+    f"rt3.conf:4: assumed: lo 3.3.3.3/32: {LOOPBACK}",
     "rt3.conf: assumed: router_id 3.3.3.3: the file gives none: the highest address"]
 # By hand: 3.3.3.3 is a stub router, so 1.1.1.1 reaches what is behind it by 2.2.2.2 only if it has
 # to; the link of both to 3.3.3.3 is their own.
 TRIANGLE_TABLES = {
-    "1.1.1.1": ["10.0.1.0/24 10 attached", "10.0.2.0/24 30 attached",
-                "10.0.3.0/24 20 10.0.1.1>2.2.2.2", "192.168.2.0/24 13 10.0.1.1>2.2.2.2"],
-    "3.3.3.3": ["10.0.1.0/24 65545 10.0.2.3>1.1.1.1,10.0.3.3>2.2.2.2", "10.0.2.0/24 30 attached",
-                "10.0.3.0/24 10 attached", "192.168.2.0/24 65538 10.0.3.3>2.2.2.2"]}
+    "1.1.1.1": ["1.1.1.1/32 0 attached", "2.2.2.2/32 13 10.0.1.1>2.2.2.2",
+                "3.3.3.3/32 20 10.0.1.1>2.2.2.2", "10.0.1.0/24 10 attached",
+                "10.0.2.0/24 30 attached", "10.0.3.0/24 20 10.0.1.1>2.2.2.2",
+                "192.168.2.0/24 13 10.0.1.1>2.2.2.2"],
+    "3.3.3.3": ["1.1.1.1/32 65535 10.0.2.3>1.1.1.1", "2.2.2.2/32 65538 10.0.3.3>2.2.2.2",
+                "3.3.3.3/32 0 attached", "10.0.1.0/24 65545 10.0.2.3>1.1.1.1,10.0.3.3>2.2.2.2",
+                "10.0.2.0/24 30 attached", "10.0.3.0/24 10 attached",
+                "192.168.2.0/24 65538 10.0.3.3>2.2.2.2"]}
+
+# Routers whose OSPF is in a VRF, each in one of its own: after ospf_netns_vrf. The first has an
+# interface outside of it too.
+VRF = {
+    f"r{it}/{name}": text
+    for it in (1, 2)
+    for name, text in (
+        ("zebra.conf", f"interface r{it}-eth0 vrf cust{it}\n ip address 10.0.3.{it}/24\n"
+         f"interface r{it}-eth1 vrf cust{it}\n ip address 10.0.1{it}.1/24\n"
+         "interface mgmt\n ip address 10.0.3.9/24\n"),
+        ("ospfd.conf", f"interface r{it}-eth0\n ip ospf cost 10\ninterface r{it}-eth1\n"
+         f" ip ospf cost 10\nrouter ospf vrf cust{it}\n ospf router-id 10.0.255.{it}\n"
+         " network 10.0.0.0/16 area 0\n"))}
+VRF_WANTED = {f"10.0.255.{it}": ["0.0.0.0", f"broadcast 10.0.3.{it}/24 cost 10",
+                                 f"broadcast 10.0.1{it}.1/24 cost 10"] for it in (1, 2)}
+VRF_REPORT = [f"r{it}: assumed: VRF cust{it}: the only one that has OSPF" for it in (1, 2)]
+# By hand: a host of a loopback that is one already, and one too many.
+HOSTS = {"r1.conf": """\
+interface lo
+ ip address 10.9.0.1/32
+ ip address 10.9.0.1/24
+ ip address 10.0.0.1/32
+interface lo:1
+ ip address 240.0.0.1/32
+interface dummy0
+ ip address 10.9.0.2/32
+ ip ospf cost 8
+interface eth0
+ ip address 10.0.0.1/24
+ ip ospf cost 10
+interface eth1
+ ip address 10.8.0.1/31
+ ip ospf network point-to-point
+ ip ospf cost 10
+router ospf
+ ospf router-id 1.1.1.1
+ network 0.0.0.0/0 area 0
+"""}
+HOSTS_WANTED = {"1.1.1.1": ["0.0.0.0 rfc3021", "point-to-point 10.8.0.1/31 cost 10",
+                            "host 10.9.0.1 cost 0", "host 10.0.0.1 cost 0",
+                            "host 10.9.0.2 cost 8"]}
+EARLIER = "an earlier interface has this address"
+HOSTS_REPORT = [
+    f"r1.conf:2: assumed: lo 10.9.0.1/32: {LOOPBACK}",
+    f"r1.conf:3: assumed: lo 10.9.0.1/24: {LOOPBACK}",
+    f"r1.conf:3: left out: lo 10.9.0.1/24: {EARLIER}",
+    f"r1.conf:4: assumed: lo 10.0.0.1/32: {LOOPBACK}",
+    f"r1.conf:6: assumed: lo:1 240.0.0.1/32: {LOOPBACK}",
+    "r1.conf:6: left out: lo:1 240.0.0.1/32: the format has no interface with such an address",
+    f"r1.conf:11: left out: eth0 10.0.0.1/24: {EARLIER}"]
 
 # Two routers with parallel networks: after the topology ecmp of the basic tests.
 ECMP = {
@@ -737,6 +796,12 @@ CASES = [
         "r2.conf:6: left out: eth2 10.0.3.2/24: passive, and 1.1.1.1 is active on its network"],
      {"1.1.1.1": ["10.0.0.0/24 1 attached", "10.0.1.0/24 2 10.0.0.1>2.2.2.2@10.0.0.2",
                   "10.0.2.0/24 1 attached", "10.0.3.0/24 9 attached"]}),
+    ("FRR, a VRF", ["frr"], VRF, ["r1", "r2"], VRF_WANTED, VRF_REPORT,
+     {"10.0.255.1": ["10.0.3.0/24 10 attached", "10.0.11.0/24 10 attached",
+                     "10.0.12.0/24 20 10.0.3.1>10.0.255.2@10.0.3.2"]}),
+    ("FRR, hosts", ["frr"], HOSTS, ["r1.conf"], HOSTS_WANTED, HOSTS_REPORT,
+     {"1.1.1.1": ["10.0.0.1/32 0 attached", "10.8.0.0/31 10 attached", "10.9.0.1/32 0 attached",
+                  "10.9.0.2/32 8 attached"]}),
     ("BIRD", ["bird", "--area", "0", "--addresses", "addresses"], BIRD, ["r1.conf"], BIRD_WANTED,
      BIRD_REPORT, {}),
     ("BIRD, without a Router ID", ["bird", "--addresses", "addresses"], BIRD_BARE, ["r1.conf"],

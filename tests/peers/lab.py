@@ -97,6 +97,8 @@ class Node:
         self.lab, self.name, self.router = lab, name, router
         self.space, self.folder = f"{lab.prefix}{name}", os.path.join(lab.folder, name)
         self.sides, self.stubs, self.children, self.is_dressed = [], [], [], False
+        # Addresses of its loopback, which it advertises as hosts.
+        self.hosts = []
         os.makedirs(self.folder)
         self.ip(f"netns add {self.space}", anywhere=True)
         self.ip("link set lo up")
@@ -141,6 +143,7 @@ class Node:
         if self.stubs:
             lines += ["link add s0 type veth peer name s1", "link set s0 up", "link set s1 up"]
             lines += [f"address add {address} dev s0" for address in self.stubs]
+        lines += [f"address add {address}/32 dev lo" for address in self.hosts]
         self.ip(*lines)
 
 
@@ -225,6 +228,7 @@ class Bird(Node):
         interface = '    interface "{side.device}" {{ type {kind}; hello {hello}; dead {dead}; wait {dead}; cost {side.cost}; priority {side.priority}; }};\n'
         lines = "".join(interface.format(side=side, kind="ptp" if side.is_line else "broadcast", hello=HELLO, dead=DEAD) for side in self.sides)
         lines += '    interface "s0" { stub; cost 5; };\n' if self.stubs else ""
+        lines += '    interface "lo" { stub; cost 1; };\n' if self.hosts else ""
         static = 'protocol static { ipv4; route 203.0.113.0/24 blackhole; }\n' if self.has_external else ""
         given = "export where source = RTS_STATIC;" if self.has_external else "export none;"
         text = f"router id {self.router};\nprotocol device {{ scan time 1; }}\n{static}"
@@ -279,7 +283,8 @@ class Ours(Node):
         for number, address in enumerate(self.stubs):
             text += f'[[interface]]\nkind = "broadcast"\naddress = "{address}"\ncost = 5\nport = {self.first_port + 1000 + number}\n'
         text += f'[[interface]]\nkind = "point-to-point"\naddress = "{self.read_address}"\ncost = 10\nport = {self.read_port}\npeers = [{self.read_port + 1}]\n'
-        self.write("p.toml", text + "".join(self.more))
+        text += "".join(self.more)
+        self.write("p.toml", text + "".join(f'[[host]]\naddress = "{address}"\ncost = 0\n' for address in self.hosts))
 
     def database(self):
         """The instances of all LSAs that it describes to a neighbour over UDP; None where it does not in time."""
@@ -382,15 +387,15 @@ class Lab:
     def real(self):
         return [node for node in self.nodes.values() if isinstance(node, (Frr, Bird))]
 
-    def line(self, first, second, mtu=1500):
-        """Joins two routers point-to-point."""
+    def line(self, first, second, mtu=1500, length=30):
+        """Joins two routers point-to-point, by a subnet of 30 bits, or of 31 (RFC 3021)."""
         number, self.lines = self.lines, self.lines + 1
         devices = f"e{len(first.sides)}", f"e{len(second.sides)}"
         first.ip(f"link add {devices[0]} type veth peer name {devices[1]} netns {second.space}")
-        ends = [f"10.100.{number // 64}.{number % 64 * 4 + last}" for last in (1, 2)]
+        ends = [f"10.100.{number // 64}.{number % 64 * 4 + last}" for last in ((1, 2) if length == 30 else (0, 1))]
         for node, device, end in zip((first, second), devices, ends):
             node.ip(f"link set {device} mtu {mtu} up")
-            node.sides.append(Side(device, f"{end}/30", True, mtu=mtu))
+            node.sides.append(Side(device, f"{end}/{length}", True, mtu=mtu))
         self.others.update({ends[0]: ends[1], ends[1]: ends[0]})
 
     def lan(self, nodes, number=0, priorities=()):
@@ -453,8 +458,9 @@ class Lab:
             self.tell(f"at its neighbours our router is to be {states}, it is {seen}; LSAs: {[len(node.database()) for node in self.real()]}")
         time.sleep(max(0, ends - time.monotonic() - SECONDS_TO_ASK + 1))
 
-    def judge(self, states, at_least=1):
-        """Waits until all is settled; then compares all databases and tables. How many LSAs and routes there are."""
+    def judge(self, states, at_least=1, wanted=()):
+        """Waits until all is settled; then compares all databases and tables, each of which has to have the prefixes that are
+        wanted. How many LSAs and routes there are."""
         self.settle(states, at_least)
         real = self.real()
         databases = {node.name: node.database() for node in [*real, *self.ours()]}
@@ -478,7 +484,11 @@ class Lab:
             if not any(line[2] == node.router for line in known):
                 self.tell(f"{first} has no LSA of {node.router}: {sorted(known)[:6]}")
             routes = [line for line in printed[1:] if not line.startswith("floor ")]
+            tables[node.name] = self.table_of(routes)
             self.compare(f"ospfd run {node.router}", self.table_from(shown, node.router), self.table_of(routes))
+        for name, table in tables.items():
+            if lacks := set(wanted) - table.keys():
+                self.tell(f"{name} has no route to {sorted(lacks)}")
         return len(known), len(routes)
 
 

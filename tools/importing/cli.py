@@ -56,6 +56,8 @@ OUTSIDE_OF_BLOCKS = {
     "access-list", "ip", "ipv6", "debug", "mpls", "username", "version", "boot", "logging", "ntp",
     "snmp-server", "aaa", "class-map", "policy-map", "crypto", "control-plane", "banner", "zebra"}
 ENDS = ("exit", "end", "quit", "exit-vrf")
+# The word may be written short.
+INTERFACE = re.compile(r"int(e(r(f(a(ce?)?)?)?)?)?$")
 
 
 def parts(words):
@@ -81,7 +83,7 @@ class Device:
         # Of each `ip ospf .. area`: its place, its text, the process and the address.
         self.processes = []
         self.ospf_lines, self.kind, self.why_not, self.bandwidth = [], None, None, None
-        self.is_down = self.is_other = False
+        self.vrf, self.is_down, self.is_other = None, False, False
 
     def of(self, what, address):
         """What is given for an address, or else for all."""
@@ -91,8 +93,11 @@ class Device:
 class Reader:
     """Reads the files of one router."""
 
-    # As the dialects have it: megabits a second, and kilobits in the unit of `bandwidth`.
-    reference, unit = 100, 1
+    # As the dialects have it: megabits a second, kilobits in the unit of `bandwidth`, and the cost
+    # of a loopback that gives none.
+    reference, unit, loopback_cost = 100, 1, None
+    # The VRF whose instance is read.
+    vrf = None
 
     def __init__(self, router, report):
         self.router, self.report = router, report
@@ -121,7 +126,7 @@ class Reader:
     def take(self, place, words, text, is_indented):
         if words[0] in ENDS:
             self.inside = None
-        elif words[0] == "interface" and len(words) > 1:
+        elif INTERFACE.match(words[0]) and len(words) > 1:
             self.begin_interface(place, words)
         elif words[0] == "router" and not is_indented:
             self.begin_router(place, words, text)
@@ -157,7 +162,7 @@ class Reader:
         self.device = self.devices.setdefault(words[1], Device(words[1], place))
         self.inside, self.is_indented = self.in_interface, None
         if words[2:3] == ["vrf"]:
-            self.device.is_other = True
+            self.device.vrf = " ".join(words[3:])
         elif words[2:3] == ["multipoint"]:
             self.device.why_not = "network type multipoint"
 
@@ -165,10 +170,15 @@ class Reader:
         self.inside, self.is_indented = self.skip, None
         if words[1:2] != ["ospf"]:
             return
-        if "vrf" in words or self.process not in (None, words[2:3]):
+        vrf = words[words.index("vrf") + 1 :] if "vrf" in words else []
+        if vrf != ([] if self.vrf is None else [self.vrf]):
             self.report.left(place, plain(text), model.OTHER_ROUTER)
             return
-        self.process, self.inside = words[2:3], self.in_ospf
+        process = [it for it in words[2:3] if it != "vrf"]
+        if self.process not in (None, process):
+            self.report.left(place, plain(text), model.OTHER_ROUTER)
+            return
+        self.process, self.inside = process, self.in_ospf
 
     # ---- interfaces
 
@@ -358,7 +368,7 @@ class Reader:
 
     def highest(self):
         """The Router ID where none is given: the highest address of a loopback, or of all."""
-        devices = [it for it in self.devices.values() if not it.is_down and not it.is_other]
+        devices = [it for it in self.devices.values() if not it.is_down and not self.is_other(it)]
         loopbacks = [it for it in devices if self.is_loopback(it)]
         for some in (loopbacks, devices):
             found = [address.ip for it in some for _, address in it.addresses]
@@ -369,9 +379,13 @@ class Reader:
                 return max(found)
         return None
 
+    def is_other(self, device):
+        """Whether an interface belongs to another VRF."""
+        return device.is_other or device.vrf != self.vrf
+
     def finish_device(self, device):
         links = []
-        if device.is_other:
+        if self.is_other(device):
             if device.ospf_lines:
                 self.report.left(device.ospf_lines[0], plain(device.name), model.OTHER_ROUTER)
             return
@@ -413,7 +427,13 @@ class Reader:
         if device.is_down:
             link.why_not = model.DOWN
         elif self.is_loopback(device) and not self.is_loopback_network(device):
-            link.why_not = "a loopback" if address.ip.is_loopback else f"a loopback: {model.HOST}"
+            link.is_host = self.loopback_cost is not None and not address.ip.is_loopback
+            if not link.is_host:
+                said = "" if address.ip.is_loopback else f": {model.HOST}"
+                link.why_not = f"a loopback{said}"
+        elif self.loopback_cost is not None and link.kind == model.BROADCAST:
+            # As an interface of type dummy: a stub network of one address.
+            link.is_host = address.network.prefixlen == 32
         said = [device.passive, {at: it for (name, at), it in self.passive.items()
                                  if name == device.name}]
         passive = [it for it in (device.of(given, address.ip) for given in said) if it is not None]
@@ -438,7 +458,11 @@ class Reader:
         return device.kind == model.POINT_TO_POINT
 
     def cost(self, device, link):
-        """The cost of an interface that gives none, by its bandwidth."""
+        """The cost of an interface that gives none: that of a loopback, or one by its bandwidth."""
+        if self.is_loopback(device) and link.is_host:
+            self.report.assume(link.place, f"{link.name()}: cost {self.loopback_cost}",
+                               "no cost in the file: that of a loopback")
+            return self.loopback_cost
         kilobits, why = device.bandwidth, "bandwidth"
         if kilobits is None:
             kilobits, why = self.speed(device)

@@ -94,7 +94,8 @@ class Link:
         self.kind, self.settings, self.comment = BROADCAST, {}, device
         # Why the format cannot express it, where only the dialect knows.
         self.why_not = None
-        self.is_passive = False
+        # Whether its address alone is advertised, as that of a loopback (RFC 2328, C.7).
+        self.is_passive = self.is_host = False
 
     def name(self):
         return f"{plain(self.device)} {self.address}"
@@ -104,10 +105,12 @@ class Link:
         length, octet = self.address.network.prefixlen, self.address.packed[0]
         if self.why_not:
             return self.why_not
-        if length == 32:
+        if length == 32 and not self.is_host:
             return UNNUMBERED if self.kind == POINT_TO_POINT else HOST
         if length < LENGTHS[0] or not OCTETS[0] <= octet <= OCTETS[1]:
             return "the format has no interface with such an address"
+        if self.is_host:
+            return None
         if length == 31:
             return None if self.kind == POINT_TO_POINT else NO_31
         if self.address.ip in (self.address.network[0], self.address.network[-1]):
@@ -203,21 +206,31 @@ def complete(report, link):
     given["dead"] = dead
 
 
+def unlike(link, links, hosts):
+    """Why a link cannot be with these that came before it; nothing if it can."""
+    taken = [it.address.ip for it in links] + [it.address for it in hosts]
+    if link.is_host and len(hosts) == MOST:
+        return f"more than {MOST} hosts"
+    if not link.is_host and len(links) == MOST:
+        return f"more than {MOST} interfaces"
+    if not link.is_host and any(it.address.network == link.address.network for it in links):
+        return "an earlier interface has this prefix"
+    return "an earlier interface has this address" if link.address.ip in taken else None
+
+
 def expressed(report, router, area):
-    """The links of a router in an area that the format can express, with a report of the others."""
+    """The links of a router in an area that the format can express, with a report of the others.
+    Hosts are added to those of the router."""
     links = []
     for link in router.links:
-        fault = link.fault()
+        fault = link.fault() or unlike(link, links, router.hosts)
         if link.area != area:
             fault = f"area {link.area}"
-        elif fault is None and len(links) == MOST:
-            fault = f"more than {MOST} interfaces"
-        elif fault is None and any(it.address.network == link.address.network for it in links):
-            fault = "an earlier interface has this prefix"
-        elif fault is None and any(it.address.ip == link.address.ip for it in links):
-            fault = "an earlier interface has this address"
         if fault:
             report.left(link.place, link.name(), fault)
+            continue
+        if link.is_host:
+            router.hosts.append(Host(link.address.ip, link.settings["cost"]))
             continue
         complete(report, link)
         if link.is_passive:
