@@ -25,6 +25,9 @@ const lines = hops => hops === null ? ["\u2013"]
   : hopLines(hops).map(it => make("span", {class: "hop"}, it));
 const cell = (value, isCount) => make("td", {class: isCount ? "n" : null}, value);
 
+/** A prefix, which is one word. */
+const prefixCell = prefix => make("td", {class: "prefix"}, prefix);
+
 /** Which prefixes are lost, each with the routers that lose it. */
 function byPrefix(routes) {
   const found = new Map();
@@ -32,7 +35,7 @@ function byPrefix(routes) {
     if (!found.has(it.prefix)) found.set(it.prefix, []);
     found.get(it.prefix).push(named(it.router));
   }
-  const one = ([prefix, routers]) => make("tr", {}, cell(prefix), cell(routers.join(", ")));
+  const one = ([prefix, routers]) => make("tr", {}, prefixCell(prefix), cell(routers.join(", ")));
   return rows([["Prefix"], ["Routers that lose it"]], [...found], one);
 }
 
@@ -44,11 +47,11 @@ function part(title, colour, routes, show) {
 }
 
 const longer = routes => rows([["Router"], ["Prefix"], ["Cost", true], ["After", true],
-  ["Next hops after"]], routes, it => make("tr", {}, cell(named(it.router)), cell(it.prefix),
+  ["Next hops after"]], routes, it => make("tr", {}, cell(named(it.router)), prefixCell(it.prefix),
   cell(number(it.cost), true), cell(number(it.newCost), true),
   make("td", {}, ...lines(it.newHops))));
 const rerouted = routes => rows([["Router"], ["Prefix"], ["Before"], ["After"]], routes, it =>
-  make("tr", {}, cell(named(it.router)), cell(it.prefix), make("td", {}, ...lines(it.hops)),
+  make("tr", {}, cell(named(it.router)), prefixCell(it.prefix), make("td", {}, ...lines(it.hops)),
     make("td", {}, ...lines(it.newHops))));
 
 /** What is known of the routes of a failure. */
@@ -63,7 +66,7 @@ function changed(failure) {
   const lost = [];
   for (let at = 0; at < failure.lost.length; at += 2)
     lost.push([S[failure.lost[at]], failure.lost[at + 1]]);
-  const one = ([prefix, count]) => make("tr", {}, cell(prefix), cell(number(count), true));
+  const one = ([prefix, count]) => make("tr", {}, prefixCell(prefix), cell(number(count), true));
   const first = lost.length < failure.prefixes ? `, the first ${number(lost.length)}` : "";
   return [make("p", {class: "note"}, `Left out: the ${number(changes(failure))} routes of this ` +
     "failure. They are too many for this page; the counts are complete. The program prints them:"),
@@ -100,7 +103,7 @@ function facing(thing) {
     if (thing.stubs && thing.stubs.length) inner.push(make("details", {},
       make("summary", {}, `${many(thing.stubs.length, "stub network")} advertised`),
       rows([["Prefix"], ["Cost", true]], thing.stubs, ([prefix, cost]) =>
-        make("tr", {}, cell(prefix), cell(number(cost), true)))));
+        make("tr", {}, prefixCell(prefix), cell(number(cost), true)))));
   } else {
     for (const [router, from, cost] of thing.ends)
       inner.push(make("p", {class: "quiet"}, `${full(router)}: interface ${from}, cost ${cost}`));
@@ -139,7 +142,7 @@ function tables(failure) {
 }
 
 const alone = router => rows([["Prefix"], ["Cost", true], ["Next hops"]], tableOf(router), it =>
-  make("tr", {}, cell(it.prefix), cell(number(it.cost), true), make("td", {}, ...lines(it.hops))));
+  make("tr", {}, prefixCell(it.prefix), cell(number(it.cost), true), make("td", {}, ...lines(it.hops))));
 
 function both(failure, router) {
   const after = new Map(routesOf(failure).filter(it => it.router === router)
@@ -155,7 +158,7 @@ function both(failure, router) {
       ? [make("span", {class: "words-cut"}, now.loss === "cut" ? "cut off" : "gone")]
       : [make("span", {class: "hop"}, number(now.newCost)), ...lines(now.newHops)];
     return make("tr", {class: after.has(it.prefix) && !shownRouter.onlyChanged ? "changed" : null},
-      cell(it.prefix), make("td", {}, make("span", {class: "hop"}, number(it.cost)),
+      prefixCell(it.prefix), make("td", {}, make("span", {class: "hop"}, number(it.cost)),
         ...lines(it.hops)), make("td", {}, ...then));
   };
   return rows([["Prefix"], ["Before"], ["After"]], all, one);
