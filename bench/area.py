@@ -1,10 +1,10 @@
 #!/usr/bin/env python3
 """Prints an area made at random, as LSAs in hexadecimal, one a line.
 
-Routers 1.0.0.1, 1.0.0.2 and so on in a connected graph of point-to-point links, four a router on average, with metrics
-1 to 20 and the /30 of each link as a stub at both ends; a network of three to five routers for every 20 routers; a /32
-and a /24 of each router's own. The root, 192.0.2.1, has a link to each of the first two routers. The same words give
-the same bytes.
+Routers 1.0.0.1, 1.0.0.2 and so on in a connected graph of point-to-point links, four a router on
+average, with metrics 1 to 20 and the /30 of each link as a stub at both ends; a network of three to
+five routers for every 20 routers; a /32 and a /24 of each router's own. The root, 192.0.2.1, has a
+link to each of the first two routers. The same words give the same bytes.
 """
 import argparse
 import random
@@ -43,12 +43,20 @@ def lsa(kind, state_id, router, body):
 
 
 def router_lsa(router, links):
-    spelled = [struct.pack(">IIBBH", to, link_data, kind, 0, metric) for to, link_data, kind, metric in links]
+    spelled = [
+        struct.pack(">IIBBH", to, link_data, kind, 0, metric)
+        for to, link_data, kind, metric in links
+    ]
     return lsa(1, router, router, struct.pack(">BBH", 0, 0, len(links)) + b"".join(spelled))
 
 
 def network_lsa(address, router, members):
-    return lsa(2, address, router, struct.pack(">I", 0xFFFFFF00) + b"".join(struct.pack(">I", m) for m in sorted(members)))
+    return lsa(
+        2,
+        address,
+        router,
+        struct.pack(">I", 0xFFFFFF00) + b"".join(struct.pack(">I", m) for m in sorted(members)),
+    )
 
 
 class Area:
@@ -66,11 +74,20 @@ class Area:
         for place in range(count // 20):
             self.add_network(count, NETWORKS + 256 * place)
         for k in range(1, count + 1):
-            self.links[ROUTERS + k] += [(STUBS + 256 * k, 0xFFFFFF00, STUB, self.random.randint(1, 10)), (HOSTS + k, 0xFFFFFFFF, STUB, 0)]
+            self.links[ROUTERS + k] += [
+                (STUBS + 256 * k, 0xFFFFFF00, STUB, self.random.randint(1, 10)),
+                (HOSTS + k, 0xFFFFFFFF, STUB, 0),
+            ]
 
     def join(self, a, b, prefix, metric_of_a, metric_of_b):
-        self.links[a] += [(b, prefix + 1, POINT_TO_POINT, metric_of_a), (prefix, 0xFFFFFFFC, STUB, metric_of_a)]
-        self.links[b] += [(a, prefix + 2, POINT_TO_POINT, metric_of_b), (prefix, 0xFFFFFFFC, STUB, metric_of_b)]
+        self.links[a] += [
+            (b, prefix + 1, POINT_TO_POINT, metric_of_a),
+            (prefix, 0xFFFFFFFC, STUB, metric_of_a),
+        ]
+        self.links[b] += [
+            (a, prefix + 2, POINT_TO_POINT, metric_of_b),
+            (prefix, 0xFFFFFFFC, STUB, metric_of_b),
+        ]
 
     def link(self, a, b):
         metric = lambda: self.random.randint(1, self.greatest_metric)
@@ -79,7 +96,7 @@ class Area:
 
     def grow_tree(self, count):
         for k in range(2, count + 1):
-            near = max(1, k - self.random.randint(1, int(k ** 0.5) + 1))
+            near = max(1, k - self.random.randint(1, int(k**0.5) + 1))
             self.link(k, near if self.random.random() < 0.8 else self.random.randint(1, k - 1))
 
     def add_links(self, count):
@@ -98,7 +115,9 @@ class Area:
         for m in members:
             metric = self.random.randint(1, self.greatest_metric)
             self.links[ROUTERS + m].append((address[designated], address[m], TRANSIT, metric))
-        self.networks.append((address[designated], ROUTERS + designated, [ROUTERS + m for m in members]))
+        self.networks.append(
+            (address[designated], ROUTERS + designated, [ROUTERS + m for m in members])
+        )
 
     def lsas(self):
         routers = [router_lsa(router, links) for router, links in sorted(self.links.items())]
@@ -110,8 +129,14 @@ def text(count, seed, **made):
 
 
 if __name__ == "__main__":
-    words = argparse.ArgumentParser(description=__doc__, formatter_class=argparse.RawDescriptionHelpFormatter)
-    words.add_argument("routers", type=int, metavar="ROUTERS", help="how many routers, beside the root")
-    words.add_argument("seed", type=int, metavar="SEED", help="a number; another one gives another area")
+    words = argparse.ArgumentParser(
+        description=__doc__, formatter_class=argparse.RawDescriptionHelpFormatter
+    )
+    words.add_argument(
+        "routers", type=int, metavar="ROUTERS", help="how many routers, beside the root"
+    )
+    words.add_argument(
+        "seed", type=int, metavar="SEED", help="a number; another one gives another area"
+    )
     given = words.parse_args()
     sys.stdout.write(text(given.routers, given.seed))

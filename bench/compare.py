@@ -3,9 +3,10 @@
 
   compare.py [RUNS]
 
-For each area and program the run of least time out of RUNS (5), in milliseconds. Reading is a run for a root that is not
-listed, which reads all and finds no route, the start of the process in it. Printing is the time from the first output to
-the last, and calculation is what is left. The plain program times its parts by itself. Needs rustc.
+For each area and program the run of least time out of RUNS (5), in milliseconds. Reading is a run
+for a root that is not listed, which reads all and finds no route, the start of the process in it.
+Printing is the time from the first output to the last, and calculation is what is left. The plain
+program times its parts by itself. Needs rustc.
 """
 import os
 import subprocess
@@ -63,7 +64,10 @@ def main():
     runs = int(sys.argv[1]) if len(sys.argv) > 1 else 5
     with tempfile.TemporaryDirectory() as folder:
         plain = os.path.join(folder, "plain")
-        subprocess.run(["rustc", "--edition", "2021", "-O", "-o", plain, os.path.join(HERE, "plain.rs")], check=True)
+        subprocess.run(
+            ["rustc", "--edition", "2021", "-O", "-o", plain, os.path.join(HERE, "plain.rs")],
+            check=True,
+        )
         print(f"{'':12} {'routers':>6} {'whole':>9} {'reading':>9} {'calculate':>9} {'print':>9}")
         for count in ROUTERS:
             compare(runs, count, plain, os.path.join(folder, "area"))

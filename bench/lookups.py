@@ -1,6 +1,7 @@
 #!/usr/bin/env python3
-"""Times lookups in the shared table: one to three readers, alone and beside a writer that publishes in a loop, whole tables of which
-nothing changed, or changes of ten routes there and back. It prints the nanoseconds of a lookup.
+"""Times lookups in the shared table: one to three readers, alone and beside a writer that publishes
+in a loop, whole tables of which nothing changed, or changes of ten routes there and back. It prints
+the nanoseconds of a lookup.
 """
 import argparse
 import subprocess
@@ -22,13 +23,18 @@ def nanoseconds(program, routes, readers, publishes):
 
 
 def main():
-    argparse.ArgumentParser(description=__doc__, formatter_class=argparse.RawDescriptionHelpFormatter).parse_args()
+    argparse.ArgumentParser(
+        description=__doc__, formatter_class=argparse.RawDescriptionHelpFormatter
+    ).parse_args()
     with tempfile.TemporaryDirectory() as place:
         program = build(place, "lookups", "ospf_fib", ["1", "1", "1", "alone"])
         for routes in ROUTES:
             for readers in READERS:
                 taken = [nanoseconds(program, routes, readers, publishes) for publishes in BESIDE]
-                print(f"| {routes:,} | {readers} |" + "".join(f" {one:.0f} |" for one in taken), flush=True)
+                print(
+                    f"| {routes:,} | {readers} |" + "".join(f" {one:.0f} |" for one in taken),
+                    flush=True,
+                )
 
 
 main()

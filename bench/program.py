@@ -8,7 +8,8 @@ TOP = os.path.join(HERE, "..")
 
 
 def crates_below(name):
-    """The crates of the repository that a crate stands on, and itself, each after those that it stands on."""
+    """The crates of the repository that a crate stands on, and itself, each after those that it
+    stands on."""
     listed = {}
     for line in open(os.path.join(TOP, "crates.txt"), encoding="utf-8"):
         words, colon, libraries = line.split("#")[0].partition(":")
@@ -27,7 +28,8 @@ def crates_below(name):
 
 
 def build(place, name, over, words):
-    """The program of `name`.txt over a crate and all that this stands on. `words` let it end soon."""
+    """The program of `name`.txt over a crate and all that this stands on. `words` let it end
+    soon."""
     below = crates_below(over)
     for crate in below:
         shutil.copytree(os.path.join(TOP, "crates", crate), os.path.join(place, "crates", crate))
@@ -35,7 +37,11 @@ def build(place, name, over, words):
     source = os.path.join(place, "crates", name, "src")
     os.makedirs(source)
     shutil.copy(os.path.join(HERE, name + ".txt"), os.path.join(source, "main.rt"))
-    lines = [line for line in open(os.path.join(TOP, "crates.txt")) if line.split(":")[0].split()[0] in below]
+    lines = [
+        line
+        for line in open(os.path.join(TOP, "crates.txt"))
+        if line.split(":")[0].split()[0] in below
+    ]
     with open(os.path.join(place, "crates.txt"), "w") as crates:
         crates.writelines(lines)
         crates.write(name + ": " + " ".join(below) + "\n")

@@ -1,6 +1,7 @@
 #!/usr/bin/env python3
-"""Times publishing in the shared table: tables of 10,000 and of 100,000 routes of which none, 10 or all changed, by the whole table and by
-the changes alone. It prints the routes, the changed ones, and the microseconds of a publish each way."""
+"""Times publishing in the shared table: tables of 10,000 and of 100,000 routes of which none, 10 or
+all changed, by the whole table and by the changes alone. It prints the routes, the changed ones,
+and the microseconds of a publish each way."""
 import argparse
 import os
 import subprocess
@@ -37,7 +38,9 @@ def microseconds(program, routes, changed, way):
 
 
 def main():
-    argparse.ArgumentParser(description=__doc__, formatter_class=argparse.RawDescriptionHelpFormatter).parse_args()
+    argparse.ArgumentParser(
+        description=__doc__, formatter_class=argparse.RawDescriptionHelpFormatter
+    ).parse_args()
     with tempfile.TemporaryDirectory() as place:
         proofs = os.path.join(place, "crates", "publishes", "proofs", "time_of_changes")
         os.makedirs(proofs)

@@ -1,5 +1,6 @@
 #!/usr/bin/env python3
-"""Measures `ospfd run`: what idle routers cost, what a datagram costs, and how soon two routers have their tables.
+"""Measures `ospfd run`: what idle routers cost, what a datagram costs, and how soon two routers
+have their tables.
 
 usage: bench/runs.py [PROGRAM]
 """
@@ -29,7 +30,9 @@ def two(place, ports):
     """The configurations of two routers on a line."""
     names = []
     for side in (0, 1):
-        towards = interface("point-to-point", f"10.0.0.{side + 1}/30", 10, ports[side], [ports[1 - side]])
+        towards = interface(
+            "point-to-point", f"10.0.0.{side + 1}/30", 10, ports[side], [ports[1 - side]]
+        )
         behind = interface("broadcast", f"192.168.{side}.1/24", 5, ports[2 + side])
         names.append(os.path.join(place, f"{side}.toml"))
         with open(names[-1], "w", encoding="utf-8") as file:
@@ -43,11 +46,14 @@ def used():
 
 
 def run(*words, beside=None):
-    """What a run of two routers prints, and its processor time in seconds; `beside` is done meanwhile, with the first one's port."""
+    """What a run of two routers prints, and its processor time in seconds; `beside` is done
+    meanwhile, with the first one's port."""
     ports = free_ports(4)
     with tempfile.TemporaryDirectory() as place:
         before = used()
-        child = subprocess.Popen([PROGRAM, "run", *words, *two(place, ports)], stdout=subprocess.PIPE, text=True)
+        child = subprocess.Popen(
+            [PROGRAM, "run", *words, *two(place, ports)], stdout=subprocess.PIPE, text=True
+        )
         if beside:
             threading.Thread(target=beside, args=(ports[0],)).start()
         out, _ = child.communicate()
@@ -62,7 +68,8 @@ def lost_at(port):
 
 
 def noise(port):
-    """Datagrams that are no OSPF packets, a hundred at a time; how many the kernel dropped is noted."""
+    """Datagrams that are no OSPF packets, a hundred at a time; how many the kernel dropped is
+    noted."""
     time.sleep(1)
     with socket.socket(socket.AF_INET, socket.SOCK_DGRAM) as sender:
         for number in range(NOISE):
@@ -75,16 +82,24 @@ def noise(port):
 
 def has_table(out):
     """Whether both routers have a route over the other one."""
-    return "192.168.1.0/24 15 10.0.0.1>2.2.2.2" in out and "192.168.0.0/24 15 10.0.0.2>1.1.1.1" in out
+    return (
+        "192.168.1.0/24 15 10.0.0.1>2.2.2.2" in out and "192.168.0.0/24 15 10.0.0.2>1.1.1.1" in out
+    )
 
 
 def main():
     _, idle = run(str(IDLE_TICKS))
-    print(f"two idle routers for {IDLE_TICKS} s: {1000 * idle:.0f} ms of processor time", flush=True)
+    print(
+        f"two idle routers for {IDLE_TICKS} s: {1000 * idle:.0f} ms of processor time", flush=True
+    )
     _, quiet = run(str(NOISE_TICKS))
     _, busy = run(str(NOISE_TICKS), beside=noise)
     heard = NOISE - dropped[0]
-    print(f"{heard:,} datagrams that are dropped: {1e6 * (busy - quiet) / heard:.2f} microseconds of processor time each, {heard / (busy - quiet):,.0f} a second", flush=True)
+    print(
+        f"{heard:,} datagrams that are dropped: {1e6 * (busy - quiet) / heard:.2f} microseconds of "
+        f"processor time each, {heard / (busy - quiet):,.0f} a second",
+        flush=True,
+    )
     ticks = next(ticks for ticks in range(1, 1000) if has_table(run("--tick", "10", str(ticks))[0]))
     print(f"both have their tables after {ticks} ticks of 10 ms")
 

@@ -1,8 +1,10 @@
 #!/usr/bin/env python3
-"""Finds how much stack each command of the proved program takes: the least limit, in KB, with which it prints what it prints without one.
+"""Finds how much stack each command of the proved program takes: the least limit, in KB, with which
+it prints what it prints without one.
 
-The limit is that of the process (RLIMIT_STACK), which each thread gets too. The areas are made by area.py; the scripts and configurations
-are the examples. Beside them stands how deep a file of nested tables and arrays the reader of configurations is given.
+The limit is that of the process (RLIMIT_STACK), which each thread gets too. The areas are made by
+area.py; the scripts and configurations are the examples. Beside them stands how deep a file of
+nested tables and arrays the reader of configurations is given.
 """
 import glob
 import os
@@ -22,8 +24,17 @@ SECONDS = 120
 
 def run(words, text, limit=None):
     """What a command answers with a limit of the stack: its status and all that it prints."""
-    bound = lambda: resource.setrlimit(resource.RLIMIT_STACK, (limit * KB, limit * KB)) if limit else None
-    how = {"input": text.encode(), "stdout": subprocess.PIPE, "stderr": subprocess.PIPE, "timeout": SECONDS}
+    bound = (
+        lambda: resource.setrlimit(resource.RLIMIT_STACK, (limit * KB, limit * KB))
+        if limit
+        else None
+    )
+    how = {
+        "input": text.encode(),
+        "stdout": subprocess.PIPE,
+        "stderr": subprocess.PIPE,
+        "timeout": SECONDS,
+    }
     ended = subprocess.run([proved.BUILT, *words], preexec_fn=bound, cwd=TOP, check=False, **how)
     return ended.returncode, ended.stdout, ended.stderr
 
@@ -46,7 +57,10 @@ def commands(place):
     nested = os.path.join(place, "nested.toml")
     with open(nested, "w", encoding="utf-8") as file:
         file.write("a = " + "[" * 100000 + "]" * 100000 + "\n")
-    ring = ["examples/ring-loses-a-link/script", *sorted(glob.glob(os.path.join(TOP, "examples/ring-loses-a-link/*.toml")))]
+    ring = [
+        "examples/ring-loses-a-link/script",
+        *sorted(glob.glob(os.path.join(TOP, "examples/ring-loses-a-link/*.toml"))),
+    ]
     text = area.text(1000, 1)
     with open(os.path.join(TOP, "examples", "frr-bird-lan.hex"), encoding="utf-8") as file:
         lan = file.read()
@@ -59,7 +73,11 @@ def commands(place):
         ("failures of all, in threads", ["failures", "all"], lan),
         ("sim", ["sim", *ring], ""),
         ("check of 100,000 nested arrays", ["check", nested], ""),
-        ("run, in threads, 3 ticks", ["run", "--tick", "10", "3", "examples/point-to-point.toml"], ""),
+        (
+            "run, in threads, 3 ticks",
+            ["run", "--tick", "10", "3", "examples/point-to-point.toml"],
+            "",
+        ),
     ]
 
 

@@ -1,10 +1,11 @@
 #!/usr/bin/env python3
-"""Times `ospfd table` beside plain.rs over sparse, equal-cost and dense areas, and compares what they print.
+"""Times `ospfd table` beside plain.rs over sparse, equal-cost and dense areas, and compares what
+they print.
 
   tables.py [RUNS]
 
-For each area the processor time, user and system, of the run of least time out of RUNS (7), in milliseconds, and the ratio; for the
-largest area also the peak of memory in megabytes. Needs rustc.
+For each area the processor time, user and system, of the run of least time out of RUNS (7), in
+milliseconds, and the ratio; for the largest area also the peak of memory in megabytes. Needs rustc.
 """
 import os
 import random
@@ -22,7 +23,8 @@ COST = 10
 
 
 def dense(pairs, roots):
-    """An area of point-to-point links, all of one metric, between these pairs of routers, and from the root to some."""
+    """An area of point-to-point links, all of one metric, between these pairs of routers, and from
+    the root to some."""
     links = {area.ROOT: []}
     for place, (a, b) in enumerate(pairs + [(None, b) for b in roots]):
         here = area.ROOT if a is None else area.ROUTERS + a
@@ -32,7 +34,9 @@ def dense(pairs, roots):
     for router in links:
         if router != area.ROOT:
             links[router].append((area.HOSTS + router - area.ROUTERS, 0xFFFFFFFF, area.STUB, 0))
-    return "".join(area.router_lsa(router, own).hex() + "\n" for router, own in sorted(links.items()))
+    return "".join(
+        area.router_lsa(router, own).hex() + "\n" for router, own in sorted(links.items())
+    )
 
 
 def clique(count):
@@ -41,7 +45,12 @@ def clique(count):
 
 def layers(count, width):
     at = lambda layer, place: layer * width + place + 1
-    pairs = [(at(layer, a), at(layer + 1, b)) for layer in range(count - 1) for a in range(width) for b in range(width)]
+    pairs = [
+        (at(layer, a), at(layer + 1, b))
+        for layer in range(count - 1)
+        for a in range(width)
+        for b in range(width)
+    ]
     return dense(pairs, [at(0, a) for a in range(width)])
 
 
@@ -54,10 +63,18 @@ AREAS = {
     "1,000 routers": lambda: area.text(1000, 1),
     "5,000 routers": lambda: area.text(5000, 1),
     "20,000 routers": lambda: area.text(20000, 1),
-    "20,000 routers in falling order": lambda: reordered(area.text(20000, 1), lambda lines: lines[::-1]),
-    "20,000 routers in any order": lambda: reordered(area.text(20000, 1), lambda lines: random.Random(1).sample(lines, len(lines))),
-    "1,000 routers of one metric, 16 links of the root": lambda: area.text(1000, 1, root_links=16, greatest_metric=1),
-    "5,000 routers of two metrics, 16 links of the root": lambda: area.text(5000, 1, root_links=16, greatest_metric=2),
+    "20,000 routers in falling order": lambda: reordered(
+        area.text(20000, 1), lambda lines: lines[::-1]
+    ),
+    "20,000 routers in any order": lambda: reordered(
+        area.text(20000, 1), lambda lines: random.Random(1).sample(lines, len(lines))
+    ),
+    "1,000 routers of one metric, 16 links of the root": lambda: area.text(
+        1000, 1, root_links=16, greatest_metric=1
+    ),
+    "5,000 routers of two metrics, 16 links of the root": lambda: area.text(
+        5000, 1, root_links=16, greatest_metric=2
+    ),
     "a clique of 300": lambda: clique(300),
     "30 layers of 30": lambda: layers(30, 30),
 }
@@ -65,13 +82,21 @@ AREAS = {
 
 LARGEST = "20,000 routers"
 # A process of its own, since the peak of a program begins at that of the process that starts it.
-PEAK = "import os, sys; child = os.posix_spawn(sys.argv[1], sys.argv[1:], {}); print(os.wait4(child, 0)[2].ru_maxrss, file=sys.stderr)"
+PEAK = (
+    "import os, sys; child = os.posix_spawn(sys.argv[1], sys.argv[1:], {}); "
+    "print(os.wait4(child, 0)[2].ru_maxrss, file=sys.stderr)"
+)
 
 
 def peak(words, path):
     """The peak of memory in megabytes."""
     with open(path, "rb") as lines:
-        told = subprocess.run([sys.executable, "-S", "-c", PEAK, *words], stdin=lines, stdout=subprocess.DEVNULL, stderr=subprocess.PIPE)
+        told = subprocess.run(
+            [sys.executable, "-S", "-c", PEAK, *words],
+            stdin=lines,
+            stdout=subprocess.DEVNULL,
+            stderr=subprocess.PIPE,
+        )
     return int(told.stderr.split()[-1]) / 1000
 
 
@@ -91,7 +116,10 @@ def main():
     runs = int(sys.argv[1]) if len(sys.argv) > 1 else 7
     with tempfile.TemporaryDirectory() as folder:
         plain, path = os.path.join(folder, "plain"), os.path.join(folder, "area")
-        subprocess.run(["rustc", "--edition", "2021", "-O", "-o", plain, os.path.join(HERE, "plain.rs")], check=True)
+        subprocess.run(
+            ["rustc", "--edition", "2021", "-O", "-o", plain, os.path.join(HERE, "plain.rs")],
+            check=True,
+        )
         print("| Area | `ospfd table` | plain Rust | Ratio |\n|---|---|---|---|")
         for name, made in AREAS.items():
             with open(path, "w") as lines:
@@ -100,7 +128,11 @@ def main():
             theirs = min((run([plain, ROOT], path) for _ in range(runs)), key=lambda one: one[0])
             if ours[1] != theirs[1]:
                 sys.exit(f"{name}: the outputs differ")
-            print(f"| {name} | {1000 * ours[0]:.1f} | {1000 * theirs[0]:.1f} | {ours[0] / theirs[0]:.2f} |", flush=True)
+            print(
+                f"| {name} | {1000 * ours[0]:.1f} | {1000 * theirs[0]:.1f} | "
+                f"{ours[0] / theirs[0]:.2f} |",
+                flush=True,
+            )
             if name == LARGEST:
                 peaks = peak(OSPFD + [ROOT], path), peak([plain, ROOT], path)
         print(f"Peak of memory at {LARGEST}: {peaks[0]:.1f} MB, plain Rust {peaks[1]:.1f} MB")

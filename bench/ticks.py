@@ -12,13 +12,22 @@ TICKS = 1799
 
 
 def instructions(program, entries, ticks):
-    words = ["valgrind", "--tool=callgrind", "--callgrind-out-file=/dev/null", program, str(entries), str(ticks)]
+    words = [
+        "valgrind",
+        "--tool=callgrind",
+        "--callgrind-out-file=/dev/null",
+        program,
+        str(entries),
+        str(ticks),
+    ]
     told = subprocess.run(words, check=True, capture_output=True, text=True).stderr
     return int(re.search(r"Collected : (\d+)", told).group(1))
 
 
 def main():
-    argparse.ArgumentParser(description=__doc__, formatter_class=argparse.RawDescriptionHelpFormatter).parse_args()
+    argparse.ArgumentParser(
+        description=__doc__, formatter_class=argparse.RawDescriptionHelpFormatter
+    ).parse_args()
     with tempfile.TemporaryDirectory() as place:
         program = build(place, "ticks", "ospf_lsdb", ["1", "1"])
         for entries in ENTRIES:

@@ -1,4 +1,5 @@
-"""Definitions and clauses as HTML, in which each word of ours is a link to its definition (tools/pages)."""
+"""Definitions and clauses as HTML, in which each word of ours is a link to its definition
+(tools/pages)."""
 import collections
 import functools
 import glob
@@ -22,12 +23,19 @@ def relative(target, page):
 
 # ---- definitions ----
 
+
 @functools.lru_cache(maxsize=None)
 def all_words():
     """Each definition of each crate, by its crate."""
-    crates = sorted(os.path.basename(os.path.dirname(it)) for it in glob.glob(f"{TOP}/crates/*/specs"))
-    return {crate: [it.word for name in modules_of(crate)
-                    for it in module(crate, name).definitions.values()] for crate in crates}
+    crates = sorted(
+        os.path.basename(os.path.dirname(it)) for it in glob.glob(f"{TOP}/crates/*/specs")
+    )
+    return {
+        crate: [
+            it.word for name in modules_of(crate) for it in module(crate, name).definitions.values()
+        ]
+        for crate in crates
+    }
 
 
 @functools.lru_cache(maxsize=None)
@@ -67,7 +75,7 @@ def linked(line, names, page):
     made, at = [], 0
     for token in TOKEN.finditer(code):
         if token[0] in names:
-            made.append(html.escape(code[at:token.start()]))
+            made.append(html.escape(code[at : token.start()]))
             made.append(link_to(names[token[0]], token[0], page))
             at = token.end()
     made.append(html.escape(code[at:]))
@@ -86,7 +94,7 @@ def defined_at(lines, at):
     """The definition whose lines these are from a place on."""
     for word in beginnings().get(lines[at].rstrip(), ()):
         own = [line.rstrip() for line in definition(word).lines]
-        if [line.rstrip() for line in lines[at:at + len(own)]] == own:
+        if [line.rstrip() for line in lines[at : at + len(own)]] == own:
             return word, len(own)
     return None, 1
 
@@ -97,12 +105,13 @@ def shown(lines, page, names=None):
     while at < len(lines):
         word, count = defined_at(lines, at)
         known = names_in(word) if word else names or {}
-        made += [linked(line, known, page) for line in lines[at:at + count]]
+        made += [linked(line, known, page) for line in lines[at : at + count]]
         at += count
     return f"<pre><code>{chr(10).join(made)}</code></pre>"
 
 
 # ---- blocks of code ----
+
 
 def sections(lines):
     """The parts of a block: what its heading says, and its lines."""
@@ -118,7 +127,7 @@ def sections(lines):
 def trimmed(lines):
     """Lines without the empty ones at both ends."""
     full = [n for n, line in enumerate(lines) if line.strip()]
-    return lines[full[0]:full[-1] + 1] if full else []
+    return lines[full[0] : full[-1] + 1] if full else []
 
 
 def block(text, page):
@@ -136,8 +145,10 @@ def part(head, lines, page, is_alone):
     if names is not None or is_alone:
         return f'<p class="place">{html.escape(head)}</p>{body}'
     about = next((line[2:].strip() for line in lines if line.startswith("--")), "")
-    return (f"<details><summary><b>{html.escape(head)}</b> {html.escape(about)}</summary>"
-            f"{body}</details>")
+    return (
+        f"<details><summary><b>{html.escape(head)}</b> {html.escape(about)}</summary>"
+        f"{body}</details>"
+    )
 
 
 def clause_names(head, lines):

@@ -77,13 +77,14 @@ def sections(text):
         elif kind := LINE.fullmatch(line):
             named.setdefault(kind[1], []).append(kind[2])
         elif line.startswith(OUT):
-            found[-1].out.append(line[len(OUT):])
+            found[-1].out.append(line[len(OUT) :])
         elif line.strip():
             words.append(line.strip())
     return found
 
 
 # ---- what is named ----
+
 
 def by_crates(line):
     """The names of a line, each with its crate: CRATE NAME.., a comma before the next crate."""
@@ -129,7 +130,9 @@ def edits(line):
 def edit_files(crate, kind="edits"):
     """The files of a crate's edits, those of its modules in folders."""
     found = os.walk(os.path.join(TOP, "crates", crate, kind))
-    return sorted(os.path.relpath(os.path.join(at, file), TOP) for at, _, files in found for file in files)
+    return sorted(
+        os.path.relpath(os.path.join(at, file), TOP) for at, _, files in found for file in files
+    )
 
 
 def is_edit_in(name, path):
@@ -198,6 +201,7 @@ def checked():
 
 # ---- the page ----
 
+
 def is_part(number):
     """Whether it is a section with a number of its own, as 9 or A."""
     return "." not in number
@@ -255,6 +259,8 @@ def summed():
     text += f"{of['test']} tests and {of['edit']} edits. {bare['test']} rules have no test by "
     text += f"name, and {bare['edit']} no edit. {out} sections are left out. "
     words, step = {word for rule in rules for word in words_of(rule)}, under(*STEP)
-    text += f"`{STEP[1]}` promises {len(words & step)} of these definitions. It rests on {len(step)}; "
+    text += (
+        f"`{STEP[1]}` promises {len(words & step)} of these definitions. It rests on {len(step)}; "
+    )
     text += "the others of them say how the parts are put together, and what bytes mean."
     return ["", *textwrap.wrap(text, COLUMNS), ""]

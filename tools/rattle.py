@@ -5,7 +5,7 @@ import os
 import re
 
 TOP = os.path.dirname(os.path.dirname(os.path.abspath(__file__)))
-VISIBLE, KINDS = r"(?:pub(?:\([a-z]+\))? )?", r"(?:const |final |unsafe )*"
+VISIBLE, KINDS = r"(?:pub(?:\([a-z]+\))? )?", r'(?:const |final |unsafe |extern "C" )*'
 # The first line of a function, with its indent and its name.
 SIGNATURE = re.compile(rf"^([ \t]*){VISIBLE}{KINDS}fn (\w+)", re.M)
 OF_ITEM = r"(const|static|struct|enum|union|type|trait|mod|use|impl\b\S*) (?:\w+::)*(\w+)"

@@ -8,7 +8,7 @@ import re
 from rattle import files_of, lines_of
 from specs import NAME, TOP, Fault, Outside, Scan, Word, operators, targets, used_at
 
-FUNCTION = re.compile(r"\s*pub (?:const |final |unsafe )*fn (\w+)")
+FUNCTION = re.compile(r"\s*pub (?:const |final |unsafe |extern \"C\" )*fn (\w+)")
 METHOD = re.compile(r"    (?:const |final |unsafe )*fn (\w+)")
 BLOCK = re.compile(r"(?:unsafe )?impl\b(?:<.*?>)?\s*(?:(\w+).* for )?(\w+)")
 TYPE = re.compile(r"pub (struct|enum|trait) (\w+)")

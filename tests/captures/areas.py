@@ -1,4 +1,5 @@
-"""Areas as the tests read them, without the program: the links of routers, what may fail, and what a failure takes (docs/decisions/failures.md)."""
+"""Areas as the tests read them, without the program: the links of routers, what may fail, and what
+a failure takes (docs/decisions/failures.md)."""
 import socket
 import struct
 
@@ -15,7 +16,8 @@ def dotted(number):
 
 
 def checksum(lsa):
-    """The two bytes that make both sums over the LSA without its age zero (RFC 2328, section 12.1.7)."""
+    """The two bytes that make both sums over the LSA without its age zero (RFC 2328, section
+    12.1.7)."""
     plain = weighted = 0
     data = bytes(lsa[2:16]) + b"\0\0" + bytes(lsa[18:])
     for byte in data:
@@ -49,7 +51,8 @@ def with_links(head, links):
 
 
 class Area:
-    """The LSAs of an area: the links of each router, and the LSA of each network that stands for it."""
+    """The LSAs of an area: the links of each router, and the LSA of each network that stands for
+    it."""
 
     def __init__(self, lsas):
         self.heads, self.links, self.networks = {}, {}, {}
@@ -57,7 +60,7 @@ class Area:
             number, router = struct.unpack_from(">II", lsa, 4)
             if lsa[3] == ROUTER:
                 self.heads[router] = lsa[:22]
-                self.links[router] = [Link(lsa[at:at + 12]) for at in range(24, len(lsa), 12)]
+                self.links[router] = [Link(lsa[at : at + 12]) for at in range(24, len(lsa), 12)]
             elif number not in self.networks or self.networks[number][0] < router:
                 names = struct.unpack_from(f">{(len(lsa) - 24) // 4}I", lsa, 24)
                 self.networks[number] = router, struct.unpack_from(">I", lsa, 20)[0], names
@@ -77,19 +80,36 @@ class Area:
         return named and any(it.kind == TRANSIT and it.id == network for it in self.links[router])
 
     def shared(self, one, other):
-        """The subnets of the links between two routers: those that both tell and that hold an address of each."""
-        ends = [[it.data for it in self.between(*pair) if not is_in(it.data, INDICES)] for pair in ((one, other), (other, one))]
-        return {it for it in self.stubs(one) & self.stubs(other) if all(any(is_in(at, it) for at in end) for end in ends)}
+        """The subnets of the links between two routers: those that both tell and that hold an
+        address of each."""
+        ends = [
+            [it.data for it in self.between(*pair) if not is_in(it.data, INDICES)]
+            for pair in ((one, other), (other, one))
+        ]
+        return {
+            it
+            for it in self.stubs(one) & self.stubs(other)
+            if all(any(is_in(at, it) for at in end) for end in ends)
+        }
 
     def subnet_of(self, link, one, other):
-        """The subnet of a link between two routers: the longest that holds its address, or that of indices."""
+        """The subnet of a link between two routers: the longest that holds its address, or that of
+        indices."""
         if is_in(link.data, INDICES):
             return INDICES
-        return max((it for it in self.shared(one, other) if is_in(link.data, it)), key=lambda it: it[1], default=None)
+        return max(
+            (it for it in self.shared(one, other) if is_in(link.data, it)),
+            key=lambda it: it[1],
+            default=None,
+        )
 
     def subnets(self, one, other):
         """The subnets of the links of one router to the other that have an address."""
-        found = [self.subnet_of(it, one, other) for it in self.between(one, other) if not is_in(it.data, INDICES)]
+        found = [
+            self.subnet_of(it, one, other)
+            for it in self.between(one, other)
+            if not is_in(it.data, INDICES)
+        ]
         return [it for it in found if it]
 
     def failures(self):
@@ -103,7 +123,12 @@ class Area:
                     yield from ((LINK, one, other, *prefix) for prefix in found)
                     if not found:
                         yield LINKS, one, other
-        on = [(router, network) for router in routers for network in sorted(self.networks) if self.is_on(router, network)]
+        on = [
+            (router, network)
+            for router in routers
+            for network in sorted(self.networks)
+            if self.is_on(router, network)
+        ]
         yield from ((ATTACHMENT, *it) for it in on)
         yield from ((ALL_OF_NETWORK, network) for network in sorted({network for _, network in on}))
         yield from ((ALL_OF_ROUTER, router) for router in routers)
@@ -112,7 +137,12 @@ class Area:
         """The LSAs that are left."""
         left = []
         for router, links in self.links.items():
-            left.append(with_links(self.heads[router], [link.bytes for link in links if not self.takes(failure, router, link)]))
+            left.append(
+                with_links(
+                    self.heads[router],
+                    [link.bytes for link in links if not self.takes(failure, router, link)],
+                )
+            )
         return left + self.others
 
     def takes(self, failure, router, link):
@@ -121,7 +151,11 @@ class Area:
         if kind == ALL_OF_ROUTER:
             return router == rest[0] or (link.kind == POINT_TO_POINT and link.id == rest[0])
         if kind in (ATTACHMENT, ALL_OF_NETWORK):
-            return link.kind == TRANSIT and link.id == rest[-1] and (kind == ALL_OF_NETWORK or router == rest[0])
+            return (
+                link.kind == TRANSIT
+                and link.id == rest[-1]
+                and (kind == ALL_OF_NETWORK or router == rest[0])
+            )
         ends = dict([rest[:2], rest[1::-1]])
         if router not in ends:
             return False
@@ -129,13 +163,19 @@ class Area:
         if kind == LINKS:
             return is_there
         subnet = tuple(rest[2:])
-        return (is_there and self.subnet_of(link, *rest[:2]) == subnet) or (link.kind == STUB and link.prefix() == subnet)
+        return (is_there and self.subnet_of(link, *rest[:2]) == subnet) or (
+            link.kind == STUB and link.prefix() == subnet
+        )
 
     def tells(self, prefix):
         """Whether a router tells the prefix, or a network that a router is on."""
         if any(prefix in self.stubs(router) for router in self.links):
             return True
-        return any((number & mask, mask) == prefix and any(self.is_on(router, number) for router in self.links) for number, (_, mask, _) in self.networks.items())
+        return any(
+            (number & mask, mask) == prefix
+            and any(self.is_on(router, number) for router in self.links)
+            for number, (_, mask, _) in self.networks.items()
+        )
 
 
 def name_of(failure):
@@ -144,4 +184,6 @@ def name_of(failure):
         return f"{dotted(rest[0])}-{dotted(rest[1])}@{dotted(rest[2])}/{bin(rest[3]).count('1')}"
     if kind == LINKS:
         return f"{dotted(rest[0])}-{dotted(rest[1])}"
-    return {ATTACHMENT: "{}@{}", ALL_OF_NETWORK: "@{}", ALL_OF_ROUTER: "{}"}[kind].format(*map(dotted, rest))
+    return {ATTACHMENT: "{}@{}", ALL_OF_NETWORK: "@{}", ALL_OF_ROUTER: "{}"}[kind].format(
+        *map(dotted, rest)
+    )

@@ -5,77 +5,18 @@ import glob
 import json
 import os
 import socket
-import struct
 import subprocess
 import sys
 import tempfile
 
 HERE = os.path.dirname(os.path.abspath(__file__))
 TOP = os.path.dirname(os.path.dirname(HERE))
-sys.path.append(os.path.join(TOP, "bench"))
-import area  # noqa: E402
+sys.path.append(HERE)
+from printed_areas import databases  # noqa: E402
+import watched_json  # noqa: E402
 
-VIRTUAL = 4
-# How many routers the areas have that are made at random, with the number that makes each.
-AT_RANDOM = ((6, 1), (12, 2), (20, 3))
 MOST_TICKS = "25"
 DEFAULTS = {"kind": "point-to-point", "cost": 10}
-
-
-def number_of(text):
-    return struct.unpack(">I", socket.inet_aton(text))[0]
-
-
-# ---- databases
-
-
-def router_lsa(router, flags, *links):
-    """A router-LSA; a link is its type, Link ID, Link Data and metric."""
-    spelled = [struct.pack(">IIBBH", number_of(to), number_of(data), kind, 0, metric)
-               for kind, to, data, metric in links]
-    body = struct.pack(">BBH", flags, 0, len(links)) + b"".join(spelled)
-    return area.lsa(1, number_of(router), number_of(router), body)
-
-
-def network_lsa(address, router, *attached):
-    members = sorted(map(number_of, attached))
-    return area.network_lsa(number_of(address), number_of(router), members)
-
-
-def odd_area():
-    """An area with what no other one here has: all flags, a virtual link, links that only one end
-    lists, links without a subnet, an LSA that is not used, and a stub router on a LAN of two."""
-    return [
-        router_lsa("1.1.1.1", 0x0F, (area.POINT_TO_POINT, "2.2.2.2", "0.0.0.5", 7),
-                   (area.POINT_TO_POINT, "9.9.9.9", "10.0.0.1", 1),
-                   (VIRTUAL, "2.2.2.2", "10.0.0.1", 3),
-                   (area.TRANSIT, "10.1.0.1", "10.1.0.1", 4),
-                   (area.STUB, "172.16.0.1", "255.255.255.255", 0)),
-        router_lsa("2.2.2.2", 0, (area.POINT_TO_POINT, "1.1.1.1", "0.0.0.6", 7),
-                   (area.POINT_TO_POINT, "3.3.3.3", "10.0.1.2", 65535),
-                   (area.STUB, "10.9.0.0", "255.255.0.0", 65535)),
-        router_lsa("3.3.3.3", 0, (area.TRANSIT, "10.1.0.1", "10.1.0.3", 65535),
-                   (area.POINT_TO_POINT, "2.2.2.2", "10.0.1.3", 1)),
-        network_lsa("10.1.0.1", "1.1.1.1", "1.1.1.1", "3.3.3.3", "8.8.8.8"),
-        network_lsa("10.1.0.1", "0.0.0.9", "1.1.1.1"),
-        network_lsa("10.2.0.1", "7.7.7.7"),
-    ]
-
-
-def databases():
-    """LSAs in hexadecimal, each database with its name."""
-    captured = os.path.join(HERE, "databases", "*", "*.hex")
-    examples = os.path.join(TOP, "examples", "*.hex")
-    for path in sorted(glob.glob(captured)) + sorted(glob.glob(examples)):
-        with open(path, encoding="ascii") as file:
-            yield os.path.relpath(path, TOP), file.read()
-    for count, seed in AT_RANDOM:
-        yield f"bench/area.py {count} {seed}", area.text(count, seed)
-    yield "the odd area", "".join(lsa.hex() + "\n" for lsa in odd_area())
-    yield "no LSAs", ""
-
-
-# ---- configurations
 
 
 def config(number, *interfaces, of_area="0.0.0.0"):
@@ -90,14 +31,18 @@ def config(number, *interfaces, of_area="0.0.0.0"):
 
 def pair(*, one=(), other=(), both=()):
     """Two routers on a link, where these keys differ from the defaults."""
-    return [config(1, {"address": "10.0.0.1/30", **dict(both), **dict(one)}),
-            config(2, {"address": "10.0.0.2/30", **dict(both), **dict(other)})]
+    return [
+        config(1, {"address": "10.0.0.1/30", **dict(both), **dict(one)}),
+        config(2, {"address": "10.0.0.2/30", **dict(both), **dict(other)}),
+    ]
 
 
 def lan(*priorities):
     """A broadcast network with routers of these priorities."""
-    return [config(at, {"address": f"10.1.0.{at}/24", "kind": "broadcast", "priority": priority})
-            for at, priority in enumerate(priorities, 1)]
+    return [
+        config(at, {"address": f"10.1.0.{at}/24", "kind": "broadcast", "priority": priority})
+        for at, priority in enumerate(priorities, 1)
+    ]
 
 
 def areas_with_faults():
@@ -119,8 +64,10 @@ def areas_with_faults():
     yield "A13", [config(1, {"address": "10.0.0.1/30"})]
     yield "A14", pair(both={"transmit_delay": 1000})
     yield "A15", pair(both={"port": 17001})
-    yield "A16", [*pair(one={"port": 17001, "peers": [17003]}, other={"port": 17002}),
-                  config(3, {"address": "10.0.1.1/30", "port": 17003})]
+    yield "A16", [
+        *pair(one={"port": 17001, "peers": [17003]}, other={"port": 17002}),
+        config(3, {"address": "10.0.1.1/30", "port": 17003}),
+    ]
     yield "A17", pair(one={"port": 17001, "peers": [17009]})
     yield "A18", [*pair(), config(3, {"address": "10.0.1.1/30"})]
     yield "A19", pair(one={"port": 17001}, other={"port": 17002})
@@ -145,8 +92,12 @@ def simulations():
     for script in sorted(glob.glob(os.path.join(TOP, "examples", "*", "script"))):
         folder = os.path.dirname(script)
         yield os.path.relpath(folder, TOP), script, sorted(glob.glob(f"{folder}/*.toml"))
-    three = [config(at, {"address": f"10.0.0.{at}/29"},
-                    {"address": f"10.1.0.{at}/24", "kind": "broadcast"}) for at in (1, 2, 3)]
+    three = [
+        config(
+            at, {"address": f"10.0.0.{at}/29"}, {"address": f"10.1.0.{at}/24", "kind": "broadcast"}
+        )
+        for at in (1, 2, 3)
+    ]
     yield "three routers", strange_deliveries(["1.1.1.1", "2.2.2.2", "3.3.3.3"], 2, 60), three
     apart = [pair()[0], config(2, {"address": "10.0.0.2/30"}, of_area="0.0.0.7")]
     yield "two areas on one link", "start all\nup all\nround 30\n", apart
@@ -171,8 +122,9 @@ class Printed:
 
     def run(self, words, text="", statuses=(0,)):
         self.commands += 1
-        ended = subprocess.run([self.program, *words], input=text, capture_output=True, text=True,
-                               check=False)
+        ended = subprocess.run(
+            [self.program, *words], input=text, capture_output=True, text=True, check=False
+        )
         if ended.returncode not in statuses:
             sys.exit(f"ospfd {' '.join(words)}: status {ended.returncode}\n{ended.stderr}")
         return ended.stdout
@@ -186,10 +138,14 @@ class Printed:
 
     def ask_lines(self, schema, origin, words, text):
         """A value on each line, of which the first alone is about the input."""
-        values = [self.keep(schema, f"ospfd {' '.join(words)}, of {origin}", line)
-                  for line in self.run(words, text).splitlines()]
+        values = [
+            self.keep(schema, f"ospfd {' '.join(words)}, of {origin}", line)
+            for line in self.run(words, text).splitlines()
+        ]
         if [("version" in value) for value in values] != [True] + [False] * (len(values) - 1):
-            sys.exit(f"ospfd {' '.join(words)}: the first line alone is about the input, of {origin}")
+            sys.exit(
+                f"ospfd {' '.join(words)}: the first line alone is about the input, of {origin}"
+            )
 
     def look_at_database(self, name, text):
         self.ask("lsas-1", name, ["lsas", "--json"], text)
@@ -200,8 +156,18 @@ class Printed:
         for each in [], ["--each"]:
             self.ask("failures-1", name, ["failures", "--json", *each, roots[0]], text)
             self.ask("failures-all-1", name, ["failures", "--json", *each, "all"], text)
-            self.ask("failures-1", name, ["failures", "--json", *each, "--carrier", "switch", roots[0]], text)
-            self.ask("failures-all-1", name, ["failures", "--json", *each, "--carrier", "switch", "all"], text)
+            self.ask(
+                "failures-1",
+                name,
+                ["failures", "--json", *each, "--carrier", "switch", roots[0]],
+                text,
+            )
+            self.ask(
+                "failures-all-1",
+                name,
+                ["failures", "--json", *each, "--carrier", "switch", "all"],
+                text,
+            )
             for carrier in "process", "switch":
                 words = ["failures", "--json=2", *each, "--carrier", carrier]
                 self.ask_lines("failures-2", name, [*words, roots[0]], text)
@@ -216,6 +182,25 @@ class Printed:
 
     def check(self, name, paths):
         self.ask("check-1", name, ["check", "--json", *paths], statuses=(0, 3))
+
+    def annotate(self, name, texts):
+        """The places of what `check --explain` says of files, with its two outputs."""
+        with tempfile.TemporaryDirectory() as place:
+            paths = self.write_configs(place, texts)
+            self.commands += 1
+            said = subprocess.run(
+                [self.program, "check", "--area", "--explain", *paths],
+                stdout=subprocess.PIPE,
+                stderr=subprocess.STDOUT,
+                check=False,
+            )
+            found = subprocess.run(
+                [os.path.join(TOP, "tools", "annotate"), "json"],
+                input=said.stdout,
+                capture_output=True,
+                check=False,
+            )
+            self.keep("annotate-1", f"tools/annotate json, of {name}", found.stdout.decode())
 
     def log(self, name, place, words):
         """The journal of a command, line by line."""
@@ -238,15 +223,21 @@ class Printed:
 
     def run_routers(self):
         """Two routers over UDP, on ports that are free."""
-        with socket.socket(socket.AF_INET, socket.SOCK_DGRAM) as one, \
-                socket.socket(socket.AF_INET, socket.SOCK_DGRAM) as other:
+        one, other = (socket.socket(socket.AF_INET, socket.SOCK_DGRAM) for _ in range(2))
+        with one, other:
             for it in one, other:
                 it.bind(("127.0.0.1", 0))
             a, b = one.getsockname()[1], other.getsockname()[1]
         with tempfile.TemporaryDirectory() as place:
-            paths = self.write_configs(place, pair(one={"port": a, "peers": [b]},
-                                                   other={"port": b, "peers": [a]}))
-            self.log("two routers", place, ["run", "--tick", "20", MOST_TICKS, *paths])
+            paths = self.write_configs(
+                place, pair(one={"port": a, "peers": [b]}, other={"port": b, "peers": [a]})
+            )
+            journal = os.path.join(place, "lsas")
+            words = ["run", "--log-lsas", journal, "--tick", "20", MOST_TICKS, *paths]
+            self.log("two routers", place, words)
+            with open(journal, encoding="utf-8") as file:
+                for line in file:
+                    self.keep("lsa-journal-1", "ospfd run --log-lsas, two routers", line)
 
     def take_all(self):
         for name, text in databases():
@@ -254,7 +245,12 @@ class Printed:
         for name, texts in areas_with_faults():
             with tempfile.TemporaryDirectory() as place:
                 self.check(name, self.write_configs(place, texts))
+            self.annotate(name, texts)
+        risky = pair(one={"transmit_delay": 1000})
+        for name, texts in (("a warning", risky), ("a refused file", [*risky, "area = 1\n"])):
+            self.annotate(name, texts)
         for name, script, configs in simulations():
             self.simulate(name, script, configs)
         self.run_routers()
+        watched_json.watch(self)
         return self.values

@@ -9,8 +9,18 @@ import sys
 
 ADDRESSES = ["", "1.1.1", "1.1.1.1.1", "1.1.1.256", "01.1.1.1", " 1.1.1.1", "1.1.1.-1", "::1"]
 PREFIXES = ["", "10.0.0.0", "10.0.0.0/", "10.0.0.0/33", "10.0.0.0/08", "10.0.0/8", "10.0.0.256/32"]
-HOPS = [[], ["direct"], ["10.0.0.1"], ["10.0.0.1>"], ["10.0.0.1>2.2.2.2@"], [1], "attached",
-        ["10.0.0.1>2.2.2.2,10.0.0.5>2.2.2.2"], ["10.0.0.1>2.2.2.256"], ["attached", "attached"]]
+HOPS = [
+    [],
+    ["direct"],
+    ["10.0.0.1"],
+    ["10.0.0.1>"],
+    ["10.0.0.1>2.2.2.2@"],
+    [1],
+    "attached",
+    ["10.0.0.1>2.2.2.2,10.0.0.5>2.2.2.2"],
+    ["10.0.0.1>2.2.2.256"],
+    ["attached", "attached"],
+]
 HOPS_AS_TEXT = ["", "10.0.0.1", "10.0.0.1>2.2.2.2,", "attached, attached", "direct", ["attached"]]
 NUMBERS = ["80000000", "8000001", "800000001", "8000000A", "0x800001", ""]
 SUMS = ["", "e22", "0e22c", "E22C"]
@@ -82,8 +92,11 @@ WRONG = {
     "failures-1": [*FAILURES, ("cut", {}, [2**33])],
     "failures-all-1": [*FAILURES, ("cut", {}, [2**64]), ("routers", {}, [-1, 2**32 + 1, "7"])],
     "failures-2": [*FAILURE_LINES, ("lost", {}, [2**33])],
-    "failures-all-2": [*FAILURE_LINES, ("lost", {}, [2**64]),
-                       ("routers_affected", {}, [-1, 2**32 + 1, "7"])],
+    "failures-all-2": [
+        *FAILURE_LINES,
+        ("lost", {}, [2**64]),
+        ("routers_affected", {}, [-1, 2**32 + 1, "7"]),
+    ],
     "check-1": [
         ("code", {"code": "A3 Area"}, [*CODES, "A12 Cost", "A13 NoNeighbor"]),
         ("code", {"code": "A12 Cost"}, ["A5 Hello", "A13 NoNeighbor"]),
@@ -108,6 +121,48 @@ WRONG = {
         ("file", {}, [""]),
         ("meaning", {}, [""]),
     ],
+    "annotate-1": [
+        ("code", {"severity": "fault"}, ["", "A5", "B5 Hello", "A5 hello", "C0 None", "warning"]),
+        ("severity", {"code": "Warning"}, ["fault", "note"]),
+        ("severity", {"code": "A13 NoNeighbor"}, ["fault", "warning", "notice"]),
+        *((member, {}, [0, -1, "1"]) for member in ("line", "column", "end_line", "end_column")),
+        ("file", {}, [""]),
+        ("text", {}, [""]),
+    ],
+    "lsa-journal-1": [
+        *((member, {}, ADDRESSES) for member in ("router", "id", "advertising_router")),
+        ("tick", {}, TICKS),
+        ("number", {}, NUMBERS),
+        ("age", {}, [-1, 3601]),
+        ("event", {}, ["", "issued", "aged out", "Installed"]),
+        ("lsa", {}, ["", "summary"]),
+        ("bytes", {}, ["", "00", "0" * 41, "AB" * 20]),
+    ],
+    "watch-1": [
+        ("time", {}, ["", "2026-12-01", "2026-12-01T14:00:00Z", "2026-12-01 14:00:00.000Z"]),
+        *(
+            (member, {}, COUNTS)
+            for member in ("lsas", "routers", "networks", "gained", "longer", "shorter", "rerouted")
+        ),
+        ("lost", {"failure": ...}, [0, -1, "7"]),
+        ("failure", {}, [""]),
+        ("router", {"event": "change"}, ADDRESSES),
+        ("address", {}, ADDRESSES),
+        ("to", {}, [""]),
+        ("old", {}, [0, 65536]),
+        ("new", {"old": ...}, [0, 65536]),
+        ("kind", {}, ["", "cable"]),
+        ("name", {}, [""]),
+        ("change", {"event": "change", "kind": ...}, ["cost", "installed", "went"]),
+        ("change", {"event": "prefix"}, ["cost", "went"]),
+        ("change", {"event": "lsa"}, ["up", "aged out"]),
+        ("prefix", {"event": "prefix"}, PREFIXES),
+        ("id", {}, ADDRESSES),
+        ("number", {}, NUMBERS),
+        ("age", {}, [-1, 3601]),
+        ("text", {}, [""]),
+        ("event", {"event": "start"}, ["settled", "change"]),
+    ],
     "journal-1": [
         *((member, {}, ADDRESSES) for member in ("router", "source", "neighbour", "dr", "backup")),
         ("id", {}, ADDRESSES),
@@ -128,11 +183,15 @@ WRONG = {
     ],
 }
 # Members that an object may lack, a member that may be null at this key, and members of any text.
-OPTIONAL = {(schema, member) for schema in ("failures-1", "failures-all-1")
-            for member in ("routes", "unknown_costs")}
+OPTIONAL = {
+    (schema, member)
+    for schema in ("failures-1", "failures-all-1")
+    for member in ("routes", "unknown_costs")
+}
 OPTIONAL |= {(schema, "routes") for schema in ("failures-2", "failures-all-2")}
 NULLABLE = {("check-1", "value", "port")}
-FREE = {("check-1", "file"), ("check-1", "meaning")}
+FREE = {("check-1", "file"), ("check-1", "meaning"), ("annotate-1", "file"), ("annotate-1", "text")}
+FREE |= {("watch-1", member) for member in ("text", "failure", "name", "to")}
 OF_EACH_TYPE = ["no such word", 1.5, True, None, [0], {"no": 0}]
 
 
@@ -176,8 +235,10 @@ def changed_members(schema, it):
 
 def is_meant(it, wanted):
     """Whether an object has these members: with this value, any (...), or not at all (None)."""
-    return all((value is None) == (key not in it) and (value in (None, ...) or it[key] == value)
-               for key, value in wanted.items())
+    return all(
+        (value is None) == (key not in it) and (value in (None, ...) or it[key] == value)
+        for key, value in wanted.items()
+    )
 
 
 def out_of_range(schema, it, used):
@@ -207,8 +268,10 @@ def wrong_values(schema, samples):
             for what, changed in [*changed_members(schema, it), *out_of_range(schema, it, used)]:
                 yield what, with_object(sample, path, changed)
             if path and isinstance(path[-1], int):
-                yield from ((f"{other!r} at {path}", with_object(sample, path, other))
-                            for other in OF_EACH_TYPE)
+                yield from (
+                    (f"{other!r} at {path}", with_object(sample, path, other))
+                    for other in OF_EACH_TYPE
+                )
     left = [WRONG[schema][row][:2] for row in range(len(WRONG[schema])) if row not in used]
     if left:
         sys.exit(f"{schema}: no sample has {left}")

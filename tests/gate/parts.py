@@ -14,11 +14,13 @@ WITHOUT_PROGRAM = [
     ["tests/gate/layout"],
     ["tests/gate/unused"],
     ["tests/gate/scripts"],
+    ["tests/gate/quoted"],
     ["tests/edits", "--check"],
     ["tools/promise", "--check", "docs/promises"],
 ]
 WITHOUT_PROGRAM += [["tools/trust", "--check", "docs/TRUST.md"], ["tests/gate/pages"]]
-WITHOUT_PROGRAM += [["tests/gate/stand-ins"], ["tests/peers/bridge"]]
+WITHOUT_PROGRAM += [["tests/gate/stand-ins"], ["tests/peers/bridge"], ["tests/peers/guarded"]]
+WITHOUT_PROGRAM += [["tests/web/heap"]]
 # The longest first, so that the others run beside them.
 OF_PROGRAM = [
     "captures/compare-spec",
@@ -41,12 +43,16 @@ OF_PROGRAM += [
     "captures/import",
     "captures/annotations",
     "captures/json-schemas",
+    "captures/names",
+    "gate/image",
     "gate/shown",
     "gate/streams",
     "peers/failures",
+    "peers/changes",
+    "peers/topologies",
 ]
 # These look at the clock while routers run, so nothing else runs beside them.
-ALONE = [["tests/peers/run"], ["tests/peers/service"]]
+ALONE = [["tests/peers/run"], ["tests/peers/service"], ["tests/peers/watch"]]
 # Tests that are proved, in which each allocation is refused in turn.
 REFUSED_IN_TESTS = [
     "publishes::refused_publish_changes_nothing",
@@ -75,4 +81,5 @@ def of_proved():
         ["tests/gate/refuse-allocations-in-tests", "ospf_drive_tests", name]
         for name in REFUSED_IN_TESTS
     ]
-    return [["tests/gate/package"], ["tests/gate/refuse-allocations"], *tests]
+    library = [["tests/web/bindings"], ["tests/web/playground"]]
+    return [["tests/gate/package"], ["tests/gate/refuse-allocations"], *library, *tests]

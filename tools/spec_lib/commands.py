@@ -12,6 +12,11 @@ from .values import Made, Refused, Struct
 
 SUMS, LSA, RECENCY = "ospf_base.Sums.", "ospf_lsa.Lsa.", "ospf_lsa.Recency."
 YES, NO = ("true", "yes"), ("false", "no")
+SAID_OF = {
+    "Newer": "the first is newer",
+    "Older": "the second is newer",
+    "Same": "neither is newer",
+}
 
 
 def bytes_of(text):
@@ -76,15 +81,12 @@ def newer(library, first, second):
     if newer_ones != [found == "Newer", found == "Older"]:
         raise Refused(f"IsNewer says {newer_ones}, and recency {found}")
     same = call(
-        library, "ospf_base.Keys.same_key", call(library, LSA + "key_of", a),
-        call(library, LSA + "key_of", b)
+        library,
+        "ospf_base.Keys.same_key",
+        call(library, LSA + "key_of", a),
+        call(library, LSA + "key_of", b),
     )
-    return [
-        {
-            "Newer": "the first is newer", "Older": "the second is newer",
-            "Same": "neither is newer"
-        }[found]
-    ] + ( [] if same else ["the keys differ: these are two LSAs"])
+    return [SAID_OF[found]] + ([] if same else ["the keys differ: these are two LSAs"])
 
 
 def faults(library, lsa):
@@ -135,8 +137,8 @@ def candidate(text):
     if len(parts) != 5:
         raise Refused(f"ROUTER,ADDRESS,PRIORITY,DR,BACKUP expected at {text}")
     fields = {
-        name: identity(parts[at]) for name,
-        at in (("id", 0), ("address", 1), ("dr", 3), ("backup", 4))
+        name: identity(parts[at])
+        for name, at in (("id", 0), ("address", 1), ("dr", 3), ("backup", 4))
     }
     return Struct({**fields, "priority": int(parts[2])})
 
@@ -145,13 +147,17 @@ def elect(library, me, *candidates):
     """elect ROUTER CANDIDATE..: the DR and the Backup (9.4); a candidate is
     ROUTER,ADDRESS,PRIORITY,DR,BACKUP."""
     kind = library.at_path(
-        ("Rattle", "ospf_neighbour", "specs", "declared", "iface", "candidate", "Elected", "Elected")
+        tuple("Rattle ospf_neighbour specs declared iface candidate Elected Elected".split())
     )[1]
     elected = kind.fresh()
     given = tuple(map(candidate, candidates))
     found = all_solutions(
-        [lambda: call(library, "ospf_neighbour.Interface.Election.IsElected", given, identity(me), elected)],
-        [elected]
+        [
+            lambda: call(
+                library, "ospf_neighbour.Interface.Election.IsElected", given, identity(me), elected
+            )
+        ],
+        [elected],
     )
     return [
         " ".join(show(one[0].fields[name])[1:-1] for name in ("dr", "backup")) for one in found
@@ -163,7 +169,7 @@ def acknowledge(library, case, state, sender):
     given = [
         variant(library, "ospf_flood", "AcknowledgementCase", case),
         variant(library, "ospf_neighbour", "IfaceState", state),
-        variant(library, "ospf_flood", "Sender", sender)
+        variant(library, "ospf_flood", "Sender", sender),
     ]
     return [call(library, "ospf_flood.Acknowledgements.acknowledgement", *given).name]
 
@@ -187,8 +193,13 @@ def flood(library, lsa, copy="-", *flags):
     known = Made("Some", (entry,)) if entry else Made("None")
     header = call(library, "ospf_lsa.Header.header_of", bytes_of(lsa))
     rule = call(
-        library, "ospf_flood.Rules.lsa_rule", header, known, "loading" in flags,
-        "requested" in flags, 1
+        library,
+        "ospf_flood.Rules.lsa_rule",
+        header,
+        known,
+        "loading" in flags,
+        "requested" in flags,
+        1,
     ).name
     if rule != "Stale":
         return [rule]
@@ -197,9 +208,18 @@ def flood(library, lsa, copy="-", *flags):
 
 
 DESCRIPTION = {
-    "router": "1.1.1.1", "sender": "2.2.2.2", "interface_mtu": "1500", "mtu": "1500", "flags": "7",
-    "options": "2", "number": "1", "sent": "1", "master": "false", "last": "-", "headers": "[]",
-    "passes_over": "false"
+    "router": "1.1.1.1",
+    "sender": "2.2.2.2",
+    "interface_mtu": "1500",
+    "mtu": "1500",
+    "flags": "7",
+    "options": "2",
+    "number": "1",
+    "sent": "1",
+    "master": "false",
+    "last": "-",
+    "headers": "[]",
+    "passes_over": "false",
 }
 
 
@@ -219,8 +239,10 @@ def description(library, state, *words):
         given[name] = value
     local = Struct(
         {
-            "router": identity(given["router"]), "mtu": int(given["interface_mtu"]), "tick": 0,
-            "passes_over": truth(given["passes_over"])
+            "router": identity(given["router"]),
+            "mtu": int(given["interface_mtu"]),
+            "tick": 0,
+            "passes_over": truth(given["passes_over"]),
         }
     )
     packet = Struct({name: int(given[name]) for name in ("mtu", "flags", "options", "number")})
@@ -230,13 +252,18 @@ def description(library, state, *words):
         last = Made("Some", (Struct(dict(zip(("flags", "options", "number"), parts))),))
     exchanging = Struct(
         {
-            "is_master": truth(given["master"]), "number": int(given["sent"]), "flags": 0,
-            "sent_at": 0, "accepted": last
+            "is_master": truth(given["master"]),
+            "number": int(given["sent"]),
+            "flags": 0,
+            "sent_at": 0,
+            "accepted": last,
         }
     )
     fresh_one = call(
-        library, "ospf_neighbour.Neighbour.new_neighbour", identity(given["sender"]),
-        identity(given["sender"])
+        library,
+        "ospf_neighbour.Neighbour.new_neighbour",
+        identity(given["sender"]),
+        identity(given["sender"]),
     )
     state = variant(library, "ospf_neighbour", "NeighbourState", state)
     neighbour_now = Struct({**fresh_one.fields, "state": state, "exchanging": exchanging})
@@ -251,7 +278,16 @@ def cover(library):
 
 
 COMMANDS = {
-    "table": table, "istable": is_table, "newer": newer, "checksum": checksum,
-    "neighbour": neighbour, "interface": interface, "elect": elect, "acknowledge": acknowledge,
-    "flood": flood, "dd": description, "eval": evaluate, "cover": cover
+    "table": table,
+    "istable": is_table,
+    "newer": newer,
+    "checksum": checksum,
+    "neighbour": neighbour,
+    "interface": interface,
+    "elect": elect,
+    "acknowledge": acknowledge,
+    "flood": flood,
+    "dd": description,
+    "eval": evaluate,
+    "cover": cover,
 }

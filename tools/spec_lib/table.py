@@ -20,7 +20,9 @@ def in_order(library, name, items, key=lambda item: item):
 
 def advertisements(library, lsas):
     """What the route calculation reads of a listing."""
-    return resolve(apply(library.definition("ospf_graph.EdgeLists.Listed.advertisements_of"), [lsas]))
+    return resolve(
+        apply(library.definition("ospf_graph.EdgeLists.Listed.advertisements_of"), [lsas])
+    )
 
 
 def prefixes(library, adverts, root):
@@ -76,15 +78,14 @@ def printed(library, routes, addresses=()):
 
 def listed(library, lsas):
     """The LSAs below MaxAge, at their plain age, in the order of their keys."""
-    plain, header = library.definition(
-        "ospf_table.Line.with_plain_age"
-    ), library.definition("ospf_lsa.Header.header_of")
+    plain, header = library.definition("ospf_table.Line.with_plain_age"), library.definition(
+        "ospf_lsa.Header.header_of"
+    )
     limit = library.definition("ospf_base.Constants.max_age")
     young = [
         lsa
-        for lsa in (
-            apply(plain, [lsa]) for lsa in lsas
-        ) if apply(header, [lsa]).fields["age"] < limit
+        for lsa in (apply(plain, [lsa]) for lsa in lsas)
+        if apply(header, [lsa]).fields["age"] < limit
     ]
     key = library.definition("ospf_lsa.Lsa.key_of")
     return in_order(library, "ospf_base.Keys.Precedes", young, lambda lsa: apply(key, [lsa]))
