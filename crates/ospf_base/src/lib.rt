@@ -5,13 +5,13 @@ mod age;
 mod bytes;
 mod constants;
 pub mod event;
-mod host;
 mod ids;
 mod interface;
 mod laws;
 mod parse;
 mod prefix;
 mod show;
+mod stub_network;
 mod sums;
 mod ticks;
 
@@ -23,10 +23,10 @@ pub use crate::constants::{
     NETWORK_LSA, NO_FLOOR, OPTIONS, PACKET_HEADER, RESERVED_SEQUENCE_NUMBER, ROUTER_LSA,
     SUMMARY_LSA,
 };
-pub use crate::host::Host;
 pub use crate::ids::{Addr, AreaId, Instance, Kind, LsaKey, RouterId};
 pub use crate::interface::InterfaceKind;
 pub use crate::laws::{same_instances_are_equal, same_keys_are_equal};
 pub use crate::prefix::{Prefix, is_mask, mask_length, mask_of};
+pub use crate::stub_network::StubNetwork;
 pub use crate::sums::{lsa_sum, lsa_sum_holds, packet_sum};
 pub use crate::ticks::{have_passed, ticks_since};

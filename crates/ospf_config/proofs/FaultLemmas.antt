@@ -9,7 +9,7 @@ use Rattle.ospf_config.proofs.Least.{least_number, least_of}
 use Rattle.ospf_config.specs.Reading.{ReadsValue, Required, Optional, IsNumberIn, as_integers}
 use Rattle.ospf_config.specs.Texts.{IsRouterIdText, IsAreaText, IsOtherLsasText, IsKindText, IsAddressText, IsHostText}
 use Rattle.ospf_config.specs.Keys.{MayHave31Bits, asks_rfc3021, ReadsCostValue, ReadsCostAt, IsPortNumber, ArePortNumbers}
-use Rattle.ospf_config.specs.Tables.{HasTopFault, in_router_id, in_area, in_stub_router, in_other_lsas, in_rfc3021, in_interface, in_host, HasInterfaceFault, in_kind, in_address, in_cost, in_priority, in_hello, in_dead, in_retransmit, in_transmit_delay, in_mtu, in_port, in_peers, HasHostFault, in_host_address, in_host_cost, HasSameAddress, IsDeadNotOverHello, HasOtherKey, HasOtherBelow, HasKeyFault, HasConfigFault, AreInterfaceTables, AreHostTables, as_tables, interface_tables, top_keys}
+use Rattle.ospf_config.specs.Tables.{HasTopFault, in_router_id, in_area, in_stub_router, in_other_lsas, in_rfc3021, in_interface, in_host, HasInterfaceFault, in_kind, in_address, in_cost, in_priority, in_hello, in_dead, in_retransmit, in_transmit_delay, in_mtu, in_port, in_peers, in_passive, in_prefix_suppression, HasHostFault, in_host_address, in_host_cost, HasSameAddress, IsDeadNotOverHello, HasOtherKey, HasOtherBelow, HasKeyFault, HasConfigFault, AreInterfaceTables, AreHostTables, as_tables, interface_tables, top_keys}
 
 abbrev error : (T : Type 0) → ConfigFault → Result T ConfigFault
 error T f = Err f
@@ -70,6 +70,8 @@ interface_low r t f (in_transmit_delay h) = optional_low (IsNumberIn 1 3600) as_
 interface_low r t f (in_mtu h) = optional_low (IsNumberIn 576 9000) as_integer 1500 (get_member (codes "mtu") t) f h
 interface_low r t f (in_port h) = optional_low IsPortNumber as_integer None (get_member (codes "port") t) f h
 interface_low r t f (in_peers h) = optional_low ArePortNumbers as_integers [] (get_member (codes "peers") t) f h
+interface_low r t f (in_passive h) = optional_low (λ b c. b ≡ c) as_bool false (get_member (codes "passive") t) f h
+interface_low r t f (in_prefix_suppression h) = optional_low (λ b c. b ≡ c) as_bool false (get_member (codes "prefix_suppression") t) f h
 
 host_low : (t : Members) (f : ConfigFault) → HasHostFault t f → config_fault_number f ≤ 5
 host_low t f (in_host_address h) = required_low IsHostText as_str (get_member (codes "address") t) f h
@@ -119,6 +121,8 @@ interface_high r t f (in_transmit_delay h) = optional_high (IsNumberIn 1 3600) a
 interface_high r t f (in_mtu h) = optional_high (IsNumberIn 576 9000) as_integer 1500 (get_member (codes "mtu") t) f h
 interface_high r t f (in_port h) = optional_high IsPortNumber as_integer None (get_member (codes "port") t) f h
 interface_high r t f (in_peers h) = optional_high ArePortNumbers as_integers [] (get_member (codes "peers") t) f h
+interface_high r t f (in_passive h) = optional_high (λ b c. b ≡ c) as_bool false (get_member (codes "passive") t) f h
+interface_high r t f (in_prefix_suppression h) = optional_high (λ b c. b ≡ c) as_bool false (get_member (codes "prefix_suppression") t) f h
 
 host_high : (t : Members) (f : ConfigFault) → HasHostFault t f → 2 ≤ config_fault_number f
 host_high t f (in_host_address h) = required_high IsHostText as_str (get_member (codes "address") t) f h

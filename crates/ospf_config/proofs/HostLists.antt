@@ -17,7 +17,7 @@ use Rattle.ospf_config.specs.declared.fault.ConfigFault.TheVariants as fault
 use Rattle.ospf_config.specs.Host.{IsUnicast}
 use Rattle.ospf_config.specs.Keys.{ReadsKind, ReadsInterfaceAddress, ReadsHostAddress}
 use Rattle.ospf_config.specs.Reading.{ReadsValue, Required, Optional}
-use Rattle.ospf_config.specs.Tables.{IsAnyTaken, IsTaken, AreHostTables, as_tables, tables_among}
+use Rattle.ospf_config.specs.Tables.{IsAnyTaken, HasTakenAddress, AreHostTables, as_tables, tables_among}
 use Rattle.ospf_config.specs.Texts.{IsAddressText, IsHostText}
 use Rattle.ospf_config.proofs.PeerLists.{none_is_some, no, yes, known}
 use Rattle.ospf_config.proofs.Singles.{address_single, host_address_single, kind_single}
@@ -105,16 +105,16 @@ module _ (q : Bool) (interfaces : List Members) (vs : List Value) where
   -- none of the hosts so far is taken
   abbrev pub NoneTaken : ℕ → Type 0
   NoneTaken n =
-      (k : ℕ) → k < n → (h : Members) → slice_get (tables_among (items_view vs)) k ≡ Some h → IsTaken q interfaces (take k (tables_among (items_view vs))) h → ⊥
+      (k : ℕ) → k < n → (h : Members) → slice_get (tables_among (items_view vs)) k ≡ Some h → HasTakenAddress q interfaces (take k (tables_among (items_view vs))) h → ⊥
 
   pub none_so_far : NoneTaken 0
   none_so_far k lt h at taken = omega arith
 
   module _ (all : AllTables vs) (i : ℕ) (v : Value) (t : Members) (lt : i < length vs) (here : v ≡ get_or vs i v) (is : as_table (view v) ≡ Some t) where
-    pub taken_here : IsTaken q interfaces (tables_among (items_view (take i vs))) t → IsAnyTaken q interfaces (tables_among (items_view vs))
+    pub taken_here : HasTakenAddress q interfaces (tables_among (items_view (take i vs))) t → IsAnyTaken q interfaces (tables_among (items_view vs))
     taken_here taken = record { place = i; host = t; at_place = table_place vs i v t all lt here is; taken = rw (take_tables vs i all) at taken }
 
-    pub not_taken_here : (IsTaken q interfaces (tables_among (items_view (take i vs))) t → ⊥) → NoneTaken i → NoneTaken (i + 1)
+    pub not_taken_here : (HasTakenAddress q interfaces (tables_among (items_view (take i vs))) t → ⊥) → NoneTaken i → NoneTaken (i + 1)
     not_taken_here free none k less h at taken =
         elim (cases_lt k i) [
           | inl before ↦ none k before h at taken
@@ -122,8 +122,8 @@ module _ (q : Bool) (interfaces : List Members) (vs : List Value) where
               (let same : k ≡ i = omega arith in
               let at_i : slice_get (tables_among (items_view vs)) i ≡ Some h = subst (λ n. slice_get (tables_among (items_view vs)) n ≡ Some h) same at in
               let host : t ≡ h = same_Some t h (sym (table_place vs i v t all lt here is) ∙ at_i) in
-              let taken_i : IsTaken q interfaces (take i (tables_among (items_view vs))) h = subst (λ n. IsTaken q interfaces (take n (tables_among (items_view vs))) h) same taken in
-              let taken_t : IsTaken q interfaces (take i (tables_among (items_view vs))) t = subst (λ x. IsTaken q interfaces (take i (tables_among (items_view vs))) x) (sym host) taken_i in
+              let taken_i : HasTakenAddress q interfaces (take i (tables_among (items_view vs))) h = subst (λ n. HasTakenAddress q interfaces (take n (tables_among (items_view vs))) h) same taken in
+              let taken_t : HasTakenAddress q interfaces (take i (tables_among (items_view vs))) t = subst (λ x. HasTakenAddress q interfaces (take i (tables_among (items_view vs))) x) (sym host) taken_i in
               free (rw (take_tables vs i all) taken_t))
         ]
 

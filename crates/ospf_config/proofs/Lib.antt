@@ -6,6 +6,7 @@ pub mod TableLists
 mod KeyLists
 pub mod ConflictLists
 pub mod HostLists
+mod PassiveLists
 mod IntegerLemmas
 mod FaultLemmas
 mod TextFaults

@@ -3,7 +3,7 @@ use Rattle.std.proofs.Common.{◌≡◌, Bool, false, None, [], codes}
 use Rattle.toml.specs.Data.{Members, get_member, as_str, as_bool, as_integer}
 use Rattle.ospf_config.specs.Reading.{IsNumberIn, as_integers}
 use Rattle.ospf_config.specs.Texts.{IsRouterIdText, IsAreaText, IsOtherLsasText, IsKindText, IsAddressText, IsHostText}
-use Rattle.ospf_config.specs.Keys.{ReadsOwnRouterId, ReadsArea, ReadsStubRouter, ReadsOtherLsas, ReadsRfc3021, ReadsKind, MayHave31Bits, ReadsInterfaceAddress, ReadsCost, ReadsPriority, ReadsHello, ReadsDead, ReadsRetransmit, ReadsTransmitDelay, ReadsMtu, ReadsPort, ReadsPeers, ReadsHostAddress, ReadsHostCost, IsPortNumber, ArePortNumbers}
+use Rattle.ospf_config.specs.Keys.{ReadsOwnRouterId, ReadsArea, ReadsStubRouter, ReadsOtherLsas, ReadsRfc3021, ReadsKind, MayHave31Bits, ReadsInterfaceAddress, ReadsCost, ReadsPriority, ReadsHello, ReadsDead, ReadsRetransmit, ReadsTransmitDelay, ReadsMtu, ReadsPort, ReadsPeers, ReadsPassive, ReadsPrefixSuppression, ReadsHostAddress, ReadsHostCost, IsPortNumber, ArePortNumbers}
 use Rattle.ospf_config.specs.Tables.{ReadsInterfaces, AreInterfaceTables, ReadsHosts, AreHostTables, as_tables}
 use Rattle.ospf_config.proofs.Least.{IsSingle, required_single, optional_single, cost_single}
 
@@ -64,6 +64,12 @@ module _ (t : Members) where
 
   pub peers_single : IsSingle (ReadsPeers t)
   peers_single = optional_single ArePortNumbers as_integers [] (get_member (codes "peers") t)
+
+  pub passive_single : IsSingle (ReadsPassive t)
+  passive_single = optional_single (λ b c. b ≡ c) as_bool false (get_member (codes "passive") t)
+
+  pub prefix_suppression_single : IsSingle (ReadsPrefixSuppression t)
+  prefix_suppression_single = optional_single (λ b c. b ≡ c) as_bool false (get_member (codes "prefix_suppression") t)
 
   pub only_cost : IsSingle (ReadsCost t)
   only_cost = cost_single (get_member (codes "cost") t)

@@ -4,7 +4,7 @@ use Rattle.std.specs.Prelude.{◌↔◌, Any, IsTrue, MatchBool}
 use Rattle.std.specs.List.{list_all, AllWithin, AllZip, HoldsAt}
 use Rattle.std.proofs.lemmas.List.{get_or_default, take_more}
 use Rattle.std.proofs.lemmas.Option.{same_Some}
-use Rattle.std.proofs.lemmas.Bool.{cases_order, false≢true}
+use Rattle.std.proofs.lemmas.Bool.{cases_lt, false≢true}
 use Rattle.toml.specs.Data.{Data, string, integer, float, boolean, datetime, array, table, Items, no_items, item, push_item, Members, as_table, as_array}
 use Rattle.toml.specs.Text.{are_tables}
 use Rattle.toml.specs.View.{view, items_view}
@@ -13,7 +13,7 @@ use Rattle.ospf_config.specs.declared.fault.ConfigFault.{ConfigFault}
 use Rattle.ospf_config.specs.declared.fault.ConfigFault.TheVariants as fault
 use Rattle.toml.proofs.Views.{items_view-push}
 use Rattle.ospf_config.specs.Reading.{ReadsValue, Required}
-use Rattle.ospf_config.specs.Tables.{IsTableWith, tables_among, as_tables, AreInterfaceTables}
+use Rattle.ospf_config.specs.Tables.{IsTableWith, active_among, tables_among, as_tables, AreInterfaceTables}
 use Rattle.ospf_config.proofs.PeerLists.{none_is_some, no, yes, known}
 
 -- ---- one value
@@ -180,10 +180,10 @@ module _ (o : Option Data) (d : Data) (ds : Items) (at : Some d ≡ o) (list : S
   pub list_no_tables : are_tables ds ≡ false → Required as_tables AreInterfaceTables o (Err fault.Type)
   list_no_tables h = rw (← at) (rw (as_tables-array d ds list, h) refl)
 
-  pub list_out : are_tables ds ≡ true → (1 ≤ length (tables_among ds) → length (tables_among ds) ≤ 32 → ⊥) → Required as_tables AreInterfaceTables o (Err fault.Range)
-  list_out h out = rw (← at) (rw (as_tables-array d ds list, h) (refl, λ us means. (let same : length (tables_among ds) ≡ length us = ap length means.0 in out (omega (arith, means)) (omega (arith, means)))))
+  pub list_out : are_tables ds ≡ true → (1 ≤ length (active_among (tables_among ds)) → length (tables_among ds) ≤ 32 → ⊥) → Required as_tables AreInterfaceTables o (Err fault.Range)
+  list_out h out = rw (← at) (rw (as_tables-array d ds list, h) (refl, λ us means. out (rw means.0 means.1) (rw means.0 means.2)))
 
-  pub list_in : are_tables ds ≡ true → 1 ≤ length (tables_among ds) → length (tables_among ds) ≤ 32 → (f : ConfigFault) → Required as_tables AreInterfaceTables o (Err f) → ⊥
+  pub list_in : are_tables ds ≡ true → 1 ≤ length (active_among (tables_among ds)) → length (tables_among ds) ≤ 32 → (f : ConfigFault) → Required as_tables AreInterfaceTables o (Err f) → ⊥
   list_in h low high f reads =
       let here : ReadsValue AreInterfaceTables (as_tables d) (Err f) = rw (← at) at reads in
       let there = rw (as_tables-array d ds list, h) at here in
@@ -195,25 +195,19 @@ module _ (o : Option Data) (d : Data) (ds : Items) (at : Some d ≡ o) (list : S
   pub list_none : are_tables ds ≡ false → [] ≡ unwrap_or (option_and_then as_tables o) []
   list_none h = rw (← at) (rw (as_tables-array d ds list, h) refl)
 
--- where the key has no fault, it has one to 32 tables
+-- where the key has no fault, it has at most 32 tables, and one at least of an interface that is not passive
 pub in_number : (o : Option Data) → ((f : ConfigFault) → Required as_tables AreInterfaceTables o (Err f) → ⊥)
-    → (1 ≤ length (unwrap_or (option_and_then as_tables o) [])) × (length (unwrap_or (option_and_then as_tables o) []) ≤ 32)
+    → (1 ≤ length (active_among (unwrap_or (option_and_then as_tables o) []))) × (length (unwrap_or (option_and_then as_tables o) []) ≤ 32)
 in_number None free = absurd (free fault.Missing refl)
 in_number (Some d) free =
     elim (known (as_tables d)) [
       | no none ↦ absurd (free fault.Type (rw none refl))
       | yes ts is ↦ rw is
-          (elim (cases_order (length ts) 0) [
-            | inl zero_is ↦ absurd (free fault.Range (rw is (refl, λ us means. (let same : length ts ≡ length us = ap length means.0 in omega (arith, means)))))
-            | inr far ↦ elim far [
-              | inl less ↦ absurd (omega arith)
-              | inr some ↦ elim (cases_order (length ts) 33) [
-                | inl many ↦ absurd (free fault.Range (rw is (refl, λ us means. (let same : length ts ≡ length us = ap length means.0 in omega (arith, means)))))
-                | inr near ↦ elim near [
-                  | inl few ↦ (omega arith, omega arith)
-                  | inr more ↦ absurd (free fault.Range (rw is (refl, λ us means. (let same : length ts ≡ length us = ap length means.0 in omega (arith, means)))))
-                ]
-              ]
+          (elim (cases_lt 0 (length (active_among ts))) [
+            | inr none ↦ absurd (free fault.Range (rw is (refl, λ us means. (let low : 1 ≤ length (active_among ts) = rw means.0 means.1 in omega arith))))
+            | inl some ↦ elim (cases_lt 32 (length ts)) [
+              | inl many ↦ absurd (free fault.Range (rw is (refl, λ us means. (let high : length ts ≤ 32 = rw means.0 means.2 in omega arith))))
+              | inr few ↦ (omega arith, few)
             ]
           ])
     ]
@@ -236,7 +230,7 @@ tables_push (item (boolean b) ds) d t e = tables_push ds d t e
 tables_push (item (datetime dt) ds) d t e = tables_push ds d t e
 tables_push (item (array xs) ds) d t e = tables_push ds d t e
 
-pair_last : {A B : Type 0} (R : A → B → Type 0) (xs : List A) (ys : List B) (x : A) (y : B) → AllZip R xs ys → R x y → AllZip R (xs ++ x ∷ []) (ys ++ y ∷ [])
+pub pair_last : {A B : Type 0} (R : A → B → Type 0) (xs : List A) (ys : List B) (x : A) (y : B) → AllZip R xs ys → R x y → AllZip R (xs ++ x ∷ []) (ys ++ y ∷ [])
 pair_last R [] [] x y h r = (r, tt)
 pair_last R [] (b ∷ ys) x y h r = absurd h
 pair_last R (a ∷ xs) [] x y h r = absurd h

@@ -7,17 +7,18 @@ use Rattle.ospf_config.specs.declared.config.Config.{Config}
 use Rattle.ospf_config.specs.declared.fault.ConfigFault.{ConfigFault}
 use Rattle.ospf_config.specs.declared.fault.ConfigFault.TheVariants as fault
 use Rattle.ospf_config.specs.Keys.{ReadsOwnRouterId, ReadsArea, ReadsStubRouter, ReadsOtherLsas, asks_rfc3021}
-use Rattle.ospf_config.specs.Interfaces.{IsInterfaceOf, IsHostOf}
-use Rattle.ospf_config.specs.Tables.{HasConfigFault, interface_tables, host_tables}
+use Rattle.ospf_config.specs.Interfaces.{IsInterfaceOf, AreStubNetworksOf}
+use Rattle.ospf_config.specs.Tables.{HasConfigFault, active_tables, passive_tables, host_tables}
 
--- the configuration is the reading of the table, its interfaces and its hosts in order
+-- the configuration is the reading of the table: its interfaces that are not passive in order, and
+-- behind them the stub networks
 pub record IsConfigOf (t : Members) (c : Config) : Type 0 where
   pub router_id : ReadsOwnRouterId t (Ok c.router_id)
   pub area : ReadsArea t (Ok c.area)
   pub stub_router : ReadsStubRouter t (Ok c.stub_router)
   pub passes_over : ReadsOtherLsas t (Ok c.passes_over)
-  pub interfaces : AllZip (IsInterfaceOf (asks_rfc3021 t)) (interface_tables t) c.interfaces.items
-  pub hosts : AllZip IsHostOf (host_tables t) c.hosts.items
+  pub interfaces : AllZip (IsInterfaceOf (asks_rfc3021 t)) (active_tables t) c.interfaces.items
+  pub stubs : AreStubNetworksOf (asks_rfc3021 t) (passive_tables t) (host_tables t) c.stubs.items
 
 -- the text has the fault: it is no TOML, or its table has the fault
 abbrev pub TextHasFault : List ℕ → ConfigFault → Type 0

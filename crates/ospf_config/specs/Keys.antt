@@ -120,6 +120,25 @@ ArePortNumbers zs ports = (zs ≡ map (λ (p : Port). pos p.number) ports) × (l
 abbrev pub ReadsPeers : Members → Result (List Port) ConfigFault → Type 0
 ReadsPeers t r = Optional as_integers ArePortNumbers [] (get_member (codes "peers") t) r
 
+-- the key `passive`, `false` where it is not there: whether the interface forms no adjacencies and
+-- its network is a stub network (RFC 2328, sections 12.4.1.1 and 12.4.1.2)
+abbrev pub ReadsPassive : Members → Result Bool ConfigFault → Type 0
+ReadsPassive t r = Optional as_bool (λ b c. b ≡ c) false (get_member (codes "passive") t) r
+
+-- the interface is passive: the key `passive` is true
+abbrev pub is_passive : Members → Bool
+is_passive t = unwrap_or (option_and_then as_bool (get_member (codes "passive") t)) false
+
+-- the interface is not passive
+abbrev pub IsActive : Members → Type 0
+IsActive t = is_passive t ≡ false
+
+-- the key `prefix_suppression`, `false` where it is not there: whether the prefix of the
+-- interface's link is hidden (RFC 6860)
+abbrev pub ReadsPrefixSuppression : Members → Result Bool ConfigFault → Type 0
+ReadsPrefixSuppression t r =
+    Optional as_bool (λ b c. b ≡ c) false (get_member (codes "prefix_suppression") t) r
+
 -- ---- of a host (RFC 2328, appendix C.7)
 
 -- the key `address`, which must be there: the host's address

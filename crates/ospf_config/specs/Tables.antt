@@ -1,5 +1,5 @@
 -- What a TOML table says of a configuration, and which faults it has.
-use Rattle.std.specs.Prelude.{◌≡◌, ◌⊎◌, ℕ, ℤ, ◌<◌, ◌≤◌, ◌≤ℤ◌, Bool, if◌then◌else◌, List, [], ◌∷◌, length, take, slice_get, codes, Contains, Any, Option, Some, None, option_and_then, unwrap_or, Result, Ok, Err}
+use Rattle.std.specs.Prelude.{◌≡◌, ◌⊎◌, ℕ, ℤ, ◌<◌, ◌≤◌, ◌≤ℤ◌, Bool, not, if◌then◌else◌, List, [], ◌∷◌, length, take, filter, slice_get, codes, Contains, Any, Option, Some, None, option_and_then, unwrap_or, Result, Ok, Err}
 use Rattle.toml.specs.Data.{Data, Items, no_items, item, array, table, Members, no_members, member, get_member}
 use Rattle.toml.specs.Text.{are_tables}
 use Rattle.ospf_base.specs.declared.ids.Addr.{Addr}
@@ -7,7 +7,7 @@ use Rattle.ospf_config.specs.declared.address.InterfaceAddress.{InterfaceAddress
 use Rattle.ospf_config.specs.declared.fault.ConfigFault.{ConfigFault}
 use Rattle.ospf_config.specs.declared.fault.ConfigFault.TheVariants as fault
 use Rattle.ospf_config.specs.Reading.{Required, Optional, integer_or}
-use Rattle.ospf_config.specs.Keys.{ReadsOwnRouterId, ReadsArea, ReadsStubRouter, ReadsOtherLsas, ReadsRfc3021, asks_rfc3021, ReadsKind, ReadsInterfaceAddress, ReadsCost, ReadsPriority, ReadsHello, ReadsDead, ReadsRetransmit, ReadsTransmitDelay, ReadsMtu, ReadsPort, ReadsPeers, ReadsHostAddress, ReadsHostCost}
+use Rattle.ospf_config.specs.Keys.{ReadsOwnRouterId, ReadsArea, ReadsStubRouter, ReadsOtherLsas, ReadsRfc3021, asks_rfc3021, ReadsKind, ReadsInterfaceAddress, ReadsCost, ReadsPriority, ReadsHello, ReadsDead, ReadsRetransmit, ReadsTransmitDelay, ReadsMtu, ReadsPort, ReadsPeers, ReadsPassive, is_passive, ReadsPrefixSuppression, ReadsHostAddress, ReadsHostCost}
 use Rattle.ospf_config.specs.Conflicts.{Conflict}
 
 -- ---- the tables of the interfaces and of the hosts
@@ -23,9 +23,17 @@ abbrev pub as_tables : Data → Option (List Members)
 as_tables (array ds) = if are_tables ds then Some (tables_among ds) else None
 as_tables _ = None
 
--- one to 32 tables
+-- those of them that describe passive interfaces, in order
+abbrev pub passive_among : List Members → List Members
+passive_among ts = filter is_passive ts
+
+-- the others, in order
+abbrev pub active_among : List Members → List Members
+active_among ts = filter (λ t. not (is_passive t)) ts
+
+-- at most 32 tables, and one at least of an interface that is not passive
 abbrev pub AreInterfaceTables : List Members → List Members → Type 0
-AreInterfaceTables ts us = (ts ≡ us) × (1 ≤ length us) × (length us ≤ 32)
+AreInterfaceTables ts us = (ts ≡ us) × (1 ≤ length (active_among us)) × (length us ≤ 32)
 
 -- the key `interface`, which must be there: a table for each interface
 abbrev pub ReadsInterfaces : Members → Result (List Members) ConfigFault → Type 0
@@ -34,6 +42,14 @@ ReadsInterfaces t r = Required as_tables AreInterfaceTables (get_member (codes "
 -- the tables of the interfaces, however many: none where `interface` is no list of tables
 abbrev pub interface_tables : Members → List Members
 interface_tables t = unwrap_or (option_and_then as_tables (get_member (codes "interface") t)) []
+
+-- the tables of the interfaces that are not passive, in order: each is an interface of the router
+abbrev pub active_tables : Members → List Members
+active_tables t = active_among (interface_tables t)
+
+-- the tables of the passive interfaces, in order: each is a stub network of the router
+abbrev pub passive_tables : Members → List Members
+passive_tables t = passive_among (interface_tables t)
 
 -- at most 32 tables
 abbrev pub AreHostTables : List Members → List Members → Type 0
@@ -77,6 +93,8 @@ pub data HasInterfaceFault (rfc3021 : Bool) (t : Members) (f : ConfigFault) : Ty
   in_mtu : ReadsMtu t (Err f) → HasInterfaceFault rfc3021 t f
   in_port : ReadsPort t (Err f) → HasInterfaceFault rfc3021 t f
   in_peers : ReadsPeers t (Err f) → HasInterfaceFault rfc3021 t f
+  in_passive : ReadsPassive t (Err f) → HasInterfaceFault rfc3021 t f
+  in_prefix_suppression : ReadsPrefixSuppression t (Err f) → HasInterfaceFault rfc3021 t f
 
 -- a key of the host has the fault
 pub data HasHostFault (t : Members) (f : ConfigFault) : Type 0 where
@@ -117,8 +135,8 @@ pub record IsAtHost (host other : Members) : Type 0 where
   pub same : host_address.0 ≡ other_address.0
 
 -- the host has the address of an interface, or of a host before it
-abbrev pub IsTaken : Bool → List Members → List Members → Members → Type 0
-IsTaken rfc3021 interfaces before host =
+abbrev pub HasTakenAddress : Bool → List Members → List Members → Members → Type 0
+HasTakenAddress rfc3021 interfaces before host =
     Any (IsAtInterface rfc3021 host) interfaces ⊎ Any (IsAtHost host) before
 
 -- one of the hosts has the address of an interface or of a host before it
@@ -126,7 +144,7 @@ pub record IsAnyTaken (rfc3021 : Bool) (interfaces hosts : List Members) : Type 
   pub place : ℕ
   pub host : Members
   pub at_place : slice_get hosts place ≡ Some host
-  pub taken : IsTaken rfc3021 interfaces (take place hosts) host
+  pub taken : HasTakenAddress rfc3021 interfaces (take place hosts) host
 
 -- the interface would be dead no later than its next Hello (RFC 2328, appendix C.3): the integers
 -- at the two keys are compared, also where one of them is out of its range
@@ -155,7 +173,8 @@ abbrev pub interface_keys : List (List ℕ)
 interface_keys =
     codes "kind" ∷ codes "address" ∷ codes "cost" ∷ codes "priority" ∷ codes "hello" ∷ codes "dead"
     ∷ codes "retransmit"
-    ∷ codes "transmit_delay" ∷ codes "mtu" ∷ codes "port" ∷ codes "peers" ∷ []
+    ∷ codes "transmit_delay" ∷ codes "mtu" ∷ codes "port" ∷ codes "peers" ∷ codes "passive"
+    ∷ codes "prefix_suppression" ∷ []
 
 -- the keys that the table of a host can have
 abbrev pub host_keys : List (List ℕ)

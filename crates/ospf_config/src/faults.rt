@@ -10,9 +10,10 @@ ghost use Rattle.ospf_config.specs.Tables.{HasTopFault, HasInterfaceFault, HasKe
 use crate::fault::{ConfigFault, earlier};
 use crate::hosts::{host_list_fault, host_values, hosts_fault};
 use crate::keys::{
-    address_at, cost_at, dead_at, hello_at, kind_at, mtu_at, port_at, priority_at, retransmit_at,
-    transmit_delay_at, value_at,
+    address_at, cost_at, dead_at, hello_at, kind_at, mtu_at, passive_at, port_at,
+    prefix_suppression_at, priority_at, retransmit_at, transmit_delay_at, value_at,
 };
+use crate::passive::is_any_active;
 use crate::peers::peers_fault;
 use crate::top::{area_at, asks_rfc3021, other_lsas_at, rfc3021_at, router_id_at, stub_router_at};
 use ospf_base::MOST_INTERFACES;
@@ -31,7 +32,7 @@ pub fn list_fault(table: &Table) -> Option<ConfigFault>
             if !are_all_tables(values) {
                 return Some(ConfigFault::Type);
             }
-            if values.len() < 1 {
+            if !is_any_active(values) {
                 return Some(ConfigFault::Range);
             }
             if values.len() > MOST_INTERFACES {
@@ -95,8 +96,8 @@ fn top_fault(table: &Table) -> Option<ConfigFault>
 
 // The least fault of the keys of interfaces.
 fn interfaces_fault(values: &[Value], rfc3021: bool) -> Option<ConfigFault>
-    ensures { IsLeastIfAny (λ f. Any (λ v. IsTableWith (λ t. HasInterfaceFault rfc3021 t f) (view v))
-        values.now) result }
+    ensures { IsLeastIfAny (λ f. Any (λ v. IsTableWith (λ t. HasInterfaceFault rfc3021 t f)
+        (view v)) values.now) result }
 {
     let mut least = None;
     for value in values {
@@ -125,7 +126,8 @@ fn interface_fault(table: &Table, rfc3021: bool) -> Option<ConfigFault>
     let delays = earlier(retransmit_at(table).err(), transmit_delay_at(table).err());
     let ranks = earlier(cost_at(table).err(), priority_at(table).err());
     let ports = earlier(port_at(table).err(), peers_fault(table));
+    let flags = earlier(passive_at(table).err(), prefix_suppression_at(table).err());
     let times = earlier(hellos, delays);
     let sizes = earlier(ranks, mtu_at(table).err());
-    earlier(earlier(texts, times), earlier(sizes, ports))
+    earlier(earlier(texts, times), earlier(sizes, earlier(ports, flags)))
 }

@@ -9,7 +9,7 @@ ghost use Rattle.ospf_config.specs.Fault.{IsLeastIfAny, IsFaultIfAny};
 ghost use Rattle.ospf_config.specs.Interfaces.{IsHostOf};
 ghost use Rattle.ospf_config.specs.Keys.{ReadsHostAddress, ReadsHostCost};
 ghost use Rattle.ospf_config.specs.Reading.{ReadsValue};
-ghost use Rattle.ospf_config.specs.Tables.{HasHostFault, IsAtHost, IsAtInterface, IsAnyTaken, IsTableWith, IsTaken, ReadsHosts, host_keys, host_tables, tables_among};
+ghost use Rattle.ospf_config.specs.Tables.{HasHostFault, IsAtHost, IsAtInterface, IsAnyTaken, IsTableWith, HasTakenAddress, ReadsHosts, host_keys, host_tables, tables_among};
 ghost use Rattle.ospf_config.specs.Texts.{IsHostText};
 
 use crate::address::{dotted_number, is_unicast};
@@ -17,7 +17,7 @@ use crate::fault::{ConfigFault, earlier};
 use crate::faults::{are_all_tables, tables_at};
 use crate::keys::{address_at, number_in, value_at};
 use crate::rules::table_in;
-use ospf_base::{Addr, Host};
+use ospf_base::{Addr, Prefix, StubNetwork};
 use std::alloc::Global;
 use toml::{Table, Value};
 
@@ -83,7 +83,7 @@ pub fn host_names() -> [&'static str; 2]
 /// Whether the host of a table has the address of one of the interfaces, or of one of the hosts
 /// before it.
 pub fn is_taken(interfaces: &[Value], before: &[Value], host: &Table, rfc3021: bool) -> bool
-    ensures { IsTrue result ↔ IsTaken rfc3021 (tables_among (items_view interfaces.now))
+    ensures { IsTrue result ↔ HasTakenAddress rfc3021 (tables_among (items_view interfaces.now))
         (tables_among (items_view before.now)) (table_view host.now) }
 {
     is_at_any_interface(host, interfaces, rfc3021) || is_at_any_host(host, before)
@@ -117,7 +117,7 @@ pub(crate) fn hosts_fault(values: &[Value]) -> Option<ConfigFault>
 }
 
 // The hosts that tables describe, in order.
-pub(crate) fn hosts_of(alloc: Global, values: &[Value]) -> Result<Vec<Host>, ConfigFault>
+pub(crate) fn hosts_of(alloc: Global, values: &[Value]) -> Result<Vec<StubNetwork>, ConfigFault>
     requires { All (λ v. IsSome (as_table (view v))) values.now }
     ensures ok { IfOk result (λ hosts. AllZip IsHostOf (tables_among (items_view values.now))
         hosts.items) }
@@ -132,13 +132,15 @@ pub(crate) fn hosts_of(alloc: Global, values: &[Value]) -> Result<Vec<Host>, Con
 }
 
 // The host that a table describes.
-fn host_at(table: &Table) -> Result<Host, ConfigFault>
+fn host_at(table: &Table) -> Result<StubNetwork, ConfigFault>
     ensures ok { IfOk result (IsHostOf (table_view table.now)) }
     ensures fault { IfErr result (HasHostFault (table_view table.now)) }
 {
     let address = host_address_at(table)?;
     let cost = host_cost_at(table)?;
-    Ok(Host { address, cost })
+    let length = 32;
+    let prefix = Prefix { address, length };
+    Ok(StubNetwork { prefix, cost })
 }
 
 // The least fault of a value that should be a host; one that is no table has none of these.

@@ -17,7 +17,7 @@ pub struct Port {
     ghost fits: { number ≤ 65535 },
 }
 
-/// An interface (RFC 2328, appendix C.3). Times are in ticks.
+/// An interface (RFC 2328, appendix C.3) that is not passive. Times are in ticks.
 #[derive(Debug, Drop)]
 pub struct Interface {
     pub kind: InterfaceKind,
@@ -40,6 +40,8 @@ pub struct Interface {
     pub port: Option<Port>,
     /// The ports that datagrams are sent to, at most 32.
     pub peers: Vec<Port>,
+    /// Whether the prefix of the interface's link is not advertised (RFC 6860).
+    pub prefix_suppression: bool,
     ghost cost_not_zero: { 0 < cost },
     ghost hello_not_zero: { 0 < hello },
     ghost dead_over_hello: { hello < dead },

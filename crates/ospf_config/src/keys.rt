@@ -1,13 +1,13 @@
 //! The values at keys.
 
-ghost use Rattle.std.specs.Prelude.{◌≡◌, ◌≤◌, ◌↔◌, IsTrue, IfOk, option_map, option_copied, Ok, codes};
+ghost use Rattle.std.specs.Prelude.{◌≡◌, ◌≤◌, ◌↔◌, IsTrue, IfOk, false, option_map, option_copied, Ok, codes};
 ghost use Rattle.ospf_base.specs.Constants.{max_age};
 ghost use Rattle.ospf_base.specs.declared.interface.InterfaceKind.TheVariants.{PointToPoint};
-ghost use Rattle.toml.specs.Data.{get_member, as_integer, as_str};
+ghost use Rattle.toml.specs.Data.{get_member, as_bool, as_integer, as_str};
 ghost use Rattle.toml.specs.View.{view, table_view};
 ghost use Rattle.ospf_config.specs.Reading.{ReadsValue, Optional, IsNumberIn, integer_or};
 ghost use Rattle.ospf_config.specs.Texts.{IsKindText, IsAddressText};
-ghost use Rattle.ospf_config.specs.Keys.{ReadsKind, MayHave31Bits, ReadsInterfaceAddress, ReadsCostValue, ReadsCost, IsPortNumber, ReadsPriority, ReadsHello, ReadsDead, ReadsRetransmit, ReadsTransmitDelay, ReadsMtu, ReadsPort};
+ghost use Rattle.ospf_config.specs.Keys.{ReadsKind, MayHave31Bits, ReadsInterfaceAddress, ReadsCostValue, ReadsCost, IsPortNumber, ReadsPriority, ReadsHello, ReadsDead, ReadsRetransmit, ReadsTransmitDelay, ReadsMtu, ReadsPort, ReadsPassive, is_passive, ReadsPrefixSuppression};
 
 use crate::address::InterfaceAddress;
 use crate::fault::ConfigFault;
@@ -120,6 +120,43 @@ pub fn port_at(table: &Table) -> Result<Option<Port>, ConfigFault>
     match value_at(table, "port") {
         None => Ok(None),
         Some(value) => port_of(value.as_integer()),
+    }
+}
+
+/// Whether the interface is passive, at the key `passive`: not where nothing is there; or the fault
+/// of the key.
+pub fn passive_at(table: &Table) -> Result<bool, ConfigFault>
+    ensures { ReadsPassive (table_view table.now) result }
+{
+    flag_at(table, "passive")
+}
+
+/// Whether the prefix of the interface's link is not advertised (RFC 6860), at the key
+/// `prefix_suppression`: not where nothing is there; or the fault of the key.
+pub fn prefix_suppression_at(table: &Table) -> Result<bool, ConfigFault>
+    ensures { ReadsPrefixSuppression (table_view table.now) result }
+{
+    flag_at(table, "prefix_suppression")
+}
+
+/// Whether the interface is passive: the key `passive` is true, and not of another type.
+pub fn is_passive(table: &Table) -> bool
+    ensures { result ≡ is_passive (table_view table.now) }
+{
+    match value_at(table, "passive") {
+        None => false,
+        Some(value) => value.as_bool().unwrap_or(false),
+    }
+}
+
+// The truth value at a key, false where nothing is there.
+pub(crate) fn flag_at(table: &Table, key: &str) -> Result<bool, ConfigFault>
+    ensures { Optional as_bool (λ b c. b ≡ c) false (get_member key.now (table_view table.now))
+        result }
+{
+    match value_at(table, key) {
+        None => Ok(false),
+        Some(value) => value.as_bool().ok_or(ConfigFault::Type),
     }
 }
 

@@ -8,6 +8,7 @@ mod faults;
 mod hosts;
 mod interface;
 mod keys;
+mod passive;
 mod peers;
 mod read;
 mod rules;
@@ -22,8 +23,8 @@ pub use crate::hosts::{
 };
 pub use crate::interface::{Interface, Port};
 pub use crate::keys::{
-    address_at, cost_at, dead_at, hello_at, kind_at, mtu_at, port_at, priority_at, retransmit_at,
-    transmit_delay_at, value_at,
+    address_at, cost_at, dead_at, hello_at, is_passive, kind_at, mtu_at, passive_at, port_at,
+    prefix_suppression_at, priority_at, retransmit_at, transmit_delay_at, value_at,
 };
 pub use crate::peers::peers_fault;
 pub use crate::rules::{interface_names, is_dead_not_over_hello, is_other, table_in, top_names};

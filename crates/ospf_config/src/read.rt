@@ -7,19 +7,20 @@ ghost use Rattle.toml.specs.View.{view, table_view, items_view};
 ghost use Rattle.ospf_config.specs.declared.fault.ConfigFault.{ConfigFault};
 ghost use Rattle.ospf_config.specs.declared.fault.ConfigFault.TheVariants as fault;
 ghost use Rattle.ospf_config.specs.Fault.{IsLeastFault};
-ghost use Rattle.ospf_config.specs.Tables.{HasInterfaceFault, HasKeyFault, HasConfigFault, IsDeadNotOverHello, IsTableWith, tables_among};
+ghost use Rattle.ospf_config.specs.Tables.{HasInterfaceFault, HasKeyFault, HasConfigFault, IsDeadNotOverHello, IsTableWith, active_among, tables_among};
 ghost use Rattle.ospf_config.specs.Interfaces.{IsInterfaceOf};
 ghost use Rattle.ospf_config.specs.Configs.{IsConfigOf, IsReading, TextHasFault};
 
 use crate::config::Config;
 use crate::fault::ConfigFault;
 use crate::faults::{interface_values, key_fault};
-use crate::hosts::{host_values, hosts_of};
+use crate::hosts::host_values;
 use crate::interface::Interface;
 use crate::keys::{
-    address_at, cost_at, dead_at, hello_at, kind_at, mtu_at, port_at, priority_at, retransmit_at,
-    transmit_delay_at,
+    address_at, cost_at, dead_at, hello_at, is_passive, kind_at, mtu_at, port_at,
+    prefix_suppression_at, priority_at, retransmit_at, transmit_delay_at,
 };
+use crate::passive::stubs_of;
 use crate::peers::peers_at;
 use crate::rules::{has_same_address, is_any_dead, is_any_unknown, table_in};
 use crate::top::{area_at, asks_rfc3021, other_lsas_at, router_id_at, stub_router_at};
@@ -93,19 +94,21 @@ fn config_at(alloc: Global, table: &Table) -> Result<Config, ConfigFault>
     let area = area_at(table)?;
     let stub_router = stub_router_at(table)?;
     let passes_over = other_lsas_at(table)?;
-    let interfaces = interfaces_of(alloc, interface_values(table), asks_rfc3021(table))?;
-    let hosts = hosts_of(alloc, host_values(table))?;
+    let values = interface_values(table);
+    let rfc3021 = asks_rfc3021(table);
+    let interfaces = interfaces_of(alloc, values, rfc3021)?;
+    let stubs = stubs_of(alloc, values, host_values(table), rfc3021)?;
     Ok(Config {
         router_id,
         area,
         stub_router,
         passes_over,
         interfaces,
-        hosts,
+        stubs,
     })
 }
 
-// The interfaces that tables describe, in order.
+// The interfaces that tables describe, in order, but for the passive ones.
 fn interfaces_of(
     alloc: Global,
     values: &[Value],
@@ -114,13 +117,16 @@ fn interfaces_of(
     requires tables { All (λ v. IsSome (as_table (view v))) values.now }
     requires hellos { Any (λ v. IsTableWith IsDeadNotOverHello (view v)) values.now → ⊥ }
     ensures ok { IfOk result (λ interfaces. AllZip (IsInterfaceOf rfc3021)
-        (tables_among (items_view values.now)) interfaces.items) }
+        (active_among (tables_among (items_view values.now))) interfaces.items) }
     ensures fault { IfErr result (λ f. (f ≡ fault.Memory)
         ⊎ Any (λ t. HasInterfaceFault rfc3021 t f) (tables_among (items_view values.now))) }
 {
     let mut interfaces = Vec::with_capacity(alloc, values.len())?;
     for value in values {
-        interfaces.push(interface_at(alloc, table_in(value), rfc3021)?)?;
+        let table = table_in(value);
+        if !is_passive(table) {
+            interfaces.push(interface_at(alloc, table, rfc3021)?)?;
+        }
     }
     Ok(interfaces)
 }
@@ -143,6 +149,7 @@ fn interface_at(alloc: Global, table: &Table, rfc3021: bool) -> Result<Interface
     let mtu = mtu_at(table)?;
     let port = port_at(table)?;
     let peers = peers_at(alloc, table)?;
+    let prefix_suppression = prefix_suppression_at(table)?;
     Ok(Interface {
         kind,
         address,
@@ -155,5 +162,6 @@ fn interface_at(alloc: Global, table: &Table, rfc3021: bool) -> Result<Interface
         mtu,
         port,
         peers,
+        prefix_suppression,
     })
 }

@@ -49,7 +49,7 @@ pub fn is_other(key: &str, known: &[&str]) -> bool
 }
 
 /// The keys of an interface.
-pub fn interface_names() -> [&'static str; 11]
+pub fn interface_names() -> [&'static str; 13]
     ensures { map (λ k. k.now) result ≡ interface_keys }
 {
     [
@@ -64,6 +64,8 @@ pub fn interface_names() -> [&'static str; 11]
         "mtu",
         "port",
         "peers",
+        "passive",
+        "prefix_suppression",
     ]
 }
 

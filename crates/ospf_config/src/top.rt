@@ -1,15 +1,14 @@
 //! The keys at the top.
 
-ghost use Rattle.std.specs.Prelude.{◌≡◌, ◌<◌, IfOk, false, option_copied};
-ghost use Rattle.toml.specs.Data.{as_bool, get_member};
+ghost use Rattle.std.specs.Prelude.{◌≡◌, ◌<◌, IfOk, option_copied};
 ghost use Rattle.toml.specs.View.{table_view};
-ghost use Rattle.ospf_config.specs.Reading.{ReadsValue, Optional};
+ghost use Rattle.ospf_config.specs.Reading.{ReadsValue};
 ghost use Rattle.ospf_config.specs.Texts.{IsRouterIdText, IsAreaText, IsOtherLsasText};
 ghost use Rattle.ospf_config.specs.Keys.{ReadsOwnRouterId, ReadsArea, ReadsStubRouter, ReadsOtherLsas, ReadsRfc3021, asks_rfc3021};
 
 use crate::address::dotted_number;
 use crate::fault::ConfigFault;
-use crate::keys::value_at;
+use crate::keys::{flag_at, value_at};
 use ospf_base::{AreaId, RouterId};
 use toml::Table;
 
@@ -68,17 +67,6 @@ pub fn asks_rfc3021(table: &Table) -> bool
     match value_at(table, "rfc3021") {
         None => false,
         Some(value) => value.as_bool().unwrap_or(false),
-    }
-}
-
-// The truth value at a key, false where nothing is there.
-fn flag_at(table: &Table, key: &str) -> Result<bool, ConfigFault>
-    ensures { Optional as_bool (λ b c. b ≡ c) false (get_member key.now (table_view table.now))
-        result }
-{
-    match value_at(table, key) {
-        None => Ok(false),
-        Some(value) => value.as_bool().ok_or(ConfigFault::Type),
     }
 }
 

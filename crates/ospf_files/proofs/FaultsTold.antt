@@ -12,7 +12,7 @@ use Rattle.ospf_config.specs.declared.fault.ConfigFault.TheVariants as fault
 use Rattle.ospf_config.specs.Configs.{TextHasFault}
 use Rattle.ospf_config.specs.Fault.{config_fault_number}
 use Rattle.ospf_config.specs.Keys.{asks_rfc3021}
-use Rattle.ospf_config.specs.Tables.{HasTopFault, HasInterfaceFault, HasHostFault, HaveSamePrefix, IsAnyTaken, IsTaken, IsDeadNotOverHello, HasOtherKey, HasKeyFault, HasConfigFault, interface_tables, host_tables, keys_of, interface_keys, host_keys}
+use Rattle.ospf_config.specs.Tables.{HasTopFault, HasInterfaceFault, HasHostFault, HaveSamePrefix, IsAnyTaken, HasTakenAddress, IsDeadNotOverHello, HasOtherKey, HasKeyFault, HasConfigFault, interface_tables, host_tables, keys_of, interface_keys, host_keys}
 use Rattle.ospf_config.proofs.PeerLists.{none_is_some}
 use Rattle.ospf_config.proofs.TableLists.{any_here, any_later, any_cons, any_none, any_append_left, any_last, any_snoc}
 use Rattle.ospf_files.specs.AllFaults.{AreAllExplained, AreFaultsExplained, no_fault_more, holds_here, holds_not, faults_of_tables}
@@ -171,7 +171,7 @@ prefix_join q before t (inr some) = (let (i, first, at, both) = at_any (λ first
 taken_none : (q : Bool) (is : List Members) → IsAnyTaken q is [] → ⊥
 taken_none q is h = none_is_some h.host h.at_place
 
-taken_split : (q : Bool) (is before : List Members) (t : Members) → IsAnyTaken q is (before ++ t ∷ []) → IsAnyTaken q is before ⊎ IsTaken q is before t
+taken_split : (q : Bool) (is before : List Members) (t : Members) → IsAnyTaken q is (before ++ t ∷ []) → IsAnyTaken q is before ⊎ HasTakenAddress q is before t
 taken_split q is before t h =
     elim (get_split before t h.place h.host h.at_place) [
       | inl in_front ↦
@@ -179,11 +179,11 @@ taken_split q is before t h =
           inl (record { place = h.place; host = h.host; at_place = in_front; taken = (rw (take-append-le h.place before (t ∷ []) (omega arith)) at h.taken) }))
       | inr (last, same) ↦
           (let whole : take h.place (before ++ t ∷ []) ≡ before = ap (λ n. take n (before ++ t ∷ [])) last ∙ take-append_seam before (t ∷ []) in
-          let taken : IsTaken q is before h.host = (rw whole at h.taken) in
-          inr (subst (λ x. IsTaken q is before x) (sym same) taken))
+          let taken : HasTakenAddress q is before h.host = (rw whole at h.taken) in
+          inr (subst (λ x. HasTakenAddress q is before x) (sym same) taken))
     ]
 
-taken_join : (q : Bool) (is before : List Members) (t : Members) → IsAnyTaken q is before ⊎ IsTaken q is before t → IsAnyTaken q is (before ++ t ∷ [])
+taken_join : (q : Bool) (is before : List Members) (t : Members) → IsAnyTaken q is before ⊎ HasTakenAddress q is before t → IsAnyTaken q is (before ++ t ∷ [])
 taken_join q is before t (inl h) = record {
   place = h.place;
   host = h.host;
@@ -256,7 +256,7 @@ module _ (t : Members) where
       (tells_both _ _ own last
       (tells_all (AreInterfacePlaces Q fault.SamePrefix) (HaveSamePrefix Q) (λ before u. Any (λ first. AreInConflict Q first u) before) (prefix_none Q) (prefix_split Q) (prefix_join Q)
       (λ before u es is. tells_where _ _ es is) (interface_tables t) own all)
-      (tells_all (AreHostPlaces Q (interface_tables t) fault.SamePrefix) (IsAnyTaken Q (interface_tables t)) (IsTaken Q (interface_tables t)) (taken_none Q (interface_tables t))
+      (tells_all (AreHostPlaces Q (interface_tables t) fault.SamePrefix) (IsAnyTaken Q (interface_tables t)) (HasTakenAddress Q (interface_tables t)) (taken_none Q (interface_tables t))
       (taken_split Q (interface_tables t)) (taken_join Q (interface_tables t)) (λ before u es is. tells_where _ _ es is) (host_tables t) last hosts))
   of_parts fault.DeadNotOverHello top own last are all hosts =
       none_at_top fault.DeadNotOverHello _ top (own ++ last) (λ few. omega (arith, few)) are

@@ -8,9 +8,9 @@ use Rattle.ospf_config.specs.Fault.{config_fault_number}
 use Rattle.ospf_config.specs.Reading.{ReadsValue, Required, Optional, IsNumberIn, as_integers}
 use Rattle.ospf_config.specs.Texts.{IsRouterIdText, IsAreaText, IsOtherLsasText, IsKindText, IsAddressText, IsHostText}
 use Rattle.ospf_config.specs.Keys.{MayHave31Bits, ReadsCostValue, ReadsCostAt, IsPortNumber, ArePortNumbers}
-use Rattle.ospf_config.specs.Tables.{HasTopFault, in_router_id, in_area, in_stub_router, in_other_lsas, in_rfc3021, in_interface, in_host, HasInterfaceFault, in_kind, in_address, in_cost, in_priority, in_hello, in_dead, in_retransmit, in_transmit_delay, in_mtu, in_port, in_peers, HasHostFault, in_host_address, in_host_cost, AreInterfaceTables, AreHostTables, as_tables}
+use Rattle.ospf_config.specs.Tables.{HasTopFault, in_router_id, in_area, in_stub_router, in_other_lsas, in_rfc3021, in_interface, in_host, HasInterfaceFault, in_kind, in_address, in_cost, in_priority, in_hello, in_dead, in_retransmit, in_transmit_delay, in_mtu, in_port, in_peers, in_passive, in_prefix_suppression, HasHostFault, in_host_address, in_host_cost, AreInterfaceTables, AreHostTables, as_tables}
 use Rattle.ospf_config.proofs.TableLists.{any_here, any_later, any_cons, any_none}
-use Rattle.ospf_files.specs.Explained.{KnownKey, KeyHas, keys_at_top, keys_of_interface, keys_of_host, router_id_key, area_key, stub_router_key, other_lsas_key, rfc3021_key, interface_key, host_key, kind_key, address_key, cost_key, priority_key, hello_key, dead_key, retransmit_key, transmit_delay_key, mtu_key, port_key, peers_key, host_address_key, host_cost_key}
+use Rattle.ospf_files.specs.Explained.{KnownKey, KeyHas, keys_at_top, keys_of_interface, keys_of_host, router_id_key, area_key, stub_router_key, other_lsas_key, rfc3021_key, interface_key, host_key, kind_key, address_key, cost_key, priority_key, hello_key, dead_key, retransmit_key, transmit_delay_key, mtu_key, port_key, peers_key, passive_key, prefix_suppression_key, host_address_key, host_cost_key}
 
 -- ---- the number of a key's fault
 
@@ -69,6 +69,8 @@ module _ (q : Bool) (t : Members) (f : ConfigFault) where
   key_low mtu_key h = optional_low (IsNumberIn 576 9000) as_integer 1500 (get_member (codes "mtu") t) f h
   key_low port_key h = optional_low IsPortNumber as_integer None (get_member (codes "port") t) f h
   key_low peers_key h = optional_low ArePortNumbers as_integers [] (get_member (codes "peers") t) f h
+  key_low passive_key h = optional_low (λ b c. b ≡ c) as_bool false (get_member (codes "passive") t) f h
+  key_low prefix_suppression_key h = optional_low (λ b c. b ≡ c) as_bool false (get_member (codes "prefix_suppression") t) f h
 
   -- ---- the keys at the top, and those of an interface
 
@@ -117,6 +119,8 @@ module _ (q : Bool) (t : Members) (f : ConfigFault) where
   interface_keys_have (in_mtu h) = any_of keys_of_interface (inr (inr (inr (inr (inr (inr (inr (inr (inl h)))))))))
   interface_keys_have (in_port h) = any_of keys_of_interface (inr (inr (inr (inr (inr (inr (inr (inr (inr (inl h))))))))))
   interface_keys_have (in_peers h) = any_of keys_of_interface (inr (inr (inr (inr (inr (inr (inr (inr (inr (inr (inl h)))))))))))
+  interface_keys_have (in_passive h) = any_of keys_of_interface (inr (inr (inr (inr (inr (inr (inr (inr (inr (inr (inr (inl h))))))))))))
+  interface_keys_have (in_prefix_suppression h) = any_of keys_of_interface (inr (inr (inr (inr (inr (inr (inr (inr (inr (inr (inr (inr (inl h)))))))))))))
 
   top_one : OneOf keys_at_top → HasTopFault t f
   top_one (inl h) = in_router_id h
@@ -145,7 +149,9 @@ module _ (q : Bool) (t : Members) (f : ConfigFault) where
   interface_one (inr (inr (inr (inr (inr (inr (inr (inr (inl h))))))))) = in_mtu h
   interface_one (inr (inr (inr (inr (inr (inr (inr (inr (inr (inl h)))))))))) = in_port h
   interface_one (inr (inr (inr (inr (inr (inr (inr (inr (inr (inr (inl h))))))))))) = in_peers h
-  interface_one (inr (inr (inr (inr (inr (inr (inr (inr (inr (inr (inr h))))))))))) = absurd h
+  interface_one (inr (inr (inr (inr (inr (inr (inr (inr (inr (inr (inr (inl h)))))))))))) = in_passive h
+  interface_one (inr (inr (inr (inr (inr (inr (inr (inr (inr (inr (inr (inr (inl h))))))))))))) = in_prefix_suppression h
+  interface_one (inr (inr (inr (inr (inr (inr (inr (inr (inr (inr (inr (inr (inr h))))))))))))) = absurd h
 
   pub top_fault_of : Any Has keys_at_top → HasTopFault t f
   top_fault_of h = top_one (one_of keys_at_top h)

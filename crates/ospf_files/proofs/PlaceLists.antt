@@ -19,13 +19,13 @@ use Rattle.ospf_config.specs.declared.fault.ConfigFault.{ConfigFault}
 use Rattle.ospf_config.specs.declared.fault.ConfigFault.TheVariants as fault
 use Rattle.ospf_files.specs.declared.rows.Row.{Row}
 use Rattle.ospf_config.specs.Configs.{TextHasFault}
-use Rattle.ospf_files.specs.Explained.{KnownKey, KeyHas, key_name, item_number, IsValueText, IsFoundText, IsKeyPlace, IsKnownPlace, ArePlacesOf, no_key, taken, passed, IsPlaceWhere, told, not_told, AreTopPlaces, AreInConflict, AreInterfacePlaces, AreHostPlaces, AreAllPlaces, one_more, AreTablePlaces, IsLinePlace, IsExplained, keys_at_top, keys_of_interface, keys_of_host, IsUnknownPlace, router_id_key, area_key, stub_router_key, other_lsas_key, rfc3021_key, interface_key, host_key, kind_key, address_key, cost_key, priority_key, hello_key, dead_key, retransmit_key, transmit_delay_key, mtu_key, port_key, peers_key, host_address_key, host_cost_key}
+use Rattle.ospf_files.specs.Explained.{KnownKey, KeyHas, key_name, item_number, IsValueText, IsFoundText, IsKeyPlace, IsKnownPlace, ArePlacesOf, no_key, taken, passed, IsPlaceWhere, told, not_told, AreTopPlaces, AreInConflict, AreInterfacePlaces, AreHostPlaces, AreAllPlaces, one_more, AreTablePlaces, IsLinePlace, IsExplained, keys_at_top, keys_of_interface, keys_of_host, IsUnknownPlace, router_id_key, area_key, stub_router_key, other_lsas_key, rfc3021_key, interface_key, host_key, kind_key, address_key, cost_key, priority_key, hello_key, dead_key, retransmit_key, transmit_delay_key, mtu_key, port_key, peers_key, passive_key, prefix_suppression_key, host_address_key, host_cost_key}
 use Rattle.ospf_files.specs.Rows.{IsRowOf, AddsRows}
 use Rattle.ospf_config.specs.Keys.{asks_rfc3021}
-use Rattle.ospf_config.specs.Tables.{IsDeadNotOverHello, IsOtherKey, IsTableWith, IsTaken, host_keys, host_tables, interface_tables, keys_of, tables_among}
+use Rattle.ospf_config.specs.Tables.{IsDeadNotOverHello, IsOtherKey, IsTableWith, HasTakenAddress, host_keys, host_tables, interface_tables, keys_of, tables_among}
 use Rattle.ospf_config.proofs.Least.{IsSingle}
 use Rattle.ospf_config.proofs.PeerLists.{none_is_some}
-use Rattle.ospf_config.proofs.Singles.{router_id_single, area_single, stub_router_single, other_lsas_single, rfc3021_single, interface_single, host_list_single, host_address_single, host_cost_single, kind_single, address_single, hello_single, dead_single, retransmit_single, transmit_delay_single, only_cost, priority_single, mtu_single, port_single, peers_single}
+use Rattle.ospf_config.proofs.Singles.{router_id_single, area_single, stub_router_single, other_lsas_single, rfc3021_single, interface_single, host_list_single, host_address_single, host_cost_single, kind_single, address_single, hello_single, dead_single, retransmit_single, transmit_delay_single, only_cost, priority_single, mtu_single, port_single, peers_single, passive_single, prefix_suppression_single}
 use Rattle.ospf_config.proofs.TableLists.{any_table, any_value, tables_push}
 
 -- ---- lists that grow
@@ -113,6 +113,8 @@ module _ (q : Bool) (t : Members) where
   one_fault mtu_key f g a b = (mtu_single t).one f g a b
   one_fault port_key f g a b = (port_single t).one f g a b
   one_fault peers_key f g a b = (peers_single t).one f g a b
+  one_fault passive_key f g a b = (passive_single t).one f g a b
+  one_fault prefix_suppression_key f g a b = (prefix_suppression_single t).one f g a b
 
   has_of : (k : KnownKey) (f : ConfigFault) (o : Option ConfigFault) → MatchOption o ((g : ConfigFault) → KeyHas q t g k → ⊥) (λ g. KeyHas q t g k) → o ≡ Some f → KeyHas q t f k
   has_of k f o is e = rw e at is
@@ -266,7 +268,7 @@ module _ (q : Bool) (t : Members) (n : ℕ) (f : ConfigFault) (old new : List Ex
     are = interface_places q t n before f h.more a b c (row_places q t f (section.Interface n) keys_of_interface rows h.more each h.are);
   }
 
-  pub taken_added : (interfaces before : List Members) (holds : Bool) → f ≡ fault.SamePrefix → ((holds ≡ true) ↔ IsTaken q interfaces before t)
+  pub taken_added : (interfaces before : List Members) (holds : Bool) → f ≡ fault.SamePrefix → ((holds ≡ true) ↔ HasTakenAddress q interfaces before t)
       → AddsRows (IsPlaceWhere (holds ≡ true) (IsKeyPlace (section.Host n) t (codes "address") (codes "an address that no interface and no earlier host has"))) old new
       → AddsRows (AreHostPlaces q interfaces f n before t) old new
   taken_added interfaces before holds is same h = rw is (record { more = h.more; added = h.added; are = where_same _ _ _ h.more same h.are })

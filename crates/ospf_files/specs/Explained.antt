@@ -15,8 +15,8 @@ use Rattle.ospf_files.specs.declared.explained.Section.TheVariants as section
 use Rattle.ospf_config.specs.declared.fault.ConfigFault.{ConfigFault}
 use Rattle.ospf_config.specs.declared.fault.ConfigFault.TheVariants as fault
 use Rattle.ospf_config.specs.Conflicts.{Conflict}
-use Rattle.ospf_config.specs.Keys.{ReadsOwnRouterId, ReadsArea, ReadsStubRouter, ReadsOtherLsas, ReadsRfc3021, asks_rfc3021, ReadsKind, ReadsInterfaceAddress, ReadsCost, ReadsPriority, ReadsHello, ReadsDead, ReadsRetransmit, ReadsTransmitDelay, ReadsMtu, ReadsPort, ReadsPeers, ReadsHostAddress, ReadsHostCost}
-use Rattle.ospf_config.specs.Tables.{ReadsInterfaces, ReadsHosts, IsDeadNotOverHello, IsTaken, IsOtherKey, interface_tables, host_tables, keys_of, top_keys, interface_keys, host_keys}
+use Rattle.ospf_config.specs.Keys.{ReadsOwnRouterId, ReadsArea, ReadsStubRouter, ReadsOtherLsas, ReadsRfc3021, asks_rfc3021, ReadsKind, ReadsInterfaceAddress, ReadsCost, ReadsPriority, ReadsHello, ReadsDead, ReadsRetransmit, ReadsTransmitDelay, ReadsMtu, ReadsPort, ReadsPeers, ReadsPassive, ReadsPrefixSuppression, ReadsHostAddress, ReadsHostCost}
+use Rattle.ospf_config.specs.Tables.{ReadsInterfaces, ReadsHosts, IsDeadNotOverHello, HasTakenAddress, IsOtherKey, interface_tables, host_tables, keys_of, top_keys, interface_keys, host_keys}
 
 -- ---- the keys
 
@@ -40,6 +40,8 @@ pub data KnownKey : Type 0 where
   mtu_key : KnownKey
   port_key : KnownKey
   peers_key : KnownKey
+  passive_key : KnownKey
+  prefix_suppression_key : KnownKey
   host_address_key : KnownKey
   host_cost_key : KnownKey
 
@@ -54,7 +56,7 @@ abbrev pub keys_of_interface : List KnownKey
 keys_of_interface =
     kind_key ∷ address_key ∷ cost_key ∷ priority_key ∷ hello_key ∷ dead_key ∷ retransmit_key
     ∷ transmit_delay_key ∷ mtu_key
-    ∷ port_key ∷ peers_key ∷ []
+    ∷ port_key ∷ peers_key ∷ passive_key ∷ prefix_suppression_key ∷ []
 
 -- the keys of a host, in the order in which they are listed
 abbrev pub keys_of_host : List KnownKey
@@ -80,6 +82,8 @@ key_name transmit_delay_key = codes "transmit_delay"
 key_name mtu_key = codes "mtu"
 key_name port_key = codes "port"
 key_name peers_key = codes "peers"
+key_name passive_key = codes "passive"
+key_name prefix_suppression_key = codes "prefix_suppression"
 key_name host_address_key = codes "address"
 key_name host_cost_key = codes "cost"
 
@@ -90,11 +94,11 @@ wanted_at area_key = codes "a dotted string such as \"0.0.0.1\","
 wanted_at stub_router_key = codes "true or false"
 wanted_at other_lsas_key = codes "\"refuse\" or \"pass over\""
 wanted_at rfc3021_key = codes "true or false"
-wanted_at interface_key = codes "1 to 32 tables [[interface]]"
+wanted_at interface_key = codes "1 to 32 tables [[interface]], not all passive,"
 wanted_at host_key = codes "at most 32 tables [[host]]"
 wanted_at kind_key = codes "\"point-to-point\" or \"broadcast\""
 wanted_at address_key =
-    codes "a host address and prefix length, 1 to 30, such as \"10.0.0.1/30\","
+    codes "a host address and prefix length, 1 to 30 (31 with rfc3021), such as \"10.0.0.1/30\","
 wanted_at cost_key = codes "1 to 65535"
 wanted_at priority_key = codes "0 to 255"
 wanted_at hello_key = codes "1 to 65535"
@@ -104,6 +108,8 @@ wanted_at transmit_delay_key = codes "1 to 3600"
 wanted_at mtu_key = codes "576 to 9000"
 wanted_at port_key = codes "0, or 1024 to 65535,"
 wanted_at peers_key = codes "an array of at most 32 ports, each 1024 to 65535,"
+wanted_at passive_key = codes "true or false"
+wanted_at prefix_suppression_key = codes "true or false"
 wanted_at host_address_key = codes "a dotted unicast address such as \"192.0.2.1\","
 wanted_at host_cost_key = codes "0 to 65535"
 
@@ -128,6 +134,8 @@ KeyHas q t f transmit_delay_key = ReadsTransmitDelay t (Err f)
 KeyHas q t f mtu_key = ReadsMtu t (Err f)
 KeyHas q t f port_key = ReadsPort t (Err f)
 KeyHas q t f peers_key = ReadsPeers t (Err f)
+KeyHas q t f passive_key = ReadsPassive t (Err f)
+KeyHas q t f prefix_suppression_key = ReadsPrefixSuppression t (Err f)
 KeyHas q t f host_address_key = ReadsHostAddress t (Err f)
 KeyHas q t f host_cost_key = ReadsHostCost t (Err f)
 
@@ -240,7 +248,7 @@ AreInterfacePlaces q f n before t es =
 abbrev pub AreHostPlaces : Bool → List Members → ConfigFault → ℕ → List Members → Members
     → List Explained → Type 0
 AreHostPlaces q interfaces fault.SamePrefix n before t es =
-    IsPlaceWhere (IsTaken q interfaces before t)
+    IsPlaceWhere (HasTakenAddress q interfaces before t)
     (IsKeyPlace (section.Host n) t (codes "address")
     (codes "an address that no interface and no earlier host has")) es
 AreHostPlaces q interfaces fault.Unknown n before t es =

@@ -6,7 +6,7 @@ ghost use Rattle.toml.specs.Data.{Members, as_table};
 ghost use Rattle.toml.specs.View.{view, table_view, items_view};
 ghost use Rattle.ospf_files.specs.Explained.{ArePlacesOf, IsKeyPlace, IsKeyText, is_bare, is_bare_byte, IsUnknownPlace, IsValueText, IsPlaceWhere, AreTopPlaces, AreInterfacePlaces, AreHostPlaces, AreAllPlaces, AreTablePlaces, AreInConflict};
 ghost use Rattle.ospf_files.specs.Rows.{AddsRows};
-ghost use Rattle.ospf_config.specs.Tables.{IsOtherKey, IsTableWith, IsTaken, keys_of, tables_among};
+ghost use Rattle.ospf_config.specs.Tables.{IsOtherKey, IsTableWith, HasTakenAddress, keys_of, tables_among};
 
 use crate::explained::{Explained, KeyExplained, Section};
 use crate::rows::{Row, host_rows, interface_rows, top_rows};
@@ -298,7 +298,7 @@ fn add_host(
     fault: ConfigFault,
 ) -> Result<(), AllocError>
     ensures { (q : Bool) → (interfaces before : List Members)
-        → (IsTrue is_taken ↔ IsTaken q interfaces before (table_view table.now))
+        → (IsTrue is_taken ↔ HasTakenAddress q interfaces before (table_view table.now))
         → OnOk result (AddsRows (AreHostPlaces q interfaces fault host before
         (table_view table.now)) out.old.items out.new.items) }
 {

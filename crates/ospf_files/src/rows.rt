@@ -9,8 +9,9 @@ ghost use Rattle.ospf_files.specs.Rows.{IsRowOf};
 
 use ospf_config::{
     ConfigFault, address_at, area_at, cost_at, dead_at, hello_at, host_address_at, host_cost_at,
-    host_list_fault, kind_at, list_fault, mtu_at, other_lsas_at, peers_fault, port_at, priority_at,
-    retransmit_at, rfc3021_at, router_id_at, stub_router_at, transmit_delay_at,
+    host_list_fault, kind_at, list_fault, mtu_at, other_lsas_at, passive_at, peers_fault, port_at,
+    prefix_suppression_at, priority_at, retransmit_at, rfc3021_at, router_id_at, stub_router_at,
+    transmit_delay_at,
 };
 use toml::Table;
 
@@ -45,19 +46,21 @@ pub(crate) fn top_rows(table: &Table) -> [Row; 7]
         key_row(
             "interface",
             list_fault(table),
-            "1 to 32 tables [[interface]]",
+            "1 to 32 tables [[interface]], not all passive,",
         ),
         key_row("host", host_list_fault(table), "at most 32 tables [[host]]"),
     ]
 }
 
 // The keys of an interface.
-pub(crate) fn interface_rows(table: &Table, rfc3021: bool) -> [Row; 11]
+pub(crate) fn interface_rows(table: &Table, rfc3021: bool) -> [Row; 13]
     ensures { AllZip (IsRowOf rfc3021 (table_view table.now)) keys_of_interface result }
 {
-    let address = "a host address and prefix length, 1 to 30, such as \"10.0.0.1/30\",";
+    let address =
+        "a host address and prefix length, 1 to 30 (31 with rfc3021), such as \"10.0.0.1/30\",";
     let ticks = "1 to 65535";
     let kind = "\"point-to-point\" or \"broadcast\"";
+    let flag = "true or false";
     let peers = "an array of at most 32 ports, each 1024 to 65535,";
     [
         key_row("kind", kind_at(table).err(), kind),
@@ -75,6 +78,12 @@ pub(crate) fn interface_rows(table: &Table, rfc3021: bool) -> [Row; 11]
         key_row("mtu", mtu_at(table).err(), "576 to 9000"),
         key_row("port", port_at(table).err(), "0, or 1024 to 65535,"),
         key_row("peers", peers_fault(table), peers),
+        key_row("passive", passive_at(table).err(), flag),
+        key_row(
+            "prefix_suppression",
+            prefix_suppression_at(table).err(),
+            flag,
+        ),
     ]
 }
 

@@ -1,7 +1,7 @@
 use Rattle.toml.specs.View.{table_view}
-use Rattle.ospf_config.specs.Keys.{ReadsKind, ReadsInterfaceAddress, ReadsCost, ReadsPriority, ReadsHello, ReadsDead, ReadsRetransmit, ReadsTransmitDelay, ReadsMtu, ReadsPort}
+use Rattle.ospf_config.specs.Keys.{ReadsKind, ReadsInterfaceAddress, ReadsCost, ReadsPriority, ReadsHello, ReadsDead, ReadsRetransmit, ReadsTransmitDelay, ReadsMtu, ReadsPort, ReadsPassive, ReadsPrefixSuppression}
 use Rattle.ospf_files.proofs.PlaceLists.{fault_error}
-use Rattle.ospf_config.proofs.Singles.{kind_single, address_single, only_cost, priority_single, hello_single, dead_single, retransmit_single, transmit_delay_single, mtu_single, port_single}
+use Rattle.ospf_config.proofs.Singles.{kind_single, address_single, only_cost, priority_single, hello_single, dead_single, retransmit_single, transmit_delay_single, mtu_single, port_single, passive_single, prefix_suppression_single}
 use Rattle.ospf_files.proofs.rows.interface_rows.Goals as goal
 
 pub returns : goal.returns
@@ -69,7 +69,21 @@ returns c =
                         },
                         (
                           record { key_is = c.key_row-11.ensures.key; wanted_is = c.key_row-11.ensures.wanted; fault_is = rw c.key_row-11.ensures.fault c.peers_fault.ensures },
-                          tt,
+                          (
+                            record {
+                              key_is = c.key_row-12.ensures.key;
+                              wanted_is = c.key_row-12.ensures.wanted;
+                              fault_is = fault_error (ReadsPassive t) (passive_single t) c.key_row-12.result.fault c.err-11.result c.passive_at.result c.key_row-12.ensures.fault c.err-11.ensures.value c.passive_at.ensures;
+                            },
+                            (
+                              record {
+                                key_is = c.key_row-13.ensures.key;
+                                wanted_is = c.key_row-13.ensures.wanted;
+                                fault_is = fault_error (ReadsPrefixSuppression t) (prefix_suppression_single t) c.key_row-13.result.fault c.err-12.result c.prefix_suppression_at.result c.key_row-13.ensures.fault c.err-12.ensures.value c.prefix_suppression_at.ensures;
+                              },
+                              tt,
+                            ),
+                          ),
                         ),
                       ),
                     ),

@@ -1,0 +1,9 @@
+use Rattle.std.proofs.Common.{take}
+use Rattle.std.specs.List.{AllZip}
+use Rattle.toml.specs.View.{items_view}
+use Rattle.ospf_config.specs.Interfaces.{IsStubNetworkOf}
+use Rattle.ospf_config.specs.Tables.{passive_among, tables_among}
+use Rattle.ospf_config.proofs.passive.networks_of.Given as goal
+
+abbrev pub invariant-loop-value : goal.invariant-loop-value
+invariant-loop-value l = AllZip (IsStubNetworkOf l.rfc3021) (passive_among (tables_among (items_view (take l.value-index l.values)))) l.networks.items
