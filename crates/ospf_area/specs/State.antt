@@ -2,11 +2,11 @@
 use Rattle.std.specs.Prelude.{ℕ, ℤ, Bool, List, [], Option, None, Some, find, slice_get, option_map}
 use Rattle.std.specs.List.{list_any}
 use Rattle.ospf_base.specs.Keys.{same_key}
-use Rattle.ospf_base.specs.declared.host.Host.{Host}
 use Rattle.ospf_base.specs.declared.ids.AreaId.{AreaId}
 use Rattle.ospf_base.specs.declared.ids.Instance.{Instance}
 use Rattle.ospf_base.specs.declared.ids.LsaKey.{LsaKey}
 use Rattle.ospf_base.specs.declared.ids.RouterId.{RouterId}
+use Rattle.ospf_base.specs.declared.stub_network.StubNetwork.{StubNetwork}
 use Rattle.ospf_neighbour.specs.declared.iface.machine.Iface.{Iface}
 use Rattle.ospf_lsa.specs.declared.header.LsaHeader.{LsaHeader}
 use Rattle.ospf_lsdb.specs.Database as lsdb
@@ -44,8 +44,8 @@ pub record AreaValue : Type 0 where
   pub passes_over : Bool
   -- in configuration order
   pub links : List LinkValue
-  -- the hosts that its router-LSA lists behind its links (appendix C.7)
-  pub hosts : List Host
+  -- the stub networks that its router-LSA lists behind its links (12.4.1, appendix C.7)
+  pub stubs : List StubNetwork
   -- the entries, in order of key (12.2)
   pub database : List Held
   -- the direct acknowledgements of the Update that is being processed (13.5)

@@ -240,7 +240,7 @@ heard_none heard is = ap (λ (ks : List LsaKey). none_heard ks) is
 pub idle_quiet : (s : AreaValue) → AreApart s.links → IsIdle s → is_quiet s ≡ true
 unfolding is_quiet
 idle_quiet s apart idle =
-    let all = both_true (wanted_left s (own_router s)) (list_all (network_left s) s.links) (sym (all_wanted s) ∙ all_left s (wants s) idle (wanted_alone s.stub_router s.router s.links s.hosts apart)) in
+    let all = both_true (wanted_left s (own_router s)) (list_all (network_left s) s.links) (sym (all_wanted s) ∙ all_left s (wants s) idle (wanted_alone s.stub_router s.router s.links s.stubs apart)) in
     ap (λ (b : Bool). b && (wanted_left s (own_router s) && (list_all (network_left s) s.links && list_all (λ n. key_left s n.key) s.numbering))) (heard_none s.heard idle.unheard)
     ∙ ap (λ (b : Bool). b && (list_all (network_left s) s.links && list_all (λ n. key_left s n.key) s.numbering)) all.0
     ∙ ap (λ (b : Bool). b && list_all (λ n. key_left s n.key) s.numbering) all.1

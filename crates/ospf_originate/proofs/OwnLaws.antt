@@ -76,7 +76,7 @@ module _ (w : WantedValue) (number : ℤ) (s : AreaValue) (o o' : OutputsValue) 
         counted = λ key c at own. rw (issued_kept mid.floor (wanted_key w) s.tick mid.numbering key) (old.counted key c at own);
         max_seq = λ key. rw (issued_kept mid.floor (wanted_key w) s.tick mid.numbering key) (old.max_seq key);
       } in
-      subst (λ (x : AreaValue). IsSound x) (sym is.state) (sound_of now stored.links stored.hosts numbers)
+      subst (λ (x : AreaValue). IsSound x) (sym is.state) (sound_of now stored.links stored.stubs numbers)
 
 along : (s s' : AreaValue) → s' ≡ s → IsSound s → IsSound s'
 along s s' is sound = subst (λ (x : AreaValue). IsSound x) (sym is) sound

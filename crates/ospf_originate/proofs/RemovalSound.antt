@@ -58,7 +58,7 @@ module _ (k : LsaKey) (s : AreaValue) (o o' : OutputsValue) (s' : AreaValue) (is
       by_own false other last = absurd (cc)
 
   one_sound : IsOld s k → IsSound s → IsSound s'
-  one_sound old sound = subst (λ (x : AreaValue). IsSound x) (sym is.rest) (sound_of now sound.links sound.hosts (by_test (ends_run s k) refl))
+  one_sound old sound = subst (λ (x : AreaValue). IsSound x) (sym is.rest) (sound_of now sound.links sound.stubs (by_test (ends_run s k) refl))
     where
       now : AreaValue
       now = record s { database = s'.database; numbering = if ends_run s k then reset k s.numbering else s.numbering }

@@ -15,7 +15,7 @@ use Rattle.ospf_originate.specs.Wants.Made.{CanBeMade, CanBeMadeIf, Needs, lsa_v
 use Rattle.ospf_originate.specs.Wants.Wanted.{WantedValue, wanted_of}
 use Rattle.ospf_originate.specs.Wants.Wanted.WantedValue.{RouterLsa, NetworkLsa}
 use Rattle.ospf_originate.proofs.Wants.MakeLemmas.{found_made, wanted_made}
-use Rattle.ospf_originate.specs.Sound.{AreSetUp, max_hosts}
+use Rattle.ospf_originate.specs.Sound.{AreSetUp, max_stubs}
 use Rattle.ospf_originate.specs.Steps.{Acts, Issues, OwnLsas, wants}
 use Rattle.ospf_originate.proofs.Words.{ActsInTurn, IssuesIf}
 use Rattle.ospf_originate.specs.declared.action.DueAction.{DueAction}
@@ -68,7 +68,7 @@ acts_short ws needs [] s o o' s' is short = same s s' (ap (λ (x : AreaValue). x
 acts_short ws needs (d ∷ ds) s o o' s' (mid, mid_out, first, others) short =
     acts_short ws needs ds mid mid_out o' s' others (act_short d.action ws d.key s o mid_out mid first (needs d.key) short)
 
-pub ended_short : (s : AreaValue) (o o' : OutputsValue) (s' : AreaValue) → OwnLsas s o o' s' → AreSetUp s.links → length s.hosts ≤ max_hosts → AreShort s.database → AreShort s'.database
+pub ended_short : (s : AreaValue) (o o' : OutputsValue) (s' : AreaValue) → OwnLsas s o o' s' → AreSetUp s.links → length s.stubs ≤ max_stubs → AreShort s.database → AreShort s'.database
 ended_short s o o' s' is up few short =
-    let needs : (key : LsaKey) → CanBeMadeIf (pos 0) (wanted_of (wants s) key) = λ key. found_made (wants s) key (pos 0) (wanted_made s.stub_router s.router s.links s.hosts up few) zero_is_used in
+    let needs : (key : LsaKey) → CanBeMadeIf (pos 0) (wanted_of (wants s) key) = λ key. found_made (wants s) key (pos 0) (wanted_made s.stub_router s.router s.links s.stubs up few) zero_is_used in
     same is.mid s' (ap (λ (x : AreaValue). x.database) is.answered) (acts_short (wants s) needs is.due s o o' is.mid is.each short)

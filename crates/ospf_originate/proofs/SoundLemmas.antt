@@ -18,7 +18,7 @@ use Rattle.ospf_area.specs.State.{AreaValue, kept_number, numbering_of}
 use Rattle.ospf_area.proofs.Words.{kept_in, counted}
 use Rattle.ospf_area.specs.declared.state.Numbering.{Numbering}
 use Rattle.ospf_area.specs.Updates.Removal.{lowest_number, reset}
-use Rattle.ospf_originate.specs.Sound.{AreSetUp, IsSound, max_hosts}
+use Rattle.ospf_originate.specs.Sound.{AreSetUp, IsSound, max_stubs}
 use Rattle.ospf_originate.proofs.NumberLemmas.{counted_some, reset_kept, reset_some}
 
 -- ---- what the database has of a key, at any age
@@ -77,10 +77,10 @@ numbers_of s sound = record {
   max_seq = sound.max_seq;
 }
 
-pub sound_of : (s : AreaValue) → AreSetUp s.links → length s.hosts ≤ max_hosts → NumbersOf s → IsSound s
+pub sound_of : (s : AreaValue) → AreSetUp s.links → length s.stubs ≤ max_stubs → NumbersOf s → IsSound s
 sound_of s up few ns = record {
   links = up;
-  hosts = few;
+  stubs = few;
   numbered = λ key there own. by_held key (held_of s.database key) refl there own;
   counted = λ key copy is own. by_copy key copy (held_of s.database key) refl is own;
   max_seq = ns.max_seq;

@@ -11,8 +11,8 @@ use Rattle.ospf_base.specs.Masks.{IsMask}
 use Rattle.ospf_base.specs.Sums as sums
 use Rattle.ospf_base.specs.declared.ids.LsaKey.{LsaKey}
 use Rattle.ospf_base.specs.declared.ids.Instance.{Instance}
-use Rattle.ospf_base.specs.declared.host.Host.{Host}
 use Rattle.ospf_base.specs.declared.ids.RouterId.{RouterId}
+use Rattle.ospf_base.specs.declared.stub_network.StubNetwork.{StubNetwork}
 use Rattle.ospf_flood.specs.declared.acknowledgement.Acknowledgement.{Acknowledgement}
 use Rattle.ospf_flood.specs.declared.acknowledgement.Acknowledgement.TheVariants as answer
 use Rattle.ospf_flood.specs.declared.rule.LsaRule.{LsaRule}
@@ -50,7 +50,7 @@ use Rattle.ospf_area.specs.Updates.Updates.{TakesSlice, TakesUpdate}
 use Rattle.ospf_area.specs.Updates.Updates.TakesSlice.{Met, PassedOver}
 use Rattle.ospf_area.proofs.Updates.PassLemmas.{passed}
 use Rattle.ospf_originate.specs.Laws.{LinksStaySetUp, PartsStaySound}
-use Rattle.ospf_originate.specs.Sound.{AreApart, AreSetUp, IsSetUp, IsSound, max_hosts, max_links}
+use Rattle.ospf_originate.specs.Sound.{AreApart, AreSetUp, IsSetUp, IsSound, max_stubs, max_links}
 use Rattle.ospf_originate.proofs.SoundLemmas.{Numbers, contents-entry_from, counted_numbers, counts_in, fewer, greatest_in, known, number_of-contents, numbers_of, sound_of, stored_numbers}
 use Rattle.ospf_area.proofs.ShortLemmas.{expired_contents, older_contents}
 use Rattle.ospf_area.proofs.Updates.CopyLemmas.{copies_become}
@@ -131,7 +131,7 @@ delayed_up number h xs up = set_up_from (delayed_on number h) (λ l x. by_test x
 
 rest : (s : AreaValue) (links : List LinkValue) (direct : List LsaHeader) (tick next_dd : ℕ) (sent heard : List LsaKey) → AreSetUp links → IsSound s
     → IsSound (record s { links = links; direct = direct; tick = tick; next_dd = next_dd; sent = sent; heard = heard })
-rest s links direct tick next_dd sent heard up sound = record { links = up; hosts = sound.hosts; numbered = sound.numbered; counted = sound.counted; max_seq = sound.max_seq }
+rest s links direct tick next_dd sent heard up sound = record { links = up; stubs = sound.stubs; numbered = sound.numbered; counted = sound.counted; max_seq = sound.max_seq }
 
 relinked : (s : AreaValue) (links : List LinkValue) → AreSetUp links → IsSound s → IsSound (record s { links = links })
 relinked s links up sound = rest s links s.direct s.tick s.next_dd s.sent s.heard up sound
@@ -192,7 +192,7 @@ store_sound lsa from s s' stores sound =
     let numbers : Numbers s.router s'.database (counts_in s.router key h.number s.floor s.numbering) s.floor (greatest_in s.router key h.number s.max_seq) =
     subst (λ (n : ℤ). Numbers s.router s'.database (counts_in s.router key n s.floor s.numbering) s.floor (greatest_in s.router key n s.max_seq)) (sym (number_of-contents lsa))
     (stored_numbers s.router s.database s'.database s.numbering s.floor s.max_seq key (sums.contents lsa) (stored_known lsa s.tick (is_some from) s.database s'.database stores.database) (numbers_of s sound)) in
-    along now s' stores.rest (sound_of now (flooded_up key h from s.tick (released key s.links) (released_up key s.links sound.links)) sound.hosts numbers)
+    along now s' stores.rest (sound_of now (flooded_up key h from s.tick (released key s.links) (released_up key s.links sound.links)) sound.stubs numbers)
 
 -- ---- the rules of an Update
 
@@ -261,10 +261,10 @@ expired_known at db db' puts key = ap (option_map (λ (h : Held). h.entry.conten
     by_test false two = refl
 
 -- the database has what it had, at other ages
-same_sound : (s s' : AreaValue) → s'.links ≡ s.links → s'.hosts ≡ s.hosts → s'.router ≡ s.router → s'.numbering ≡ s.numbering → s'.floor ≡ s.floor → s'.max_seq ≡ s.max_seq
+same_sound : (s s' : AreaValue) → s'.links ≡ s.links → s'.stubs ≡ s.stubs → s'.router ≡ s.router → s'.numbering ≡ s.numbering → s'.floor ≡ s.floor → s'.max_seq ≡ s.max_seq
     → ((key : LsaKey) → known s'.database key ≡ known s.database key) → IsSound s → IsSound s'
-same_sound s s' links hosts router numbering floor max_seq same sound =
-    sound_of s' (subst (λ (ls : List LinkValue). AreSetUp ls) (sym links) sound.links) (subst (λ (hs : List Host). length hs ≤ max_hosts) (sym hosts) sound.hosts)
+same_sound s s' links stubs router numbering floor max_seq same sound =
+    sound_of s' (subst (λ (ls : List LinkValue). AreSetUp ls) (sym links) sound.links) (subst (λ (hs : List StubNetwork). length hs ≤ max_stubs) (sym stubs) sound.stubs)
     (subst (λ (r : RouterId). Numbers r s'.database s'.numbering s'.floor s'.max_seq) (sym router)
     (subst (λ (ns : List Numbering). Numbers s.router s'.database ns s'.floor s'.max_seq) (sym numbering)
     (subst (λ (f : ℤ). Numbers s.router s'.database s.numbering f s'.max_seq) (sym floor)
@@ -292,7 +292,7 @@ all_sent_sound (key ∷ keys) s sound = all_sent_sound keys (copy_sent key s) (s
 pub flush_sound : (key : LsaKey) (s : AreaValue) (o o' : OutputsValue) (s' : AreaValue) → Flushes key s o o' s' → IsSound s → IsSound s'
 flush_sound key s o o' s' is sound =
     let mid = is.mid in
-    let mid_sound = same_sound s mid (ap (λ (x : AreaValue). x.links) is.rest) (ap (λ (x : AreaValue). x.hosts) is.rest) (ap (λ (x : AreaValue). x.router) is.rest) (ap (λ (x : AreaValue). x.numbering) is.rest) (ap (λ (x : AreaValue). x.floor) is.rest)
+    let mid_sound = same_sound s mid (ap (λ (x : AreaValue). x.links) is.rest) (ap (λ (x : AreaValue). x.stubs) is.rest) (ap (λ (x : AreaValue). x.router) is.rest) (ap (λ (x : AreaValue). x.numbering) is.rest) (ap (λ (x : AreaValue). x.floor) is.rest)
     (ap (λ (x : AreaValue). x.max_seq) is.rest) (expired_known key s.database mid.database is.database) sound in
     along (copy_sent key mid) s' is.sends.state (sent_sound key mid mid_sound)
 
@@ -300,7 +300,7 @@ pub age_sound : (s : AreaValue) (o o' : OutputsValue) (s' : AreaValue) → TickA
 age_sound s o o' s' is sound =
     let mid = is.mid in
     let rise = is.rest in
-    let mid_sound = same_sound s mid (ap (λ (x : AreaValue). x.links) rise) (ap (λ (x : AreaValue). x.hosts) rise) (ap (λ (x : AreaValue). x.router) rise) (ap (λ (x : AreaValue). x.numbering) rise) (ap (λ (x : AreaValue). x.floor) rise)
+    let mid_sound = same_sound s mid (ap (λ (x : AreaValue). x.links) rise) (ap (λ (x : AreaValue). x.stubs) rise) (ap (λ (x : AreaValue). x.router) rise) (ap (λ (x : AreaValue). x.numbering) rise) (ap (λ (x : AreaValue). x.floor) rise)
     (ap (λ (x : AreaValue). x.max_seq) rise) (aged_known s.database mid.database is.database) sound in
     let keys = reached_at max_age mid.database in
     along (copies_sent keys mid) s' (copies_become keys mid s' o o' is.sends).state (all_sent_sound keys mid mid_sound)
@@ -314,7 +314,7 @@ known_nothing key = refl
 le_itself : (z : ℤ) → z ≤ℤ z
 le_itself z = omega (arith, ints)
 
-pub begun_sound : (s : AreaValue) → AreSetUp s.links → length s.hosts ≤ max_hosts → s.database ≡ [] → s.numbering ≡ [] → s.max_seq ≡ s.floor → IsSound s
+pub begun_sound : (s : AreaValue) → AreSetUp s.links → length s.stubs ≤ max_stubs → s.database ≡ [] → s.numbering ≡ [] → s.max_seq ≡ s.floor → IsSound s
 begun_sound s up few none unnumbered top = sound_of s up few (record {
   numbered = λ key c at own. absurd (none-some c (sym (ap (λ (db : List Held). known db key) none ∙ known_nothing key) ∙ at));
   counted = λ key c at own. absurd (none-some c (sym (ap (λ (db : List Held). known db key) none ∙ known_nothing key) ∙ at));
@@ -346,7 +346,7 @@ links_stay = record {
 
 pub count_sound : (key : LsaKey) (number : ℤ) (s : AreaValue) → IsSound s → IsSound (record s { numbering = counts key number s; max_seq = greatest_after key number s })
 count_sound key number s sound =
-    sound_of (record s { numbering = counts key number s; max_seq = greatest_after key number s }) sound.links sound.hosts
+    sound_of (record s { numbering = counts key number s; max_seq = greatest_after key number s }) sound.links sound.stubs
     (counted_numbers s.router s.database s.numbering s.floor s.max_seq key number (numbers_of s sound))
 
 pub parts_stay : PartsStaySound

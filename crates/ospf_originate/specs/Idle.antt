@@ -42,7 +42,7 @@ key_left s key = unwanted_left s key || is_some (wanted_of (wants s) key)
 
 -- the router-LSA that is wanted
 abbrev pub own_router : AreaValue → WantedValue
-own_router s = RouterLsa s.router (own_links s.stub_router s.links s.hosts)
+own_router s = RouterLsa s.router (own_links s.stub_router s.links s.stubs)
 
 -- nothing is due of the network-LSA of a link, if one is wanted
 abbrev pub network_left : AreaValue → LinkValue → Bool

@@ -29,7 +29,7 @@ use Rattle.ospf_area.specs.Acting.{Becomes, InTurn}
 use Rattle.ospf_area.specs.Updates.Meets.{MeetsLsa, Stores, restarted, header_met}
 use Rattle.ospf_area.specs.Updates.Removal.{RemovesOne, leaving}
 use Rattle.ospf_area.specs.Updates.Updates.{TakesUpdate}
-use Rattle.ospf_originate.specs.Sound.{AreSetUp, IsSound, max_hosts}
+use Rattle.ospf_originate.specs.Sound.{AreSetUp, IsSound, max_stubs}
 use Rattle.ospf_originate.specs.Steps.{Issues, OwnLsas, wants, action_of}
 use Rattle.ospf_originate.specs.Wants.Made.{CanBeMade, lsa_value}
 use Rattle.ospf_originate.specs.Wants.Wanted.{WantedValue, wanted_key, wanted_of}
@@ -79,10 +79,10 @@ NextIsNewer =
 
 -- ---- what the router keeps
 
--- a router that starts with few hosts has it, and keeps it where its links are others that are
+-- a router that starts with few stub networks has it, and keeps it where its links are others that are
 -- set up
 pub record StartsSound : Type 0 where
-  pub begun : (s : AreaValue) → AreSetUp s.links → length s.hosts ≤ max_hosts → s.database ≡ []
+  pub begun : (s : AreaValue) → AreSetUp s.links → length s.stubs ≤ max_stubs → s.database ≡ []
       → s.numbering ≡ [] → s.max_seq ≡ s.floor → IsSound s
   pub relinked : (s : AreaValue) (links : List LinkValue) (tick : ℕ) → AreSetUp links → IsSound s
       → IsSound (record s { links = links; tick = tick })
@@ -161,5 +161,5 @@ pub record OwnStayShort : Type 0 where
   pub issued : (w : WantedValue) (number : ℤ) (s : AreaValue) (o o' : OutputsValue) (s' : AreaValue)
       → Issues w number s o o' s' → CanBeMade w → AreShort s.database → AreShort s'.database
   pub ended : (s : AreaValue) (o o' : OutputsValue) (s' : AreaValue) → OwnLsas s o o' s'
-      → AreSetUp s.links → length s.hosts ≤ max_hosts → AreShort s.database
+      → AreSetUp s.links → length s.stubs ≤ max_stubs → AreShort s.database
       → AreShort s'.database

@@ -5,7 +5,7 @@ use Rattle.ospf_base.specs.declared.ids.LsaKey.{LsaKey}
 use Rattle.ospf_lsdb.specs.Database.{Entry, header_at}
 use Rattle.ospf_area.specs.Numbers.{is_own}
 use Rattle.ospf_area.specs.State.{AreaValue, database_entry, kept_number, numbering_of}
-pub use Rattle.ospf_originate.specs.Wants.SetUp.{IsSetUp, AreApart, max_links, max_hosts, AreSetUp}
+pub use Rattle.ospf_originate.specs.Wants.SetUp.{IsSetUp, AreApart, max_links, max_stubs, AreSetUp}
 
 -- ---- numbers
 
@@ -30,7 +30,7 @@ AreBelowGreatest s = (key : LsaKey) → kept_number s key ≤ℤ s.max_seq
 -- all of it holds of a router
 pub record IsSound (s : AreaValue) : Type 0 where
   pub links : AreSetUp s.links
-  pub hosts : length s.hosts ≤ max_hosts
+  pub stubs : length s.stubs ≤ max_stubs
   pub numbered : AreNumbered s
   pub counted : AreCounted s
   pub max_seq : AreBelowGreatest s

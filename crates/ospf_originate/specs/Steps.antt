@@ -50,7 +50,7 @@ pub record Issues (w : WantedValue) (number : ℤ) (before : AreaValue) (out out
 
 -- what the router wants
 abbrev pub wants : AreaValue → List WantedValue
-wants s = wanted_lsas s.stub_router s.router s.links s.hosts
+wants s = wanted_lsas s.stub_router s.router s.links s.stubs
 
 -- what happens to a key (12.4, 13.4)
 unfoldable pub action_of : AreaValue → LsaKey → OwnAction

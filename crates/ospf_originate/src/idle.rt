@@ -90,7 +90,7 @@ fn says_own_router(copy: &LsaView<'_>, area: &Area) -> bool
         area.stub_router,
         area.router,
         &area.links,
-        &area.hosts,
+        &area.stubs,
     )
 }
 

@@ -67,7 +67,7 @@ fn wanted_by(area: &Area, alloc: Global) -> Result<Vec<OwnLsa>, AllocError>
         area.stub_router,
         area.router,
         &area.links,
-        &area.hosts,
+        &area.stubs,
         alloc,
     )
 }

@@ -6,11 +6,11 @@ use Rattle.std.proofs.lemmas.Int.{ints}
 use Rattle.std.proofs.lemmas.Option.{none-some, same_Some}
 use Rattle.ospf_base.specs.Keys.{same_key}
 use Rattle.ospf_base.specs.Masks.{IsMask}
-use Rattle.ospf_base.specs.declared.host.Host.{Host}
 use Rattle.ospf_base.specs.declared.ids.LsaKey.{LsaKey}
 use Rattle.ospf_base.specs.declared.ids.RouterId.{RouterId}
 use Rattle.ospf_base.specs.declared.interface.InterfaceKind.{InterfaceKind}
 use Rattle.ospf_base.specs.declared.interface.InterfaceKind.TheVariants as kind
+use Rattle.ospf_base.specs.declared.stub_network.StubNetwork.{StubNetwork}
 use Rattle.ospf_lsa.specs.Lsa.{HasMask, HasCost}
 use Rattle.ospf_lsa.specs.Value.{HasAll, IsUnmade, RouterNeeds, NetworkNeeds, unused_number}
 use Rattle.ospf_lsa.specs.declared.fault.LsaFault.{LsaFault}
@@ -21,9 +21,9 @@ use Rattle.ospf_lsdb.proofs.MapLemmas.{bool_cases}
 use Rattle.ospf_neighbour.specs.Neighbour.{NeighbourValue}
 use Rattle.ospf_area.specs.State.{LinkValue}
 use Rattle.ospf_originate.specs.Wants.Made.{CanBeMade, CanBeMadeIf, IsUnmadeIf, Needs, first_number}
-use Rattle.ospf_originate.specs.Wants.SetUp.{AreSetUp, IsSetUp, max_hosts}
+use Rattle.ospf_originate.specs.Wants.SetUp.{AreSetUp, IsSetUp, max_stubs}
 use Rattle.ospf_neighbour.specs.Interface.Machine.{is_down}
-use Rattle.ospf_originate.specs.Wants.Wanted.{attached_routers, host_link, is_full, is_transit, router_link, network_link, subnet_link, links_of_link, network_of, wanted_lsas, wanted_key, wanted_of, WantedValue}
+use Rattle.ospf_originate.specs.Wants.Wanted.{advertised_mask, attached_routers, stub_link, is_full, is_transit, router_link, network_link, subnet_link, subnets_of, links_of_link, network_of, wanted_lsas, wanted_key, wanted_of, WantedValue}
 use Rattle.ospf_originate.proofs.Wants.Words.{broadcast_link, is_full_before, is_full_behind, links_of_kind, through_metric}
 use Rattle.ospf_originate.proofs.Wants.WantedLemmas.{map_all, all_networks}
 
@@ -71,6 +71,13 @@ subnet_good : (l : LinkValue) → IsSetUp l → IsGood (subnet_link l)
 unfolding IsGood
 subnet_good l up = ((λ is. up.mask), λ is. l.settings.cost_not_zero)
 
+subnets_good : (l : LinkValue) → IsSetUp l → AllByRecursion IsGood (subnets_of l)
+subnets_good l up = by_test l.settings.suppressed
+  where
+    by_test : (t : Bool) → AllByRecursion IsGood (if t then [] else subnet_link l ∷ [])
+    by_test true = tt
+    by_test false = (subnet_good l up, tt)
+
 broadcast_good : (stub_router : Bool) (l : LinkValue) → IsSetUp l → IsGood (broadcast_link stub_router l)
 broadcast_good stub_router l up = elim (bool_cases (is_transit l)) [
   | inl yes_transit ↦ rw yes_transit (network_good stub_router l)
@@ -79,7 +86,8 @@ broadcast_good stub_router l up = elim (bool_cases (is_transit l)) [
 
 kind_good : (k : InterfaceKind) (stub_router : Bool) (l : LinkValue) → IsSetUp l → AllByRecursion IsGood (links_of_kind k stub_router l)
 kind_good kind.PointToPoint stub_router l up =
-    both_lists IsGood (map (router_link stub_router l) (filter is_full l.neighbours)) (subnet_link l ∷ []) (mapped IsGood (router_link stub_router l) (filter is_full l.neighbours) (router_good stub_router l)) (subnet_good l up, tt)
+    both_lists IsGood (map (router_link stub_router l) (filter is_full l.neighbours)) (subnets_of l)
+    (mapped IsGood (router_link stub_router l) (filter is_full l.neighbours) (router_good stub_router l)) (subnets_good l up)
 kind_good kind.Broadcast stub_router l up = (broadcast_good stub_router l up, tt)
 
 at_good : (stub_router : Bool) (l : LinkValue) → IsSetUp l → AllByRecursion IsGood (links_of_link stub_router l)
@@ -95,11 +103,19 @@ all_good stub_router (l ∷ ls) up = both_lists IsGood (links_of_link stub_route
 
 -- ---- how many
 
+subnets_few : (l : LinkValue) → length (subnets_of l) ≤ 1
+subnets_few l = by_test l.settings.suppressed
+  where
+    by_test : (t : Bool) → length (if t then [] else subnet_link l ∷ []) ≤ 1
+    by_test true = omega arith
+    by_test false = omega arith
+
 kind_few : (k : InterfaceKind) (stub_router : Bool) (l : LinkValue) → (k ≡ kind.PointToPoint → length l.neighbours ≤ 1) → length (links_of_kind k stub_router l) ≤ 2
 kind_few kind.PointToPoint stub_router l one =
     let ends : length l.neighbours ≤ 1 = one refl in
     let full : length (filter is_full l.neighbours) ≤ length l.neighbours = few_pass is_full l.neighbours in
-    omega (arith, length-append (map (router_link stub_router l) (filter is_full l.neighbours)) (subnet_link l ∷ []), length-map (filter is_full l.neighbours) (router_link stub_router l))
+    let made : List Link = map (router_link stub_router l) (filter is_full l.neighbours) in
+    omega (arith, full, ends, subnets_few l, length-append made (subnets_of l), length-map (filter is_full l.neighbours) (router_link stub_router l))
 kind_few kind.Broadcast stub_router l one = omega arith
 
 at_few : (stub_router : Bool) (l : LinkValue) → IsSetUp l → length (links_of_link stub_router l) ≤ 2
@@ -153,26 +169,35 @@ attached_few router ns few =
       length-map (filter (is_full_behind router) ns) (λ (n : NeighbourValue). n.router),
     )
 
+-- the mask of a suppressed network has 32 ones
+advertised_is_mask : (l : LinkValue) → IsSetUp l → IsMask (advertised_mask l)
+advertised_is_mask l up = by_test l.settings.suppressed
+  where
+    by_test : (t : Bool) → IsMask (if t then 0xffffffff else l.iface.settings.mask)
+    by_test true = (32, omega arith, refl)
+    by_test false = up.mask
+
 network_made : (router : RouterId) (number : ℤ) (l : LinkValue) → number ≢ unused_number → IsSetUp l → (f : LsaFault) → Needs number (network_of router l) f
 unfolding network_of
-network_made router number l used up f = network_needs number l.iface.settings.mask (attached_routers router l.neighbours) (attached_few router l.neighbours up.few) up.mask used f
+network_made router number l used up f =
+    network_needs number (advertised_mask l) (attached_routers router l.neighbours) (attached_few router l.neighbours up.few) (advertised_is_mask l up) used f
 
--- a host's link has a mask of 32 ones, and costs what it may
-host_good : (h : Host) → IsGood (host_link h)
+-- the link to a stub network has the mask of its prefix, and costs what it may
+stub_good : (h : StubNetwork) → IsGood (stub_link h)
 unfolding IsGood
-host_good h = ((λ is. (32, omega arith, refl)), λ is. let none : (Stub ≡ PointToPoint) ⊎ (Stub ≡ Transit) = is in elim none [ inl e ↦ absurd (cc) | inr e ↦ absurd (cc) ])
+stub_good h = ((λ is. (h.prefix.length, h.prefix.short, refl)), λ is. let none : (Stub ≡ PointToPoint) ⊎ (Stub ≡ Transit) = is in elim none [ inl e ↦ absurd (cc) | inr e ↦ absurd (cc) ])
 
-pub wanted_made : (stub_router : Bool) (router : RouterId) (links : List LinkValue) (hosts : List Host) → AreSetUp links → length hosts ≤ max_hosts
-    → AllByRecursion CanBeMade (wanted_lsas stub_router router links hosts)
+pub wanted_made : (stub_router : Bool) (router : RouterId) (links : List LinkValue) (stubs : List StubNetwork) → AreSetUp links → length stubs ≤ max_stubs
+    → AllByRecursion CanBeMade (wanted_lsas stub_router router links stubs)
 unfolding wanted_lsas
-wanted_made stub_router router links hosts up few_hosts =
+wanted_made stub_router router links stubs up few_stubs =
     let of_links = flat_map (links_of_link stub_router) links in
-    let of_hosts = map host_link hosts in
+    let of_stubs = map stub_link stubs in
     let few : length links ≤ 32 = up.few in
-    let short : 24 + 12 * length (of_links ++ of_hosts) ≤ 16356 =
-    let some_links = all_few stub_router links up.each in omega (arith, some_links, few, few_hosts, length-append of_links of_hosts, length-map hosts host_link) in
-    let good : AllByRecursion IsGood (of_links ++ of_hosts) = both_lists IsGood of_links of_hosts (all_good stub_router links up.each) (mapped IsGood host_link hosts host_good) in (
-      (λ number used. router_needs number (of_links ++ of_hosts) short good used),
+    let short : 24 + 12 * length (of_links ++ of_stubs) ≤ 16356 =
+    let some_links = all_few stub_router links up.each in omega (arith, some_links, few, few_stubs, length-append of_links of_stubs, length-map stubs stub_link) in
+    let good : AllByRecursion IsGood (of_links ++ of_stubs) = both_lists IsGood of_links of_stubs (all_good stub_router links up.each) (mapped IsGood stub_link stubs stub_good) in (
+      (λ number used. router_needs number (of_links ++ of_stubs) short good used),
       all_networks CanBeMade router links (map_all IsSetUp (λ l. CanBeMade (network_of router l)) (λ l is number used. network_made router number l used is) links up.each),
     )
 

@@ -8,14 +8,14 @@ use Rattle.std.proofs.lemmas.List.Concat.{flat_map-append}
 use Rattle.std.proofs.lemmas.Slice.Eq.{bytes_eq-Decides}
 use Rattle.ospf_area.specs.State.{LinkValue}
 use Rattle.ospf_base.specs.Bytes.{number_at, number_bytes}
-use Rattle.ospf_base.specs.declared.host.Host.{Host}
 use Rattle.ospf_base.specs.declared.interface.InterfaceKind.{InterfaceKind}
 use Rattle.ospf_base.specs.declared.interface.InterfaceKind.TheVariants as kind
+use Rattle.ospf_base.specs.declared.stub_network.StubNetwork.{StubNetwork}
 use Rattle.ospf_lsa.specs.Lsa.{HasLinks, HasRouters, IsLsa, IsNetworkLsa, IsRouterLsa}
 use Rattle.ospf_lsa.specs.declared.fault.LsaFault.TheVariants as fault
 use Rattle.ospf_neighbour.specs.Neighbour.{NeighbourValue}
 use Rattle.ospf_neighbour.specs.Interface.Machine.{is_down}
-use Rattle.ospf_originate.specs.Wants.Wanted.{attached_routers, host_link, is_full, links_of_link, own_links, router_link, subnet_link}
+use Rattle.ospf_originate.specs.Wants.Wanted.{attached_routers, is_full, links_of_link, own_links, router_link, stub_link, subnet_link, subnets_of}
 use Rattle.ospf_originate.proofs.Wants.Words.{aside, broadcast_link, is_full_before, is_full_behind, links_of_kind}
 use Rattle.ospf_originate.specs.Wants.Wanted.WantedValue.{RouterLsa, NetworkLsa}
 use Rattle.ospf_base.specs.Sums.{contents}
@@ -28,7 +28,7 @@ use Rattle.ospf_lsa.specs.Value.{contents_bytes, network_value, router_value}
 use Rattle.ospf_lsa.specs.declared.link.Link.{Link}
 use Rattle.ospf_lsa.specs.declared.header.LsaHeader.{LsaHeader}
 use Rattle.ospf_originate.specs.Wants.Made.{says}
-use Rattle.ospf_originate.specs.Wants.Said.{behind, host_bytes, is_end, links_bytes, router_link_bytes, lower_bytes, higher_bytes}
+use Rattle.ospf_originate.specs.Wants.Said.{behind, is_end, links_bytes, router_link_bytes, lower_bytes, higher_bytes, stub_bytes, subnet_bytes}
 use Rattle.ospf_originate.proofs.Wants.MadeLemmas.{bytes_eq-append}
 
 -- which of two is asked first is the same
@@ -272,6 +272,17 @@ one_behind links link start =
     ap (λ (zs : List ℕ). behind zs start) (flat_map-append link_bytes links (link ∷ []) ∙ ap (λ (zs : List ℕ). flat_map link_bytes links ++ zs) (append-nil (link_bytes link)))
     ∙ behind-append (flat_map link_bytes links) (link_bytes link) start
 
+-- the link to the subnet behind others, unless it is suppressed
+subnets_behind : (links : List Link) (l : LinkValue) (start : Option (List ℕ))
+    → behind (flat_map link_bytes (links ++ subnets_of l)) start ≡ behind (subnet_bytes l) (behind (flat_map link_bytes links) start)
+unfolding subnet_bytes
+subnets_behind links l start = by_test l.settings.suppressed
+  where
+    by_test : (t : Bool) → behind (flat_map link_bytes (links ++ (if t then [] else subnet_link l ∷ []))) start
+        ≡ behind (if t then [] else link_bytes (subnet_link l)) (behind (flat_map link_bytes links) start)
+    by_test true = ap (λ (ls : List Link). behind (flat_map link_bytes ls) start) (append-nil links) ∙ sym (behind_none (behind (flat_map link_bytes links) start))
+    by_test false = one_behind links (subnet_link l) start
+
 -- the links of a link that is up
 pub up_is : (stub_router : Bool) (l : LinkValue) → is_down l.iface.state ≡ false → links_of_link stub_router l ≡ links_of_kind l.iface.settings.kind stub_router l
 unfolding links_of_link
@@ -282,13 +293,13 @@ unfolding links_of_link links_bytes
 down_behind stub_router l start down = rw down (sym (behind_none start))
 
 pub ends_behind : (stub_router : Bool) (l : LinkValue) (start mid after : Option (List ℕ)) → is_down l.iface.state ≡ false → l.iface.settings.kind ≡ kind.PointToPoint
-    → mid ≡ behind (flat_map (router_link_bytes stub_router l) l.neighbours) start → after ≡ behind (link_bytes (subnet_link l)) mid
+    → mid ≡ behind (flat_map (router_link_bytes stub_router l) l.neighbours) start → after ≡ behind (subnet_bytes l) mid
     → after ≡ behind (links_bytes stub_router l) start
 unfolding links_bytes
 ends_behind stub_router l start mid after up is_kind is_mid is =
-    is ∙ ap (λ (o : Option (List ℕ)). behind (link_bytes (subnet_link l)) o)
+    is ∙ ap (λ (o : Option (List ℕ)). behind (subnet_bytes l) o)
     (is_mid ∙ ap (λ (zs : List ℕ). behind zs start) (sym (full_links stub_router l l.neighbours)))
-    ∙ sym (one_behind (map (router_link stub_router l) (filter is_full l.neighbours)) (subnet_link l) start)
+    ∙ sym (subnets_behind (map (router_link stub_router l) (filter is_full l.neighbours)) l start)
     ∙ ap (λ (ls : List Link). behind (flat_map link_bytes ls) start) (sym (up_is stub_router l up ∙ ap (λ (k : InterfaceKind). links_of_kind k stub_router l) is_kind))
 
 pub broadcast_behind : (stub_router : Bool) (l : LinkValue) (start after : Option (List ℕ)) → is_down l.iface.state ≡ false → l.iface.settings.kind ≡ kind.Broadcast
@@ -311,15 +322,15 @@ all_behind stub_router links i start past =
     ap (λ (ls : List LinkValue). behind (flat_map (links_bytes stub_router) ls) start) (take_all i links past)
     ∙ ap (λ (zs : List ℕ). behind zs start) (sym (links_of_links link_bytes (links_of_link stub_router) links))
 
--- and the links to hosts behind them
-pub own_behind : (stub_router : Bool) (links : List LinkValue) (hosts : List Host) (start mid after : Option (List ℕ)) → mid ≡ behind (flat_map link_bytes (flat_map (links_of_link stub_router) links)) start
-    → after ≡ behind (flat_map host_bytes hosts) mid → after ≡ behind (flat_map link_bytes (own_links stub_router links hosts)) start
-own_behind stub_router links hosts start mid after is_mid is =
+-- and the links to stub networks behind them
+pub own_behind : (stub_router : Bool) (links : List LinkValue) (stubs : List StubNetwork) (start mid after : Option (List ℕ)) → mid ≡ behind (flat_map link_bytes (flat_map (links_of_link stub_router) links)) start
+    → after ≡ behind (flat_map stub_bytes stubs) mid → after ≡ behind (flat_map link_bytes (own_links stub_router links stubs)) start
+own_behind stub_router links stubs start mid after is_mid is =
     let of_links : List Link = flat_map (links_of_link stub_router) links in
-    is ∙ ap (λ (o : Option (List ℕ)). behind (flat_map host_bytes hosts) o) is_mid
-    ∙ sym (behind-append (flat_map link_bytes of_links) (flat_map host_bytes hosts) start)
-    ∙ ap (λ (zs : List ℕ). behind (flat_map link_bytes of_links ++ zs) start) (sym (flat_map-map link_bytes host_link hosts))
-    ∙ ap (λ (zs : List ℕ). behind zs start) (sym (flat_map-append link_bytes of_links (map host_link hosts)))
+    is ∙ ap (λ (o : Option (List ℕ)). behind (flat_map stub_bytes stubs) o) is_mid
+    ∙ sym (behind-append (flat_map link_bytes of_links) (flat_map stub_bytes stubs) start)
+    ∙ ap (λ (zs : List ℕ). behind (flat_map link_bytes of_links ++ zs) start) (sym (flat_map-map link_bytes stub_link stubs))
+    ∙ ap (λ (zs : List ℕ). behind zs start) (sym (flat_map-append link_bytes of_links (map stub_link stubs)))
 
 -- the routers attached to a network
 pub attached_behind : (router : RouterId) (ns : List NeighbourValue) (start mid own after : Option (List ℕ)) → mid ≡ behind (flat_map (lower_bytes router) ns) start → own ≡ behind (router_bytes router) mid

@@ -1,10 +1,10 @@
 -- Wanted LSAs are the router's own, each alone of its key.
 use Rattle.std.proofs.Common.{◌≡◌, ◌≢◌, ◌++◌, Bool, true, false, List, [], ◌∷◌, Some, cond, filter, map, inl, inr, refl, sym, ap, subst, if◌then◌else◌}
 use Rattle.std.specs.List.{AllByRecursion}
-use Rattle.ospf_base.specs.declared.host.Host.{Host}
 use Rattle.ospf_base.specs.declared.ids.Kind.TheVariants.{Router, Network}
 use Rattle.ospf_base.specs.declared.ids.LsaKey.{LsaKey}
 use Rattle.ospf_base.specs.declared.ids.RouterId.{RouterId}
+use Rattle.ospf_base.specs.declared.stub_network.StubNetwork.{StubNetwork}
 use Rattle.ospf_lsdb.proofs.MapLemmas.{bool_cases}
 use Rattle.ospf_base.specs.Keys.{same_key}
 use Rattle.ospf_base.proofs.SameKeys.{same_key-eq, same_key-refl}
@@ -56,9 +56,9 @@ network_router : (router : RouterId) (l : LinkValue) → (wanted_key (network_of
 unfolding network_of
 network_router router l = refl
 
-pub wanted_own : (stub_router : Bool) (router : RouterId) (links : List LinkValue) (hosts : List Host) → AllByRecursion (λ w. (wanted_key w).router ≡ router) (wanted_lsas stub_router router links hosts)
+pub wanted_own : (stub_router : Bool) (router : RouterId) (links : List LinkValue) (stubs : List StubNetwork) → AllByRecursion (λ w. (wanted_key w).router ≡ router) (wanted_lsas stub_router router links stubs)
 unfolding wanted_lsas
-wanted_own stub_router router links hosts =
+wanted_own stub_router router links stubs =
     (refl, all_networks (λ w. (wanted_key w).router ≡ router) router links (every (λ l. (wanted_key (network_of router l)).router ≡ router) (network_router router) links))
 
 -- ---- each is alone of its key
@@ -106,11 +106,11 @@ networks_alone router (l ∷ ls) apart =
     (all_networks (λ v. same_key (wanted_key (network_of router l)) (wanted_key v) ≡ false) router ls
     (map_all (λ o. o.iface.settings.address.0 ≢ l.iface.settings.address.0) (λ o. same_key (wanted_key (network_of router l)) (wanted_key (network_of router o)) ≡ false) (other_address router l) ls apart.0)))
 
-pub wanted_alone : (stub_router : Bool) (router : RouterId) (links : List LinkValue) (hosts : List Host) → AreApart links
-    → AllByRecursion (λ v. wanted_of (wanted_lsas stub_router router links hosts) (wanted_key v) ≡ Some v) (wanted_lsas stub_router router links hosts)
+pub wanted_alone : (stub_router : Bool) (router : RouterId) (links : List LinkValue) (stubs : List StubNetwork) → AreApart links
+    → AllByRecursion (λ v. wanted_of (wanted_lsas stub_router router links stubs) (wanted_key v) ≡ Some v) (wanted_lsas stub_router router links stubs)
 unfolding wanted_lsas
-wanted_alone stub_router router links hosts apart =
-    let own = own_links stub_router links hosts in
+wanted_alone stub_router router links stubs apart =
+    let own = own_links stub_router links stubs in
     alone_in_front (RouterLsa router own) (networks router links) (networks_alone router links apart)
     (all_networks (λ v. same_key (wanted_key (RouterLsa router own)) (wanted_key v) ≡ false) router links
     (every (λ l. same_key (wanted_key (RouterLsa router own)) (wanted_key (network_of router l)) ≡ false) (other_kind router own) links))

@@ -4,7 +4,7 @@ use Rattle.ospf_lsa.specs.declared.link.Link.{Link}
 use Rattle.ospf_area.specs.State.{LinkValue}
 use Rattle.ospf_base.specs.declared.ids.RouterId.{RouterId}
 use Rattle.ospf_neighbour.specs.Neighbour.{NeighbourValue}
-use Rattle.ospf_originate.specs.Wants.Wanted.{is_transit, network_link, subnet_link, is_full, router_link}
+use Rattle.ospf_originate.specs.Wants.Wanted.{is_transit, network_link, subnet_link, subnets_of, is_full, router_link}
 use Rattle.ospf_base.specs.declared.interface.InterfaceKind.{InterfaceKind}
 use Rattle.ospf_base.specs.declared.interface.InterfaceKind.TheVariants as kind
 
@@ -15,7 +15,7 @@ broadcast_link stub_router a = if is_transit a then network_link stub_router a e
 -- the links of a link that is up: on one with two ends the fully adjacent neighbour, and then the subnet
 abbrev pub links_of_kind : InterfaceKind → Bool → LinkValue → List Link
 links_of_kind o stub_router a = elim o [
-  | kind.PointToPoint ↦ map (router_link stub_router a) (filter is_full a.neighbours) ++ subnet_link a ∷ []
+  | kind.PointToPoint ↦ map (router_link stub_router a) (filter is_full a.neighbours) ++ subnets_of a
   | kind.Broadcast ↦ broadcast_link stub_router a ∷ []
 ]
 

@@ -3,12 +3,12 @@ use Rattle.std.specs.Prelude.{ℕ, Bool, true, false, List, [], ◌∷◌, ◌&&
 use Rattle.std.specs.List.{flat_map}
 use Rattle.std.specs.Str.{bytes_eq}
 use Rattle.ospf_area.specs.State.{LinkValue}
-use Rattle.ospf_base.specs.declared.host.Host.{Host}
 use Rattle.ospf_base.specs.declared.ids.RouterId.{RouterId}
+use Rattle.ospf_base.specs.declared.stub_network.StubNetwork.{StubNetwork}
 use Rattle.ospf_lsa.specs.Attached.{router_bytes}
 use Rattle.ospf_lsa.specs.Link.{link_bytes}
 use Rattle.ospf_neighbour.specs.Neighbour.{NeighbourValue}
-use Rattle.ospf_originate.specs.Wants.Wanted.{host_link, is_full, links_of_link, router_link}
+use Rattle.ospf_originate.specs.Wants.Wanted.{is_full, links_of_link, router_link, stub_link, subnet_link}
 
 -- what follows these bytes, if the others begin with them
 unfoldable pub behind : List ℕ → Option (List ℕ) → Option (List ℕ)
@@ -31,9 +31,14 @@ router_link_bytes stub_router a n =
 unfoldable pub links_bytes : Bool → LinkValue → List ℕ
 links_bytes stub_router a = flat_map link_bytes (links_of_link stub_router a)
 
--- the bytes of the link to a host
-abbrev pub host_bytes : Host → List ℕ
-host_bytes h = link_bytes (host_link h)
+-- the bytes of the link to the subnet of a point-to-point link, unless it is suppressed (RFC 6860,
+-- section 2)
+unfoldable pub subnet_bytes : LinkValue → List ℕ
+subnet_bytes a = if a.settings.suppressed then [] else link_bytes (subnet_link a)
+
+-- the bytes of the link to a stub network
+abbrev pub stub_bytes : StubNetwork → List ℕ
+stub_bytes n = link_bytes (stub_link n)
 
 -- the bytes of a neighbour that a network-LSA names before the router itself, if it does (12.4.2)
 unfoldable pub lower_bytes : RouterId → NeighbourValue → List ℕ

@@ -23,9 +23,9 @@ AreApart (l ∷ ls) =
 abbrev pub max_links : ℕ
 max_links = 32
 
--- the most hosts that a router has
-abbrev pub max_hosts : ℕ
-max_hosts = 32
+-- the most stub networks that a router lists behind its links
+abbrev pub max_stubs : ℕ
+max_stubs = 63
 
 -- not too many, each set up, of different addresses
 pub record AreSetUp (links : List LinkValue) : Type 0 where

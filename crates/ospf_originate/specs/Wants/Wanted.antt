@@ -1,12 +1,13 @@
 -- The LSAs of its own that a router wants (RFC 2328, sections 12.4.1 and
--- 12.4.2; for a stub router RFC 6987).
+-- 12.4.2; for a stub router RFC 6987; for suppressed subnets RFC 6860).
 use Rattle.std.specs.Prelude.{◌==◌, ◌&&◌, ◌||◌, ◌∷◌, ◌++◌, ℕ, Bool, true, false, List, [], Option, map, filter, find, nat_lt, bit_and, if◌then◌else◌}
 use Rattle.std.specs.List.{list_any, flat_map}
-use Rattle.ospf_base.specs.declared.host.Host.{Host}
+use Rattle.ospf_base.specs.Masks.{mask_of}
 use Rattle.ospf_base.specs.declared.ids.Kind.TheVariants.{Router, Network}
 use Rattle.ospf_base.specs.declared.ids.LsaKey.{LsaKey}
 use Rattle.ospf_base.specs.declared.ids.RouterId.{RouterId}
 use Rattle.ospf_base.specs.declared.interface.InterfaceKind.TheVariants as kind
+use Rattle.ospf_base.specs.declared.stub_network.StubNetwork.{StubNetwork}
 use Rattle.ospf_lsa.specs.declared.link.Link.{Link}
 use Rattle.ospf_lsa.specs.declared.link.LinkKind.TheVariants.{PointToPoint, Transit, Stub}
 use Rattle.ospf_area.specs.State.{LinkValue}
@@ -71,32 +72,44 @@ subnet_link a =
       metric = a.settings.cost;
     }
 
+-- to the subnet of a point-to-point link, unless it is suppressed: such a subnet only carries
+-- traffic on, and a router hides it by listing no link to it (RFC 6860, section 2)
+abbrev pub subnets_of : LinkValue → List Link
+subnets_of a = if a.settings.suppressed then [] else subnet_link a ∷ []
+
 -- the links of a link that is up (12.4.1): on one with two ends to the fully
 -- adjacent neighbour, and then to the subnet; on a broadcast link to its transit
--- network, or else to its subnet (12.4.1.2)
+-- network, or else to its subnet (12.4.1.2), which is no transit-only network and is never
+-- suppressed (RFC 6860, section 2)
 unfoldable pub links_of_link : Bool → LinkValue → List Link
 links_of_link stub_router a =
     if is_down a.iface.state then []
     else elim a.iface.settings.kind [
       | kind.PointToPoint ↦
-          map (router_link stub_router a) (filter is_full a.neighbours) ++ subnet_link a ∷ []
+          map (router_link stub_router a) (filter is_full a.neighbours) ++ subnets_of a
       | kind.Broadcast ↦ (if is_transit a then network_link stub_router a else subnet_link a) ∷ []
     ]
 
--- to a host that the router reaches directly (12.4.1), or to an address of its own (appendix C.7).
--- A stub router's keeps its metric, as all links to stub networks do (RFC 6987)
-abbrev pub host_link : Host → Link
-host_link h =
-    record { id = h.address.0; link_data = 0xffffffff; kind = Stub; metric = h.cost }
+-- to a stub network: a host that the router reaches directly or an address of its own, with a mask
+-- of 32 ones (appendix C.7), or the network of a passive interface (12.4.1). A stub router's keeps
+-- its metric (RFC 6987)
+abbrev pub stub_link : StubNetwork → Link
+stub_link n =
+    record {
+      id = n.prefix.address.0;
+      link_data = mask_of n.prefix.length;
+      kind = Stub;
+      metric = n.cost;
+    }
 
 -- the links that the interfaces make
 abbrev pub interface_links : Bool → List LinkValue → List Link
 interface_links stub_router links = flat_map (links_of_link stub_router) links
 
--- the links of the router-LSA: those of the interfaces, and after them those to the hosts, all in
--- configuration order (12.4.1)
-abbrev pub own_links : Bool → List LinkValue → List Host → List Link
-own_links stub_router links hosts = interface_links stub_router links ++ map host_link hosts
+-- the links of the router-LSA: those of the interfaces, and after them those to stub networks, all
+-- in configuration order (12.4.1)
+abbrev pub own_links : Bool → List LinkValue → List StubNetwork → List Link
+own_links stub_router links stubs = interface_links stub_router links ++ map stub_link stubs
 
 -- ---- network-LSAs
 
@@ -107,19 +120,24 @@ attached_routers router ns =
     map (λ n. n.router) (filter (λ n. is_full n && nat_lt n.router.0 router.0) ns)
     ++ (router ∷ map (λ n. n.router) (filter (λ n. is_full n && nat_lt router.0 n.router.0) ns))
 
+-- the mask in a network-LSA: the network's own or, where it is suppressed, 255.255.255.255, which
+-- hides the network and leaves the address of the Designated Router (RFC 6860, section 2)
+abbrev pub advertised_mask : LinkValue → ℕ
+advertised_mask a = if a.settings.suppressed then 0xffffffff else a.iface.settings.mask
+
 -- the network-LSA of a link, which its Designated Router wants (12.4.2)
 unfoldable pub network_of : RouterId → LinkValue → WantedValue
 network_of router a =
-    NetworkLsa a.iface.settings.address.0 router a.iface.settings.mask
+    NetworkLsa a.iface.settings.address.0 router (advertised_mask a)
     (attached_routers router a.neighbours)
 
 -- ---- all of them
 
 -- a router wants its router-LSA, and the network-LSAs of those links of which it is the
 -- Designated Router, which are in configuration order (12.4)
-unfoldable pub wanted_lsas : Bool → RouterId → List LinkValue → List Host → List WantedValue
-wanted_lsas stub_router router links hosts =
-    RouterLsa router (own_links stub_router links hosts)
+unfoldable pub wanted_lsas : Bool → RouterId → List LinkValue → List StubNetwork → List WantedValue
+wanted_lsas stub_router router links stubs =
+    RouterLsa router (own_links stub_router links stubs)
     ∷ map (network_of router) (filter is_dr_of links)
 
 -- what names a wanted LSA (12.1)

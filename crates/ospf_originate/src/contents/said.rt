@@ -12,14 +12,16 @@ ghost use Rattle.ospf_lsa.specs.Link.{link_bytes};
 ghost use Rattle.ospf_lsa.specs.Value.{network_value, router_value};
 ghost use Rattle.ospf_lsa.specs.declared.link.Link.{Link};
 ghost use Rattle.ospf_originate.specs.Wants.Made.{says};
-ghost use Rattle.ospf_originate.specs.Wants.Said.{behind, is_end, host_bytes, links_bytes, router_link_bytes, lower_bytes, higher_bytes};
-ghost use Rattle.ospf_originate.specs.Wants.Wanted.{attached_routers, interface_links, is_full, own_links, router_link};
+ghost use Rattle.ospf_originate.specs.Wants.Said.{behind, is_end, stub_bytes, subnet_bytes, links_bytes, router_link_bytes, lower_bytes, higher_bytes};
+ghost use Rattle.ospf_originate.specs.Wants.Wanted.{advertised_mask, attached_routers, interface_links, is_full, own_links, router_link};
 ghost use Rattle.ospf_originate.specs.Wants.Wanted.WantedValue.{RouterLsa, NetworkLsa};
 
-use crate::contents::wants::{broadcast_link, host_link, is_full, router_link, subnet_link};
+use crate::contents::wants::{
+    advertised_mask, broadcast_link, is_full, router_link, stub_link, subnet_link,
+};
 use ospf_area::AreaLink;
 use ospf_base::{
-    Age, Host, InterfaceKind, LSA_HEADER, NETWORK_LSA, OPTIONS, ROUTER_LSA, RouterId, u16_at,
+    Age, InterfaceKind, LSA_HEADER, NETWORK_LSA, OPTIONS, ROUTER_LSA, RouterId, StubNetwork, u16_at,
 };
 use ospf_lsa::{ENTRIES_AT, LENGTH_AT, LINK_SIZE, Link, LsaHeader, LsaView, NUMBER_AT, OPTIONS_AT};
 use ospf_neighbour::Neighbour;
@@ -31,14 +33,14 @@ pub fn says_router(
     stub_router: bool,
     router: RouterId,
     links: &[AreaLink],
-    hosts: &[Host],
+    stubs: &[StubNetwork],
 ) -> bool
     ensures { result ≡ says (contents copy.now)
-        (RouterLsa router (own_links stub_router links.now hosts.now)) }
+        (RouterLsa router (own_links stub_router links.now stubs.now)) }
 {
     let lsa = copy.as_bytes();
     let rest = behind_interfaces(Some(&lsa[ENTRIES_AT..]), stub_router, links);
-    let rest = behind_hosts(rest, hosts);
+    let rest = behind_stubs(rest, stubs);
     is_router_lsa(copy, router, rest)
 }
 
@@ -46,13 +48,13 @@ pub fn says_router(
 /// aside (RFC 2328, section 12.4.2).
 pub fn says_network(copy: &LsaView<'_>, router: RouterId, link: &AreaLink) -> bool
     ensures { result ≡ says (contents copy.now)
-        (NetworkLsa link.now.iface.settings.address.0 router link.now.iface.settings.mask
+        (NetworkLsa link.now.iface.settings.address.0 router (advertised_mask link.now)
         (attached_routers router link.now.neighbours)) }
 {
     let lsa = copy.as_bytes();
     let rest = behind_attached(Some(&lsa[ENTRIES_AT..]), router, link.neighbours.all());
-    let settings = &link.iface.settings;
-    is_network_lsa(copy, settings.address.0, router, settings.mask, rest)
+    let id = link.iface.settings.address.0;
+    is_network_lsa(copy, id, router, advertised_mask(link), rest)
 }
 
 // What follows the links that the interfaces make.
@@ -73,15 +75,15 @@ fn behind_interfaces<'a>(
     rest
 }
 
-// What follows the links to hosts.
+// What follows the links to stub networks.
 #[tactic(auto, using(crate::proofs::Wants::SaidLemmas::behind_more, crate::proofs::Wants::SaidLemmas::behind_none))]
-fn behind_hosts<'a>(bytes: Option<&'a [u8]>, hosts: &[Host]) -> Option<&'a [u8]>
-    ensures { option_copied result ≡ behind (flat_map host_bytes hosts.now)
+fn behind_stubs<'a>(bytes: Option<&'a [u8]>, stubs: &[StubNetwork]) -> Option<&'a [u8]>
+    ensures { option_copied result ≡ behind (flat_map stub_bytes stubs.now)
         (option_copied bytes.entry) }
 {
     let mut rest = bytes;
-    for host in hosts {
-        rest = behind_link(rest, &host_link(host));
+    for stub in stubs {
+        rest = behind_link(rest, &stub_link(stub));
     }
     rest
 }
@@ -101,9 +103,21 @@ fn behind_links_at<'a>(
     match link.iface.settings.kind {
         InterfaceKind::PointToPoint => {
             let rest = behind_neighbours(bytes, stub_router, link, link.neighbours.all());
-            behind_link(rest, &subnet_link(link))
+            behind_subnet(rest, link)
         }
         InterfaceKind::Broadcast => behind_link(bytes, &broadcast_link(stub_router, link)),
+    }
+}
+
+// What follows the link to the subnet of a link, if it is not suppressed.
+#[tactic(auto, using(crate::proofs::Wants::SaidLemmas::behind_none), unfolding(crate::specs::Wants::Said::subnet_bytes))]
+fn behind_subnet<'a>(bytes: Option<&'a [u8]>, link: &AreaLink) -> Option<&'a [u8]>
+    ensures { option_copied result ≡ behind (subnet_bytes link.now) (option_copied bytes.entry) }
+{
+    if link.settings.suppressed {
+        bytes
+    } else {
+        behind_link(bytes, &subnet_link(link))
     }
 }
 

@@ -3,18 +3,15 @@
 ghost use Rattle.std.specs.Prelude.{◌≡◌, ◌++◌, ◌∷◌, [], IfOk, OnOk, map, filter, nat_lt, ◌&&◌, ◌==◌, if◌then◌else◌};
 ghost use Rattle.std.specs.List.{list_any};
 ghost use Rattle.ospf_neighbour.specs.Neighbour.{NeighbourValue};
-ghost use Rattle.ospf_originate.specs.Wants.Wanted.{is_full, is_dr_of, is_transit, router_link, network_link, subnet_link, links_of_link, host_link, interface_links, own_links, attached_routers, network_of, wanted_lsas, wanted_key};
+ghost use Rattle.ospf_originate.specs.Wants.Wanted.{is_full, is_dr_of, is_transit, router_link, network_link, subnet_link, subnets_of, links_of_link, stub_link, interface_links, advertised_mask, own_links, attached_routers, network_of, wanted_lsas, wanted_key};
 ghost use Rattle.ospf_originate.specs.Wants.Own.{wanted_value};
 
 use ospf_area::AreaLink;
-use ospf_base::{Host, InterfaceKind, Kind, LsaKey, RouterId};
+use ospf_base::{InterfaceKind, Kind, LsaKey, RouterId, StubNetwork, mask_of};
 use ospf_lsa::{Link, LinkKind};
 use ospf_neighbour::iface::IfaceState;
 use ospf_neighbour::{Neighbour, NeighbourState};
 use std::alloc::{AllocError, Global};
-
-/// The mask of a link to a host: its network is one address (RFC 2328, section 12.4.1).
-const HOST_MASK: u32 = 0xffff_ffff;
 
 /// The largest metric, which a stub router gives to links that lead on (RFC 6987).
 const MAX_LINK_METRIC: u16 = 0xffff;
@@ -64,7 +61,7 @@ pub fn is_dr_of(link: &AreaLink) -> bool
     matches!(link.iface.state, IfaceState::Dr) && some_full(link.neighbours.all())
 }
 
-/// The LSAs that a router wants (RFC 2328, section 12.4), over its links and its hosts in
+/// The LSAs that a router wants (RFC 2328, section 12.4), over its links and its stub networks in
 /// configuration order: its router-LSA, and the network-LSA of each link of which it is the
 /// Designated Router and fully adjacent to someone.
 ///
@@ -74,13 +71,13 @@ pub fn wanted(
     stub_router: bool,
     router: RouterId,
     links: &[AreaLink],
-    hosts: &[Host],
+    stubs: &[StubNetwork],
     alloc: Global,
 ) -> Result<Vec<OwnLsa>, AllocError>
     ensures { IfOk result (λ v. map wanted_value v.items
-        ≡ wanted_lsas stub_router router links.now hosts.now) }
+        ≡ wanted_lsas stub_router router links.now stubs.now) }
 {
-    let own = own_links(stub_router, links, hosts, alloc)?;
+    let own = own_links(stub_router, links, stubs, alloc)?;
     let mut all = Vec::new(alloc);
     all.push(OwnLsa::Router { router, links: own })?;
     for link in links {
@@ -120,15 +117,26 @@ pub(crate) fn subnet_link(link: &AreaLink) -> Link
     }
 }
 
-// The link to a host.
-pub(crate) fn host_link(host: &Host) -> Link
-    ensures { result ≡ host_link host.now }
+// The mask of a link's network-LSA.
+pub(crate) fn advertised_mask(link: &AreaLink) -> u32
+    ensures { result ≡ advertised_mask link.now }
+{
+    if link.settings.suppressed {
+        u32::MAX
+    } else {
+        link.iface.settings.mask
+    }
+}
+
+// The link to a stub network.
+pub(crate) fn stub_link(stub: &StubNetwork) -> Link
+    ensures { result ≡ stub_link stub.now }
 {
     Link {
-        id: host.address.0,
-        link_data: HOST_MASK,
+        id: stub.prefix.address.0,
+        link_data: mask_of(stub.prefix.length),
         kind: LinkKind::Stub,
-        metric: host.cost,
+        metric: stub.cost,
     }
 }
 
@@ -156,14 +164,14 @@ fn some_full(neighbours: &[Neighbour]) -> bool
 fn own_links(
     stub_router: bool,
     links: &[AreaLink],
-    hosts: &[Host],
+    stubs: &[StubNetwork],
     alloc: Global,
 ) -> Result<Vec<Link>, AllocError>
-    ensures { IfOk result (λ v. v.items ≡ own_links stub_router links.now hosts.now) }
+    ensures { IfOk result (λ v. v.items ≡ own_links stub_router links.now stubs.now) }
 {
     let mut out = interface_links(stub_router, links, alloc)?;
-    let to_hosts = host_links(hosts, alloc)?;
-    out.extend_from_slice(&to_hosts)?;
+    let to_stubs = stub_links(stubs, alloc)?;
+    out.extend_from_slice(&to_stubs)?;
     Ok(out)
 }
 
@@ -182,11 +190,11 @@ fn interface_links(
     Ok(out)
 }
 
-// The links to hosts.
-fn host_links(hosts: &[Host], alloc: Global) -> Result<Vec<Link>, AllocError>
-    ensures { IfOk result (λ v. v.items ≡ map host_link hosts.now) }
+// The links to stub networks.
+fn stub_links(stubs: &[StubNetwork], alloc: Global) -> Result<Vec<Link>, AllocError>
+    ensures { IfOk result (λ v. v.items ≡ map stub_link stubs.now) }
 {
-    hosts.iter().map(host_link).collect(alloc)
+    stubs.iter().map(stub_link).collect(alloc)
 }
 
 // Puts the links of a link at the end.
@@ -206,9 +214,19 @@ fn push_links(
         InterfaceKind::PointToPoint => {
             let routers = router_links(stub_router, link, link.neighbours.all(), alloc)?;
             out.extend_from_slice(&routers)?;
-            out.push(subnet_link(link))?;
+            push_subnet(out, link)?;
         }
         InterfaceKind::Broadcast => out.push(broadcast_link(stub_router, link))?,
+    }
+    Ok(())
+}
+
+// Puts the link to the subnet of a link at the end, unless it is suppressed.
+fn push_subnet(out: &mut Vec<Link>, link: &AreaLink) -> Result<(), AllocError>
+    ensures { OnOk result (out.new.items ≡ out.old.items ++ subnets_of link.now) }
+{
+    if !link.settings.suppressed {
+        out.push(subnet_link(link))?;
     }
     Ok(())
 }
@@ -246,7 +264,7 @@ fn push_network(
         out.push(OwnLsa::Network {
             id: link.iface.settings.address.0,
             router,
-            mask: link.iface.settings.mask,
+            mask: advertised_mask(link),
             routers,
         })?;
     }

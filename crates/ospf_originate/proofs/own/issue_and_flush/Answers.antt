@@ -12,13 +12,13 @@ use Rattle.ospf_originate.proofs.OwnLaws.{ends_sound}
 use Rattle.ospf_originate.proofs.own.issue_and_flush.Goals as goal
 
 pub due_now-requires-clause-made : goal.due_now-requires-clause-made
-due_now-requires-clause-made c = let s = c.args.area.now in wanted_made s.stub_router s.router s.links s.hosts c.requires.links c.requires.hosts
+due_now-requires-clause-made c = let s = c.args.area.now in wanted_made s.stub_router s.router s.links s.stubs c.requires.links c.requires.stubs
 
 pub act_in_turn-requires-clause-made : goal.act_in_turn-requires-clause-made
 act_in_turn-requires-clause-made c =
     let s = c.args.area.now in
     subst (λ (ws : List WantedValue). AllByRecursion CanBeMade ws) (sym (ap (λ (xs : List OwnLsa). map wanted_value xs) c.deref-2.ensures.value ∙ c.in_ok-all.ensures))
-    (wanted_made s.stub_router s.router s.links s.hosts c.requires.links c.requires.hosts)
+    (wanted_made s.stub_router s.router s.links s.stubs c.requires.links c.requires.stubs)
 
 pub returns-clause-own : goal.returns-clause-own
 returns-clause-own c =

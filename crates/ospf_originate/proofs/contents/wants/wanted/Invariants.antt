@@ -5,4 +5,4 @@ use Rattle.ospf_originate.proofs.contents.wants.wanted.Given as goal
 
 abbrev pub invariant-loop-link : goal.invariant-loop-link
 invariant-loop-link l =
-    map wanted_value l.all.items ≡ WantedValue.RouterLsa l.fn.router (own_links l.fn.stub_router l.fn.links l.fn.hosts) ∷ map (network_of l.fn.router) (filter is_dr_of (take l.link-index l.fn.links))
+    map wanted_value l.all.items ≡ WantedValue.RouterLsa l.fn.router (own_links l.fn.stub_router l.fn.links l.fn.stubs) ∷ map (network_of l.fn.router) (filter is_dr_of (take l.link-index l.fn.links))
