@@ -12,3 +12,4 @@ mod SameEnds
 mod EndLemmas
 mod GrowingLemmas
 pub mod AreaStep
+pub mod StepLaws

@@ -113,7 +113,7 @@ links_set_up config ls are most = record {
 
 -- ---- the router
 
-pub area_fit : StartsSound → (config : Config) (dd_start : ℕ) (floor : ℤ) (s : AreaValue) → IsAreaOf config dd_start floor s → length config.interfaces.items ≤ 32 → length config.hosts.items ≤ 32
+pub area_fit : StartsSound → (config : Config) (dd_start : ℕ) (floor : ℤ) (s : AreaValue) → IsAreaOf config dd_start floor s → length config.interfaces.items ≤ 32 → length config.stubs.items ≤ 63
     → IsFitRouter s
 area_fit law config dd_start floor s is most few =
     let now : AreaValue = area_of config dd_start floor s.links in

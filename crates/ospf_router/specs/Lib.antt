@@ -9,3 +9,6 @@ pub mod Steps
 pub mod Text
 pub mod Touched
 pub mod AreaStep
+pub mod Stepped
+pub mod Chains
+pub mod Laws

@@ -39,6 +39,7 @@ pub record IsLinkOf (router : RouterId) (i : Interface) (link : LinkValue) : Typ
   pub retransmit : link.settings.retransmit ≡ i.retransmit
   pub transmit_delay : link.settings.transmit_delay ≡ i.transmit_delay
   pub mtu : link.settings.mtu ≡ i.mtu
+  pub suppressed : link.settings.suppressed ≡ i.prefix_suppression
   pub neighbours : link.neighbours ≡ []
   pub delayed : link.delayed ≡ []
   pub elects : link.elects ≡ false
@@ -55,7 +56,7 @@ area_of config dd_start floor links = record {
   stub_router = config.stub_router;
   passes_over = config.passes_over;
   links = links;
-  hosts = config.hosts.items;
+  stubs = config.stubs.items;
   database = [];
   direct = [];
   numbering = [];

@@ -7,13 +7,15 @@
 //! listed. What a step does is in `specs/Steps`, and what routes are in `specs/Routes`.
 //!
 //! `step` steps the router's area: drops, packets, ticks, elections and own LSAs, and the laws that
-//! each step keeps (`specs/AreaStep`).
+//! each step keeps (`specs/AreaStep`). `laws` has what each step keeps in nine sentences
+//! (`specs/Laws`).
 #![tactic(auto)]
 
 mod ends;
 mod fault;
 mod followed;
 mod growing;
+pub mod laws;
 mod listed;
 mod router;
 mod routes;

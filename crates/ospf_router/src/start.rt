@@ -24,14 +24,14 @@ pub(crate) fn area_of(
     ensures { IfOk result (λ area. IsAreaOf config.now dd_start floor area) }
 {
     let links = links_of(config.router_id, &config.interfaces, alloc)?;
-    let hosts = Vec::from_slice(alloc, &config.hosts)?;
+    let stubs = Vec::from_slice(alloc, &config.stubs)?;
     Ok(Area {
         router: config.router_id,
         area: config.area,
         stub_router: config.stub_router,
         passes_over: config.passes_over,
         links,
-        hosts,
+        stubs,
         database: Lsdb::new(alloc),
         direct: Vec::new(alloc),
         numbering: Vec::new(alloc),
@@ -70,6 +70,7 @@ fn link_of(router: RouterId, interface: &Interface, alloc: Global) -> AreaLink
             retransmit: interface.retransmit,
             transmit_delay: interface.transmit_delay,
             mtu: interface.mtu,
+            suppressed: interface.prefix_suppression,
         },
         neighbours: Neighbours::new(alloc),
         delayed: Vec::new(alloc),

@@ -141,7 +141,7 @@ module _ (g : LinkValue → LinkValue) (same : (x : LinkValue) → (g x).iface.s
 
 -- what nothing of it hangs on
 pub aside : (s : AreaValue) (links : List LinkValue) (next_dd : ℕ) (sent : List LsaKey) → AllFit s.router links → AreSetUp links → IsFitRouter s → IsFitRouter (record s { links = links; next_dd = next_dd; sent = sent })
-aside s links next_dd sent fit up is = record { links = fit; sound = record { links = up; hosts = is.sound.hosts; numbered = is.sound.numbered; counted = is.sound.counted; max_seq = is.sound.max_seq } }
+aside s links next_dd sent fit up is = record { links = fit; sound = record { links = up; stubs = is.sound.stubs; numbered = is.sound.numbered; counted = is.sound.counted; max_seq = is.sound.max_seq } }
 
 pub set_fit : (s : AreaValue) (k : ℕ) (a b : LinkValue) (next_dd : ℕ) (sent : List LsaKey) → slice_get s.links k ≡ Some a → Stays s.router a b → IsFitRouter s → IsFitRouter (record s { links = set s.links k b; next_dd = next_dd; sent = sent })
 set_fit s k a b next_dd sent at stays is = aside s (set s.links k b) next_dd sent (all_set (IsFitLink s.router) s.links k b is.links stays.fit) (record {

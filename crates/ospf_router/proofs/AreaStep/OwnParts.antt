@@ -252,7 +252,7 @@ module _ (s0 : AreaValue) (is : IsDatabase s0.database) (key : LsaKey) (keys : L
   wanted_is : (w : WantedValue) → wanted_of (wants s0) key ≡ Some w → (wanted_key w ≡ key) × ((wanted_key w).router ≡ s0.router)
   wanted_is w at =
       let (inside, same) = find-some (λ w. same_key (wanted_key w) key) (wants s0) w at in
-      (same_key-eq (wanted_key w) key same, all_of (λ w. (wanted_key w).router ≡ s0.router) (wants s0) w (wanted_own s0.stub_router s0.router s0.links s0.hosts) inside)
+      (same_key-eq (wanted_key w) key same, all_of (λ w. (wanted_key w).router ≡ s0.router) (wants s0) w (wanted_own s0.stub_router s0.router s0.links s0.stubs) inside)
 
   cons_steps : Steps s0 (key ∷ keys)
   cons_steps s t out out' router same acts read = by (action_of s0 key) refl acts

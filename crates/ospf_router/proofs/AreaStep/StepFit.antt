@@ -58,7 +58,7 @@ pub worked_fit : (part : LinkValue → Neighbourhood) (l : ℕ) (sent : List Lsa
 worked_fit part l sent s stays fit = by_link (slice_get s.links l) refl
   where
     by_link : (o : Option LinkValue) → slice_get s.links l ≡ o → IsFitRouter (worked_by o part l (record s { sent = sent }))
-    by_link None at = record { links = fit.links; sound = record { links = fit.sound.links; hosts = fit.sound.hosts; numbered = fit.sound.numbered; counted = fit.sound.counted; max_seq = fit.sound.max_seq } }
+    by_link None at = record { links = fit.links; sound = record { links = fit.sound.links; stubs = fit.sound.stubs; numbered = fit.sound.numbered; counted = fit.sound.counted; max_seq = fit.sound.max_seq } }
     by_link (Some a) at = set_fit s l a (with_neighbourhood (part a) a) (part a).next sent at (stays a at) fit
 
 pub changed_fit : (change : LinkValue → LinkValue) (l : ℕ) (s : AreaValue) → ((a : LinkValue) → IsFitLink s.router a → IsSetUp a → Stays s.router a (change a)) → IsFitRouter s → IsFitRouter (link_changed change l s)

@@ -13,9 +13,9 @@ invariant_of-result c =
     let many = config.interfaces.ok.0 in
     let most = config.few_interfaces in
     let count : length config.interfaces.items ≤ 32 = omega (arith, many, most) in
-    let hosts = config.hosts.ok.0 in
-    let few_hosts = config.few_hosts in
-    let few : length config.hosts.items ≤ 32 = omega (arith, hosts, few_hosts) in
+    let stubs = config.stubs.ok.0 in
+    let few_stubs = config.few_stubs in
+    let few : length config.stubs.items ≤ 63 = omega (arith, stubs, few_stubs) in
     let same = as_many config.router_id config.interfaces.items c.in-Ok.area.links is.links in
     let len = c.len.ensures in (
       record {

@@ -1,5 +1,0 @@
-use Rattle.ospf_laws.proofs.Started.{started_kept}
-use Rattle.ospf_laws.proofs.starts.started_routers_are_kept.Goals as goal
-
-pub returns : goal.returns
-returns c = started_kept c.starts_sound.ensures

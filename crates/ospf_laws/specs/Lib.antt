@@ -1,3 +1,0 @@
-pub mod Stepped
-pub mod Chains
-pub mod Laws
