@@ -4,8 +4,8 @@ use Rattle.std.proofs.lemmas.Option.{same_Some}
 use Rattle.ospf_router.specs.Routers.{IsKept, RouterValue}
 use Rattle.ospf_router.specs.Steps.{Steps}
 use Rattle.ospf_router.specs.AreaStep.Lawful.{StepsAreLawful, StepsStayKept}
-use Rattle.ospf_laws.specs.Chains.{AreSteps, HasKeptState, OfEachList}
-use Rattle.ospf_laws.specs.Laws.{KeepsLaws}
+use Rattle.ospf_router.specs.Chains.{AreSteps, HasKeptState, OfEachList}
+use Rattle.ospf_router.specs.Laws.{KeepsLaws}
 use Rattle.ospf_drive.specs.Chains.{AreLawful, IsLawfulStep, KeepsThroughout}
 use Rattle.ospf_drive.specs.Machines.{AreRouterRules, Rules, router_rules}
 use Rattle.ospf_drive.specs.Moments.{Done, IsChain, Moment}

@@ -3,8 +3,8 @@
 use Rattle.std.specs.Prelude.{◌≡◌, ⊤, List, [], ◌∷◌, Option, Some, Result}
 use Rattle.ospf_area.specs.State.{AreaValue}
 use Rattle.ospf_fib.specs.PrefixIndex.Known.{Known}
-use Rattle.ospf_laws.specs.Chains.{AllKeep, AreSteps, HasKeptState}
-use Rattle.ospf_laws.specs.Laws.{KeepsLaws}
+use Rattle.ospf_router.specs.Chains.{AllKeep, AreSteps, HasKeptState}
+use Rattle.ospf_router.specs.Laws.{KeepsLaws}
 use Rattle.ospf_router.specs.AreaStep.Lawful.{IsLawful}
 use Rattle.ospf_router.specs.Routers.{RouterValue}
 use Rattle.ospf_drive.specs.Machines.{AreRouterRules, Rules, router_rules}

@@ -8,7 +8,7 @@ use Rattle.ospf_router.specs.Routers.{RouterValue}
 use Rattle.ospf_drive.specs.Machines.{Rules}
 use Rattle.ospf_drive.specs.Traffic.{Heard, Carried}
 use Rattle.ospf_drive.specs.Traffic.Heard.{Datagram, Tick, LinkUp, LinkDown, End}
-pub use Rattle.ospf_laws.specs.Chains.{Done}
+pub use Rattle.ospf_router.specs.Chains.{Done}
 
 -- the router, the wire's traffic if it is reported, how often the wire has failed,
 -- and what the writer has published

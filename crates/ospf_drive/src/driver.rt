@@ -12,7 +12,7 @@ use crate::machine::Machine;
 use crate::turn::{Course, turn};
 use crate::wire::{LONGEST, Wire};
 use ospf_fib::{Told, Writer};
-use ospf_laws::steps_keep_laws;
+use ospf_router::laws::steps_keep_laws;
 use std::alloc::Global;
 use std::sync::Wait;
 
