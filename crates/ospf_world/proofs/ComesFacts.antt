@@ -6,15 +6,15 @@ use Rattle.ospf_base.specs.declared.ids.RouterId.{RouterId}
 use Rattle.ospf_area.specs.Outputs.{OutputsValue}
 use Rattle.ospf_router.specs.AreaStep.Step.{Event}
 use Rattle.ospf_router.specs.declared.step.counts.DropCounts.{DropCounts}
-use Rattle.ospf_headline.specs.World.{RouterBecomes, Comes, LogsGrow, Running, SameLogs, World, member, of_member, refusal, router_at, stepped_by, IsRunningStarted}
+use Rattle.ospf_world.specs.World.{RouterBecomes, Comes, LogsGrow, Running, SameLogs, World, member, of_member, refusal, router_at, stepped_by, IsRunningStarted}
 use Rattle.ospf_base.specs.declared.event.event.WorldEvent.{WorldEvent}
 use Rattle.ospf_base.specs.declared.event.event.WorldEvent.TheVariants.{Start, Stop, Tick, LinkUp, LinkDown, Deliver}
 use Rattle.ospf_base.specs.declared.event.event.WorldFault.{WorldFault}
 use Rattle.ospf_base.specs.declared.event.event.WorldFault.TheVariants as fault
-use Rattle.ospf_headline.specs.declared.logs.Datagram.{Datagram}
-use Rattle.ospf_headline.specs.Logs.{LogsTake, LogsValue}
-use Rattle.ospf_headline.specs.Running.{delivery}
-use Rattle.ospf_headline.specs.Slots.{SlotGoesOn, SlotSteps, SlotTakes, SlotValue, fed_by, member_of, refused_by, with_running}
+use Rattle.ospf_world.specs.declared.logs.Datagram.{Datagram}
+use Rattle.ospf_world.specs.Logs.{LogsTake, LogsValue}
+use Rattle.ospf_world.specs.Running.{delivery}
+use Rattle.ospf_world.specs.Slots.{SlotGoesOn, SlotSteps, SlotTakes, SlotValue, fed_by, member_of, refused_by, with_running}
 use Rattle.ospf_base.specs.Events.Events.{router_in}
 use Rattle.ospf_router.specs.Steps.{is_dropped}
 use Rattle.ospf_world.specs.Does.{Does}

@@ -3,8 +3,8 @@ use Rattle.std.proofs.Common.{◌≡◌, ◌++◌, ◌∙◌, ℕ, List, [], ◌
 use Rattle.ospf_base.specs.declared.event.event.WorldEvent.{WorldEvent}
 use Rattle.ospf_base.specs.declared.event.event.WorldFault.{WorldFault}
 use Rattle.ospf_config.specs.declared.config.Config.{Config}
-use Rattle.ospf_headline.specs.Headline.{IsReached}
-use Rattle.ospf_headline.specs.World.{RunsEvents}
+use Rattle.ospf_world.specs.Headline.{IsReached}
+use Rattle.ospf_world.specs.World.{RunsEvents}
 use Rattle.ospf_router.specs.Steps.{is_dropped}
 use Rattle.ospf_world.specs.Does.{Does}
 use Rattle.ospf_world.specs.Exact.{IsReachedExactly, RunsExactly, unoffered}

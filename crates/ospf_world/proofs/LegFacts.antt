@@ -14,12 +14,12 @@ use Rattle.ospf_graph.specs.Walk.{HasLinkFor, IsBest}
 use Rattle.ospf_graph.specs.declared.hop.NextHop.{NextHop}
 use Rattle.ospf_graph.specs.declared.hop.NextHop.TheVariants as hops
 use Rattle.ospf_graph.specs.declared.route.Route.{Route}
-use Rattle.ospf_headline.specs.Walks.{HasNoRoute, adverts}
-use Rattle.ospf_headline.specs.World.{Member, Running, World, router_at}
+use Rattle.ospf_world.specs.Walks.{HasNoRoute, adverts}
+use Rattle.ospf_world.specs.World.{Member, Running, World, router_at}
 use Rattle.ospf_base.specs.declared.event.event.WorldFault.{WorldFault}
 use Rattle.ospf_router.specs.Routers.{RouterValue, listing_of}
 use Rattle.ospf_world.specs.declared.walk.Leg.{Leg}
-use Rattle.ospf_world.specs.Walks.{IsLeg, LegsOver}
+use Rattle.ospf_world.specs.Legs.{IsLeg, LegsOver}
 use Rattle.ospf_world.specs.Worlds.{Lends}
 use Rattle.std.proofs.lemmas.List.Elements.{All-contains}
 use Rattle.ospf_world.proofs.ListFacts.{contains_at}

@@ -2,11 +2,11 @@
 use Rattle.std.proofs.Common.{Bool, ◌≡◌, ◌∙◌, ◌+◌, ℕ, List, [], ◌∷◌, Option, None, Some, true, false, cond, find, is_some, sym, ap, Result, get_or, option_map, Bor, refl}
 use Rattle.std.proofs.lemmas.Option.{slice_get-get_or}
 use Rattle.ospf_base.specs.declared.ids.RouterId.{RouterId}
-use Rattle.ospf_headline.specs.World.{member}
+use Rattle.ospf_world.specs.World.{member}
 use Rattle.ospf_base.specs.declared.event.event.WorldFault.{WorldFault}
 use Rattle.ospf_base.specs.declared.event.event.WorldFault.TheVariants as fault
 use Rattle.ospf_router.specs.Routers.{RouterValue}
-use Rattle.ospf_headline.specs.Slots.{SlotValue, member_of}
+use Rattle.ospf_world.specs.Slots.{SlotValue, member_of}
 use Rattle.ospf_world.specs.Worlds.{Lends, LendsSlot, WorldValue, is_slot_of, place_from, place_of, world_of}
 use Rattle.ospf_world.proofs.PlaceFacts.{at_within, not_placed, placed, slot_at}
 use Rattle.ospf_world.proofs.WorldFacts.{member-is}

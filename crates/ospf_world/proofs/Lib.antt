@@ -1,3 +1,17 @@
+pub mod SameListing
+pub mod Facts
+pub mod FactsKept
+pub mod RunsFacts
+pub mod Bases
+pub mod ListedWalks
+pub mod Pigeons
+pub mod ChosenWalks
+pub mod Witness
+pub mod LaterRuns
+pub mod RunLemmas
+pub mod StartFacts
+pub mod RunningFacts
+pub mod SlotFacts
 pub mod OfferFacts
 pub mod PlaceFacts
 pub mod TickFacts

@@ -9,11 +9,11 @@ use Rattle.std.proofs.lemmas.Bool.{cond-false, cond-true}
 use Rattle.std.proofs.lemmas.Option.{same_Some}
 use Rattle.ospf_base.specs.declared.ids.RouterId.{RouterId}
 use Rattle.ospf_config.specs.declared.config.Config.{Config}
-use Rattle.ospf_headline.specs.World.{IsNewWorld}
+use Rattle.ospf_world.specs.World.{IsNewWorld}
 use Rattle.ospf_base.specs.declared.event.event.WorldFault.{WorldFault}
 use Rattle.ospf_base.specs.declared.event.event.WorldFault.TheVariants as fault
 use Rattle.ospf_router.proofs.AreaStep.StateFacts.{slice_get-append_cases}
-use Rattle.ospf_headline.specs.Slots.{SlotValue}
+use Rattle.ospf_world.specs.Slots.{SlotValue}
 use Rattle.ospf_config.specs.Configs.{ShareRouter}
 use Rattle.ospf_world.specs.Worlds.{AddsConfig, AreSlotPlaces, Opens, WorldValue, is_slot_of, new_world, place_from, place_in, place_of, stopped_slot, world_of}
 use Rattle.ospf_world.proofs.PlaceFacts.{IsAt, placed}

@@ -11,8 +11,8 @@ use Rattle.ospf_config.specs.declared.address.InterfaceAddress.{InterfaceAddress
 use Rattle.ospf_config.specs.declared.interface.Interface.{Interface}
 use Rattle.ospf_base.specs.declared.event.event.WorldEvent.{WorldEvent}
 use Rattle.ospf_base.specs.declared.event.event.WorldEvent.TheVariants.{Deliver}
-use Rattle.ospf_headline.specs.declared.logs.Datagram.{Datagram}
-use Rattle.ospf_headline.specs.Slots.{SlotValue}
+use Rattle.ospf_world.specs.declared.logs.Datagram.{Datagram}
+use Rattle.ospf_world.specs.Slots.{SlotValue}
 use Rattle.ospf_world.specs.Networks.{AreNetworks, places_on_network, links_from, links_on, router_links}
 use Rattle.ospf_world.specs.Offers.{address_at, is_for, is_offered, offers_to}
 use Rattle.ospf_world.specs.Rounds.{is_offered_to, is_sender, offer_at, offer_on, offered_to, offers_at, offers_by, offers_of, sending_address}

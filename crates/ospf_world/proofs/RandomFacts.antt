@@ -6,14 +6,14 @@ use Rattle.std.proofs.lemmas.Option.{slice_get-get_or}
 use Rattle.ospf_world.specs.Draws.{chosen_of, drawn, drawn_for, drawn_in, drawn_past, words_from}
 use Rattle.ospf_world.specs.declared.chance.Words.{Words}
 use Rattle.ospf_config.specs.declared.config.Config.{Config}
-use Rattle.ospf_headline.specs.declared.logs.Datagram.{Datagram}
-use Rattle.ospf_headline.specs.Runs.{is_memory}
-use Rattle.ospf_headline.proofs.RunFacts.{Runs-append}
-use Rattle.ospf_headline.specs.Headline.{IsReached}
-use Rattle.ospf_headline.specs.World.{Member, RunsEvents, World}
+use Rattle.ospf_world.specs.declared.logs.Datagram.{Datagram}
+use Rattle.ospf_world.specs.Runs.{is_memory}
+use Rattle.ospf_world.proofs.RunsFacts.{Runs-append}
+use Rattle.ospf_world.specs.Headline.{IsReached}
+use Rattle.ospf_world.specs.World.{Member, RunsEvents, World}
 use Rattle.ospf_base.specs.declared.event.event.WorldEvent.{WorldEvent}
 use Rattle.ospf_base.specs.declared.event.event.WorldFault.{WorldFault}
-use Rattle.ospf_headline.specs.Slots.{SlotValue, member_of}
+use Rattle.ospf_world.specs.Slots.{SlotValue, member_of}
 use Rattle.ospf_router.specs.Steps.{is_dropped}
 use Rattle.ospf_world.specs.Does.{Does}
 use Rattle.ospf_world.specs.Random.{GoesOnWith, IsRandom, Meets}

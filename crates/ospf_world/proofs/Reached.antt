@@ -4,15 +4,15 @@ use Rattle.std.proofs.lemmas.Option.{none-some, same_Some}
 use Rattle.ospf_base.specs.declared.event.event.WorldEvent.{WorldEvent}
 use Rattle.ospf_base.specs.declared.event.event.WorldFault.{WorldFault}
 use Rattle.ospf_base.specs.declared.event.event.WorldFault.TheVariants as fault
-use Rattle.ospf_headline.specs.Logs.{LogsValue}
-use Rattle.ospf_headline.specs.Runs.{GoesOver, IsRun, RunsOn}
-use Rattle.ospf_headline.specs.Slots.{SlotGoesOn, SlotSteps, SlotTakes, SlotValue, fed_by}
-use Rattle.ospf_headline.specs.World.{Running}
-use Rattle.ospf_laws.proofs.Accounted.{OfExact}
-use Rattle.ospf_laws.proofs.All.{all_laws}
-use Rattle.ospf_laws.specs.Laws.{KeepsLaws}
+use Rattle.ospf_world.specs.Logs.{LogsValue}
+use Rattle.ospf_world.specs.Runs.{GoesOver, IsRun, RunsOn}
+use Rattle.ospf_world.specs.Slots.{SlotGoesOn, SlotSteps, SlotTakes, SlotValue, fed_by}
+use Rattle.ospf_world.specs.World.{Running}
+use Rattle.ospf_router.proofs.StepLaws.Accounted.{OfExact}
+use Rattle.ospf_router.proofs.StepLaws.All.{all_laws}
+use Rattle.ospf_router.specs.Laws.{KeepsLaws}
 use Rattle.ospf_world.specs.OnTheWay.{DoesAndKeeps, KeepsAt, KeepsBetween, KeepsOnTheWay, OfEachWorld, SlotKeeps}
-use Rattle.ospf_laws.specs.Stepped.{Stepped}
+use Rattle.ospf_router.specs.Stepped.{Stepped}
 use Rattle.ospf_router.specs.AreaStep.Step.{Event}
 use Rattle.ospf_world.proofs.ExactFacts.{does_at}
 use Rattle.ospf_world.specs.Does.{Does}

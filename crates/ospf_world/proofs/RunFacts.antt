@@ -2,13 +2,13 @@
 use Rattle.std.proofs.Common.{◌≡◌, ◌++◌, ◌+◌, ◌<◌, ℕ, List, [], ◌∷◌, take, get_or, length, refl, sym, ap, subst, ◌∙◌, Result, Ok, Err, Bool, true, false, ◌≤◌, zero, suc, arith}
 use Rattle.std.proofs.lemmas.List.{take_more}
 use Rattle.std.proofs.lemmas.Option.{slice_get-get_or}
-use Rattle.ospf_headline.specs.Headline.{Headline, IsReached}
-use Rattle.ospf_headline.specs.Runs.{EventRule, GoesOver, IsRun, RunsOn, is_memory}
-use Rattle.ospf_headline.specs.World.{Comes, RunsEvents, World}
+use Rattle.ospf_world.specs.Headline.{Headline, IsReached}
+use Rattle.ospf_world.specs.Runs.{EventRule, GoesOver, IsRun, RunsOn, is_memory}
+use Rattle.ospf_world.specs.World.{Comes, RunsEvents, World}
 use Rattle.ospf_base.specs.declared.event.event.WorldEvent.{WorldEvent}
 use Rattle.ospf_base.specs.declared.event.event.WorldFault.{WorldFault}
 use Rattle.ospf_base.specs.declared.event.event.WorldFault.TheVariants as fault
-use Rattle.ospf_headline.proofs.RunFacts.{Runs-append}
+use Rattle.ospf_world.proofs.RunsFacts.{Runs-append}
 use Rattle.ospf_router.specs.Steps.{is_dropped}
 use Rattle.ospf_world.specs.Does.{Does}
 use Rattle.ospf_world.specs.Worlds.{SameSettings, WorldValue, world_of}

@@ -80,6 +80,7 @@ down_link = record {
     retransmit = 5;
     transmit_delay = 1;
     mtu = 1500;
+    suppressed = false;
     cost_not_zero = lit< tt;
     retransmit_not_zero = lit< tt;
     transmit_delay_at_most = lit≤ tt;
@@ -97,7 +98,7 @@ begun = area_of config 1 lowest_number (down_link ∷ [])
 
 pub is_area : IsAreaOf config 1 lowest_number begun
 is_area = record {
-  links = (record { iface = refl; cost = refl; retransmit = refl; transmit_delay = refl; mtu = refl; neighbours = refl; delayed = refl; elects = refl }, tt);
+  links = (record { iface = refl; cost = refl; retransmit = refl; transmit_delay = refl; mtu = refl; suppressed = refl; neighbours = refl; delayed = refl; elects = refl }, tt);
   rest = refl;
 }
 

@@ -3,16 +3,16 @@ use Rattle.std.proofs.Common.{Bool, ◌≡◌, ◌++◌, ℕ, List, [], ◌∷�
 use Rattle.std.specs.Prelude.{if◌then◌else◌}
 use Rattle.std.proofs.lemmas.List.{append-nil}
 use Rattle.ospf_base.specs.declared.ids.RouterId.{RouterId}
-use Rattle.ospf_headline.specs.Headline.{IsReached}
-use Rattle.ospf_headline.specs.Sound.{IsSoundAcknowledgement}
-use Rattle.ospf_headline.specs.World.{Comes, Happens, World}
+use Rattle.ospf_world.specs.Headline.{IsReached}
+use Rattle.ospf_world.specs.Sound.{IsSoundAcknowledgement}
+use Rattle.ospf_world.specs.World.{Comes, Happens, World}
 use Rattle.ospf_base.specs.declared.event.event.WorldEvent.{WorldEvent}
 use Rattle.ospf_base.specs.declared.event.event.WorldEvent.TheVariants.{Start, Stop, Tick, LinkUp, LinkDown, Deliver}
 use Rattle.ospf_base.specs.declared.event.event.WorldFault.{WorldFault}
 use Rattle.ospf_base.specs.declared.event.event.WorldFault.TheVariants as fault
-use Rattle.ospf_headline.specs.declared.logs.Datagram.{Datagram}
-use Rattle.ospf_headline.specs.Logs.{LogsValue}
-use Rattle.ospf_headline.specs.Slots.{SlotSteps, SlotValue, member_of, refused_by}
+use Rattle.ospf_world.specs.declared.logs.Datagram.{Datagram}
+use Rattle.ospf_world.specs.Logs.{LogsValue}
+use Rattle.ospf_world.specs.Slots.{SlotSteps, SlotValue, member_of, refused_by}
 use Rattle.ospf_router.specs.Steps.{is_dropped}
 use Rattle.ospf_world.specs.Sounds.{IsSoundBetween}
 use Rattle.ospf_world.specs.Ticks.{TicksBy, TicksOn, ticked_by, ticked_if}

@@ -1,6 +1,6 @@
 -- What a watch is told, as events go on.
 use Rattle.std.proofs.Common.{◌≡◌, ℕ, List, [], ◌∷◌, Result, Ok, Err, sym, subst, take}
-use Rattle.ospf_headline.specs.Runs.{GoesOver, IsRun, RunsOn}
+use Rattle.ospf_world.specs.Runs.{GoesOver, IsRun, RunsOn}
 use Rattle.ospf_base.specs.declared.event.event.WorldEvent.{WorldEvent}
 use Rattle.ospf_base.specs.declared.event.event.WorldFault.{WorldFault}
 use Rattle.ospf_base.specs.declared.event.event.WorldFault.TheVariants as fault

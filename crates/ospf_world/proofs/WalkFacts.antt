@@ -4,15 +4,15 @@ use Rattle.ospf_base.specs.declared.ids.RouterId.{RouterId}
 use Rattle.std.specs.Prelude.{option_and_then}
 use Rattle.ospf_graph.specs.Walk.{IsBest, IsLinkCost, IsNext}
 use Rattle.ospf_graph.specs.declared.hop.NextHop.{NextHop}
-use Rattle.ospf_headline.specs.Walks.{ChosenWalksArrive, adverts, IsWalkOf, WalksBy, WorldWalk, choice_of, other_choices}
-use Rattle.ospf_headline.specs.World.{Member, Running, World, router_at}
-use Rattle.ospf_headline.specs.declared.walk.WalkEnd.{WalkEnd}
-use Rattle.ospf_headline.specs.declared.walk.WalkEnd.TheVariants as ends
+use Rattle.ospf_world.specs.Walks.{ChosenWalksArrive, adverts, IsWalkOf, WalksBy, WorldWalk, choice_of, other_choices}
+use Rattle.ospf_world.specs.World.{Member, Running, World, router_at}
+use Rattle.ospf_world.specs.declared.walk.WalkEnd.{WalkEnd}
+use Rattle.ospf_world.specs.declared.walk.WalkEnd.TheVariants as ends
 use Rattle.ospf_world.specs.declared.walk.Leg.{Leg}
 use Rattle.ospf_world.specs.declared.walk.Leg.TheVariants.{Ends, Goes}
-use Rattle.ospf_world.specs.Walks.{IsLeg, LegsOver}
+use Rattle.ospf_world.specs.Legs.{IsLeg, LegsOver}
 use Rattle.std.proofs.lemmas.List.{length-map}
-use Rattle.ospf_headline.specs.Slots.{SlotValue, member_of}
+use Rattle.ospf_world.specs.Slots.{SlotValue, member_of}
 use Rattle.ospf_world.specs.Worlds.{WorldValue, world_of}
 use Rattle.ospf_world.proofs.ListFacts.{none_left, one_left}
 

@@ -7,11 +7,11 @@ use Rattle.ospf_area.specs.State.{AreaValue}
 use Rattle.ospf_base.specs.Addresses.{all_spf_routers}
 use Rattle.ospf_base.specs.Keys.{same_key}
 use Rattle.ospf_graph.specs.EdgeLists.Listed.{advertisements_of}
-use Rattle.ospf_headline.specs.Runs.{GoesOver, RunsOn}
-use Rattle.ospf_headline.specs.World.{HasItsTable, Running, router_at}
-use Rattle.ospf_headline.specs.Logs.{run_of}
-use Rattle.ospf_headline.specs.declared.logs.Datagram.{Datagram}
-use Rattle.ospf_headline.specs.declared.logs.Run.{Run}
+use Rattle.ospf_world.specs.Runs.{GoesOver, RunsOn}
+use Rattle.ospf_world.specs.World.{HasItsTable, Running, router_at}
+use Rattle.ospf_world.specs.Logs.{run_of}
+use Rattle.ospf_world.specs.declared.logs.Datagram.{Datagram}
+use Rattle.ospf_world.specs.declared.logs.Run.{Run}
 use Rattle.ospf_base.specs.declared.event.event.WorldEvent.TheVariants.{Start, Tick, LinkUp}
 use Rattle.ospf_neighbour.specs.Interface.Hello.{own_hello}
 use Rattle.ospf_router.specs.AreaStep.Counts.{none_dropped_on}
@@ -23,10 +23,10 @@ use Rattle.ospf_packet.proofs.RoundTrip.{read_again}
 use Rattle.ospf_packet.specs.Meaning.{packet_bytes}
 use Rattle.ospf_router.specs.Routers.{RouterValue}
 use Rattle.ospf_router.specs.Starts.{IsStarted}
-use Rattle.ospf_headline.proofs.StartFacts.{begins}
-use Rattle.ospf_headline.specs.Logs.{LogsValue, held_by, holdings_by, issued_in, sent_as_datagram}
-use Rattle.ospf_headline.specs.Running.{StartsAs}
-use Rattle.ospf_headline.specs.Slots.{SlotGoesOn, SlotSteps, SlotTakes, SlotValue}
+use Rattle.ospf_world.proofs.StartFacts.{begins}
+use Rattle.ospf_world.specs.Logs.{LogsValue, held_by, holdings_by, issued_in, sent_as_datagram}
+use Rattle.ospf_world.specs.Running.{StartsAs}
+use Rattle.ospf_world.specs.Slots.{SlotGoesOn, SlotSteps, SlotTakes, SlotValue}
 use Rattle.ospf_area.specs.Updates.Removal.{lowest_number}
 use Rattle.ospf_world.specs.Does.{Does}
 use Rattle.ospf_world.specs.Worlds.{WorldValue, new_world, no_logs}

@@ -3,8 +3,8 @@ use Rattle.std.proofs.Common.{Bool, ◌≡◌, ℕ, zero, suc, List, [], ◌∷�
 use Rattle.std.proofs.lemmas.Option.{same_Some}
 use Rattle.ospf_base.specs.declared.ids.RouterId.{RouterId}
 use Rattle.ospf_config.specs.declared.config.Config.{Config}
-use Rattle.ospf_headline.specs.World.{RouterBecomes, Member, member, router_at, settings}
-use Rattle.ospf_headline.specs.Slots.{SlotValue, member_of}
+use Rattle.ospf_world.specs.World.{RouterBecomes, Member, member, router_at, settings}
+use Rattle.ospf_world.specs.Slots.{SlotValue, member_of}
 use Rattle.ospf_world.specs.Worlds.{WorldValue, config_of, is_slot_of, world_of}
 use Rattle.ospf_world.proofs.PlaceFacts.{IsAt, find_other, find_set, slot_at}
 

@@ -4,7 +4,7 @@ use Rattle.ospf_base.specs.declared.ids.RouterId.{RouterId}
 use Rattle.ospf_base.specs.declared.event.event.WorldEvent.{WorldEvent}
 use Rattle.ospf_base.specs.declared.event.event.WorldFault.{WorldFault}
 use Rattle.ospf_base.specs.declared.event.event.WorldFault.TheVariants as fault
-use Rattle.ospf_headline.specs.Slots.{SlotSteps, SlotValue}
+use Rattle.ospf_world.specs.Slots.{SlotSteps, SlotValue}
 use Rattle.ospf_base.specs.Events.Events.{router_in}
 use Rattle.ospf_world.specs.Ticks.{ticked_by}
 use Rattle.ospf_world.specs.Worlds.{WorldValue, place_of}

@@ -5,7 +5,7 @@ use Rattle.rand_pcg.specs.Pcg.{pcg32}
 use Rattle.ospf_base.specs.declared.ids.RouterId.{RouterId}
 use Rattle.ospf_area.specs.Updates.Removal.{lowest_number}
 use Rattle.ospf_world.specs.declared.chance.Words.{Words}
-use Rattle.ospf_headline.specs.World.{Member, World}
+use Rattle.ospf_world.specs.World.{Member, World}
 use Rattle.ospf_base.specs.declared.event.event.WorldEvent.{WorldEvent}
 use Rattle.ospf_base.specs.declared.event.event.WorldEvent.TheVariants.{Start, Stop, Tick, LinkUp, LinkDown, Deliver}
 

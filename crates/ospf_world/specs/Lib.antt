@@ -1,3 +1,12 @@
+pub mod Listings
+pub mod World
+pub mod Runs
+pub mod Sound
+pub mod Walks
+pub mod Headline
+pub mod Logs
+pub mod Running
+pub mod Slots
 pub mod Networks
 pub mod Offers
 pub mod Draws
@@ -10,5 +19,5 @@ pub mod OnTheWay
 pub mod Watching
 pub mod Random
 pub mod Rounds
-pub mod Walks
+pub mod Legs
 pub mod Works

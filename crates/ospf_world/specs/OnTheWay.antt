@@ -4,11 +4,11 @@ use Rattle.ospf_area.specs.Outputs.{OutputsValue}
 use Rattle.ospf_base.specs.Events.Events.{router_in}
 use Rattle.ospf_base.specs.declared.event.event.WorldEvent.{WorldEvent}
 use Rattle.ospf_base.specs.declared.event.event.WorldFault.{WorldFault}
-use Rattle.ospf_headline.specs.Logs.{LogsTake, LogsValue}
-use Rattle.ospf_headline.specs.Slots.{SlotValue, fed_by}
-use Rattle.ospf_headline.specs.World.{Running}
-use Rattle.ospf_laws.specs.Laws.{KeepsLaws}
-use Rattle.ospf_laws.specs.Stepped.{Stepped}
+use Rattle.ospf_world.specs.Logs.{LogsTake, LogsValue}
+use Rattle.ospf_world.specs.Slots.{SlotValue, fed_by}
+use Rattle.ospf_world.specs.World.{Running}
+use Rattle.ospf_router.specs.Laws.{KeepsLaws}
+use Rattle.ospf_router.specs.Stepped.{Stepped}
 use Rattle.ospf_router.specs.AreaStep.Step.{Event}
 use Rattle.ospf_router.specs.declared.step.dropped.Dropped.{Dropped}
 use Rattle.ospf_world.specs.Does.{Changes, Does}

@@ -3,7 +3,7 @@ use Rattle.std.specs.Prelude.{◌≡◌, ℕ, zero, suc, true, false, Option, No
 use Rattle.ospf_world.specs.Draws.{drawn, words_from}
 use Rattle.ospf_base.specs.declared.event.event.WorldEvent.{WorldEvent}
 use Rattle.ospf_base.specs.declared.event.event.WorldFault.{WorldFault}
-use Rattle.ospf_headline.specs.Runs.{is_memory}
+use Rattle.ospf_world.specs.Runs.{is_memory}
 use Rattle.ospf_world.specs.Does.{Does}
 use Rattle.ospf_world.specs.Worlds.{WorldValue, world_of}
 use Rattle.rand_pcg.specs.Lcg.{Lcg}

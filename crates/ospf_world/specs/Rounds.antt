@@ -3,13 +3,13 @@ use Rattle.std.specs.Prelude.{◌≡◌, ◌≢◌, ◌==◌, ◌+◌, ◌&&◌,
 use Rattle.std.specs.List.{flat_map}
 use Rattle.ospf_world.specs.Offers.{address_at, is_offered, offers_to}
 use Rattle.ospf_config.specs.declared.address.InterfaceAddress.{InterfaceAddress}
-use Rattle.ospf_headline.specs.Runs.{IsRun}
+use Rattle.ospf_world.specs.Runs.{IsRun}
 use Rattle.ospf_base.specs.declared.event.event.WorldEvent.{WorldEvent}
 use Rattle.ospf_base.specs.declared.event.event.WorldEvent.TheVariants.{Deliver, Tick}
 use Rattle.ospf_base.specs.declared.event.event.WorldFault.{WorldFault}
 use Rattle.ospf_base.specs.declared.event.event.WorldFault.TheVariants as fault
-use Rattle.ospf_headline.specs.declared.logs.Datagram.{Datagram}
-use Rattle.ospf_headline.specs.Slots.{SlotValue}
+use Rattle.ospf_world.specs.declared.logs.Datagram.{Datagram}
+use Rattle.ospf_world.specs.Slots.{SlotValue}
 use Rattle.ospf_world.specs.Does.{Does}
 use Rattle.ospf_world.specs.Worlds.{WorldValue}
 use Rattle.ospf_world.specs.declared.networks.LinkPlace.{LinkPlace}

@@ -1,7 +1,7 @@
 -- Sound acknowledgement from one moment of a world to another.
 use Rattle.std.specs.Prelude.{List}
-use Rattle.ospf_headline.specs.Sound.{IsSoundAcknowledgement}
-use Rattle.ospf_headline.specs.World.{Happens, RunsEvents, World}
+use Rattle.ospf_world.specs.Sound.{IsSoundAcknowledgement}
+use Rattle.ospf_world.specs.World.{Happens, RunsEvents, World}
 use Rattle.ospf_base.specs.declared.event.event.WorldEvent.{WorldEvent}
 use Rattle.ospf_router.specs.Steps.{is_dropped}
 

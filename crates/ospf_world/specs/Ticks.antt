@@ -1,6 +1,6 @@
 -- The ticks that the routers of a world took.
 use Rattle.std.specs.Prelude.{◌≡◌, ◌++◌, ℕ, List, [], ◌∷◌, Result, Ok, Err, length}
-use Rattle.ospf_headline.specs.World.{Comes, World}
+use Rattle.ospf_world.specs.World.{Comes, World}
 use Rattle.ospf_base.specs.declared.event.event.WorldEvent.{WorldEvent}
 use Rattle.ospf_base.specs.declared.event.event.WorldEvent.TheVariants.{Start, Stop, Tick, LinkUp, LinkDown, Deliver}
 use Rattle.ospf_base.specs.declared.event.event.WorldFault.{WorldFault}

@@ -3,11 +3,11 @@ use Rattle.std.specs.Prelude.{◌≡◌, ℕ, ℤ, [], ◌∷◌, Some, Contains
 use Rattle.ospf_area.specs.State.{LinkValue}
 use Rattle.ospf_base.specs.declared.ids.RouterId.{RouterId}
 use Rattle.ospf_config.specs.declared.config.Config.{Config}
-use Rattle.ospf_headline.specs.Runs.{RunsOn}
-use Rattle.ospf_headline.specs.World.{Running, router_at}
+use Rattle.ospf_world.specs.Runs.{RunsOn}
+use Rattle.ospf_world.specs.World.{Running, router_at}
 use Rattle.ospf_base.specs.declared.event.event.WorldEvent.TheVariants.{Start, Tick, LinkUp}
-use Rattle.ospf_headline.specs.declared.logs.Datagram.{Datagram}
-use Rattle.ospf_headline.specs.declared.logs.Issued.{Issued}
+use Rattle.ospf_world.specs.declared.logs.Datagram.{Datagram}
+use Rattle.ospf_world.specs.declared.logs.Issued.{Issued}
 use Rattle.ospf_neighbour.specs.Interface.Machine.{is_down}
 use Rattle.ospf_router.specs.AreaStep.Words.{HasCopy}
 use Rattle.ospf_lsa.specs.Lsa.{IsLsa, key_of}

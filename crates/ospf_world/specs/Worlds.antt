@@ -6,14 +6,14 @@ use Rattle.std.specs.Ordering.{nat_cmp}
 use Rattle.ospf_base.specs.declared.ids.RouterId.{RouterId}
 use Rattle.ospf_config.specs.Configs.{ShareRouter}
 use Rattle.ospf_config.specs.declared.config.Config.{Config}
-use Rattle.ospf_headline.specs.World.{Member, World, member}
+use Rattle.ospf_world.specs.World.{Member, World, member}
 use Rattle.ospf_base.specs.declared.event.event.WorldFault.{WorldFault}
 use Rattle.ospf_base.specs.declared.event.event.WorldFault.TheVariants as fault
-use Rattle.ospf_headline.specs.Logs.{LogsValue}
-use Rattle.ospf_headline.specs.Slots.{member_of}
+use Rattle.ospf_world.specs.Logs.{LogsValue}
+use Rattle.ospf_world.specs.Slots.{member_of}
 use Rattle.ospf_world.specs.declared.ticks.Ticked.{Ticked}
 pub use Rattle.ospf_router.specs.Routers.{RouterValue, listing_of}
-pub use Rattle.ospf_headline.specs.Slots.{IsLent, SlotValue}
+pub use Rattle.ospf_world.specs.Slots.{IsLent, SlotValue}
 
 -- the routers in the order of their configurations, the logs, the ticks that they took, and how
 -- many datagrams the rounds have offered

@@ -5,9 +5,9 @@ ghost use Rattle.ospf_config.specs.Conflicts.{network_part};
 ghost use Rattle.ospf_world.specs.Networks.{AreNetworks, places_on_network, router_links};
 ghost use Rattle.ospf_world.specs.Worlds.{config_of};
 
+use crate::slot::Slot;
 use ospf_base::mask_of;
 use ospf_config::{Config, InterfaceAddress};
-use ospf_headline::Slot;
 use std::alloc::{AllocError, Global};
 use std::collections::BTreeMap;
 

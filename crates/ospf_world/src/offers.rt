@@ -5,11 +5,12 @@ ghost use Rattle.std.specs.List.{flat_map};
 ghost use Rattle.ospf_world.specs.Offers.{address_at, is_for, is_offered, share_prefix};
 ghost use Rattle.ospf_world.specs.Rounds.{is_offered_to, offer_at, offer_on};
 
+use crate::logs::Datagram;
 use crate::networks::LinkPlace;
+use crate::slot::Slot;
 use ospf_base::event::WorldEvent;
 use ospf_base::{ALL_D_ROUTERS, ALL_SPF_ROUTERS, Addr, mask_of};
 use ospf_config::{Config, InterfaceAddress};
-use ospf_headline::{Datagram, Slot};
 use std::alloc::{AllocError, Global};
 
 /// The address of the interface of a link, if the configuration has that link.

@@ -5,13 +5,14 @@ ghost use Rattle.ospf_world.specs.Does.{Does};
 ghost use Rattle.ospf_world.specs.Rounds.{offers_of, sending_address};
 ghost use Rattle.ospf_world.specs.Worlds.{AddsConfig, Lends, LendsSlot, Opens, is_slot_of, place_in, place_of, world_of};
 
+use crate::logs::{Datagram, Logs};
 use crate::networks::{Networks, links_at, network_of, networks_of};
 use crate::offers::{address_of, offers_at};
+use crate::slot::Slot;
 use crate::ticks::{Ticked, step_slot};
 use ospf_base::RouterId;
 use ospf_base::event::{WorldEvent, WorldFault};
 use ospf_config::{Config, InterfaceAddress};
-use ospf_headline::{Datagram, Logs, Slot};
 use ospf_router::Router;
 use std::alloc::{AllocError, Global};
 use std::collections::BTreeMap;

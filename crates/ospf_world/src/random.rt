@@ -2,7 +2,7 @@
 
 ghost use Rattle.std.specs.Prelude.{◌≡◌, ◌≤◌, ℕ, OnErr, OnOk, Some};
 ghost use Rattle.ospf_world.specs.Draws.{drawn, drawn_past};
-ghost use Rattle.ospf_headline.specs.Headline.{Headline, IsReached};
+ghost use Rattle.ospf_world.specs.Headline.{Headline, IsReached};
 ghost use Rattle.ospf_router.specs.Steps.{is_dropped};
 ghost use Rattle.ospf_world.specs.Exact.{IsReachedExactly};
 ghost use Rattle.ospf_world.specs.OnTheWay.{KeepsBetween};
@@ -15,10 +15,10 @@ ghost use Rattle.rand_pcg.specs.Lcg.{increment_of, started};
 ghost use Rattle.rand_pcg.specs.Pcg.{multiplier_64};
 
 use crate::chance::{Words, chosen, draw, drawn_at};
+use crate::laws::{headline, soundness};
 use crate::watch::{EventWatch, Unwatched};
 use crate::world::{World, is_memory};
 use ospf_base::event::{WorldEvent, WorldFault};
-use ospf_headline::{headline, soundness};
 use rand_pcg::Lcg64Xsh32;
 use std::alloc::Global;
 

@@ -1,7 +1,7 @@
 //! Rounds: a tick of each router that runs, and then the datagrams that no round has offered.
 
 ghost use Rattle.std.specs.Prelude.{◌≡◌, ◌≢◌, ◌++◌, [], IfOk, OnErr, OnOk, option_map};
-ghost use Rattle.ospf_headline.specs.Headline.{Headline, IsReached};
+ghost use Rattle.ospf_world.specs.Headline.{Headline, IsReached};
 ghost use Rattle.ospf_router.specs.Steps.{is_dropped};
 ghost use Rattle.ospf_world.specs.Exact.{IsReachedExactly};
 ghost use Rattle.ospf_world.specs.OnTheWay.{KeepsBetween};
@@ -11,10 +11,11 @@ ghost use Rattle.ospf_world.specs.Ticks.{TicksGoOn};
 ghost use Rattle.ospf_world.specs.Watching.{Told};
 ghost use Rattle.ospf_world.specs.Worlds.{world_of};
 
+use crate::laws::{headline, runs_lead_on, soundness};
+use crate::slot::Slot;
 use crate::watch::{EventWatch, Unwatched};
 use crate::world::World;
 use ospf_base::event::{WorldEvent, WorldFault};
-use ospf_headline::{Slot, headline, runs_lead_on, soundness};
 use std::alloc::{AllocError, Global};
 
 /// How many datagrams a round offers at most, where nothing else is asked for.

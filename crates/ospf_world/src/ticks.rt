@@ -3,12 +3,13 @@
 ghost use Rattle.std.specs.Prelude.{◌≡◌, ◌++◌, IfNone, IfSome, false, is_some, length, true};
 ghost use Rattle.ospf_base.specs.declared.ids.RouterId.{RouterId};
 ghost use Rattle.ospf_base.specs.declared.event.event.WorldEvent.TheVariants.{Tick};
-ghost use Rattle.ospf_headline.specs.Slots.{SlotSteps};
+ghost use Rattle.ospf_world.specs.Slots.{SlotSteps};
 ghost use Rattle.ospf_world.specs.Ticks.{ticked_by};
 
+use crate::logs::Logs;
+use crate::slot::Slot;
 use ospf_base::RouterId;
 use ospf_base::event::{WorldEvent, WorldFault};
-use ospf_headline::{Logs, Slot};
 use std::alloc::Global;
 
 /// A tick that a router took, and how many datagrams had been sent before it.

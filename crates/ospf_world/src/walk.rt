@@ -4,20 +4,20 @@ ghost use Rattle.std.specs.Prelude.{◌≡◌, ◌≢◌, ◌<◌, ◌%◌, ℕ,
 ghost use Rattle.ospf_graph.specs.EdgeLists.Listed.{advertisements_of};
 ghost use Rattle.ospf_graph.specs.Walk.{HasLinkFor, IsNext};
 ghost use Rattle.ospf_graph.specs.declared.hop.NextHop.TheVariants as hops;
-ghost use Rattle.ospf_headline.specs.Sound.{NoCollision};
-ghost use Rattle.ospf_headline.specs.Walks.{AllListedAgree, AllReachedAgree, WorldWalk, choice_of};
-ghost use Rattle.ospf_headline.specs.World.{Running, member, router_at};
-ghost use Rattle.ospf_headline.specs.declared.walk.WalkEnd.TheVariants as ends;
+ghost use Rattle.ospf_world.specs.Sound.{NoCollision};
+ghost use Rattle.ospf_world.specs.Walks.{AllListedAgree, AllReachedAgree, WorldWalk, choice_of};
+ghost use Rattle.ospf_world.specs.World.{Running, member, router_at};
+ghost use Rattle.ospf_world.specs.declared.walk.WalkEnd.TheVariants as ends;
 ghost use Rattle.ospf_router.specs.Routers.{listing_of};
-ghost use Rattle.ospf_world.specs.Walks.{IsLeg, LegsOver, Walks};
+ghost use Rattle.ospf_world.specs.Legs.{IsLeg, LegsOver, Walks};
 ghost use Rattle.ospf_world.specs.Worlds.{world_of};
 
+use crate::laws::headline;
 use crate::world::World;
 use ospf_base::event::WorldFault;
 use ospf_base::{Addr, RouterId};
 use ospf_graph::edges::link_cost;
 use ospf_graph::{NextHop, Route};
-use ospf_headline::{WalkEnd, headline};
 use ospf_router::Router;
 use std::alloc::{AllocError, Global};
 
@@ -27,6 +27,19 @@ pub struct Walk {
     pub routers: Vec<RouterId>,
     pub cost: u128,
     pub end: WalkEnd,
+}
+
+/// How a walk ends.
+#[derive(Clone, Copy, Debug, PartialEq, Eq)]
+pub enum WalkEnd {
+    /// It has reached a network or a stub of the last router's own.
+    Arrived,
+    /// The last router has no route.
+    NoRoute,
+    /// The last router does not run.
+    NotRunning,
+    /// It has taken as many hops as the world has routers.
+    Turns,
 }
 
 /// What a walk does at one router.

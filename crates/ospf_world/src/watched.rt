@@ -1,10 +1,10 @@
 //! Runs and rounds that are watched.
 
 ghost use Rattle.std.specs.Prelude.{◌≡◌, ◌++◌, length};
-ghost use Rattle.ospf_headline.specs.Headline.{Headline, IsReached};
-ghost use Rattle.ospf_headline.specs.Runs.{IsRun};
-ghost use Rattle.ospf_headline.specs.Sound.{IsSoundAcknowledgement};
-ghost use Rattle.ospf_headline.specs.World.{Comes};
+ghost use Rattle.ospf_world.specs.Headline.{Headline, IsReached};
+ghost use Rattle.ospf_world.specs.Runs.{IsRun};
+ghost use Rattle.ospf_world.specs.Sound.{IsSoundAcknowledgement};
+ghost use Rattle.ospf_world.specs.World.{Comes};
 ghost use Rattle.ospf_router.specs.Steps.{is_dropped};
 ghost use Rattle.ospf_world.specs.Does.{Does};
 ghost use Rattle.ospf_world.specs.Exact.{IsReachedExactly};
@@ -14,10 +14,10 @@ ghost use Rattle.ospf_world.specs.Ticks.{TicksGoOn, ticked_by};
 ghost use Rattle.ospf_world.specs.Watching.{DoesTold};
 ghost use Rattle.ospf_world.specs.Worlds.{SameSettings, world_of};
 
+use crate::laws::{headline, runs_lead_on, soundness};
 use crate::watch::EventWatch;
 use crate::world::{World, is_memory};
 use ospf_base::event::{WorldEvent, WorldFault};
-use ospf_headline::{headline, runs_lead_on, soundness};
 use std::alloc::Global;
 
 impl World {

@@ -1,10 +1,10 @@
 //! Worlds.
 
 ghost use Rattle.std.specs.Prelude.{◌≡◌, ◌<◌, ◌+◌, ◌++◌, IfOk, IfSome, None, Some, find, length};
-ghost use Rattle.ospf_headline.specs.Headline.{Headline, IsReached};
-ghost use Rattle.ospf_headline.specs.Runs.{IsRun, is_memory};
-ghost use Rattle.ospf_headline.specs.Sound.{IsSoundAcknowledgement};
-ghost use Rattle.ospf_headline.specs.World.{Comes};
+ghost use Rattle.ospf_world.specs.Headline.{Headline, IsReached};
+ghost use Rattle.ospf_world.specs.Runs.{IsRun, is_memory};
+ghost use Rattle.ospf_world.specs.Sound.{IsSoundAcknowledgement};
+ghost use Rattle.ospf_world.specs.World.{Comes};
 ghost use Rattle.ospf_router.specs.Steps.{is_dropped};
 ghost use Rattle.ospf_world.specs.Does.{Does};
 ghost use Rattle.ospf_world.specs.Exact.{IsReachedExactly};
@@ -14,13 +14,15 @@ ghost use Rattle.ospf_world.specs.Sounds.{IsSoundBetween};
 ghost use Rattle.ospf_world.specs.Ticks.{TicksGoOn, ticked_by};
 ghost use Rattle.ospf_world.specs.Worlds.{Lends, Opens, SameSettings, is_slot_of, place_of, world_of};
 
+use crate::laws::{headline, soundness};
+use crate::logs::{Datagram, Holding, Issued};
 use crate::parts::Parts;
+use crate::slot::Slot;
 use crate::ticks::Ticked;
 use crate::watch::Unwatched;
 use ospf_base::RouterId;
 use ospf_base::event::{WorldEvent, WorldFault};
 use ospf_config::{Config, InterfaceAddress};
-use ospf_headline::{Datagram, Holding, Issued, Slot, headline, soundness};
 use ospf_router::Router;
 use std::alloc::{AllocError, Global};
 use std::marker::Model;

@@ -1,6 +1,6 @@
 //! The laws of a step, of each world.
 
-ghost use Rattle.ospf_laws.specs.Laws.{KeepsLaws};
+ghost use Rattle.ospf_router.specs.Laws.{KeepsLaws};
 ghost use Rattle.ospf_world.specs.OnTheWay.{OfEachWorld};
 
 /// Each step that a router took on the way to a world keeps all nine laws. That a `World` was

@@ -2,8 +2,8 @@ use Rattle.std.proofs.Common.{◌≡◌, ◌∷◌, [], Ok, false, length, take,
 use Rattle.std.specs.Result.{is_ok}
 use Rattle.std.proofs.lemmas.List.{take_at}
 use Rattle.ospf_base.specs.declared.event.event.WorldFault.TheVariants as fault
-use Rattle.ospf_headline.specs.Slots.{SlotSteps, SlotTakes}
-use Rattle.ospf_headline.specs.World.{WantsRoom}
+use Rattle.ospf_world.specs.Slots.{SlotSteps, SlotTakes}
+use Rattle.ospf_world.specs.World.{WantsRoom}
 use Rattle.ospf_world.proofs.ComesFacts.{none_more}
 use Rattle.ospf_world.proofs.TickFacts.{no_tick, not_pushed, pushed, tick_runs, tick_taken}
 use Rattle.ospf_world.proofs.ticks.step_slot.Goals as goal

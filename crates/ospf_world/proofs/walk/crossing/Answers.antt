@@ -2,7 +2,7 @@ use Rattle.std.proofs.Common.{List, rules, subst}
 use Rattle.ospf_graph.specs.Advertisements.{Advertisement}
 use Rattle.ospf_graph.specs.Walk.{IsLinkCost}
 use Rattle.ospf_router.specs.Routers.{listing_of}
-use Rattle.ospf_world.specs.Walks.{LegsOver}
+use Rattle.ospf_world.specs.Legs.{LegsOver}
 use Rattle.ospf_world.proofs.LegFacts.{not_linked}
 use Rattle.ospf_world.proofs.walk.crossing.Goals as goal
 

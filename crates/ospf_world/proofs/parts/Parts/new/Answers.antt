@@ -1,6 +1,6 @@
 use Rattle.std.proofs.Common.{List, [], ap, sym, subst, ◌∙◌, ◌++◌}
 use Rattle.ospf_config.specs.declared.config.Config.{Config}
-use Rattle.ospf_headline.specs.Slots.{SlotValue}
+use Rattle.ospf_world.specs.Slots.{SlotValue}
 use Rattle.ospf_world.proofs.NewFacts.{IsBegun, begun_added, begun_none, empty_none, opens_err, opens_fault, walked_on}
 use Rattle.ospf_world.proofs.parts.Parts.new.Goals as goal
 

@@ -1,7 +1,7 @@
 use Rattle.std.proofs.Common.{List, ◌∙◌, ap}
 use Rattle.std.specs.List.{flat_map}
 use Rattle.std.proofs.lemmas.Result.{IfOk-weaker}
-use Rattle.ospf_headline.specs.Slots.{SlotValue}
+use Rattle.ospf_world.specs.Slots.{SlotValue}
 use Rattle.ospf_world.specs.Rounds.{offer_at}
 use Rattle.ospf_world.proofs.OfferFacts.{offers_near}
 use Rattle.ospf_world.proofs.parts.Parts.offers_of.Goals as goal

@@ -1,6 +1,6 @@
 use Rattle.std.proofs.Common.{◌∙◌, ◌<◌, Some, ap, length, rules, sym}
 use Rattle.std.proofs.lemmas.Option.{slice_get-get_or}
-use Rattle.ospf_headline.specs.Slots.{SlotValue}
+use Rattle.ospf_world.specs.Slots.{SlotValue}
 use Rattle.ospf_world.proofs.PlaceFacts.{at_within, not_placed, placed, slot_at}
 use Rattle.ospf_world.proofs.parts.Parts.slot.Goals as goal
 

@@ -1,8 +1,8 @@
 use Rattle.std.proofs.Common.{◌≡◌, ◌<◌, ◌∙◌, length, rules, sym, ap, Some, slice_get}
 use Rattle.std.proofs.lemmas.Option.{slice_get-get_or}
 use Rattle.ospf_config.specs.declared.config.Config.{Config}
-use Rattle.ospf_headline.specs.declared.logs.Datagram.{Datagram}
-use Rattle.ospf_headline.specs.Slots.{SlotValue}
+use Rattle.ospf_world.specs.declared.logs.Datagram.{Datagram}
+use Rattle.ospf_world.specs.Slots.{SlotValue}
 use Rattle.ospf_world.specs.Offers.{address_at}
 use Rattle.ospf_world.specs.Worlds.{place_in}
 use Rattle.ospf_world.proofs.OfferFacts.{source_at, source_nowhere}

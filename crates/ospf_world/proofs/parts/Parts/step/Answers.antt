@@ -3,7 +3,7 @@ use Rattle.std.proofs.lemmas.Option.{get_or_from_slice_get}
 use Rattle.ospf_world.specs.Does.{Does}
 use Rattle.ospf_world.specs.Networks.{links_on}
 use Rattle.ospf_world.specs.Worlds.{place_in}
-use Rattle.ospf_headline.specs.Slots.{SlotSteps}
+use Rattle.ospf_world.specs.Slots.{SlotSteps}
 use Rattle.ospf_base.specs.Events.Events.{router_in}
 use Rattle.ospf_world.proofs.PlaceFacts.{placed, at_within}
 use Rattle.ospf_world.proofs.ComesFacts.{steps_in}

@@ -1,6 +1,6 @@
 use Rattle.std.proofs.Common.{◌≡◌, List, Some, None, length, ap, sym, ◌∙◌}
 use Rattle.ospf_world.specs.Draws.{chosen_of}
-use Rattle.ospf_headline.specs.Slots.{SlotValue}
+use Rattle.ospf_world.specs.Slots.{SlotValue}
 use Rattle.ospf_world.proofs.RandomFacts.{drawn_here, drawn_none}
 use Rattle.ospf_world.proofs.world.World.draw_event.Goals as goal
 

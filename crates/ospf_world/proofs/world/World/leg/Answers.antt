@@ -1,9 +1,9 @@
 use Rattle.std.proofs.Common.{◌%◌, [], List, length, refl, subst}
 use Rattle.ospf_graph.specs.Walk.{IsBest}
 use Rattle.ospf_graph.specs.declared.route.Route.{Route}
-use Rattle.ospf_headline.specs.Walks.{HasNoRoute}
+use Rattle.ospf_world.specs.Walks.{HasNoRoute}
 use Rattle.ospf_router.specs.Steps.{is_dropped}
-use Rattle.ospf_world.specs.Walks.{IsLeg}
+use Rattle.ospf_world.specs.Legs.{IsLeg}
 use Rattle.ospf_world.specs.Worlds.{world_of}
 use Rattle.ospf_world.proofs.LegFacts.{here_linked, leg_goes, leg_stops, lends_err, lends_ok}
 use Rattle.ospf_world.proofs.world.World.leg.Goals as goal

@@ -1,5 +1,5 @@
 use Rattle.std.proofs.Common.{◌≤◌, take}
-use Rattle.ospf_headline.specs.Runs.{RunsOn}
+use Rattle.ospf_world.specs.Runs.{RunsOn}
 use Rattle.ospf_world.specs.Does.{Does}
 use Rattle.ospf_world.specs.Ticks.{TicksGoOn}
 use Rattle.ospf_world.specs.Watching.{DoesTold}

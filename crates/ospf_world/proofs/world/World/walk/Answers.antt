@@ -1,7 +1,7 @@
 use Rattle.std.proofs.Common.{[], refl}
-use Rattle.ospf_headline.specs.World.{member}
+use Rattle.ospf_world.specs.World.{member}
 use Rattle.ospf_router.specs.Steps.{is_dropped}
-use Rattle.ospf_world.specs.Walks.{Walks}
+use Rattle.ospf_world.specs.Legs.{Walks}
 use Rattle.ospf_world.specs.Worlds.{world_of}
 use Rattle.ospf_world.proofs.WalkFacts.{never_turns, some_of}
 use Rattle.ospf_world.proofs.world.World.walk.Goals as goal

@@ -1,5 +1,0 @@
-use Rattle.ospf_headline.proofs.RunFacts.{Facts-new, Facts-run, sound}
-use Rattle.ospf_headline.proofs.laws.acknowledgement_is_sound.Goals as goal
-
-pub returns : goal.returns
-returns c is_dropped events event start before after new run happens = sound event before after (Facts-run is_dropped events start before (Facts-new start new) run) happens

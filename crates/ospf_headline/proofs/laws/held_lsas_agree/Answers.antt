@@ -1,5 +1,0 @@
-use Rattle.ospf_headline.proofs.RunFacts.{held_agree}
-use Rattle.ospf_headline.proofs.laws.held_lsas_agree.Goals as goal
-
-pub returns : goal.returns
-returns c is_dropped events later start mid end a b new run rest ha hb = held_agree is_dropped events later start mid end a b new run rest ha hb

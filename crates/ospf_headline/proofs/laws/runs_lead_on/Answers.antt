@@ -1,5 +1,0 @@
-use Rattle.ospf_headline.proofs.RunLemmas.{run_happens}
-use Rattle.ospf_headline.proofs.laws.runs_lead_on.Goals as goal
-
-pub returns : goal.returns
-returns c is_dropped events before after result run = run_happens is_dropped events before after result run

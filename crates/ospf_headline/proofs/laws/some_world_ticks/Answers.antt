@@ -1,5 +1,0 @@
-use Rattle.ospf_headline.proofs.Witness.{some_world_ticks}
-use Rattle.ospf_headline.proofs.laws.some_world_ticks.Goals as goal
-
-pub returns : goal.returns
-returns c = some_world_ticks

@@ -1,6 +1,0 @@
-use Rattle.std.proofs.Common.{◌≡◌, ◌++◌, map}
-use Rattle.ospf_headline.specs.Logs.{sent_as_datagram}
-use Rattle.ospf_headline.proofs.logs.log_sent.Given as goal
-
-abbrev pub invariant-loop-datagram : goal.invariant-loop-datagram
-invariant-loop-datagram l = l.log.items ≡ l.initial.log.items ++ map (sent_as_datagram l.router) l.yielded

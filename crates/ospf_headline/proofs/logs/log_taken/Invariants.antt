@@ -1,6 +1,0 @@
-use Rattle.std.proofs.Common.{◌≡◌, ◌++◌, map, take}
-use Rattle.ospf_headline.specs.Logs.{held_by}
-use Rattle.ospf_headline.proofs.logs.log_taken.Given as goal
-
-abbrev pub invariant-loop-instance : goal.invariant-loop-instance
-invariant-loop-instance l = l.log.items ≡ l.initial.log.items ++ map (held_by l.router) (take l.instance-index l.taken)

@@ -1,9 +1,0 @@
-pub mod Listings
-pub mod World
-pub mod Runs
-pub mod Sound
-pub mod Walks
-pub mod Headline
-pub mod Logs
-pub mod Running
-pub mod Slots
