@@ -12,7 +12,7 @@ use Rattle.ospf_base.specs.Prefixes.{IsPrefixBefore}
 use Rattle.ospf_spf.proofs.PrefixOrder.{prefix_cmp, prefixes_told}
 use Rattle.ospf_whatif.specs.Single.{IsFailureBefore}
 use Rattle.ospf_whatif.specs.declared.failure.AreaFailure.{AreaFailure}
-use Rattle.ospf_whatif.specs.declared.failure.AreaFailure.TheVariants.{Attachment, End, Link, Links, Network, Router}
+use Rattle.ospf_whatif.specs.declared.failure.AreaFailure.TheVariants.{Attachment, End, Link, Links, Network, Router, Stub}
 use Rattle.ospf_whatif.specs.contracts.failure.AreaFailureOrd.TheImpl.{ghosts}
 use Rattle.ospf_whatif.specs.contracts.failure.AreaFailureOrd.TheImpl.Laws.{matches_eq-law}
 use Rattle.ospf_whatif.specs.contracts.failure.AreaFailurePartialEq.TheImpl as failures
@@ -75,6 +75,14 @@ routers_of r s Less t = t
 routers_of r s Equal t = ap (λ k. Router k) (router r s t)
 routers_of r s Greater t = t
 
+stubs_of : (r s : RouterId) (p q : Prefix) (x y : Ordering) → Tells r.0 s.0 x → MatchOrdering y (IsPrefixBefore p q) (p ≡ q) (IsPrefixBefore q p)
+    → Ranks (Stub r p) (Stub s q) (ordering_then x y)
+stubs_of r s p q Less y t u = inl t
+stubs_of r s p q Greater y t u = inl t
+stubs_of r s p q Equal Less t u = inr (t, u)
+stubs_of r s p q Equal Equal t u = λ i. Stub (router r s t i) (u i)
+stubs_of r s p q Equal Greater t u = inr (sym t, u)
+
 -- `cmp` tells the order
 failures_rank : (f g : AreaFailure) → Ranks f g (ghosts.cmp f g)
 failures_rank (Link a b p) (Link c d q) =
@@ -85,6 +93,7 @@ failures_rank (Links a b) (Links c d) = all_links_of a c b d (nat_cmp a.0 c.0) (
 failures_rank (Attachment r n) (Attachment s m) = attachments_of r s n m (nat_cmp r.0 s.0) (nat_cmp n m) (tells r.0 s.0) (tells n m)
 failures_rank (Network n) (Network m) = networks_of n m (nat_cmp n m) (tells n m)
 failures_rank (Router r) (Router s) = routers_of r s (nat_cmp r.0 s.0) (tells r.0 s.0)
+failures_rank (Stub r p) (Stub s q) = stubs_of r s p q (nat_cmp r.0 s.0) (prefix_cmp p q) (tells r.0 s.0) (prefixes_told.ranks p q)
 failures_rank f g = omega arith
 
 before_less : (f g : AreaFailure) (o : Ordering) → Ranks f g o → o ≡ Less → IsFailureBefore f g

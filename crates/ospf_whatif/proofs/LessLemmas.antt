@@ -40,6 +40,7 @@ transit_taken inner (fails.Links a b) r n id link_data metric kind.Transit is = 
 transit_taken inner (fails.Attachment q m) r n id link_data metric kind.Transit is = let same : id ≡ n = eqb-true id n is in rw same refl
 transit_taken inner (fails.Network m) r n id link_data metric kind.Transit is = let same : id ≡ n = eqb-true id n is in rw same refl
 transit_taken inner (fails.Router q) r n id link_data metric kind.Transit is = refl
+transit_taken inner (fails.Stub q p) r n id link_data metric kind.Transit is = refl
 
 module _ (inner : List Link) (f : AreaFailure) (r : RouterId) (n : ℕ) where
   abbrev pub On : Bool

@@ -3,10 +3,9 @@ pub mod ApartLemmas
 pub mod WithoutLemmas
 pub mod LessLemmas
 pub mod SingleLemmas
-pub mod HiddenLemmas
 pub mod LostLemmas
+pub mod StubLemmas
 pub mod OutageLemmas
-pub mod CarrierLemmas
 pub mod EffectLemmas
 pub mod FailureOrder
 pub mod SortedLemmas

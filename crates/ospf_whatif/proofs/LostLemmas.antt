@@ -16,15 +16,17 @@ use Rattle.ospf_lsa.specs.declared.link.Link.{Link}
 use Rattle.ospf_lsa.specs.declared.link.LinkKind.{LinkKind}
 use Rattle.ospf_lsa.specs.declared.link.LinkKind.TheVariants as kind
 use Rattle.ospf_graph.specs.declared.edges.end.End.{End}
-use Rattle.ospf_graph.specs.EdgeLists.Given.{AreEndsAt}
+use Rattle.ospf_graph.specs.EdgeLists.Given.{AreEndsAt, IsEdgesOf}
 use Rattle.ospf_graph.specs.EdgeLists.Near.{AreEdgesAt}
 use Rattle.ospf_graph.specs.Advertisements.{Advertisement, router_lsa, HasLink, IsAddressOn, IsAttached, IsNetwork, transit_address}
 use Rattle.ospf_graph.specs.Elsewhere.{Touches}
 use Rattle.ospf_graph.specs.Graph.{IsEdge, IsEdgeBetween}
 use Rattle.ospf_graph.specs.Routes.{IsEnd}
+use Rattle.ospf_graph.specs.Search.{vertex_eq}
 use Rattle.ospf_graph.specs.declared.graph.Edge.{Edge}
 use Rattle.ospf_graph.specs.declared.graph.Vertex.{Vertex}
 use Rattle.ospf_graph.specs.declared.graph.Vertex.TheVariants as vertex
+use Rattle.ospf_graph.proofs.CandidateLemmas.{vertex_eq-refl, vertex_eq-same}
 use Rattle.ospf_graph.proofs.ListLemmas.{bool_cases, member_to_map}
 use Rattle.ospf_whatif.specs.Failure.{inner_of, is_of_subnet, is_stub_of, is_wire_end, kept_links, left_of_lsa, takes, without}
 use Rattle.ospf_whatif.specs.Lost.{AreEdgesLost, AreEndsLost, AreStubsAt, AreStubsOf, IsTwoWay, Stays, centre_of}
@@ -73,6 +75,7 @@ MayCut (fails.Links a b) from to = Pair (vertex.Router a) (vertex.Router b) from
 MayCut (fails.Attachment r n) from to = Pair (vertex.Router r) (vertex.Network n) from to
 MayCut (fails.Network n) from to = (from ≡ vertex.Network n) ⊎ (to ≡ vertex.Network n)
 MayCut (fails.Router r) from to = (from ≡ vertex.Router r) ⊎ (to ≡ vertex.Router r)
+MayCut (fails.Stub r p) from to = ⊥
 
 pair_back : (v w from to : Vertex) → Pair v w to from → Pair v w from to
 pair_back v w from to (inl p) = inr (p.1, p.0)
@@ -85,6 +88,7 @@ cut_back (fails.Links a b) from to p = pair_back (vertex.Router a) (vertex.Route
 cut_back (fails.Attachment r n) from to p = pair_back (vertex.Router r) (vertex.Network n) from to p
 cut_back (fails.Network n) from to p = elim p [ inl t ↦ inr t | inr s ↦ inl s ]
 cut_back (fails.Router r) from to p = elim p [ inl t ↦ inr t | inr s ↦ inl s ]
+cut_back (fails.Stub r q) from to p = p
 
 -- it touches the centre
 cut_near : (f : AreaFailure) (e : Edge) → MayCut f e.from e.to → Touches (centre_of f) e
@@ -94,6 +98,7 @@ cut_near (fails.Links a b) e p = elim p [ inl w ↦ inl w.0 | inr w ↦ inr w.1 
 cut_near (fails.Attachment r n) e p = elim p [ inl w ↦ inl w.0 | inr w ↦ inr w.1 ]
 cut_near (fails.Network n) e p = p
 cut_near (fails.Router r) e p = p
+cut_near (fails.Stub r q) e p = absurd p
 
 module _ (inner : List Link) (x b : RouterId) (subnet : Prefix) (link_data metric : ℕ) where
   wire_end : is_wire_end inner (to_router x link_data metric) b subnet ≡ true → (vertex.Router x ≡ vertex.Router b) × (is_of_subnet inner subnet link_data ≡ true)
@@ -150,6 +155,7 @@ router_cut inner (fails.Attachment q n) r x link_data metric t = absurd (let w =
 router_cut inner (fails.Network n) r x link_data metric t = absurd (cc)
 router_cut inner (fails.Router gone) r x link_data metric t =
     elim (or_cases (eqb r.0 gone.0) (eqb x.0 gone.0) t) [ inl p ↦ inl (router_is r gone p) | inr p ↦ inr (router_is x gone p) ]
+router_cut inner (fails.Stub q p) r x link_data metric t = let w = and_parts (eqb r.0 q.0) false t in let no : false ≡ true = w.1 in absurd (cc)
 
 neither : (a b r : RouterId) → ((eqb r.0 a.0 && false) || (eqb r.0 b.0 && false)) ≡ true → ⊥
 neither a b r t =
@@ -164,6 +170,7 @@ network_cut inner (fails.Links a b) r n t = absurd (neither a b r t)
 network_cut inner (fails.Attachment q m) r n t = let w = and_parts (eqb r.0 q.0) (eqb n m) t in inl (router_is r q w.0, network_is n m w.1)
 network_cut inner (fails.Network m) r n t = inr (network_is n m t)
 network_cut inner (fails.Router gone) r n t = elim (or_cases (eqb r.0 gone.0) false t) [ inl p ↦ inl (router_is r gone p) | inr never ↦ absurd (cc) ]
+network_cut inner (fails.Stub q p) r n t = let w = and_parts (eqb r.0 q.0) false t in let no : false ≡ true = w.1 in absurd (cc)
 
 -- a failure of no single link takes all that it may
 abbrev IsWhole : AreaFailure → Type 0
@@ -173,6 +180,7 @@ IsWhole (fails.Links a b) = Unit
 IsWhole (fails.Attachment r n) = Unit
 IsWhole (fails.Network n) = Unit
 IsWhole (fails.Router r) = Unit
+IsWhole (fails.Stub r p) = Unit
 
 cut_router : (inner : List Link) (f : AreaFailure) (r x : RouterId) (link_data metric : ℕ) → IsWhole f → MayCut f (vertex.Router r) (vertex.Router x)
     → takes inner f r (to_router x link_data metric) ≡ true
@@ -186,6 +194,7 @@ cut_router inner (fails.Network n) r x link_data metric whole (inl p) = absurd (
 cut_router inner (fails.Network n) r x link_data metric whole (inr p) = absurd (apart x n p)
 cut_router inner (fails.Router gone) r x link_data metric whole (inl p) = or_left _ _ (is_router r gone p)
 cut_router inner (fails.Router gone) r x link_data metric whole (inr p) = or_right _ _ (is_router x gone p)
+cut_router inner (fails.Stub q p) r x link_data metric whole never = absurd never
 
 cut_network : (inner : List Link) (f : AreaFailure) (r : RouterId) (n : ℕ) → MayCut f (vertex.Router r) (vertex.Network n) → On inner f r n ≡ true
 cut_network inner (fails.Link a b subnet) r n (inl p) = absurd (apart b n (sym p.1))
@@ -200,6 +209,7 @@ cut_network inner (fails.Network m) r n (inl p) = absurd (apart r m p)
 cut_network inner (fails.Network m) r n (inr p) = is_network n m p
 cut_network inner (fails.Router gone) r n (inl p) = or_left _ _ (is_router r gone p)
 cut_network inner (fails.Router gone) r n (inr p) = absurd (apart gone n (sym p))
+cut_network inner (fails.Stub q p) r n never = absurd never
 
 -- ---- what an area has after it
 
@@ -255,7 +265,7 @@ module _ (inner : List Link) (f : AreaFailure) (A : List Advertisement) where
   transit_is r n link_data metric = transit_taken inner f r n n link_data metric kind.Transit (eq-eqb n n refl)
 
   -- an edge that the failure takes, or one that stays
-  cut_or : (from to : Vertex) (cost link_data : ℕ) → IsEdgeBetween A from to cost link_data → MayCut f from to ⊎ IsEdgeBetween B from to cost link_data
+  pub cut_or : (from to : Vertex) (cost link_data : ℕ) → IsEdgeBetween A from to cost link_data → MayCut f from to ⊎ IsEdgeBetween B from to cost link_data
   cut_or (vertex.Router a) (vertex.Router b) cost link_data e =
       elim (bool_cases (takes inner f a (to_router b link_data cost))) [
         | inl goes ↦ inl (router_cut inner f a b link_data cost goes)
@@ -386,6 +396,7 @@ module _ (inner : List Link) (A : List Advertisement) (near : List Edge) (e : Ed
   stays_kept (fails.Attachment r n) at there stays = elim (cut_or inner (fails.Attachment r n) A e.from e.to e.cost e.link_data there) [ inl cut ↦ absurd (stays cut) | inr left ↦ left ]
   stays_kept (fails.Network n) at there stays = absurd stays
   stays_kept (fails.Router gone) at there stays = absurd stays
+  stays_kept (fails.Stub r p) at there stays = elim (cut_or inner (fails.Stub r p) A e.from e.to e.cost e.link_data there) [ inl cut ↦ absurd cut | inr left ↦ left ]
 
   kept_stays : (f : AreaFailure) → AreEdgesAt A (centre_of f) near → Touches (centre_of f) e → IsEdge (B inner f A) e → Stays f inner near e
   kept_stays (fails.Link a b subnet) at touches left = at_stays inner a b subnet (fails.Link a b subnet) (link_of_wire inner a b subnet) A near at e.from e.to e.cost e.link_data left
@@ -394,6 +405,7 @@ module _ (inner : List Link) (A : List Advertisement) (near : List Edge) (e : Ed
   kept_stays (fails.Attachment r n) at touches left = λ cut. cut_goes inner (fails.Attachment r n) A tt e.from e.to e.cost e.link_data cut left
   kept_stays (fails.Network n) at touches left = cut_goes inner (fails.Network n) A tt e.from e.to e.cost e.link_data touches left
   kept_stays (fails.Router gone) at touches left = cut_goes inner (fails.Router gone) A tt e.from e.to e.cost e.link_data touches left
+  kept_stays (fails.Stub r p) at touches left = tt
 
 -- those that do not stay are all that are lost
 edges_are_lost : (inner : List Link) (f : AreaFailure) (A : List Advertisement) (near lost : List Edge) → AreEdgesAt A (centre_of f) near
@@ -445,6 +457,7 @@ LosesEnd (fails.Links a b) p v = ⊥
 LosesEnd (fails.Attachment r n) p v = ⊥
 LosesEnd (fails.Network n) p v = ⊥
 LosesEnd (fails.Router gone) p v = v ≡ vertex.Router gone
+LosesEnd (fails.Stub r subnet) p v = (p ≡ subnet) × (v ≡ vertex.Router r)
 
 module _ (inner : List Link) (r : RouterId) (p : Prefix) (id mask metric : ℕ) (of : IsPrefixOf id mask p) where
   stub_lost : (f : AreaFailure) → takes inner f r (stub id mask metric) ≡ true → LosesEnd f p (vertex.Router r)
@@ -464,6 +477,9 @@ module _ (inner : List Link) (r : RouterId) (p : Prefix) (id mask metric : ℕ) 
   stub_lost (fails.Attachment q n) t = let w = and_parts (eqb r.0 q.0) false t in let no : false ≡ true = w.1 in absurd (cc)
   stub_lost (fails.Network n) t = absurd (cc)
   stub_lost (fails.Router gone) t = elim (or_cases (eqb r.0 gone.0) false t) [ inl u ↦ router_is r gone u | inr never ↦ absurd (cc) ]
+  stub_lost (fails.Stub q subnet) t =
+      let w = and_parts (eqb r.0 q.0) (is_stub_of (stub id mask metric) subnet) t in
+      (stub_is p subnet id mask metric of w.1, router_is r q w.0)
 
   lost_stub : (f : AreaFailure) → LosesEnd f p (vertex.Router r) → takes inner f r (stub id mask metric) ≡ true
   lost_stub (fails.Link a b subnet) lost =
@@ -477,6 +493,7 @@ module _ (inner : List Link) (r : RouterId) (p : Prefix) (id mask metric : ℕ) 
   lost_stub (fails.Attachment q n) lost = absurd lost
   lost_stub (fails.Network n) lost = absurd lost
   lost_stub (fails.Router gone) lost = or_left _ _ (is_router r gone lost)
+  lost_stub (fails.Stub q subnet) lost = and_from _ _ (is_router r q lost.1) (is_stub p subnet id mask metric of lost.0)
 
 no_network_end : (f : AreaFailure) (p : Prefix) (n : ℕ) → LosesEnd f p (vertex.Network n) → ⊥
 no_network_end (fails.Link a b subnet) p n lost = elim lost.1 [ inl same ↦ apart a n (sym same) | inr same ↦ apart b n (sym same) ]
@@ -485,9 +502,10 @@ no_network_end (fails.Links a b) p n lost = lost
 no_network_end (fails.Attachment q m) p n lost = lost
 no_network_end (fails.Network m) p n lost = lost
 no_network_end (fails.Router gone) p n lost = apart gone n (sym lost)
+no_network_end (fails.Stub q subnet) p n lost = apart q n (sym lost.1)
 
 module _ (inner : List Link) (f : AreaFailure) (A : List Advertisement) (p : Prefix) where
-  end_or : (v : Vertex) (cost : ℕ) → IsEnd A p v cost → LosesEnd f p v ⊎ IsEnd (B inner f A) p v cost
+  pub end_or : (v : Vertex) (cost : ℕ) → IsEnd A p v cost → LosesEnd f p v ⊎ IsEnd (B inner f A) p v cost
   end_or (vertex.Network n) cost e = inr (e.0, e.1, e.2, network_stays inner f A n e.1 e.2 e.3, e.4)
   end_or (vertex.Router r) cost e =
       elim (bool_cases (takes inner f r (stub e.0 e.1 cost))) [
@@ -495,7 +513,7 @@ module _ (inner : List Link) (f : AreaFailure) (A : List Advertisement) (p : Pre
         | inr free ↦ inr (e.0, e.1, link_stays inner f A r kind.Stub e.0 e.1 cost e.2 free, e.3)
       ]
 
-  end_goes : (v : Vertex) (cost : ℕ) → LosesEnd f p v → IsEnd (B inner f A) p v cost → ⊥
+  pub end_goes : (v : Vertex) (cost : ℕ) → LosesEnd f p v → IsEnd (B inner f A) p v cost → ⊥
   end_goes (vertex.Network n) cost lost e = no_network_end f p n lost
   end_goes (vertex.Router r) cost lost e = both_ways _ (link_free inner f A r kind.Stub e.0 e.1 cost e.2) (lost_stub inner r p e.0 e.1 cost e.3 f lost)
 
@@ -520,6 +538,11 @@ pub end_ends_lost : (f : AreaFailure) (A : List Advertisement) (a b : RouterId) 
     → IfOk found (λ ends. AreStubsAt A a subnet ends.items) → IfOk found (λ ends. AreEndsLost A f ends.items)
 end_ends_lost f A a b subnet found is ends =
     IfOk-map found _ _ ends (λ v are. named_lost f (fails.End a b subnet) A is v.items (ends_are_lost (fails.End a b subnet) A v.items are))
+
+pub stub_ends_lost : (f : AreaFailure) (A : List Advertisement) (a : RouterId) (subnet : Prefix) (found : Result (Vec End Global) AllocError) → f ≡ fails.Stub a subnet
+    → IfOk found (λ ends. AreStubsAt A a subnet ends.items) → IfOk found (λ ends. AreEndsLost A f ends.items)
+stub_ends_lost f A a subnet found is ends =
+    IfOk-map found _ _ ends (λ v are. named_lost f (fails.Stub a subnet) A is v.items (ends_are_lost (fails.Stub a subnet) A v.items are))
 
 pub router_ends_lost : (f : AreaFailure) (A : List Advertisement) (gone : RouterId) (found : Result (Vec End Global) AllocError) → f ≡ fails.Router gone
     → IfOk found (λ ends. AreEndsAt A (vertex.Router gone) ends.items) → IfOk found (λ ends. AreEndsLost A f ends.items)
@@ -573,4 +596,31 @@ are_stubs A a b p first second both at_a at_b together e = (
         | inr at ↦ Contains-append_right first second e ((at_b e).1 (w.0, (w.1.0, at)))
       ] in
       subst (λ (l : List End). Contains l e) (sym together) there,
+)
+
+-- ---- the edges that touch a vertex
+
+abbrev pub touching : Vertex → Edge → Bool
+touching v e = vertex_eq e.from v || vertex_eq e.to v
+
+touching_is : (v : Vertex) (e : Edge) → touching v e ≡ true → Touches v e
+touching_is v e t = elim (or_cases (vertex_eq e.from v) (vertex_eq e.to v) t) [ inl s ↦ inl (vertex_eq-same e.from v s) | inr s ↦ inr (vertex_eq-same e.to v s) ]
+
+is_touching : (v : Vertex) (e : Edge) → Touches v e → touching v e ≡ true
+is_touching v e (inl s) = or_left (vertex_eq e.from v) (vertex_eq e.to v) (subst (λ (w : Vertex). vertex_eq e.from w ≡ true) s (vertex_eq-refl e.from))
+is_touching v e (inr s) = or_right (vertex_eq e.from v) (vertex_eq e.to v) (subst (λ (w : Vertex). vertex_eq e.to w ≡ true) s (vertex_eq-refl e.to))
+
+pub touch_test : (v : Vertex) (e : Edge) (b : Bool) → IsTrue b ↔ Touches v e → b ≡ touching v e
+touch_test v e b both =
+    elim (bool_cases b) [
+      | inl t ↦ t ∙ sym (is_touching v e (both.0 t))
+      | inr f ↦ f ∙ sym (false_from_ne_true (touching v e) (λ t. both_ways b f (both.1 (touching_is v e t))))
+    ]
+
+pub are_near : (A : List Advertisement) (v : Vertex) (edges kept : List Edge) → IsEdgesOf A edges → kept ≡ filter (touching v) edges → AreEdgesAt A v kept
+are_near A v edges kept of those e = (
+  λ m.
+      let k = kept_of (touching v) edges e (subst (λ (l : List Edge). Contains l e) those m) in
+      ((of e).0 k.0, touching_is v e k.1),
+  λ w. subst (λ (l : List Edge). Contains l e) (sym those) (of_kept (touching v) edges e ((of e).1 w.0) (is_touching v e w.1)),
 )

@@ -1,5 +1,5 @@
 -- Names of failures tell them apart.
-use Rattle.std.proofs.Common.{◌≡◌, ◌-◌, ℕ, ◌^◌, ◌<◌, ◌≤◌, List, [], ◌∷◌, ◌++◌, get_or, drop, length, decimal, sym, ap, inl, inr, ◌∙◌, arith}
+use Rattle.std.proofs.Common.{◌≡◌, ◌-◌, ℕ, ◌^◌, ◌<◌, ◌≤◌, List, [], ◌∷◌, ◌++◌, get_or, drop, length, decimal, sym, ap, subst, inl, inr, ◌∙◌, arith}
 use Rattle.std.specs.Prelude.{bit_and}
 use Rattle.std.proofs.NetLemmas.Numbers.{NoDigit}
 use Rattle.std.proofs.lemmas.Fmt.{decimal_injective}
@@ -16,23 +16,22 @@ use Rattle.ospf_graph.specs.Graph.{IsEdgeBetween}
 use Rattle.ospf_graph.specs.declared.graph.Vertex.TheVariants as vertex
 use Rattle.ospf_graph.specs.EdgeLists.Listed.{advertisements_of}
 use Rattle.ospf_graph.proofs.EdgeLists.FitLemmas.{network_fits, router_fits}
-use Rattle.ospf_whatif.specs.Carrier.{IsFailureBy}
-use Rattle.ospf_whatif.specs.Laws.{CarriedNamesTellApart, FailureNamesTellApart}
-use Rattle.ospf_whatif.specs.declared.carrier.Carrier.{Carrier}
-use Rattle.ospf_whatif.specs.declared.carrier.Carrier.TheVariants as carrier
+use Rattle.ospf_whatif.specs.Laws.{AllNamesTellApart, FailureNamesTellApart}
 use Rattle.ospf_whatif.specs.Name.{area_failure_text}
 use Rattle.ospf_whatif.specs.Single.{IsFailure, IsOn}
+use Rattle.ospf_whatif.specs.Stubs.{IsAnyFailure}
 use Rattle.ospf_whatif.specs.declared.failure.AreaFailure.{AreaFailure}
-use Rattle.ospf_whatif.specs.declared.failure.AreaFailure.TheVariants.{Link, End, Links, Attachment, Network, Router}
+use Rattle.ospf_whatif.specs.declared.failure.AreaFailure.TheVariants.{Link, End, Links, Attachment, Network, Router, Stub}
 
 -- the numbers of a failure fit their fields
-abbrev FailureFits : AreaFailure → Type 0
+abbrev pub FailureFits : AreaFailure → Type 0
 FailureFits (Link a b subnet) = (a.0 < 2 ^ 32) × (b.0 < 2 ^ 32)
 FailureFits (End a b subnet) = (a.0 < 2 ^ 32) × (b.0 < 2 ^ 32)
 FailureFits (Links a b) = (a.0 < 2 ^ 32) × (b.0 < 2 ^ 32)
 FailureFits (Attachment router network) = (router.0 < 2 ^ 32) × (network < 2 ^ 32)
 FailureFits (Network network) = network < 2 ^ 32
 FailureFits (Router router) = router.0 < 2 ^ 32
+FailureFits (Stub router prefix) = router.0 < 2 ^ 32
 
 -- ---- numbers at the front
 
@@ -82,6 +81,11 @@ network_text n = ap (λ (x : List ℕ). 64 ∷ x) (sym (append-nil (number_text 
 
 router_text : (r : RouterId) → area_failure_text (Router r) ≡ number_text r.0 ++ []
 router_text r = sym (append-nil (number_text r.0))
+
+stub_text : (r : RouterId) (p : Prefix) → area_failure_text (Stub r p) ≡ number_text r.0 ++ 64 ∷ prefix_spelled p
+stub_text r p =
+    append_assoc (number_text r.0) (64 ∷ []) (prefix_text p)
+    ∙ ap (λ (x : List ℕ). number_text r.0 ++ 64 ∷ x) (append_assoc (number_text p.address.0) (47 ∷ []) (decimal p.length))
 
 -- ---- names that are one
 
@@ -151,6 +155,13 @@ router_router r s hf hg e =
     let one = same_number r.0 s.0 [] [] hf hg (omega arith) (omega arith) (sym (router_text r) ∙ e ∙ router_text s) in
     ap (λ (x : RouterId). Router x) (router_same r s one.0)
 
+stub_stub : (r s : RouterId) (p q : Prefix) → r.0 < 2 ^ 32 → s.0 < 2 ^ 32 → area_failure_text (Stub r p) ≡ area_failure_text (Stub s q) → Stub r p ≡ Stub s q
+stub_stub r s p q hf hg e =
+    let one = same_number r.0 s.0 (64 ∷ prefix_spelled p) (64 ∷ prefix_spelled q) hf hg (omega arith) (omega arith) (sym (stub_text r p) ∙ e ∙ stub_text s q) in
+    let first : r ≡ s = router_same r s one.0 in
+    let second : p ≡ q = prefix_one p q (ap (drop 1) one.1) in
+    λ i. Stub (first i) (second i)
+
 -- ---- names of two kinds
 
 link_links : (a b c d : RouterId) (p : Prefix) → FailureFits (Links a b) → FailureFits (Links c d) → area_failure_text (Link a b p) ≡ area_failure_text (Links c d) → ⊥
@@ -208,7 +219,37 @@ attachment_router r s n hr hs e =
     behind_apart r.0 s.0 (64 ∷ (number_text n ++ [])) [] hr hs (omega arith) (omega arith) (λ h. omega (arith, h))
     (sym (attachment_text r n) ∙ e ∙ router_text s)
 
+stub_link : (a b r : RouterId) (p q : Prefix) → a.0 < 2 ^ 32 → r.0 < 2 ^ 32 → area_failure_text (Link a b p) ≡ area_failure_text (Stub r q) → ⊥
+stub_link a b r p q ha hr e =
+    behind_apart a.0 r.0 (45 ∷ (number_text b.0 ++ 64 ∷ prefix_spelled p)) (64 ∷ prefix_spelled q) ha hr (omega arith) (omega arith) (λ h. omega (arith, h))
+    (sym (link_text a b p) ∙ e ∙ stub_text r q)
+
+stub_end : (a b r : RouterId) (p q : Prefix) → a.0 < 2 ^ 32 → r.0 < 2 ^ 32 → area_failure_text (End a b p) ≡ area_failure_text (Stub r q) → ⊥
+stub_end a b r p q ha hr e =
+    behind_apart a.0 r.0 (58 ∷ (number_text b.0 ++ 64 ∷ prefix_spelled p)) (64 ∷ prefix_spelled q) ha hr (omega arith) (omega arith) (λ h. omega (arith, h))
+    (sym (end_text a b p) ∙ e ∙ stub_text r q)
+
+stub_links : (a b r : RouterId) (q : Prefix) → a.0 < 2 ^ 32 → r.0 < 2 ^ 32 → area_failure_text (Links a b) ≡ area_failure_text (Stub r q) → ⊥
+stub_links a b r q ha hr e =
+    behind_apart a.0 r.0 (45 ∷ (number_text b.0 ++ [])) (64 ∷ prefix_spelled q) ha hr (omega arith) (omega arith) (λ h. omega (arith, h))
+    (sym (links_text a b) ∙ e ∙ stub_text r q)
+
+-- behind the address of a prefix is a slash
+stub_attachment : (r s : RouterId) (n : ℕ) (q : Prefix) → FailureFits (Attachment r n) → s.0 < 2 ^ 32 → area_failure_text (Attachment r n) ≡ area_failure_text (Stub s q) → ⊥
+stub_attachment r s n q hf hg e =
+    let one = same_number r.0 s.0 (64 ∷ (number_text n ++ [])) (64 ∷ prefix_spelled q) hf.0 hg (omega arith) (omega arith) (sym (attachment_text r n) ∙ e ∙ stub_text s q) in
+    let two = same_number n q.address.0 [] (47 ∷ decimal q.length) hf.1 (address_fits q) (omega arith) (omega arith) (ap (drop 1) one.1) in
+    omega (arith, ap length two.1)
+
+stub_router : (r s : RouterId) (q : Prefix) → r.0 < 2 ^ 32 → s.0 < 2 ^ 32 → area_failure_text (Router r) ≡ area_failure_text (Stub s q) → ⊥
+stub_router r s q hr hs e =
+    behind_apart r.0 s.0 [] (64 ∷ prefix_spelled q) hr hs (omega arith) (omega arith) (λ h. omega (arith, h))
+    (sym (router_text r) ∙ e ∙ stub_text s q)
+
 -- a name that begins with a number is that of no network
+network_stub : (r : RouterId) (p : Prefix) (n : ℕ) → area_failure_text (Stub r p) ≡ area_failure_text (Network n) → ⊥
+network_stub r p n e = no_at r.0 (64 ∷ prefix_spelled p) (number_text n ++ []) (omega arith) (sym (stub_text r p) ∙ e ∙ network_text n)
+
 network_link : (a b : RouterId) (p : Prefix) (n : ℕ) → area_failure_text (Link a b p) ≡ area_failure_text (Network n) → ⊥
 network_link a b p n e = no_at a.0 (45 ∷ (number_text b.0 ++ 64 ∷ prefix_spelled p)) (number_text n ++ []) (omega arith) (sym (link_text a b p) ∙ e ∙ network_text n)
 
@@ -233,6 +274,7 @@ of_link a b p (Links c d) hf hg e = absurd (link_links a b c d p hf hg e)
 of_link a b p (Attachment r n) hf hg e = absurd (link_attachment a b r p n hf.0 hg.0 e)
 of_link a b p (Network n) hf hg e = absurd (network_link a b p n e)
 of_link a b p (Router r) hf hg e = absurd (link_router a b r p hf.0 hg e)
+of_link a b p (Stub r q) hf hg e = absurd (stub_link a b r p q hf.0 hg e)
 
 of_end : (a b : RouterId) (p : Prefix) (g : AreaFailure) → FailureFits (Links a b) → FailureFits g → area_failure_text (End a b p) ≡ area_failure_text g → End a b p ≡ g
 of_end a b p (Link c d q) hf hg e = absurd (end_link a b c d p q hf.0 hg.0 e)
@@ -241,6 +283,7 @@ of_end a b p (Links c d) hf hg e = absurd (end_links a b c d p hf.0 hg.0 e)
 of_end a b p (Attachment r n) hf hg e = absurd (end_attachment a b r p n hf.0 hg.0 e)
 of_end a b p (Network n) hf hg e = absurd (network_end a b p n e)
 of_end a b p (Router r) hf hg e = absurd (end_router a b r p hf.0 hg e)
+of_end a b p (Stub r q) hf hg e = absurd (stub_end a b r p q hf.0 hg e)
 
 of_links : (a b : RouterId) (g : AreaFailure) → FailureFits (Links a b) → FailureFits g → area_failure_text (Links a b) ≡ area_failure_text g → Links a b ≡ g
 of_links a b (Link c d q) hf hg e = absurd (link_links c d a b q hg hf (sym e))
@@ -249,6 +292,7 @@ of_links a b (Links c d) hf hg e = links_links a b c d hf hg e
 of_links a b (Attachment r n) hf hg e = absurd (links_attachment a b r n hf.0 hg.0 e)
 of_links a b (Network n) hf hg e = absurd (network_links a b n e)
 of_links a b (Router r) hf hg e = absurd (links_router a b r hf.0 hg e)
+of_links a b (Stub r q) hf hg e = absurd (stub_links a b r q hf.0 hg e)
 
 of_attachment : (r : RouterId) (n : ℕ) (g : AreaFailure) → FailureFits (Attachment r n) → FailureFits g → area_failure_text (Attachment r n) ≡ area_failure_text g → Attachment r n ≡ g
 of_attachment r n (Link c d q) hf hg e = absurd (link_attachment c d r q n hg.0 hf.0 (sym e))
@@ -257,6 +301,7 @@ of_attachment r n (Links c d) hf hg e = absurd (links_attachment c d r n hg.0 hf
 of_attachment r n (Attachment s m) hf hg e = attachment_attachment r s n m hf hg e
 of_attachment r n (Network m) hf hg e = absurd (network_attachment r n m e)
 of_attachment r n (Router s) hf hg e = absurd (attachment_router r s n hf.0 hg e)
+of_attachment r n (Stub s q) hf hg e = absurd (stub_attachment r s n q hf hg e)
 
 of_network : (n : ℕ) (g : AreaFailure) → n < 2 ^ 32 → FailureFits g → area_failure_text (Network n) ≡ area_failure_text g → Network n ≡ g
 of_network n (Link c d q) hf hg e = absurd (network_link c d q n (sym e))
@@ -265,6 +310,7 @@ of_network n (Links c d) hf hg e = absurd (network_links c d n (sym e))
 of_network n (Attachment s m) hf hg e = absurd (network_attachment s m n (sym e))
 of_network n (Network m) hf hg e = network_network n m hf hg e
 of_network n (Router s) hf hg e = absurd (network_router s n (sym e))
+of_network n (Stub s q) hf hg e = absurd (network_stub s q n (sym e))
 
 of_router : (r : RouterId) (g : AreaFailure) → r.0 < 2 ^ 32 → FailureFits g → area_failure_text (Router r) ≡ area_failure_text g → Router r ≡ g
 of_router r (Link c d q) hf hg e = absurd (link_router c d r q hg.0 hf (sym e))
@@ -273,14 +319,25 @@ of_router r (Links c d) hf hg e = absurd (links_router c d r hg.0 hf (sym e))
 of_router r (Attachment s m) hf hg e = absurd (attachment_router s r m hg.0 hf (sym e))
 of_router r (Network n) hf hg e = absurd (network_router r n e)
 of_router r (Router s) hf hg e = router_router r s hf hg e
+of_router r (Stub s q) hf hg e = absurd (stub_router r s q hf hg e)
 
-names_apart : (f g : AreaFailure) → FailureFits f → FailureFits g → area_failure_text f ≡ area_failure_text g → f ≡ g
+of_stub : (r : RouterId) (p : Prefix) (g : AreaFailure) → r.0 < 2 ^ 32 → FailureFits g → area_failure_text (Stub r p) ≡ area_failure_text g → Stub r p ≡ g
+of_stub r p (Link c d q) hf hg e = absurd (stub_link c d r q p hg.0 hf (sym e))
+of_stub r p (End c d q) hf hg e = absurd (stub_end c d r q p hg.0 hf (sym e))
+of_stub r p (Links c d) hf hg e = absurd (stub_links c d r p hg.0 hf (sym e))
+of_stub r p (Attachment s m) hf hg e = absurd (stub_attachment s r m p hg hf (sym e))
+of_stub r p (Network n) hf hg e = absurd (network_stub r p n e)
+of_stub r p (Router s) hf hg e = absurd (stub_router s r p hg hf (sym e))
+of_stub r p (Stub s q) hf hg e = stub_stub r s p q hf hg e
+
+pub names_apart : (f g : AreaFailure) → FailureFits f → FailureFits g → area_failure_text f ≡ area_failure_text g → f ≡ g
 names_apart (Link a b p) g hf hg e = of_link a b p g hf hg e
 names_apart (End a b p) g hf hg e = of_end a b p g hf hg e
 names_apart (Links a b) g hf hg e = of_links a b g hf hg e
 names_apart (Attachment r n) g hf hg e = of_attachment r n g hf hg e
 names_apart (Network n) g hf hg e = of_network n g hf hg e
 names_apart (Router r) g hf hg e = of_router r g hf hg e
+names_apart (Stub r p) g hf hg e = of_stub r p g hf hg e
 
 -- ---- failures of what is listed
 
@@ -292,7 +349,7 @@ module _ (lsas : List (List ℕ)) (is : IsListing lsas) where
   attached_fit r n (cost, address, (link, attached)) =
       (router_fits lsas is r (link.links, link.listed), network_fits lsas is n attached.network.router attached.mask attached.attached attached.network.listed)
 
-  failure_fits : (f : AreaFailure) → IsFailure (advertisements_of lsas) f → FailureFits f
+  pub failure_fits : (f : AreaFailure) → IsFailure (advertisements_of lsas) f → FailureFits f
   failure_fits (Link a b p) (inl wire) = ends_fit a b wire.cost wire.address wire.edge
   failure_fits (Link a b p) (inr links) = ends_fit a b links.cost links.address links.edge
   failure_fits (End a b p) never = absurd never
@@ -300,20 +357,14 @@ module _ (lsas : List (List ℕ)) (is : IsListing lsas) where
   failure_fits (Attachment r n) on = attached_fit r n on
   failure_fits (Network n) (r, on) = (attached_fit r n on).1
   failure_fits (Router r) listed = router_fits lsas is r listed
+  failure_fits (Stub r p) never = absurd never
 
-  carried_fits : (carrier : Carrier) (f : AreaFailure) → IsFailureBy carrier (advertisements_of lsas) f → FailureFits f
-  carried_fits carrier.Switch (Link a b p) never = absurd never
-  carried_fits carrier.Switch (End a b p) (inl is) = failure_fits (Link a b p) is
-  carried_fits carrier.Switch (End a b p) (inr is) = let fits = failure_fits (Link b a p) is in (fits.1, fits.0)
-  carried_fits carrier.Switch (Links a b) is = failure_fits (Links a b) is
-  carried_fits carrier.Switch (Attachment r n) is = failure_fits (Attachment r n) is
-  carried_fits carrier.Switch (Network n) is = failure_fits (Network n) is
-  carried_fits carrier.Switch (Router r) is = failure_fits (Router r) is
-  carried_fits carrier.Direct f is = failure_fits f is
-  carried_fits carrier.Process f is = failure_fits f is
+  any_fits : (f : AreaFailure) → IsAnyFailure (advertisements_of lsas) f → FailureFits f
+  any_fits f (inl failure) = failure_fits f failure
+  any_fits f (inr stub) = subst FailureFits (sym stub.3) (router_fits lsas is stub.0 (stub.2.links, stub.2.listed))
 
 pub failure_names_tell_apart : FailureNamesTellApart
 failure_names_tell_apart lsas f g is fails fails' e = names_apart f g (failure_fits lsas is f fails) (failure_fits lsas is g fails') e
 
-pub carried_names_tell_apart : CarriedNamesTellApart
-carried_names_tell_apart by lsas f g is fails fails' e = names_apart f g (carried_fits lsas is by f fails) (carried_fits lsas is by g fails') e
+pub all_names_tell_apart : AllNamesTellApart
+all_names_tell_apart lsas f g is fails fails' e = names_apart f g (any_fits lsas is f fails) (any_fits lsas is g fails') e

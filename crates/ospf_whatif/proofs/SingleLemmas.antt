@@ -25,7 +25,7 @@ use Rattle.ospf_graph.specs.EdgeLists.Given.{AreEndsAt, IsEdgesOf}
 use Rattle.ospf_graph.proofs.EdgeLists.AddsLemmas.{adds_next}
 use Rattle.ospf_whatif.specs.Single.{AttachmentGiven, EdgeGiven, GivenBy, HasEndFor, IsFailure, IsInterfaceIndex, IsUnnumberedAt, IsLongestOf, IsLongestSuch, IsOfIndices, IsOn, IsPairOf, IsShared, IsSharedIn, IsWire, IsWireAt, LinksGiven, NetworkGiven, RouterGiven, UnnumberedGiven, WireGiven}
 use Rattle.ospf_whatif.specs.declared.failure.AreaFailure.{AreaFailure}
-use Rattle.ospf_whatif.specs.declared.failure.AreaFailure.TheVariants.{Attachment, Link, Links, Network, Router}
+use Rattle.ospf_whatif.specs.declared.failure.AreaFailure.TheVariants.{Attachment, Link, Links, Network, Router, Stub}
 use Rattle.ospf_whatif.specs.declared.failure.AreaFailure.TheVariants as fails
 use Rattle.ospf_whatif.proofs.OutageLemmas.{from_all}
 
@@ -373,6 +373,7 @@ module _ (A : List Advertisement) (edges : List Edge) (edges_are : IsEdgesOf A e
         let there = wired_to a b h.subnet (wire_complete a b h.subnet h.beside) in
         inr (e, m, inl (inl (inr (a, b, refl, refl, h.smaller, there, (subnet, h.indices, h.unnumbered, refl)))))
     edge_complete (fails.End a b subnet) h not = absurd h
+    edge_complete (Stub r prefix) h not = absurd h
     edge_complete (Links a b) h not =
         let e : Edge = record { to = vertex.Router b; from = vertex.Router a; cost = h.1.0; link_data = h.1.1 } in
         let m = edge_in (vertex.Router a) (vertex.Router b) h.1.0 h.1.1 h.1.2 in
@@ -418,6 +419,7 @@ module _ (lsas : List (List ℕ)) (edges : List Edge) (edges_are : IsEdgesOf (ad
       by_kind : (g : AreaFailure) → IsFailure (map advertisement_of lsas) g → Contains all g
       by_kind (Link a b subnet) is = others (Link a b subnet) is (λ r e. cc)
       by_kind (fails.End a b subnet) is = absurd is
+      by_kind (Stub r prefix) is = absurd is
       by_kind (Links a b) is = others (Links a b) is (λ r e. cc)
       by_kind (Attachment router n) is = others (Attachment router n) is (λ r e. cc)
       by_kind (Network n) is = others (Network n) is (λ r e. cc)

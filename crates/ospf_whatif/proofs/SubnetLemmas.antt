@@ -66,6 +66,7 @@ module _ (xs ys : List Link) where
   takes_same (fails.Attachment q n) same r l = refl
   takes_same (fails.Network n) same r l = refl
   takes_same (fails.Router gone) same r l = refl
+  takes_same (fails.Stub q p) same r l = refl
 
   module _ (f : AreaFailure) (same : HaveSame xs ys) where
     kept_same : kept_links xs f ≡ kept_links ys f

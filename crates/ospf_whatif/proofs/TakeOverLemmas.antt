@@ -2,10 +2,10 @@
 use Rattle.std.proofs.Common.{◌≡◌, ◌++◌, ◌∷◌, [], ℕ, Bool, List, map, refl, sym, ap, ◌∙◌}
 use Rattle.std.specs.List.{AllByRecursion}
 use Rattle.std.proofs.lemmas.List.Concat.{flat_map-append}
-use Rattle.ospf_base.specs.declared.host.Host.{Host}
+use Rattle.ospf_base.specs.declared.stub_network.StubNetwork.{StubNetwork}
 use Rattle.ospf_lsa.specs.declared.link.Link.{Link}
 use Rattle.ospf_area.specs.State.{LinkValue}
-use Rattle.ospf_originate.specs.Wants.Wanted.{host_link, interface_links, links_of_link, network_link, own_links}
+use Rattle.ospf_originate.specs.Wants.Wanted.{stub_link, interface_links, links_of_link, network_link, own_links}
 use Rattle.ospf_originate.proofs.Wants.Words.{links_of_kind, through_metric}
 use Rattle.ospf_originate.proofs.Wants.SaidLemmas.{up_is}
 use Rattle.ospf_whatif.specs.Renamed.{renamed_link}
@@ -29,10 +29,10 @@ split : (stub_router : Bool) (front back : List LinkValue) (l : LinkValue)
     → interface_links stub_router (front ++ l ∷ back) ≡ interface_links stub_router front ++ (links_of_link stub_router l ++ interface_links stub_router back)
 split stub_router front back l = flat_map-append (links_of_link stub_router) front (l ∷ back)
 
--- a host is no transit network
-hosts_renamed : (name : ℕ → ℕ) (hosts : List Host) → map (renamed_link name) (map host_link hosts) ≡ map host_link hosts
-hosts_renamed name [] = refl
-hosts_renamed name (h ∷ hs) = ap (λ more. host_link h ∷ more) (hosts_renamed name hs)
+-- a stub network is no transit network
+stubs_renamed : (name : ℕ → ℕ) (stubs : List StubNetwork) → map (renamed_link name) (map stub_link stubs) ≡ map stub_link stubs
+stubs_renamed name [] = refl
+stubs_renamed name (h ∷ hs) = ap (λ more. stub_link h ∷ more) (stubs_renamed name hs)
 
 interfaces_renamed : (name : ℕ → ℕ) (stub_router : Bool) (front back : List LinkValue) (before after : LinkValue)
     → IsOnTransit before → IsOnTransit after → after.iface.settings ≡ before.iface.settings → after.settings ≡ before.settings
@@ -55,10 +55,10 @@ interfaces_renamed name stub_router front back before after was on iface setting
     ∙ map_join name (interface_links stub_router front) (links_of_link stub_router before ++ interface_links stub_router back)
     ∙ ap (λ ls. map (renamed_link name) (interface_links stub_router front) ++ ls) (map_join name (links_of_link stub_router before) (interface_links stub_router back)))
 
-pub designated_routers_change : (name : ℕ → ℕ) (stub_router : Bool) (front back : List LinkValue) (before after : LinkValue) (hosts : List Host)
+pub designated_routers_change : (name : ℕ → ℕ) (stub_router : Bool) (front back : List LinkValue) (before after : LinkValue) (stubs : List StubNetwork)
     → IsOnTransit before → IsOnTransit after → after.iface.settings ≡ before.iface.settings → after.settings ≡ before.settings
     → after.iface.dr.0 ≡ name before.iface.dr.0 → KeepTheirNames name stub_router front → KeepTheirNames name stub_router back
-    → own_links stub_router (front ++ after ∷ back) hosts ≡ map (renamed_link name) (own_links stub_router (front ++ before ∷ back) hosts)
-designated_routers_change name stub_router front back before after hosts was on iface settings dr kept_front kept_back =
-    (λ i. interfaces_renamed name stub_router front back before after was on iface settings dr kept_front kept_back i ++ sym (hosts_renamed name hosts) i)
-    ∙ sym (map_join name (interface_links stub_router (front ++ before ∷ back)) (map host_link hosts))
+    → own_links stub_router (front ++ after ∷ back) stubs ≡ map (renamed_link name) (own_links stub_router (front ++ before ∷ back) stubs)
+designated_routers_change name stub_router front back before after stubs was on iface settings dr kept_front kept_back =
+    (λ i. interfaces_renamed name stub_router front back before after was on iface settings dr kept_front kept_back i ++ sym (stubs_renamed name stubs) i)
+    ∙ sym (map_join name (interface_links stub_router (front ++ before ∷ back)) (map stub_link stubs))

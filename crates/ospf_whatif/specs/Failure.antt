@@ -14,7 +14,7 @@ use Rattle.ospf_graph.specs.EdgeLists.Addresses.{links_by}
 use Rattle.ospf_graph.specs.Advertisements.{Advertisement, router_lsa, network_lsa}
 use Rattle.ospf_whatif.specs.Subnets.{inner_between, is_held, is_link_to}
 use Rattle.ospf_whatif.specs.declared.failure.AreaFailure as failure
-use Rattle.ospf_whatif.specs.declared.failure.AreaFailure.TheVariants.{Attachment, Links, Network, Router}
+use Rattle.ospf_whatif.specs.declared.failure.AreaFailure.TheVariants.{Attachment, Links, Network, Router, Stub}
 use Rattle.ospf_whatif.specs.declared.failure.AreaFailure.TheVariants as fails
 
 -- ---- links
@@ -78,6 +78,7 @@ takes inner (Attachment attached network) router l =
     (router.0 == attached.0) && is_transit_of l network
 takes inner (Network network) router l = is_transit_of l network
 takes inner (Router gone) router l = (router.0 == gone.0) || is_link_to l gone
+takes inner (Stub down prefix) router l = (router.0 == down.0) && is_stub_of l prefix
 
 -- those that it takes in the area
 abbrev pub takes_in : List Advertisement → failure.AreaFailure → RouterId → Link → Bool

@@ -2,8 +2,7 @@ pub mod Subnets
 pub mod Failure
 pub mod Effect
 pub mod Single
-pub mod Carrier
-pub mod Hidden
+pub mod Stubs
 pub mod Laws
 pub mod Told
 pub mod Name

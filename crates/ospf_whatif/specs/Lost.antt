@@ -1,5 +1,5 @@
 -- What a failure takes of the edges and the ends about it (RFC 2328, sections 12.4.1 and 16.1).
-use Rattle.std.specs.Prelude.{◌≡◌, ◌⊎◌, ◌↔◌, false, List, Any, Contains}
+use Rattle.std.specs.Prelude.{◌≡◌, ◌⊎◌, ◌↔◌, ⊤, false, List, Any, Contains}
 use Rattle.ospf_base.specs.declared.ids.RouterId.{RouterId}
 use Rattle.ospf_base.specs.declared.prefix.Prefix.{Prefix}
 use Rattle.ospf_graph.specs.declared.edges.end.End.{End as PrefixEnd}
@@ -12,11 +12,12 @@ use Rattle.ospf_graph.specs.declared.graph.Vertex.TheVariants as vertex
 use Rattle.ospf_whatif.specs.Failure.{is_of_subnet, without}
 use Rattle.ospf_whatif.specs.Outage.{AreLost, StandsIn}
 use Rattle.ospf_whatif.specs.declared.failure.AreaFailure.{AreaFailure}
-use Rattle.ospf_whatif.specs.declared.failure.AreaFailure.TheVariants.{Attachment, End, Link, Links, Network, Router}
+use Rattle.ospf_whatif.specs.declared.failure.AreaFailure.TheVariants.{Attachment, End, Link, Links, Network, Router, Stub}
 
 -- ---- edges
 
--- the vertex that each edge touches which the failure takes
+-- the vertex that each edge touches which the failure takes: an interface to a stub network takes
+-- none
 abbrev pub centre_of : AreaFailure → Vertex
 centre_of (Link a b subnet) = vertex.Router a
 centre_of (End router other subnet) = vertex.Router router
@@ -24,6 +25,7 @@ centre_of (Links a b) = vertex.Router a
 centre_of (Attachment router network) = vertex.Router router
 centre_of (Network network) = vertex.Network network
 centre_of (Router gone) = vertex.Router gone
+centre_of (Stub router prefix) = vertex.Router router
 
 -- it leads from one of the two vertices to the other
 abbrev pub Connects : Edge → Vertex → Vertex → Type 0
@@ -54,6 +56,7 @@ Stays (Attachment router network) inner near e =
     Connects e (vertex.Router router) (vertex.Network network) → ⊥
 Stays (Network network) inner near e = ⊥
 Stays (Router gone) inner near e = ⊥
+Stays (Stub router prefix) inner near e = ⊤
 
 -- exactly the edges that the failure takes
 abbrev pub AreEdgesLost : List Advertisement → AreaFailure → List Edge → Type 0

@@ -12,7 +12,7 @@ use Rattle.ospf_graph.specs.Pairs.{pair_code}
 use Rattle.ospf_graph.specs.Routes.{IsEnd}
 use Rattle.ospf_graph.specs.declared.edges.end.End.{End}
 use Rattle.ospf_whatif.specs.declared.failure.AreaFailure as failure
-use Rattle.ospf_whatif.specs.declared.failure.AreaFailure.TheVariants.{Attachment, Links, Network, Router}
+use Rattle.ospf_whatif.specs.declared.failure.AreaFailure.TheVariants.{Attachment, Links, Network, Router, Stub}
 use Rattle.ospf_whatif.specs.declared.failure.AreaFailure.TheVariants as fails
 
 -- the Link Data of a link without an address: the index of its interface, which lies in 0.0.0.0/8,
@@ -76,7 +76,8 @@ IsOn adverts router n =
     (cost address : ℕ)
     × IsEdgeBetween adverts (vertex.Router router) (vertex.Network n) cost address
 
--- what may fail, of which no part fails alone but here, so no end of a link
+-- what may fail, of which no part fails alone but here, so no end of a link; interfaces to stub
+-- networks are apart (`IsStubFailure`)
 abbrev pub IsFailure : List Advertisement → failure.AreaFailure → Type 0
 IsFailure adverts (fails.Link a b subnet) =
     IsWire adverts a b subnet ⊎ IsUnnumbered adverts a b subnet
@@ -88,13 +89,14 @@ IsFailure adverts (Links a b) =
 IsFailure adverts (Attachment router n) = IsOn adverts router n
 IsFailure adverts (Network n) = (router : RouterId) × IsOn adverts router n
 IsFailure adverts (Router router) = IsListed adverts router
+IsFailure adverts (Stub router prefix) = ⊥
 
 -- exactly what may fail is listed
 abbrev pub AreFailures : List Advertisement → List failure.AreaFailure → Type 0
 AreFailures adverts fs = (f : failure.AreaFailure) → Contains fs f ↔ IsFailure adverts f
 
 -- the place of a failure's kind: links with a subnet, their ends, other links, attachments,
--- networks, routers
+-- networks, routers, interfaces to stub networks
 abbrev pub kind_place : failure.AreaFailure → ℕ
 kind_place (fails.Link a b subnet) = 0
 kind_place (fails.End router other subnet) = 1
@@ -102,6 +104,7 @@ kind_place (Links a b) = 2
 kind_place (Attachment router n) = 3
 kind_place (Network n) = 4
 kind_place (Router router) = 5
+kind_place (Stub router prefix) = 6
 
 -- the order of failures: by kind, then by routers, subnet or network
 abbrev pub IsFailureBefore : failure.AreaFailure → failure.AreaFailure → Type 0
@@ -113,6 +116,7 @@ IsFailureBefore (Links a b) (Links c d) = (a.0 < c.0) ⊎ ((a.0 ≡ c.0) × (b.0
 IsFailureBefore (Attachment r n) (Attachment s m) = (r.0 < s.0) ⊎ ((r.0 ≡ s.0) × (n < m))
 IsFailureBefore (Network n) (Network m) = n < m
 IsFailureBefore (Router r) (Router s) = r.0 < s.0
+IsFailureBefore (Stub r p) (Stub s q) = (r.0 < s.0) ⊎ ((r.0 ≡ s.0) × IsPrefixBefore p q)
 IsFailureBefore f g = kind_place f < kind_place g
 
 -- ---- prefixes by length

@@ -46,6 +46,11 @@ pub enum AreaFailure {
     Network(u32),
     /// A router: it stops, and its neighbours' interfaces stay up.
     Router(RouterId),
+    /// A router's interface to a stub network: the interface goes down.
+    Stub {
+        router: RouterId,
+        prefix: Prefix,
+    },
 }
 
 impl AreaFailure {
@@ -79,6 +84,10 @@ impl AreaFailure {
             } => router.0 == attached.0 && is_transit_of(link, network),
             AreaFailure::Network(network) => is_transit_of(link, network),
             AreaFailure::Router(gone) => router.0 == gone.0 || is_link_to(link, gone),
+            AreaFailure::Stub {
+                router: down,
+                prefix,
+            } => router.0 == down.0 && is_stub_of(link, prefix),
         }
     }
 }

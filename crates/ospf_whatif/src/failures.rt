@@ -261,6 +261,7 @@ fn push_pair(failure: &AreaFailure, pairs: &mut Vec<u64>) -> Result<(), AllocErr
         AreaFailure::Attachment { .. } => Ok(()),
         AreaFailure::Network(_) => Ok(()),
         AreaFailure::Router(_) => Ok(()),
+        AreaFailure::Stub { .. } => Ok(()),
     }
 }
 
@@ -416,7 +417,7 @@ fn add_router(lsa: &Lsa, failures: &mut Vec<AreaFailure>) -> Result<(), AllocErr
 }
 
 /// Puts failures in order, each once.
-pub(crate) fn put_in_order(failures: &mut Vec<AreaFailure>)
+pub fn put_in_order(failures: &mut Vec<AreaFailure>)
     ensures same { (f : AreaFailure) → Contains failures.new.items f
         ↔ Contains failures.old.items f }
     ensures in_order { AllPairs IsFailureBefore failures.new.items }

@@ -1,6 +1,6 @@
 //! Laws: each holds of all areas and failures.
 
-ghost use Rattle.ospf_whatif.specs.Laws.{CarriedNamesTellApart, FailureNamesTellApart, FailuresMakeNoEdge, FailuresTakeAway, LinksFailApart, TreesStay};
+ghost use Rattle.ospf_whatif.specs.Laws.{AllNamesTellApart, FailureNamesTellApart, FailuresMakeNoEdge, FailuresTakeAway, LinksFailApart, NoStubIsForgotten, StubsFailAlone, TreesStay};
 ghost use Rattle.ospf_whatif.specs.LinksBack.{OnlyLinksBackCount};
 ghost use Rattle.ospf_whatif.specs.Renamed.{NetworksAreButNames};
 
@@ -37,13 +37,24 @@ pub fn failure_names_tell_apart()
     ensures { FailureNamesTellApart }
 {}
 
-/// So have different failures of an area whose links are carried so or so.
-pub fn carried_names_tell_apart()
-    ensures { CarriedNamesTellApart }
-{}
-
 /// A link fails with one subnet alone, also where the subnets of two links between the same routers
 /// lie one in the other.
 pub fn links_fail_apart()
     ensures { LinksFailApart }
+{}
+
+/// Different failures of an area have different names, those of interfaces to stub networks too.
+pub fn all_names_tell_apart()
+    ensures { AllNamesTellApart }
+{}
+
+/// An interface to a stub network takes its prefix from its router, and nothing else.
+pub fn stubs_fail_alone()
+    ensures { StubsFailAlone }
+{}
+
+/// Each prefix of less than 32 bits that a router advertises as a stub network is that of an
+/// interface that may fail, or the subnet of one of the router's links to others.
+pub fn no_stub_is_forgotten()
+    ensures { NoStubIsForgotten }
 {}

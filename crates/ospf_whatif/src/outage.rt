@@ -1,14 +1,17 @@
 //! The graph of an area, and what a failure takes from it.
 
-ghost use Rattle.std.specs.Prelude.{◌≡◌, ◌↔◌, ◌∷◌, [], Contains, IfOk, IsTrue};
+ghost use Rattle.std.specs.Prelude.{◌≡◌, ◌↔◌, ◌∷◌, [], Contains, IfOk, IsTrue, List};
+ghost use Rattle.ospf_graph.specs.Advertisements.{Advertisement};
 ghost use Rattle.ospf_graph.specs.EdgeLists.Given.{IsEdgesOf};
+ghost use Rattle.ospf_graph.specs.EdgeLists.Near.{AreEdgesAt};
+ghost use Rattle.ospf_graph.specs.Elsewhere.{Touches};
 ghost use Rattle.ospf_graph.specs.EdgeLists.Listed.{advertisements_of};
 ghost use Rattle.ospf_graph.specs.Search.{AreEdgesInOrder, AreFitEdges};
 ghost use Rattle.ospf_graph.specs.declared.graph.Vertex.TheVariants.{Router};
 ghost use Rattle.ospf_whatif.specs.Lost.{AreEdgesLost, AreEndsLost, AreStubsAt, AreStubsOf, Connects, IsOutside, IsTwoWay, IsWayBack, Stays};
 ghost use Rattle.ospf_whatif.specs.Lost.{centre_of as centre_of_spec};
 ghost use Rattle.ospf_spf.specs.Spared.{AreEndsInOrder};
-ghost use Rattle.ospf_whatif.specs.Outage.{AreLost, AreMissing};
+ghost use Rattle.ospf_whatif.specs.Outage.{AreLost, AreMissing, IsAreaGraph};
 
 use crate::area::without_more;
 use crate::failure::{AreaFailure, is_of_subnet};
@@ -57,9 +60,11 @@ impl Outage {
     ghost use Rattle.std.specs.Prelude.{◌≡◌, ◌∷◌, ◌<◌, [], List, IfOk, length};
     ghost use Rattle.ospf_graph.specs.EdgeLists.Listed.{advertisements_of};
     ghost use Rattle.ospf_graph.specs.Advertisements.{Advertisement};
+    ghost use Rattle.ospf_graph.specs.EdgeLists.Near.{AreEdgesAt};
     ghost use Rattle.ospf_graph.specs.Search.{AreEdgesInOrder};
     ghost use Rattle.ospf_spf.specs.Spared.{AreEndsInOrder};
     ghost use Rattle.ospf_whatif.specs.Failure.{HasLarge, without_all};
+    ghost use Rattle.ospf_whatif.specs.Lost.{centre_of};
     ghost use Rattle.ospf_whatif.specs.Outage.{IsAreaGraph, IsOutage};
 
     /// What a failure takes from the graph of the area of a listing, as `without` leaves that. It
@@ -70,7 +75,22 @@ impl Outage {
         ensures failures { IfOk result (λ outage. outage.failures.items ≡ failure.now ∷ []) }
         ensures outage { IfOk result (IsOutage (advertisements_of listing.now)) }
     {
-        let edges = edges_lost(alloc, listing, failure)?;
+        let near = edges_at(alloc, listing, centre_of(failure))?;
+        Outage::over(alloc, listing, failure, &near)
+    }
+
+    // What a failure takes, by the edges that touch its vertex.
+    fn over(
+        alloc: Global,
+        listing: &Listing,
+        failure: &AreaFailure,
+        near: &[Edge],
+    ) -> Result<Outage, AllocError>
+        requires { AreEdgesAt (advertisements_of listing.now) (centre_of failure.now) near.now }
+        ensures failures { IfOk result (λ outage. outage.failures.items ≡ failure.now ∷ []) }
+        ensures outage { IfOk result (IsOutage (advertisements_of listing.now)) }
+    {
+        let edges = edges_lost(alloc, listing, failure, near)?;
         let mut ends = ends_lost(alloc, listing, failure)?;
         ends.sort_unstable_by_key(|e| prefix_order(e.prefix));
         let failures = alone(alloc, *failure)?;
@@ -82,8 +102,9 @@ impl Outage {
     }
 
     /// What failures that happen together take from the graph of the area of a listing, as
-    /// `without_all` leaves it. For more than one failure it compares the graphs before and after,
-    /// and the router-LSAs of the listing must be small enough to be rebuilt.
+    /// `without_all` leaves it. For one failure it looks at the edges of the graph. For more than
+    /// one it compares the graphs before and after, and the router-LSAs of the listing must be
+    /// small enough to be rebuilt.
     ///
     /// `AllocError` if memory runs out.
     pub fn of_all(
@@ -130,7 +151,8 @@ impl Outage {
         ensures outage { IfOk result (IsOutage (advertisements_of listing.now)) }
     {
         if rest.is_empty() {
-            return Outage::of(alloc, listing, first);
+            let near = edges_near(alloc, area, centre_of(first))?;
+            return Outage::over(alloc, listing, first, &near);
         }
         let left = without_more(alloc, listing, first, rest)?;
         let after = AreaGraph::of(alloc, &left)?;
@@ -233,7 +255,9 @@ fn has_edge_in_order(edges: &[Edge], edge: Edge) -> bool
 }
 
 /// The edges of a listing, in the order of the vertices that they leave.
-pub(crate) fn edges_in_order(alloc: Global, listing: &Listing) -> Result<Vec<Edge>, AllocError>
+///
+/// `AllocError` where memory runs out.
+pub fn edges_in_order(alloc: Global, listing: &Listing) -> Result<Vec<Edge>, AllocError>
     ensures edges { IfOk result (λ edges. IsEdgesOf (advertisements_of listing.now) edges.items) }
     ensures fit { IfOk result (λ edges. AreFitEdges edges.items) }
     ensures in_order { IfOk result (λ edges. AreEdgesInOrder edges.items) }
@@ -243,18 +267,36 @@ pub(crate) fn edges_in_order(alloc: Global, listing: &Listing) -> Result<Vec<Edg
     Ok(sorted)
 }
 
-// The edges that a failure takes.
+// The edges of an area that touch a vertex.
+fn edges_near(alloc: Global, area: &AreaGraph, vertex: Vertex) -> Result<Vec<Edge>, AllocError>
+    ensures { IfOk result (λ near. (adverts : List Advertisement) → IsAreaGraph adverts area.now →
+        AreEdgesAt adverts vertex near.items) }
+{
+    let mut near = Vec::from_slice(alloc, &area.edges)?;
+    near.retain(|edge| touches(edge, vertex));
+    Ok(near)
+}
+
+// Whether an edge leaves or enters a vertex.
+fn touches(edge: &Edge, vertex: Vertex) -> bool
+    ensures { IsTrue result ↔ Touches vertex edge.now }
+{
+    is_same(edge.from, vertex) || is_same(edge.to, vertex)
+}
+
+// The edges that a failure takes, by those that touch its vertex.
 fn edges_lost(
     alloc: Global,
     listing: &Listing,
     failure: &AreaFailure,
+    near: &[Edge],
 ) -> Result<Vec<Edge>, AllocError>
+    requires { AreEdgesAt (advertisements_of listing.now) (centre_of_spec failure.now) near.now }
     ensures { IfOk result (λ lost. AreEdgesLost (advertisements_of listing.now) failure.now
         lost.items) }
 {
     let inner = inner_of(alloc, listing, failure)?;
-    let near = edges_at(alloc, listing, centre_of(failure))?;
-    edges_going(alloc, failure, &inner, &near)
+    edges_going(alloc, failure, &inner, near)
 }
 
 // The edges that a failure takes, of those at one vertex.
@@ -287,6 +329,7 @@ fn centre_of(failure: &AreaFailure) -> Vertex
         AreaFailure::Attachment { router, .. } => Vertex::Router(router),
         AreaFailure::Network(network) => Vertex::Network(network),
         AreaFailure::Router(gone) => Vertex::Router(gone),
+        AreaFailure::Stub { router, .. } => Vertex::Router(router),
     }
 }
 
@@ -307,6 +350,7 @@ fn stays(failure: &AreaFailure, inner: &[Link], edge: &Edge, near: &[Edge]) -> b
         }
         AreaFailure::Network(_) => false,
         AreaFailure::Router(_) => false,
+        AreaFailure::Stub { .. } => true,
     }
 }
 
@@ -373,6 +417,7 @@ fn ends_lost(
         AreaFailure::Attachment { .. } => Ok(Vec::new(alloc)),
         AreaFailure::Network(_) => Ok(Vec::new(alloc)),
         AreaFailure::Router(gone) => ends_at(alloc, listing, Vertex::Router(gone)),
+        AreaFailure::Stub { router, prefix } => stubs_at(alloc, listing, router, prefix),
     }
 }
 

@@ -38,6 +38,7 @@ pub(crate) fn inner_of(
         AreaFailure::Attachment { .. } => Ok(Vec::new(alloc)),
         AreaFailure::Network(_) => Ok(Vec::new(alloc)),
         AreaFailure::Router(_) => Ok(Vec::new(alloc)),
+        AreaFailure::Stub { .. } => Ok(Vec::new(alloc)),
     }
 }
 
@@ -114,8 +115,8 @@ fn links_at(alloc: Global, listing: &Listing, router: RouterId) -> Result<Vec<Li
     }
 }
 
-// Links one by one.
-fn listed(alloc: Global, links: Links) -> Result<Vec<Link>, AllocError>
+/// Links one by one.
+pub(crate) fn listed(alloc: Global, links: Links) -> Result<Vec<Link>, AllocError>
     ensures { IfOk result (λ all. all.items ≡ links.entry) }
 {
     let mut all = Vec::new(alloc);
@@ -175,8 +176,8 @@ fn is_link_in(stub: Link, router: RouterId, link: Link) -> bool
     is_link_to(link, router) && is_address(link.link_data) && is_held(stub, link.link_data)
 }
 
-// Whether it is an address, and not the index of an interface.
-fn is_address(link_data: u32) -> bool
+/// Whether it is an address, and not the index of an interface.
+pub(crate) fn is_address(link_data: u32) -> bool
     ensures { result ≡ is_address link_data }
 {
     !(link_data < INDICES)
@@ -199,8 +200,8 @@ pub(crate) fn is_link_to(link: Link, router: RouterId) -> bool
     }
 }
 
-// Whether it is a type 3 link.
-fn is_stub_link(link: Link) -> bool
+/// Whether it is a type 3 link.
+pub(crate) fn is_stub_link(link: Link) -> bool
     ensures { result ≡ is_stub_link link }
 {
     match link.kind {

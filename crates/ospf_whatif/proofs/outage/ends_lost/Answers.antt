@@ -1,5 +1,5 @@
 use Rattle.ospf_graph.specs.EdgeLists.Listed.{advertisements_of}
-use Rattle.ospf_whatif.proofs.LostLemmas.{end_ends_lost, no_ends_lost, router_ends_lost, wire_ends_lost}
+use Rattle.ospf_whatif.proofs.LostLemmas.{end_ends_lost, no_ends_lost, router_ends_lost, stub_ends_lost, wire_ends_lost}
 use Rattle.ospf_whatif.specs.declared.failure.AreaFailure.TheVariants as fails
 use Rattle.ospf_whatif.proofs.outage.ends_lost.Goals as goal
 
@@ -28,3 +28,7 @@ returns-in-Network c =
 pub returns-in-Router : goal.returns-in-Router
 returns-in-Router c =
     router_ends_lost c.args.failure.now (advertisements_of c.args.listing.now) c.in-Router.gone c.ends_at.result c.in-Router.is c.ends_at.ensures
+
+pub returns-in-Stub : goal.returns-in-Stub
+returns-in-Stub c =
+    stub_ends_lost c.args.failure.now (advertisements_of c.args.listing.now) c.in-Stub.router c.in-Stub.prefix c.stubs_at-in-Stub.result c.in-Stub.is c.stubs_at-in-Stub.ensures

@@ -30,3 +30,8 @@ pub returns-in-Router : goal.returns-in-Router
 returns-in-Router c =
     inner_of_other c.args.failure.now (advertisements_of c.args.listing.now) (fails.Router c.in-Router.field-0) c.in-Router.is refl
     c.new-in-Router.result.items c.new-in-Router.ensures.items
+
+pub returns-in-Stub : goal.returns-in-Stub
+returns-in-Stub c =
+    inner_of_other c.args.failure.now (advertisements_of c.args.listing.now) (fails.Stub c.in-Stub.router c.in-Stub.prefix) c.in-Stub.is refl
+    c.new-in-Stub.result.items c.new-in-Stub.ensures.items
