@@ -4,6 +4,7 @@ use Rattle.serde_json.specs.Data.{Data, array, number, object, string, unsigned,
 use Rattle.serde_json.specs.View.{items_of}
 use Rattle.ospf_base.specs.Bytes.{number_at}
 use Rattle.ospf_base.specs.Text.{number_text, prefix_text}
+use Rattle.ospf_base.specs.declared.ids.Addr.{Addr}
 use Rattle.ospf_base.specs.declared.ids.Kind.{Kind}
 use Rattle.ospf_base.specs.declared.ids.Kind.TheVariants as kind
 use Rattle.ospf_files.specs.Shown.{routes_text}
@@ -13,6 +14,7 @@ use Rattle.ospf_graph.specs.Text.{hop_text}
 use Rattle.ospf_graph.specs.declared.hop.NextHop.{NextHop}
 use Rattle.ospf_graph.specs.declared.route.Route.{Route}
 use Rattle.ospf_lsa.specs.Lsa.{kind_of}
+use Rattle.ospf_table.specs.Values.{IsTableLine}
 use Rattle.ospf_inspect.specs.Json.{IsArray, json_line}
 
 -- whose table it is
@@ -94,3 +96,20 @@ SaysTableInJson adverts router text =
 -- the text is one line of JSON with the tables of all routers
 abbrev pub SaysTablesInJson : List Advertisement → List (List ℕ) → List ℕ → Type 0
 SaysTablesInJson adverts lsas text = (d : Data) × TellsTables adverts lsas d × (text ≡ json_line d)
+
+-- ---- as JSON of version 2
+
+-- the line of a router's table and of lookups in it
+abbrev pub SaysTableLine : List Advertisement → ℕ → List Addr → List ℕ → Type 0
+SaysTableLine adverts router addresses text =
+    (table : List Route) × IsTable adverts (record { 0 = router }) table
+    × IsTableLine table (record { 0 = router }) addresses text
+
+-- of a router-LSA the line of its router's table, and of a network-LSA nothing
+abbrev pub SaysTableLineOfKind : List Advertisement → List ℕ → Kind → List ℕ → Type 0
+SaysTableLineOfKind adverts lsa kind.Router text = SaysTableLine adverts (number_at 8 4 lsa) [] text
+SaysTableLineOfKind adverts lsa kind.Network text = text ≡ []
+
+-- by the kind of the LSA
+abbrev pub SaysTableLineOf : List Advertisement → List ℕ → List ℕ → Type 0
+SaysTableLineOf adverts lsa text = SaysTableLineOfKind adverts lsa (kind_of lsa) text

@@ -3,7 +3,8 @@
 //!
 //! `inspect_text` is the whole: it reads lines of LSAs, and prints. `lsas_text`, `tables_text` and
 //! `path_text` are what it prints of a listing, `lsas_json`, `tables_json` and `table_json` the
-//! same as values of JSON, and a drawing is what a `Graph` of `drawing` prints.
+//! same as values of JSON, `tables_lines` and `table_lines` as JSON of version 2, and a drawing is
+//! what a `Graph` of `drawing` prints.
 #![tactic(auto)]
 
 mod answer;
@@ -19,5 +20,5 @@ pub use crate::answer::{Form, InspectJob, inspect_text};
 pub use crate::laws::ways_arrive;
 pub use crate::lsas::lsas_text;
 pub use crate::path::path_text;
-pub use crate::tables::{table_json, tables_json, tables_text};
+pub use crate::tables::{table_json, table_lines, tables_json, tables_lines, tables_text};
 pub use crate::values::lsas_json;

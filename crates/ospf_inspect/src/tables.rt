@@ -5,13 +5,14 @@ ghost use Rattle.serde_json.specs.View.{view};
 ghost use Rattle.ospf_graph.specs.EdgeLists.Listed.{advertisements_of};
 ghost use Rattle.ospf_files.specs.Shown.{routes_text};
 ghost use Rattle.ospf_inspect.specs.Lines.{AreLines};
-ghost use Rattle.ospf_inspect.specs.Tables.{SaysTable, SaysTableInJson, SaysTableOf, SaysTablesInJson, TellsRoot, TellsTable, TellsTables, hops_data, root_data, route_data, routes_data};
+ghost use Rattle.ospf_inspect.specs.Tables.{SaysTable, SaysTableInJson, SaysTableLine, SaysTableLineOf, SaysTableOf, SaysTablesInJson, TellsRoot, TellsTable, TellsTables, hops_data, root_data, route_data, routes_data};
 
 use crate::json::json_line;
-use ospf_base::{Kind, RouterId};
+use ospf_base::{Addr, Kind, RouterId};
 use ospf_graph::{NextHop, Route};
 use ospf_lsa::{Listing, Lsa};
 use ospf_spf::RouteTable;
+use ospf_table::table_line;
 use serde_json::{Value, json};
 use std::alloc::{AllocError, Global};
 use std::fmt::Write;
@@ -54,6 +55,53 @@ pub fn table_json(alloc: Global, listing: &Listing, router: RouterId) -> Result<
 {
     let value = table_value(alloc, listing, router)?;
     json_line(alloc, &value)
+}
+
+/// The routing table of each router whose router-LSA is listed, in the order of Router IDs, as an
+/// object of JSON on a line each (`ospf_table::table_line`).
+///
+/// `AllocError` where memory runs out.
+pub fn tables_lines(alloc: Global, listing: &Listing) -> Result<String, AllocError>
+    ensures { IfOk result (λ text. AreLines (SaysTableLineOf (advertisements_of listing.now))
+        listing.now (string_bytes text)) }
+{
+    let mut text = String::new(alloc);
+    for lsa in listing.lsas() {
+        text.push_str(&line_at(alloc, listing, lsa)?)?;
+    }
+    Ok(text)
+}
+
+/// The routing table of a router and lookups in it, as an object of JSON on a line
+/// (`ospf_table::table_line`).
+///
+/// `AllocError` where memory runs out.
+pub fn table_lines(
+    alloc: Global,
+    listing: &Listing,
+    router: RouterId,
+    addresses: &[Addr],
+) -> Result<String, AllocError>
+    ensures { IfOk result (λ text. SaysTableLine (advertisements_of listing.now) router.0
+        addresses.now (string_bytes text)) }
+{
+    let table = RouteTable::of(alloc, listing, router)?;
+    table_line(alloc, router, &table, addresses)
+}
+
+// The line of the table of the router of a router-LSA.
+fn line_at(alloc: Global, listing: &Listing, lsa: &Lsa) -> Result<String, AllocError>
+    ensures { IfOk result (λ text. SaysTableLineOf (advertisements_of listing.now) lsa.now
+        (string_bytes text)) }
+{
+    let key = lsa.view().key();
+    match key.kind {
+        Kind::Router => table_lines(alloc, listing, key.router, &[]),
+        Kind::Network => {
+            let line = String::new(alloc);
+            Ok(line)
+        }
+    }
 }
 
 // The table of the router of a router-LSA.

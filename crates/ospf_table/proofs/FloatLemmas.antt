@@ -52,3 +52,7 @@ count_none n = go (nat_lt n (2 ^ 64))
 pub counted_none : (failure : AreaFailure) (cut gone cost hops : ℕ) (rest : Members) → members_have_float rest ≡ false
     → members_have_float (counted_members failure cut gone cost hops rest) ≡ false
 counted_none failure cut gone cost hops rest none = rw (count_none cost, count_none cut, count_none gone, count_none hops, none) refl
+
+-- texts
+pub texts_none : (texts : List (List ℕ)) → items_have_float (items_of (map string texts)) ≡ false
+texts_none texts = items_none string (λ t. refl) texts

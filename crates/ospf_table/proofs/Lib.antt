@@ -5,3 +5,4 @@ pub mod Written
 pub mod FloatLemmas
 mod Looked
 mod NameLemmas
+mod ValueLemmas

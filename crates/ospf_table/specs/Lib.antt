@@ -8,6 +8,8 @@ pub mod Output
 pub mod Cut
 pub mod Changes
 pub mod Objects
+pub mod Head
+pub mod Values
 pub mod Named
 pub mod Sums
 pub mod Report

@@ -3,7 +3,7 @@ use Rattle.std.specs.Prelude.{◌≡◌, ◌⊎◌, ℕ, List, Contains}
 use Rattle.ospf_base.specs.Text.{prefix_text}
 use Rattle.ospf_whatif.specs.Name.{area_failure_text}
 use Rattle.ospf_whatif.specs.declared.failure.AreaFailure as failure
-use Rattle.ospf_whatif.specs.declared.failure.AreaFailure.TheVariants.{Attachment, Links, Network, Router}
+use Rattle.ospf_whatif.specs.declared.failure.AreaFailure.TheVariants.{Attachment, Links, Network, Router, Stub}
 use Rattle.ospf_whatif.specs.declared.failure.AreaFailure.TheVariants as fails
 
 -- a link in the subnet that a word is
@@ -14,6 +14,7 @@ IsLinkInSubnet word (Links a b) = ⊥
 IsLinkInSubnet word (Attachment router network) = ⊥
 IsLinkInSubnet word (Network network) = ⊥
 IsLinkInSubnet word (Router router) = ⊥
+IsLinkInSubnet word (Stub router prefix) = ⊥
 
 -- one of the list, whose name the word is
 abbrev pub HasName : List failure.AreaFailure → List ℕ → failure.AreaFailure → Type 0

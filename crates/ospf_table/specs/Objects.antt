@@ -11,14 +11,18 @@ use Rattle.ospf_graph.specs.declared.hop.NextHop.{NextHop}
 use Rattle.ospf_graph.specs.declared.route.Route.{Route}
 use Rattle.ospf_whatif.specs.Name.{area_failure_text}
 use Rattle.ospf_whatif.specs.declared.failure.AreaFailure.{AreaFailure}
-use Rattle.ospf_whatif.specs.declared.failure.AreaFailure.TheVariants.{Attachment, End, Link, Links, Network, Router}
+use Rattle.ospf_whatif.specs.declared.failure.AreaFailure.TheVariants.{Attachment, End, Link, Links, Network, Router, Stub}
 use Rattle.ospf_whatif.specs.declared.effect.Loss.{Loss}
 use Rattle.ospf_whatif.specs.declared.effect.Loss.TheVariants.{Gone, Cut, Dearer, Moved}
 use Rattle.ospf_whatif.specs.declared.effect.RouteChange.{RouteChange}
 
--- values as an array on a line, without spaces
+-- a value on a line, without spaces
+abbrev pub data_line : Data → List ℕ
+data_line d = compact_text d ++ codes "\n"
+
+-- values as an array on a line
 abbrev pub objects_line : List Data → List ℕ
-objects_line ds = compact_text (array (items_of ds)) ++ codes "\n"
+objects_line ds = data_line (array (items_of ds))
 
 -- ---- a route that a failure changes
 
@@ -71,6 +75,7 @@ failure_kind (Links a b) = codes "links"
 failure_kind (Attachment router network) = codes "attachment"
 failure_kind (Network network) = codes "network"
 failure_kind (Router router) = codes "router"
+failure_kind (Stub router prefix) = codes "stub"
 
 -- how many as a number, or as its digits where it has more than 64 bits
 abbrev pub count_data : ℕ → Data

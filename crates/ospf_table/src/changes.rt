@@ -55,8 +55,10 @@ impl Display for Costs {
     }
 }
 
-// A line for each route that a failure changes.
-fn change_lines(
+/// A line for each route that a failure changes, as `failure_lines` has them.
+///
+/// `AllocError` where memory runs out.
+pub fn change_lines(
     alloc: Global,
     failure: &AreaFailure,
     changes: &[RouteChange],

@@ -6,6 +6,7 @@
 mod apart;
 mod changes;
 mod entries;
+mod head;
 mod line;
 mod lookup;
 mod named;
@@ -16,12 +17,14 @@ mod report;
 mod sums;
 mod table;
 mod totals;
+mod values;
 
 pub use crate::apart::apart_text;
-pub use crate::changes::{change_line, failure_lines};
+pub use crate::changes::{change_line, change_lines, failure_lines};
+pub use crate::head::head_line;
 pub use crate::line::{LineFault, lsa_line};
 pub use crate::named::find_failure;
-pub use crate::objects::{add_changes, counted_members, objects_line};
+pub use crate::objects::{add_changes, count_value, counted_members, data_line, objects_line};
 pub use crate::output::output_text;
 pub use crate::outside::{Outside, is_nowhere, outside_of, outside_text, reasons_text};
 pub use crate::report::{line_refused, refusal};
@@ -31,3 +34,4 @@ pub use crate::table::{
     table_text, unlisted_text, warning_text,
 };
 pub use crate::totals::Totals;
+pub use crate::values::table_line;

@@ -107,7 +107,8 @@ fn is_in(alloc: Global, failure: &AreaFailure, word: &str) -> Result<bool, Alloc
         | AreaFailure::Links { .. }
         | AreaFailure::Attachment { .. }
         | AreaFailure::Network(_)
-        | AreaFailure::Router(_) => Ok(false),
+        | AreaFailure::Router(_)
+        | AreaFailure::Stub { .. } => Ok(false),
     }
 }
 

@@ -3,14 +3,27 @@
 ghost use Rattle.std.specs.Prelude.{◌≡◌, ◌++◌, ℕ, IfOk, OnErr, OnOk, false, map, string_bytes, take};
 ghost use Rattle.serde_json.specs.Data.{no_members};
 ghost use Rattle.serde_json.specs.View.{items_of, members_view, view};
-ghost use Rattle.serde_json.specs.Written.{items_have_float};
-ghost use Rattle.ospf_table.specs.Objects.{change_data, count_data, counted_members, failure_kind, hop_names, lost_data, objects_line, reach_data, turned_data};
+ghost use Rattle.serde_json.specs.Written.{has_float, items_have_float};
+ghost use Rattle.ospf_table.specs.Objects.{change_data, count_data, counted_members, data_line, failure_kind, hop_names, lost_data, objects_line, reach_data, turned_data};
 
 use ospf_base::RouterId;
 use ospf_graph::{NextHop, Route};
 use ospf_whatif::{AreaFailure, Loss, RouteChange};
 use serde_json::{Map, Value, json, put};
 use std::alloc::{AllocError, Global};
+
+/// A value without floats as JSON on a line, without spaces, the members of each object in the
+/// order of their names.
+///
+/// `AllocError` where memory runs out.
+pub fn data_line(alloc: Global, value: &Value) -> Result<String, AllocError>
+    requires { has_float (view value.now) ≡ false }
+    ensures { IfOk result (λ line. string_bytes line ≡ data_line (view value.now)) }
+{
+    let mut line = value.to_string(alloc)?;
+    line.push_str("\n")?;
+    Ok(line)
+}
 
 /// Values without floats as an array of JSON on a line, the members of objects by their names.
 ///
@@ -19,9 +32,7 @@ pub fn objects_line(alloc: Global, objects: Vec<Value>) -> Result<String, AllocE
     requires { items_have_float (items_of (map view objects.items)) ≡ false }
     ensures { IfOk result (λ line. string_bytes line ≡ objects_line (map view objects.items)) }
 {
-    let mut line = Value::Array(objects).to_string(alloc)?;
-    line.push_str("\n")?;
-    Ok(line)
+    data_line(alloc, &Value::Array(objects))
 }
 
 /// The members of an object about a failure: its name as `failure`, its `kind`, and
@@ -63,11 +74,14 @@ fn kind_of(failure: &AreaFailure) -> &'static str
         AreaFailure::Attachment { .. } => "attachment",
         AreaFailure::Network(_) => "network",
         AreaFailure::Router(_) => "router",
+        AreaFailure::Stub { .. } => "stub",
     }
 }
 
-// How many as a number, or as its digits where it is too large.
-fn count_value(alloc: Global, count: u128) -> Result<Value, AllocError>
+/// How many as a number, or as a string of its digits where it has more than 64 bits.
+///
+/// `AllocError` where memory runs out.
+pub fn count_value(alloc: Global, count: u128) -> Result<Value, AllocError>
     ensures { IfOk result (λ value. view value ≡ count_data count) }
 {
     match u64::try_from(count) {
