@@ -1,5 +1,5 @@
 -- How what is asked of failures ends.
-use Rattle.std.proofs.Common.{◌≡◌, ◌≢◌, ◌∙◌, ◌⊎◌, ◌++◌, ◌∷◌, ◌↔◌, ℕ, Bool, true, false, IsTrue, List, [], ap, sym, refl, subst, inl, inr, Option, None, Some, IfSome, string_bytes}
+use Rattle.std.proofs.Common.{◌≡◌, ◌≢◌, ◌∙◌, ◌⊎◌, ◌++◌, ◌∷◌, ℕ, List, [], ap, sym, refl, subst, inl, inr, Option, IfSome, string_bytes}
 use Rattle.std.specs.Io.KnownBytes.{Appends}
 use Rattle.ospf_graph.specs.EdgeLists.Listed.{advertisements_of}
 use Rattle.ospf_files.specs.Status.{failure_line, failure_status}
@@ -12,48 +12,24 @@ use Rattle.ospf_files.specs.declared.streams.FailedStreams.{FailedStreams}
 use Rattle.ospf_table.proofs.Lines.{map_some}
 use Rattle.ospf_table.specs.Line.{LeavesOut, Reads}
 use Rattle.ospf_whatif.specs.Failure.{HasLarge}
-use Rattle.ospf_whatif.specs.Carrier.{AreHiddenBy}
-use Rattle.ospf_whatif.specs.declared.carrier.Carrier.{Carrier}
-use Rattle.ospf_whatif.specs.declared.hidden.HiddenCost.{HiddenCost}
-use Rattle.std.proofs.lemmas.Result.{IfOk-weaker}
-use Rattle.ospf_graph.specs.Advertisements.{Advertisement}
-use Rattle.ospf_failures.specs.Warnings.{hidden_text}
-use Rattle.std.specs.Prelude.{IfOk, String}
-use Rattle.std.specs.declared.alloc.AllocError.{AllocError}
-use Rattle.std.specs.declared.alloc.Global.{Global}
-use Rattle.std.specs.declared.result.Result.{Result}
-use Rattle.ospf_failures.specs.Answer.{FailuresEndsBy, IsFailuresAnswerBegun, IsFailuresAnswerOf, IsFailuresAnswered, IsFailuresCutShort, IsFailuresEnding, IsUnreported, IsFailuresRefusal, IsFailuresRefusalBegun, IsRefusalOf, IsFailuresRefusalTold, IsFailuresSaid, IsUnserved, IsFailuresWarningBegun, IsEndBy, IsAllPrinted, IsRebuilding, SaysOf, TellsHidden, WarnsOfAll, end_by, head_of, in_answer, in_refusal, in_warning, is_answered, is_refused, names_of, of_name}
+use Rattle.ospf_failures.specs.Answer.{FailuresEndsBy, IsFailuresAnswerBegun, IsFailuresAnswerOf, IsFailuresAnswered, IsFailuresCutShort, IsFailuresEnding, IsUnreported, IsFailuresRefusal, IsFailuresRefusalBegun, IsRefusalOf, IsFailuresRefusalTold, IsFailuresSaid, IsUnserved, IsFailuresWarningBegun, IsRebuilding, SaysOf, WarnsOf, head_of, in_answer, in_refusal, in_warning, is_answered, is_refused, names_of, of_area, of_name}
+use Rattle.ospf_harm.specs.Asked.{IsAllPrinted}
 use Rattle.ospf_failures.specs.Without.{IsFaultOfNames, IsFirstUnnamed}
+use Rattle.ospf_harm.proofs.AnswerLemmas.{both_some, refusal_weaker}
+use Rattle.ospf_harm.specs.Input.{IsAreaRefusal}
 use Rattle.ospf_failures.specs.declared.answer.FailuresAnswer.{FailuresAnswer}
 use Rattle.ospf_failures.specs.declared.answer.FailuresJob.{FailuresJob}
 use Rattle.ospf_failures.specs.declared.answer.FailuresJob.TheVariants.{All, Root, Without}
-use Rattle.ospf_failures.specs.declared.answer.FailuresStatus.{FailuresStatus}
-use Rattle.ospf_failures.specs.declared.answer.FailuresStatus.TheVariants.{Ended, Unmet}
+use Rattle.ospf_harm.specs.declared.asked.FailuresStatus.{FailuresStatus}
+use Rattle.ospf_harm.specs.declared.asked.FailuresStatus.TheVariants.{Ended, Unmet}
 use Rattle.ospf_failures.specs.declared.answer.Unreported.{Unreported}
 use Rattle.ospf_failures.specs.declared.answer.Unreported.TheVariants as fault
 
 -- ---- an answer
 
--- how it ends
-pub whole_end : (strict cut listed : Bool) → IsAllPrinted (end_by strict cut listed)
-whole_end true true listed = inr refl
-whole_end true false true = inl refl
-whole_end true false false = inr refl
-whole_end false cut listed = inl refl
-
-pub end_is : (P Q : Type 0) (strict cut listed : Bool) → (IsTrue cut ↔ P) → (IsTrue listed ↔ Q) → IsEndBy strict (P ⊎ (Q → ⊥)) (end_by strict cut listed)
-end_is P Q true true listed cuts is = (refl, inl (cuts.0 refl))
-end_is P Q true false true cuts is = (refl, λ e unmet. elim unmet [ inl p ↦ (let t : false ≡ true = cuts.1 p in cc) | inr none ↦ none (is.0 refl) ])
-end_is P Q true false false cuts is = (refl, inr (λ q. let t : false ≡ true = is.1 q in cc))
-end_is P Q false cut listed cuts is = (refl, λ e unmet. cc)
-
-both_some : {A : Type 0} (o : Option A) (P Q R : A → Type 0) → ((a : A) → P a → Q a → R a) → IfSome o P → IfSome o Q → IfSome o R
-both_some None P Q R f p q = p
-both_some (Some a) P Q R f p q = f a p q
-
 pub answer_made : (input : Option (List ℕ)) (job : FailuresJob) (answer : FailuresAnswer) (listing : List (List ℕ)) (left_out : ℕ) (body : List ℕ)
     → IfSome input (λ bytes. Reads bytes [] listing) → IfSome input (λ bytes. LeavesOut bytes left_out)
-    → (IsRebuilding job → HasLarge (advertisements_of listing) → ⊥) → WarnsOfAll job listing (string_bytes answer.warning)
+    → (IsRebuilding job → HasLarge (advertisements_of listing) → ⊥) → WarnsOf job listing (string_bytes answer.warning)
     → SaysOf job (advertisements_of listing) body answer.said.end
     → string_bytes answer.said.text ≡ head_of job listing left_out (string_bytes answer.warning) ++ body → IfSome input (IsFailuresAnswerOf job answer)
 answer_made input job answer listing left_out body reads leaves small warned says text =
@@ -69,11 +45,6 @@ answer_made input job answer listing left_out body reads leaves small warned say
       says = says;
       text_is = text;
     }) reads leaves
-
-pub told_hidden : (carrier : Carrier) (adverts : List Advertisement) (hidden seen : List HiddenCost) (found : Result (String Global) AllocError) → seen ≡ hidden
-    → AreHiddenBy carrier adverts hidden → IfOk found (λ text. string_bytes text ≡ hidden_text seen) → IfOk found (λ text. TellsHidden carrier adverts (string_bytes text))
-told_hidden carrier adverts hidden seen found same are told =
-    IfOk-weaker found _ _ (λ text is. (hidden, are, is ∙ ap hidden_text same)) told
 
 module _ (input : Option (List ℕ)) (job : FailuresJob) (answer : FailuresAnswer) (is : IfSome input (IsFailuresAnswerOf job answer)) where
   pub answer_said : (old new : Written) (warning text : List ℕ) → IsAllPrinted answer.said.end → warning ≡ string_bytes answer.warning
@@ -153,9 +124,15 @@ some_name (y ∷ xs) ys x e = cc e
 
 -- without parts that are named router-LSAs are made again
 named_rebuilds : (job : FailuresJob) → names_of job ≢ [] → IsRebuilding job
-named_rebuilds (Root root each strict form carrier) named = absurd (named refl)
+named_rebuilds (Root asked) named = absurd (named refl)
 named_rebuilds (All each strict form carrier) named = absurd (named refl)
 named_rebuilds (Without root names addresses) named = named
+
+pub area_refused : (P : Type 0) (input : Option (List ℕ)) (job : FailuresJob) (text : List ℕ) → (P → IsRebuilding job) → IfSome input (λ bytes. IsAreaRefusal P bytes text)
+    → IsRefusalOf input job text status.Refused
+area_refused P input job text k is =
+    map_some input (λ bytes. IsAreaRefusal P bytes text) (λ bytes. IsFailuresRefusal job bytes text status.Refused)
+    (λ bytes r. of_area (refusal_weaker P (IsRebuilding job) bytes text k r)) is
 
 pub names_refused : (input : Option (List ℕ)) (job : FailuresJob) (listing : List (List ℕ)) (f : Unreported) → IfSome input (λ bytes. Reads bytes [] listing)
     → (IsRebuilding job → HasLarge (advertisements_of listing) → ⊥) → IsFaultOfNames (IsFirstUnnamed (advertisements_of listing) (names_of job)) f → IsUnreported input job f

@@ -1,7 +1,4 @@
-pub mod ReportLemmas
 pub mod AnswerLemmas
-pub mod FoundLemmas
-pub mod LargeLemmas
 pub mod OverallLemmas
 pub mod JsonLemmas
 pub mod WithoutLemmas

@@ -3,9 +3,9 @@ use Rattle.std.proofs.Common.{◌≡◌, ◌∙◌, ◌+◌, ◌-◌, ◌*◌, �
 use Rattle.std.specs.List.{AllPairs, AllWithin, AllZip, Any, Contains, HoldsAt, fold, sum_by}
 use Rattle.std.specs.List.Sorted.{IsSorted}
 use Rattle.std.specs.Prelude.{IsPermutation, IsTrue, MatchBool, count_by, max}
-use Rattle.std.proofs.lemmas.List.{append-nil, append_assoc, length-map, map-append, map_push, take_more}
+use Rattle.std.proofs.lemmas.List.{append-nil, length-map, map-append, map_push, take_more}
 use Rattle.std.proofs.lemmas.List.Concat.{flat_map-append}
-use Rattle.std.proofs.lemmas.List.Elements.{All-append, All-contains, All-push, Contains-get_or, filter-append}
+use Rattle.std.proofs.lemmas.List.Elements.{All-append, All-push, Contains-get_or, filter-append}
 use Rattle.std.proofs.lemmas.List.Kept.{AllPairs-cons, AllPairs-filter}
 use Rattle.std.proofs.lemmas.List.Folds.{fold_along}
 use Rattle.std.proofs.lemmas.List.Sums.{count_by-le-length, fold-append, fold_push, length-filter, sum_by-append, sum_by-le, sum_by_push}
@@ -15,29 +15,29 @@ use Rattle.ospf_graph.proofs.ListLemmas.{member_cases, member_head, member_later
 use Rattle.ospf_graph.proofs.TableLemmas.{head_before, pairs_tail}
 use Rattle.ospf_graph.specs.Advertisements.{Advertisement, IsListed}
 use Rattle.ospf_graph.specs.Routes.{IsTable}
-use Rattle.ospf_whatif.specs.Carrier.{IsFailureBy, together}
-use Rattle.ospf_whatif.specs.Effect.{IsEffectIn}
+use Rattle.ospf_harm.specs.Carrier.{IsFailureBy, together}
 use Rattle.ospf_whatif.specs.Failure.{without_all}
 use Rattle.ospf_whatif.specs.Single.{IsFailureBefore}
-use Rattle.ospf_whatif.specs.declared.carrier.Breakdown.{Breakdown}
-use Rattle.ospf_whatif.specs.declared.carrier.Carrier.{Carrier}
+use Rattle.ospf_harm.specs.declared.carrier.Breakdown.{Breakdown}
+use Rattle.ospf_harm.specs.declared.carrier.Carrier.{Carrier}
 use Rattle.ospf_whatif.specs.declared.effect.RouteChange.{RouteChange}
 use Rattle.ospf_whatif.specs.declared.failure.AreaFailure.{AreaFailure}
-use Rattle.ospf_whatif.specs.declared.failure.AreaFailure.TheVariants.{Attachment, End, Link, Links, Network, Router}
+use Rattle.ospf_whatif.specs.declared.failure.AreaFailure.TheVariants.{Attachment, End, Link, Links, Network, Router, Stub}
 use Rattle.ospf_whatif.proofs.LessLemmas.{kept_of, of_kept}
-use Rattle.ospf_failures.proofs.FoundLemmas.{all_seen, effect_by, same_failures}
-use Rattle.ospf_failures.proofs.ReportLemmas.{other_from, other_to}
-use Rattle.ospf_harm.specs.Harm.{HasHarmRoom, harm_at, harm_plus, is_rerouted, loses_other, loses_own, no_harm}
+use Rattle.ospf_harm.proofs.FoundLemmas.{all_seen, effect_by, same_failures}
+use Rattle.ospf_harm.proofs.ReportLemmas.{other_from, other_to}
+use Rattle.ospf_harm.specs.Harm.{harm_at, harm_plus, is_rerouted, loses_other, loses_own, no_harm}
 use Rattle.ospf_harm.specs.declared.harm.Harm.{Harm}
 use Rattle.ospf_failures.specs.Overall.{AreOveralls, FitTogether, HasRoomForOne, IsSumOfBoth, IsOverall, IsSight, IsSightFrom, IsSoFar, Sees, SeesMore, failing_router, harm_of, lines_kept, overall_cmp, roots_in, sight_lines, sights_kept, sums_and, sums_of}
-use Rattle.ospf_table.specs.Sums.{HasSumRoom, has_changes, one_if, sums_plus}
-use Rattle.ospf_failures.specs.Reports.{SightValue, is_of}
-use Rattle.ospf_failures.specs.declared.roots.Before.{Before}
+use Rattle.ospf_failures.specs.Sights.{SightValue}
+use Rattle.ospf_table.specs.Sums.{has_changes, one_if, sums_plus}
+use Rattle.ospf_harm.specs.Reports.{is_of}
+use Rattle.ospf_harm.specs.declared.cases.Before.{Before}
 use Rattle.ospf_failures.specs.declared.overall.RouteDetail.{RouteDetail}
 use Rattle.ospf_failures.specs.declared.overall.RouteDetail.TheVariants as detail
 use Rattle.ospf_failures.specs.declared.overall.Overall.{Overall}
 use Rattle.ospf_table.specs.declared.sums.Sums.{Sums}
-use Rattle.ospf_failures.specs.Together.{AreSingle}
+use Rattle.ospf_harm.specs.Together.{AreSingle}
 
 -- ---- the routers of an area, by its failures
 
@@ -52,6 +52,7 @@ root_to (End a b p ∷ fs) r c = member_later (End a b p) fs (Router r) (root_to
 root_to (Links a b ∷ fs) r c = member_later (Links a b) fs (Router r) (root_to fs r c)
 root_to (Attachment a n ∷ fs) r c = member_later (Attachment a n) fs (Router r) (root_to fs r c)
 root_to (Network n ∷ fs) r c = member_later (Network n) fs (Router r) (root_to fs r c)
+root_to (Stub q p ∷ fs) r c = member_later (Stub q p) fs (Router r) (root_to fs r c)
 root_to (Router s ∷ fs) r c = elim (member_cases s (roots_in fs) r c) [
   | inl is ↦ subst (Contains (Router s ∷ fs)) (ap Router is) (member_head (Router s) fs)
   | inr rest ↦ member_later (Router s) fs (Router r) (root_to fs r rest)
@@ -64,6 +65,7 @@ root_from (End a b p ∷ fs) r c = elim (member_cases (End a b p) fs (Router r) 
 root_from (Links a b ∷ fs) r c = elim (member_cases (Links a b) fs (Router r) c) [ inl is ↦ absurd (cc is) | inr rest ↦ root_from fs r rest ]
 root_from (Attachment a n ∷ fs) r c = elim (member_cases (Attachment a n) fs (Router r) c) [ inl is ↦ absurd (cc is) | inr rest ↦ root_from fs r rest ]
 root_from (Network n ∷ fs) r c = elim (member_cases (Network n) fs (Router r) c) [ inl is ↦ absurd (cc is) | inr rest ↦ root_from fs r rest ]
+root_from (Stub q p ∷ fs) r c = elim (member_cases (Stub q p) fs (Router r) c) [ inl is ↦ absurd (cc is) | inr rest ↦ root_from fs r rest ]
 root_from (Router s ∷ fs) r c = elim (member_cases (Router s) fs (Router r) c) [
   | inl is ↦ let same : s ≡ r = cc is in subst (Contains (s ∷ roots_in fs)) same (member_head s (roots_in fs))
   | inr rest ↦ member_later s (roots_in fs) r (root_from fs r rest)
@@ -81,6 +83,7 @@ roots_rise (End a b p ∷ fs) order = roots_rise fs (pairs_tail IsFailureBefore 
 roots_rise (Links a b ∷ fs) order = roots_rise fs (pairs_tail IsFailureBefore (Links a b) fs order)
 roots_rise (Attachment a n ∷ fs) order = roots_rise fs (pairs_tail IsFailureBefore (Attachment a n) fs order)
 roots_rise (Network n ∷ fs) order = roots_rise fs (pairs_tail IsFailureBefore (Network n) fs order)
+roots_rise (Stub q p ∷ fs) order = roots_rise fs (pairs_tail IsFailureBefore (Stub q p) fs order)
 roots_rise (Router s ∷ fs) order =
     AllPairs-cons is_before s (roots_in fs) (first_of_all s fs order) (roots_rise fs (pairs_tail IsFailureBefore (Router s) fs order))
 

@@ -1,6 +1,6 @@
 -- What is found of each failure at one router after the other, and at groups of routers.
 use Rattle.std.proofs.Common.{◌≡◌, ◌∙◌, ◌+◌, ◌++◌, ◌<◌, ◌≤◌, ◌^◌, ℕ, zero, suc, Global, List, [], ◌∷◌, ap, arith, drop, get_or, length, min, refl, set, subst, sym, take}
-use Rattle.std.specs.List.{All, AllZip, flat_map, zip}
+use Rattle.std.specs.List.{All, AllZip, flat_map}
 use Rattle.std.specs.Prelude.{Vec}
 use Rattle.std.proofs.lemmas.List.{append-nil, append_assoc, drop_all, drop_more, get_or_at, length-append, length-drop, length-take, length-take-le, set_at, take-append-drop, take_all, take_more}
 use Rattle.std.proofs.lemmas.List.Concat.{flat_map-append}
@@ -12,12 +12,13 @@ use Rattle.ospf_base.specs.declared.ids.RouterId.{RouterId}
 use Rattle.ospf_graph.specs.Advertisements.{Advertisement}
 use Rattle.ospf_whatif.specs.Failure.{without_all}
 use Rattle.ospf_whatif.specs.Outage.{IsOutage}
-use Rattle.ospf_whatif.specs.declared.carrier.Breakdown.{Breakdown}
+use Rattle.ospf_harm.specs.declared.carrier.Breakdown.{Breakdown}
 use Rattle.ospf_whatif.specs.declared.failure.AreaFailure.{AreaFailure}
-use Rattle.ospf_failures.specs.Overall.{AreSumsOfBoth, AreOutages, AreSeenAt, AreSeenMore, FitTogether, HasRoomForOne, IsSumOfBoth, IsOutageOf, IsSeenAt, IsSoFar, IsTableBefore, Sees, left_after_outage}
+use Rattle.ospf_failures.specs.Overall.{AreSumsOfBoth, AreOutages, AreSeenAt, AreSeenMore, FitTogether, HasRoomForOne, IsSumOfBoth, IsOutageOf, IsSeenAt, IsSoFar, Sees, left_after_outage}
+use Rattle.ospf_harm.specs.Cases.{IsTableBefore}
 use Rattle.ospf_failures.specs.declared.overall.Overall.{Overall}
 use Rattle.ospf_failures.specs.declared.overall.RouteDetail.{RouteDetail}
-use Rattle.ospf_failures.specs.declared.roots.Before.{Before}
+use Rattle.ospf_harm.specs.declared.cases.Before.{Before}
 use Rattle.ospf_failures.specs.declared.roots.FailureOutage.{FailureOutage}
 use Rattle.ospf_failures.proofs.OverallLemmas.{IsOverallOf, bounded, fit_together, room_for_one, sees_on, so_far_both, still_it}
 
@@ -123,12 +124,11 @@ module _ (A : List Advertisement) (b : Before) (wanted : RouteDetail) (outages :
       let o : length (take place old) ≡ place = length-take-le place old (omega (arith, lt)) in
       let n : length (take place outages) ≡ place = length-take-le place outages (omega (arith, lt, long)) in
       let olds : take (place + 1) old ≡ take place old ++ at ∷ [] = take_more old place at lt ∙ ap (λ (e : Overall). take place old ++ e ∷ []) (sym was_there) in
-      let xs : take (place + 1) outages ≡ take place outages ++ x ∷ [] = take_more outages place x (omega (arith, lt, long)) ∙ ap (λ (e : FailureOutage). take place outages ++ e ∷ []) (sym is) in
-      (
+      let xs : take (place + 1) outages ≡ take place outages ++ x ∷ [] = take_more outages place x (omega (arith, lt, long)) ∙ ap (λ (e : FailureOutage). take place outages ++ e ∷ []) (sym is) in (
         so_far.0 ++ new ∷ [],
         subst (λ (l : List FailureOutage). AreSeenMore A b wanted l (take (place + 1) old) (so_far.0 ++ new ∷ [])) (sym xs)
-        (subst (λ (l : List Overall). AreSeenMore A b wanted (take place outages ++ x ∷ []) l (so_far.0 ++ new ∷ [])) (sym olds)
-        (seen_push A b wanted (take place outages) (take place old) so_far.0 x at new so_far.1 (omega (arith, o, n)) sees)),
+            (subst (λ (l : List Overall). AreSeenMore A b wanted (take place outages ++ x ∷ []) l (so_far.0 ++ new ∷ [])) (sym olds)
+            (seen_push A b wanted (take place outages) (take place old) so_far.0 x at new so_far.1 (omega (arith, o, n)) sees)),
         set_place so_far.0 old now place at new front_len lt so_far.2,
       )
 
@@ -246,11 +246,10 @@ module _ (old more : List Overall) (fit : AllZip FitTogether old more) (yielded 
   pub has_added : (at : Overall) → at ≡ get_or now place at → (one both : Overall) → IsSumOfBoth at one both → HasAdded old (yielded ++ one ∷ []) (place + 1) (set now place both)
   has_added at read one both joined =
       let o : length (take place old) ≡ place = length-take-le place old (let s = lt in omega (arith, s)) in
-      let olds : take (place + 1) old ≡ take place old ++ at ∷ [] = take_more old place at lt ∙ ap (λ (e : Overall). take place old ++ e ∷ []) (sym (still_there at read)) in
-      (
+      let olds : take (place + 1) old ≡ take place old ++ at ∷ [] = take_more old place at lt ∙ ap (λ (e : Overall). take place old ++ e ∷ []) (sym (still_there at read)) in (
         so_far.0 ++ both ∷ [],
         subst (λ (l : List Overall). AreSumsOfBoth l (yielded ++ one ∷ []) (so_far.0 ++ both ∷ [])) (sym olds)
-        (joined_push (take place old) yielded so_far.0 at one both so_far.1 (omega (arith, o, is_at)) joined),
+            (joined_push (take place old) yielded so_far.0 at one both so_far.1 (omega (arith, o, is_at)) joined),
         set_place so_far.0 old now place at both sums_len lt so_far.2,
       )
 

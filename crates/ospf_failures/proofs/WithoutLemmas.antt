@@ -5,7 +5,7 @@ use Rattle.std.specs.declared.alloc.Global.{Global}
 use Rattle.std.proofs.Math.Seq.{drop-cons}
 use Rattle.std.proofs.lemmas.List.{take-append-drop}
 use Rattle.ospf_graph.specs.Advertisements.{Advertisement}
-use Rattle.ospf_whatif.specs.Single.{AreFailures}
+use Rattle.ospf_whatif.specs.Stubs.{AreAllFailures}
 use Rattle.ospf_whatif.specs.declared.failure.AreaFailure.{AreaFailure}
 use Rattle.ospf_failures.specs.Without.{IsFaultOfNames, IsFirstAmong, IsFirstUnnamed, IsNamedBy, IsUnnamedHere}
 use Rattle.ospf_failures.specs.declared.answer.Unreported.{Unreported}
@@ -32,7 +32,7 @@ first_among single names i x failures within is named name here = record {
   unnamed = λ f n. here.1 f (subst (λ (y : String Global). IsNamedBy single y f) here.0 n);
 }
 
-pub first_unnamed : (adverts : List Advertisement) (single : List AreaFailure) (names : List (String Global)) → AreFailures adverts single → (name : String Global)
+pub first_unnamed : (adverts : List Advertisement) (single : List AreaFailure) (names : List (String Global)) → AreAllFailures adverts single → (name : String Global)
     → IsFirstAmong single names name → IsFirstUnnamed adverts names name
 first_unnamed adverts single names are name first = record { single = single; are_single = are; first = first }
 

@@ -1,68 +1,46 @@
 -- What is printed of the failures of the area whose LSAs are the lines
 -- of an input, and how that ends.
-use Rattle.std.specs.Prelude.{◌≡◌, ◌≢◌, ◌⊎◌, ◌&&◌, ◌||◌, ℕ, Bool, not, true, false, List, [], ◌∷◌, ◌++◌, IfSome, IsPermutation, Option, String, if◌then◌else◌, codes, string_bytes, vec_items}
+use Rattle.std.specs.Prelude.{◌≡◌, ◌≢◌, ◌⊎◌, ℕ, Bool, true, false, List, [], ◌++◌, IfSome, IsPermutation, Option, String, string_bytes, vec_items}
 use Rattle.std.specs.Io.KnownBytes.{Appends}
 use Rattle.std.specs.declared.alloc.Global.{Global}
-use Rattle.ospf_base.specs.Text.{number_text}
 use Rattle.ospf_base.specs.declared.ids.RouterId.{RouterId}
-use Rattle.ospf_lsa.specs.Lsa.{key_of}
-use Rattle.ospf_graph.specs.EdgeLists.Listed.{advertisement_of, advertisements_of}
+use Rattle.ospf_graph.specs.EdgeLists.Listed.{advertisements_of}
 use Rattle.ospf_graph.specs.Advertisements.{Advertisement, IsListed}
-use Rattle.ospf_graph.specs.Routes.{IsTable}
-use Rattle.ospf_graph.specs.declared.route.Route.{Route}
-use Rattle.ospf_files.specs.Status.{code_of, failure_line, failure_status}
+use Rattle.ospf_files.specs.Status.{failure_line, failure_status}
 use Rattle.ospf_files.specs.Streams.{IsBegun, IsErrorFailed, IsOfError, IsOfInput, IsOfOutput, IsOutputFailed, IsTold, Written}
 use Rattle.ospf_files.specs.declared.status.Failure.{Failure}
 use Rattle.ospf_files.specs.declared.status.Status.{Status}
 use Rattle.ospf_files.specs.declared.status.Status.TheVariants as status
 use Rattle.ospf_files.specs.declared.streams.FailedStreams.{FailedStreams}
-use Rattle.ospf_table.specs.Line.{LeavesOut, Reads, Refuses}
-use Rattle.ospf_table.specs.Output.{unlisted_line}
-use Rattle.ospf_table.specs.Outside.{reasons_text}
-use Rattle.ospf_table.specs.Refusal.{refusal_line}
-use Rattle.ospf_table.specs.declared.table.EntryFault.{EntryFault}
-use Rattle.ospf_whatif.specs.Failure.{HasLarge, IsLarge}
-use Rattle.ospf_whatif.specs.Carrier.{AreHiddenBy}
-use Rattle.ospf_whatif.specs.declared.carrier.Carrier.{Carrier}
-use Rattle.ospf_whatif.specs.declared.carrier.Carrier.TheVariants.{Direct}
-use Rattle.ospf_whatif.specs.declared.hidden.HiddenCost.{HiddenCost}
+use Rattle.ospf_table.specs.Line.{LeavesOut, Reads}
+use Rattle.ospf_whatif.specs.Failure.{HasLarge}
+use Rattle.ospf_harm.specs.Carrier.{AreHiddenBy}
+use Rattle.ospf_harm.specs.declared.carrier.Carrier.{Carrier}
+use Rattle.ospf_harm.specs.declared.carrier.Carrier.TheVariants.{Direct}
+use Rattle.ospf_harm.specs.declared.hidden.HiddenCost.{HiddenCost}
 use Rattle.std.specs.List.Sorted.{IsSorted}
-use Rattle.ospf_failures.specs.HarmLines.{overall_harm_cmp, overalls_harm_text, overalls_lines, report_harm_cmp, reports_harm_text, reports_lines}
-use Rattle.ospf_failures.specs.Head.{head_line}
-use Rattle.ospf_failures.specs.Json.{overalls_json, reports_json}
+use Rattle.ospf_failures.specs.HarmLines.{overall_harm_cmp, overalls_harm_text, overalls_lines}
+use Rattle.ospf_failures.specs.Json.{overalls_json}
 use Rattle.ospf_failures.specs.Overall.{AreOveralls, CutsSomewhere, overalls_text}
-use Rattle.ospf_failures.specs.Warnings.{hidden_text}
-use Rattle.ospf_failures.specs.Reports.{HasCut, IsReported, ReportValue, reports_text}
 use Rattle.ospf_failures.specs.Without.{IsFirstUnnamed, IsTableWithout, unnamed_line}
 use Rattle.ospf_failures.specs.declared.answer.FailuresAnswer.{FailuresAnswer}
 use Rattle.ospf_failures.specs.declared.answer.Unreported.{Unreported}
 use Rattle.ospf_failures.specs.declared.answer.Unreported.TheVariants as fault
-use Rattle.ospf_failures.specs.declared.answer.FailuresForm.{FailuresForm}
-use Rattle.ospf_failures.specs.declared.answer.FailuresForm.TheVariants as form
+use Rattle.ospf_harm.specs.declared.asked.FailuresForm.{FailuresForm}
+use Rattle.ospf_harm.specs.declared.asked.FailuresForm.TheVariants as form
 use Rattle.ospf_failures.specs.declared.answer.FailuresJob.{FailuresJob}
 use Rattle.ospf_failures.specs.declared.answer.FailuresJob.TheVariants.{All, Root, Without}
-use Rattle.ospf_failures.specs.declared.answer.FailuresStatus.{FailuresStatus}
-use Rattle.ospf_failures.specs.declared.answer.FailuresStatus.TheVariants.{Ended, Unmet}
+use Rattle.ospf_harm.specs.declared.asked.FailuresStatus.{FailuresStatus}
+use Rattle.ospf_harm.specs.declared.asked.FailuresStatus.TheVariants.{Ended}
 use Rattle.ospf_failures.specs.declared.overall.RouteDetail.{RouteDetail}
 use Rattle.ospf_failures.specs.declared.overall.RouteDetail.TheVariants as detail
 use Rattle.ospf_failures.specs.declared.overall.Overall.{Overall}
+use Rattle.ospf_harm.specs.Input.{IsAreaRefusal}
+use Rattle.ospf_harm.specs.Asked.{IsAllPrinted, IsEndBy, IsRebuiltFor}
+use Rattle.ospf_harm.specs.Warnings.{TellsOfRoot, WarnsAt, WarnsOfArea}
+use Rattle.ospf_harm.specs.Said.{SaysChanges, form_head}
 
 -- ---- statuses
-
--- the number of a status
-abbrev pub exit_code_of : FailuresStatus → ℕ
-exit_code_of (Ended s) = code_of s
-exit_code_of Unmet = 1
-
--- with `--strict`, the status reports whether P holds
-abbrev pub IsEndBy : Bool → Type 0 → FailuresStatus → Type 0
-IsEndBy strict P (Ended s) = (s ≡ status.Done) × ((strict ≡ true) → P → ⊥)
-IsEndBy strict P Unmet = (strict ≡ true) × P
-
--- what a strict run reports for a root: some failure cuts a prefix off, or the root's router-LSA is
--- not listed, so that nothing was checked for it
-abbrev pub IsUnmetAt : List Advertisement → RouterId → List ReportValue → Type 0
-IsUnmetAt adverts root printed = HasCut printed ⊎ (IsListed adverts root → ⊥)
 
 -- the router-LSA of some router is listed
 abbrev pub HasRouter : List Advertisement → Type 0
@@ -73,56 +51,29 @@ HasRouter adverts = (router : RouterId) × IsListed adverts router
 abbrev pub IsUnmetSomewhere : List Advertisement → List Overall → Type 0
 IsUnmetSomewhere adverts printed = CutsSomewhere printed ⊎ (HasRouter adverts → ⊥)
 
--- how it ends where all was printed: by `--strict`, whether something is cut off, and whether what
--- is asked of is listed
-abbrev pub end_by : (strict cut listed : Bool) → FailuresStatus
-end_by strict cut listed = if strict && (cut || not listed) then Unmet else Ended status.Done
-
--- all is printed
-abbrev pub IsAllPrinted : FailuresStatus → Type 0
-IsAllPrinted end = (end ≡ Ended status.Done) ⊎ (end ≡ Unmet)
-
 -- ---- what is asked
 
 -- the names of the parts to leave out
 abbrev pub names_of : FailuresJob → List (String Global)
-names_of (Root root each strict form carrier) = []
+names_of (Root asked) = []
 names_of (All each strict form carrier) = []
 names_of (Without root names addresses) = vec_items names
 
 -- router-LSAs are rebuilt: if parts are named, and on direct cables, where some failures happen
 -- together
 abbrev pub IsRebuilding : FailuresJob → Type 0
-IsRebuilding (Root root each strict form carrier) = carrier ≡ Direct
+IsRebuilding (Root asked) = IsRebuiltFor asked
 IsRebuilding (All each strict form carrier) = carrier ≡ Direct
 IsRebuilding (Without root names addresses) = vec_items names ≢ []
 
 -- ---- what is refused
-
--- the first router-LSA of a listing with more links than one of the largest size that
--- is made is that of this router
-pub record IsFirstLarge (listing : List (List ℕ)) (router : RouterId) : Type 0 where
-  pub before : List (List ℕ)
-  pub lsa : List ℕ
-  pub after : List (List ℕ)
-  pub listing_is : listing ≡ before ++ lsa ∷ after
-  pub none_before : HasLarge (advertisements_of before) → ⊥
-  pub large : IsLarge (advertisement_of lsa)
-  pub router_is : router ≡ (key_of lsa).router
-
--- the line about such a router
-abbrev pub large_line : RouterId → List ℕ
-large_line router = number_text router.0 ++ codes ": more than 1361 links\n"
 
 -- the text of a refusal. If the input is refused, it is about the first refused line or, where
 -- router-LSAs are rebuilt, about the first router with too many links; if the words are refused,
 -- about the first name that is not in the area
 pub data IsFailuresRefusal (job : FailuresJob) (input : List ℕ) (text : List ℕ)
     : Status → Type 0 where
-  of_line : (number : ℕ) (fault : EntryFault) → Refuses input [] number fault
-      → text ≡ refusal_line number fault → IsFailuresRefusal job input text status.Refused
-  of_router : (listing : List (List ℕ)) (router : RouterId) → Reads input [] listing
-      → IsRebuilding job → IsFirstLarge listing router → text ≡ large_line router
+  of_area : IsAreaRefusal (IsRebuilding job) input text
       → IsFailuresRefusal job input text status.Refused
   of_name : (listing : List (List ℕ)) (name : String Global) → Reads input [] listing
       → (HasLarge (advertisements_of listing) → ⊥)
@@ -134,41 +85,6 @@ abbrev pub IsUnserved : Status → Type 0
 IsUnserved s = (s ≡ status.Refused) ⊎ (s ≡ status.Words)
 
 -- ---- what is printed
-
--- reports in a form
-abbrev pub changes_text
-    : FailuresForm → Bool → RouterId → List HiddenCost → List ReportValue → List ℕ
-changes_text form.Text each root hidden printed = reports_text each printed
-changes_text form.Json each root hidden printed = reports_json each root hidden printed
-changes_text form.JsonLines each root hidden printed = reports_lines each root hidden printed
-changes_text form.Harm each root hidden printed = reports_harm_text each printed
-
--- they are printed by how much they harm
-pub record AreReportsByHarm (printed shown : List ReportValue) : Type 0 where
-  pub permuted : IsPermutation printed shown
-  pub in_order : IsSorted report_harm_cmp shown
-
--- in the order of their form
-abbrev pub AreShownReports : FailuresForm → List ReportValue → List ReportValue → Type 0
-AreShownReports form.Text printed shown = shown ≡ printed
-AreShownReports form.Json printed shown = shown ≡ printed
-AreShownReports form.JsonLines printed shown = AreReportsByHarm printed shown
-AreShownReports form.Harm printed shown = AreReportsByHarm printed shown
-
--- the reports of the area whose links are carried so at the root, in a form
-pub record SaysChanges (carrier : Carrier) (adverts : List Advertisement) (root : RouterId)
-    (each strict : Bool) (form : FailuresForm) (text : List ℕ) (end : FailuresStatus)
-    : Type 0 where
-  pub table : List Route
-  pub is_table : IsTable adverts root table
-  pub printed : List ReportValue
-  pub reported : IsReported carrier adverts root table printed
-  pub shown : List ReportValue
-  pub are_shown : AreShownReports form printed shown
-  pub hidden : List HiddenCost
-  pub are_hidden : AreHiddenBy carrier adverts hidden
-  pub text_is : text ≡ changes_text form each root hidden shown
-  pub ends : IsEndBy strict (IsUnmetAt adverts root printed) end
 
 -- how much is stored about the routes that change, by whether each of them is printed
 abbrev pub detail_of : Bool → FailuresForm → RouteDetail
@@ -211,57 +127,23 @@ pub record SaysOverall (carrier : Carrier) (adverts : List Advertisement) (each 
 
 -- what is asked of the area, and the status that it ends with
 abbrev pub SaysOf : FailuresJob → List Advertisement → List ℕ → FailuresStatus → Type 0
-SaysOf (Root root each strict form carrier) adverts text end =
-    SaysChanges carrier adverts root each strict form text end
+SaysOf (Root asked) adverts text end = SaysChanges asked adverts text end
 SaysOf (All each strict form carrier) adverts text end =
     SaysOverall carrier adverts each strict form text end
 SaysOf (Without root names addresses) adverts text end =
     IsTableWithout adverts (vec_items names) root (vec_items addresses) text
     × (end ≡ Ended status.Done)
 
--- the warning about a root: a line if its router-LSA is not listed, and otherwise nothing
-abbrev pub TellsOfRoot : List Advertisement → RouterId → List ℕ → Type 0
-TellsOfRoot adverts root text =
-    ((IsListed adverts root → ⊥) × (text ≡ unlisted_line root))
-    ⊎ (IsListed adverts root × (text ≡ []))
-
--- the warning about costs that no LSA contains, for this carrier of the links: a line each
-abbrev pub TellsHidden : Carrier → List Advertisement → List ℕ → Type 0
-TellsHidden carrier adverts text =
-    (hidden : List HiddenCost) × AreHiddenBy carrier adverts hidden × (text ≡ hidden_text hidden)
-
--- the warning about the root, if there is one, and then about such costs after failures
-abbrev pub WarnsOf : FailuresJob → List Advertisement → List ℕ → Type 0
-WarnsOf (Root root each strict form carrier) adverts text =
-    (own more : List ℕ) × TellsOfRoot adverts root own × TellsHidden carrier adverts more
-    × (text ≡ own ++ more)
-WarnsOf (All each strict form carrier) adverts text = TellsHidden carrier adverts text
-WarnsOf (Without root names addresses) adverts text = TellsOfRoot adverts root text
-
--- why routes may be missing, over failures: routes outside the area are not computed, or a part of
--- the area is not reached, as far as the LSAs show
-abbrev pub reasons_of : FailuresJob → List (List ℕ) → List ℕ
-reasons_of (Root root each strict form carrier) listing = reasons_text listing
-reasons_of (All each strict form carrier) listing = reasons_text listing
-reasons_of (Without root names addresses) listing = []
-
 -- all that it warns of
-abbrev pub WarnsOfAll : FailuresJob → List (List ℕ) → List ℕ → Type 0
-WarnsOfAll job listing text =
-    (own : List ℕ) × WarnsOf job (advertisements_of listing) own
-    × (text ≡ own ++ reasons_of job listing)
+abbrev pub WarnsOf : FailuresJob → List (List ℕ) → List ℕ → Type 0
+WarnsOf (Root asked) listing text = WarnsAt asked.root asked.carrier listing text
+WarnsOf (All each strict form carrier) listing text = WarnsOfArea carrier listing text
+WarnsOf (Without root names addresses) listing text =
+    TellsOfRoot (advertisements_of listing) root text
 
--- the line before those of failures: in version 2 of the JSON what was read, and the warning
-abbrev pub form_head : FailuresForm → List (List ℕ) → ℕ → List ℕ → List ℕ
-form_head form.Text listing left_out warning = []
-form_head form.Json listing left_out warning = []
-form_head form.JsonLines listing left_out warning = head_line listing left_out warning
-form_head form.Harm listing left_out warning = []
-
--- that of what is asked
+-- the line before what is asked: in version 2 of the JSON what was read, and the warning
 abbrev pub head_of : FailuresJob → List (List ℕ) → ℕ → List ℕ → List ℕ
-head_of (Root root each strict form carrier) listing left_out warning =
-    form_head form listing left_out warning
+head_of (Root asked) listing left_out warning = form_head asked.form listing left_out warning
 head_of (All each strict form carrier) listing left_out warning =
     form_head form listing left_out warning
 head_of (Without root names addresses) listing left_out warning = []
@@ -276,7 +158,7 @@ pub record IsFailuresAnswer (job : FailuresJob) (end : FailuresStatus) (input te
   pub left_out : ℕ
   pub leaves_out : LeavesOut input left_out
   pub small : IsRebuilding job → HasLarge (advertisements_of listing) → ⊥
-  pub warned : WarnsOfAll job listing warning
+  pub warned : WarnsOf job listing warning
   pub body : List ℕ
   pub says : SaysOf job (advertisements_of listing) body end
   pub text_is : text ≡ head_of job listing left_out warning ++ body

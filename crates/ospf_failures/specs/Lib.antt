@@ -1,9 +1,6 @@
-pub mod Together
-pub mod Reports
+pub mod Sights
 pub mod Overall
 pub mod Json
-pub mod Warnings
 pub mod HarmLines
-pub mod Head
 pub mod Without
 pub mod Answer

@@ -12,13 +12,13 @@ use Rattle.ospf_base.specs.declared.ids.RouterId.{RouterId}
 use Rattle.ospf_graph.specs.Advertisements.{Advertisement, IsListed}
 use Rattle.ospf_graph.specs.Routes.{IsTable}
 use Rattle.ospf_graph.specs.declared.route.Route.{Route}
-use Rattle.ospf_whatif.specs.Carrier.{IsFailureBy}
+use Rattle.ospf_harm.specs.Carrier.{IsFailureBy}
 use Rattle.ospf_whatif.specs.Effect.{IsEffectIn}
 use Rattle.ospf_whatif.specs.Failure.{without_all}
-use Rattle.ospf_whatif.specs.Outage.{IsKeptRoot, IsOutage}
+use Rattle.ospf_whatif.specs.Outage.{IsOutage}
 use Rattle.ospf_whatif.specs.Single.{IsFailureBefore}
-use Rattle.ospf_whatif.specs.declared.carrier.Breakdown.{Breakdown}
-use Rattle.ospf_whatif.specs.declared.carrier.Carrier.{Carrier}
+use Rattle.ospf_harm.specs.declared.carrier.Breakdown.{Breakdown}
+use Rattle.ospf_harm.specs.declared.carrier.Carrier.{Carrier}
 use Rattle.ospf_whatif.specs.declared.effect.RouteChange.{RouteChange}
 use Rattle.ospf_whatif.specs.declared.failure.AreaFailure.{AreaFailure}
 use Rattle.ospf_whatif.specs.declared.failure.AreaFailure.TheVariants.{Router}
@@ -27,10 +27,11 @@ use Rattle.ospf_table.specs.Sums.{HasSumRoom, has_changes, sums_line, sums_plus}
 use Rattle.ospf_table.specs.declared.sums.Sums.{Sums}
 use Rattle.ospf_harm.specs.Harm.{HasHarmRoom, harm_at, harm_plus, no_harm}
 use Rattle.ospf_harm.specs.declared.harm.Harm.{Harm}
-use Rattle.ospf_failures.specs.Reports.{SightValue, is_of, failure_place}
-use Rattle.ospf_failures.specs.Together.{AreSingle, IsEffectBy}
-use Rattle.ospf_failures.specs.declared.roots.Before.{Before}
+use Rattle.ospf_harm.specs.Reports.{is_of, failure_place}
+use Rattle.ospf_harm.specs.Together.{AreSingle, IsEffectBy}
+use Rattle.ospf_harm.specs.declared.cases.Before.{Before}
 use Rattle.ospf_failures.specs.declared.roots.FailureOutage.{FailureOutage}
+use Rattle.ospf_failures.specs.Sights.{SightValue}
 use Rattle.ospf_failures.specs.declared.overall.RouteDetail.{RouteDetail}
 use Rattle.ospf_failures.specs.declared.overall.RouteDetail.TheVariants as detail
 use Rattle.ospf_failures.specs.declared.overall.Overall.{Overall}
@@ -144,12 +145,6 @@ failing_router f = []
 -- the routers of an area, by its failures
 abbrev pub roots_in : List AreaFailure → List RouterId
 roots_in failures = flat_map failing_router failures
-
--- a router with its table and its paths
-pub record IsTableBefore (adverts : List Advertisement) (b : Before) : Type 0 where
-  pub table : IsTable adverts b.root b.table
-  pub kept : IsKeptRoot adverts b.kept
-  pub root_is : b.kept.root ≡ b.root
 
 -- a failure, and what it and all that fails with it take from the graph of the area
 pub record IsOutageOf (adverts : List Advertisement) (b : Breakdown) (o : FailureOutage)

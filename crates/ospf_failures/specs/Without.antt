@@ -11,7 +11,7 @@ use Rattle.ospf_files.specs.declared.status.Failure.TheVariants as failure
 use Rattle.ospf_table.specs.Output.{IsOutput}
 use Rattle.ospf_whatif.specs.Failure.{without_all}
 use Rattle.ospf_table.specs.Named.{IsNamed}
-use Rattle.ospf_whatif.specs.Single.{AreFailures}
+use Rattle.ospf_whatif.specs.Stubs.{AreAllFailures}
 use Rattle.ospf_whatif.specs.declared.failure.AreaFailure.{AreaFailure}
 use Rattle.ospf_failures.specs.declared.answer.Unreported.{Unreported}
 use Rattle.ospf_failures.specs.declared.answer.Unreported.TheVariants as fault
@@ -26,7 +26,7 @@ IsNamedBy single name f = IsNamed single (string_bytes name) f
 pub record AreNamed (adverts : List Advertisement) (names : List (String Global))
     (failures : List AreaFailure) : Type 0 where
   pub single : List AreaFailure
-  pub are_single : AreFailures adverts single
+  pub are_single : AreAllFailures adverts single
   pub named : AllZip (IsNamedBy single) names failures
 
 -- a name that is that of none of these
@@ -47,7 +47,7 @@ pub record IsFirstAmong (single : List AreaFailure) (names : List (String Global
 pub record IsFirstUnnamed (adverts : List Advertisement) (names : List (String Global))
     (name : String Global) : Type 0 where
   pub single : List AreaFailure
-  pub are_single : AreFailures adverts single
+  pub are_single : AreAllFailures adverts single
   pub first : IsFirstAmong single names name
 
 -- the line about it

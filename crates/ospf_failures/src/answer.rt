@@ -1,75 +1,46 @@
 //! What is asked of the failures of an area, for LSAs that are read as lines of text.
 
-ghost use Rattle.std.specs.Prelude.{◌≡◌, ◌≢◌, ◌⊎◌, ◌↔◌, ◌<◌, List, [], Option, ℕ, length, IfNone, IfOk, IfErr, IfSome, IsTrue, string_bytes};
-ghost use Rattle.ospf_graph.specs.EdgeLists.Listed.{advertisement_of, advertisements_of};
+ghost use Rattle.std.specs.Prelude.{◌≡◌, ◌≢◌, ◌⊎◌, ◌↔◌, ◌<◌, List, [], Option, ℕ, IfOk, IfErr, IfSome, IsTrue, string_bytes};
+ghost use Rattle.ospf_graph.specs.EdgeLists.Listed.{advertisements_of};
 ghost use Rattle.ospf_files.specs.Streams.{written_on};
 ghost use Rattle.ospf_files.specs.declared.status.Status.{Status};
 ghost use Rattle.ospf_files.specs.declared.streams.FailedStreams.{FailedStreams};
-ghost use Rattle.ospf_table.specs.Line.{LeavesOut, Reads, Refuses};
-ghost use Rattle.ospf_whatif.specs.Failure.{HasLarge, IsLarge};
-ghost use Rattle.ospf_whatif.specs.declared.carrier.Carrier.{Carrier};
-ghost use Rattle.ospf_failures.specs.Answer.{FailuresEndsBy, IsFailuresAnswerOf, IsRebuilding, IsFailuresAnswered, IsFailuresCutShort, IsFailuresEnding, IsUnreported, HasRouter, IsFirstLarge, IsRefusalOf, IsFailuresRefusalTold, IsFailuresSaid, IsUnserved, IsAllPrinted, SaysChanges, SaysOf, SaysOverall, TellsHidden, TellsOfRoot, WarnsOf, WarnsOfAll, added_text, changes_text, detail_of, end_by, form_head, head_of, names_of, reasons_of};
+ghost use Rattle.ospf_table.specs.Line.{LeavesOut, Reads};
+ghost use Rattle.ospf_whatif.specs.Failure.{HasLarge};
+ghost use Rattle.ospf_harm.specs.declared.carrier.Carrier.{Carrier};
+ghost use Rattle.ospf_failures.specs.Answer.{FailuresEndsBy, IsFailuresAnswerOf, IsRebuilding, IsFailuresAnswered, IsFailuresCutShort, IsFailuresEnding, IsUnreported, HasRouter, IsRefusalOf, IsFailuresRefusalTold, IsFailuresSaid, IsUnserved, SaysOf, SaysOverall, WarnsOf, added_text, detail_of, head_of, names_of};
+ghost use Rattle.ospf_harm.specs.Asked.{IsAllPrinted};
+ghost use Rattle.ospf_harm.specs.Said.{SaysChanges, form_head};
 ghost use Rattle.ospf_failures.specs.declared.answer.FailuresJob.{FailuresJob};
-ghost use Rattle.ospf_graph.specs.Routes.{IsTable};
-ghost use Rattle.ospf_graph.specs.declared.route.Route.{Route};
-ghost use Rattle.ospf_failures.specs.Reports.{IsReported};
 ghost use Rattle.ospf_failures.specs.Without.{IsFaultOfNames, IsFirstUnnamed};
+ghost use Rattle.ospf_harm.specs.Asked.{IsRebuiltFor};
 
-use crate::head::head_line;
 use crate::overall::{
     Overall, RouteDetail, cuts_somewhere, overalls, overalls_harm_text, overalls_json,
     overalls_lines, overalls_text,
 };
 use crate::progress::Progress;
-use crate::report::{
-    Report, has_cut, reports, reports_harm_text, reports_json, reports_lines, reports_text,
-};
-use crate::shown::{shown_overalls, shown_reports};
-use crate::warnings::hidden_text;
+use crate::report::reports_in_threads;
+use crate::shown::shown_overalls;
 use crate::without::text_without;
 use ospf_base::{Addr, Kind, RouterId};
 use ospf_files::{FailedStreams, Failure, Status};
-use ospf_graph::edges::is_listed;
-use ospf_lsa::{Links, Listing, LsaView};
-use ospf_spf::RouteTable;
-use ospf_table::{CountedListing, EntryFault, TableFault, read_counted, reasons_text};
-use ospf_whatif::{Carrier, HiddenCost, hidden_costs_by};
+use ospf_harm::{
+    Carrier, FailuresForm, FailuresStatus, HiddenCost, PrintedText, RouterFailures, Unread,
+    area_warnings, cases_of, changes_said, end_of, form_head, hidden_costs_by, read_area,
+    root_warning, router_warnings,
+};
+use ospf_lsa::Listing;
+use ospf_table::CountedListing;
 use std::alloc::{AllocError, Global};
 use std::io::{BufRead, Write};
-use std::process::ExitCode;
 use std::thread::Threads;
-
-// The most links of a router-LSA that can be rebuilt: one of `ospf_base::LARGEST_LSA` bytes.
-const MOST_LINKS: usize = 1361;
-
-/// How what failures change is printed.
-#[derive(Clone, Copy, Debug, PartialEq, Eq)]
-pub enum FailuresForm {
-    /// In lines of text.
-    Text,
-    /// As one value of JSON, on a line.
-    Json,
-    /// As JSON of version 2: a line about the input, and then an object on each line, by harm.
-    JsonLines,
-    /// In lines of text that say how much each failure harms, by harm.
-    Harm,
-}
 
 /// What is asked of the failures of an area.
 #[derive(Debug, Drop)]
 pub enum FailuresJob {
     /// What each failure but its own changes in a router's table.
-    Root {
-        root: RouterId,
-        /// Whether each changed prefix is printed.
-        each: bool,
-        /// Whether the status reports that a prefix is cut off, or that the root is not listed.
-        strict: bool,
-        /// How it is printed.
-        form: FailuresForm,
-        /// What carries the links: it decides what fails together. `Process` is the default.
-        carrier: Carrier,
-    },
+    Root(RouterFailures),
     /// What each failure changes in the tables of all routers but the one that fails.
     All {
         /// Whether each changed prefix of a router is printed.
@@ -101,33 +72,9 @@ impl FailuresJob {
         ensures { IsTrue result ↔ IsRebuilding self.now }
     {
         match self {
-            FailuresJob::Root { carrier, .. } => *carrier == Carrier::Direct,
+            FailuresJob::Root(asked) => asked.is_rebuilding(),
             FailuresJob::All { carrier, .. } => *carrier == Carrier::Direct,
             FailuresJob::Without { names, .. } => !names.is_empty(),
-        }
-    }
-}
-
-/// How it ends.
-#[derive(Clone, Copy, Debug, PartialEq, Eq)]
-pub enum FailuresStatus {
-    /// As another job does.
-    Ended(Status),
-    /// All is printed, and what `strict` asks for is not met.
-    Unmet,
-}
-
-impl FailuresStatus {
-    ghost use Rattle.std.specs.Prelude.{◌≡◌};
-    ghost use Rattle.ospf_failures.specs.Answer.{exit_code_of};
-
-    /// The exit status.
-    pub fn code(self) -> u8
-        ensures { result ≡ exit_code_of self }
-    {
-        match self {
-            FailuresStatus::Ended(status) => status.code(),
-            FailuresStatus::Unmet => 1,
         }
     }
 }
@@ -152,18 +99,6 @@ impl From<AllocError> for Unreported {
     }
 }
 
-impl From<FailuresStatus> for ExitCode {
-    ghost use Rattle.std.specs.Prelude.{◌≡◌};
-    ghost use Rattle.std.specs.Process.{exit_status};
-    ghost use Rattle.ospf_failures.specs.Answer.{exit_code_of};
-
-    ghost from_gives = { λ status code. exit_status code ≡ exit_code_of status };
-
-    fn from(status: FailuresStatus) -> ExitCode {
-        ExitCode::from(status.code())
-    }
-}
-
 /// Reads LSAs, one per line in hexadecimal as `ospf_table::table_text` does, and prints what the
 /// job asks about failures in their area.
 ///
@@ -174,7 +109,7 @@ impl From<FailuresStatus> for ExitCode {
 /// `overalls_json`). The third job prints the root's table in the area without the named parts,
 /// with lookups, as `table_text` does.
 ///
-/// The carrier decides what may fail and what fails together (`ospf_whatif::Carrier`). With
+/// The carrier decides what may fail and what fails together (`ospf_harm::Carrier`). With
 /// `Process` each failure happens alone. With `Switch` the two ends of a link fail separately, each
 /// named `ROUTER:OTHER@SUBNET`. With `Direct` a failed router takes the subnets of its links with
 /// it, and a network of two routers fails as a whole.
@@ -223,31 +158,6 @@ pub fn failures_text<R: BufRead + Drop, O: Write, E: Write, P: Progress>(
 {
     let mut streams = FailedStreams::none();
     failures_noted(rt, job, input, out, err, &mut streams, progress)
-}
-
-// What is printed on standard output, and the status to end with.
-#[derive(Drop)]
-struct PrintedText {
-    text: String,
-    end: FailuresStatus,
-}
-
-impl PrintedText {
-    ghost use Rattle.std.specs.Prelude.{◌≡◌, ◌++◌, IfOk, string_bytes};
-
-    // The same below another text.
-    fn below(self, head: String) -> Result<PrintedText, AllocError>
-        ensures text { IfOk result (λ said. string_bytes said.text
-            ≡ string_bytes head ++ string_bytes self.text) }
-        ensures end { IfOk result (λ said. said.end ≡ self.end) }
-    {
-        let mut text = head;
-        text.push_str(&self.text)?;
-        Ok(PrintedText {
-            text,
-            end: self.end,
-        })
-    }
 }
 
 // What will be printed.
@@ -342,19 +252,10 @@ fn listing_of<R: BufRead + Drop>(
         HasLarge (advertisements_of read.listing) → ⊥) }
     ensures fault { IfErr result (IsUnreported (R.remaining input) job.now) }
 {
-    let read = match read_counted(alloc, input) {
-        Ok(read) => read,
-        Err(TableFault::Entry { number, fault }) => {
-            return Err(line_refused(alloc, number, fault));
-        }
-        Err(TableFault::Failure(failure)) => return Err(Unreported::Failure(failure)),
-    };
-    if !job.is_rebuilding() {
-        return Ok(read);
-    }
-    match first_large(&read.listing) {
-        Some(router) => Err(router_refused(alloc, router)),
-        None => Ok(read),
+    match read_area(alloc, job.is_rebuilding(), input) {
+        Ok(read) => Ok(read),
+        Err(Unread::Refused(text)) => Err(Unreported::Refused(text)),
+        Err(Unread::Failure(failure)) => Err(Unreported::Failure(failure)),
     }
 }
 
@@ -369,149 +270,21 @@ fn head_of(
         ≡ head_of job.now read.now.listing read.now.left_out warning.now) }
 {
     match job {
-        FailuresJob::Root { form, .. } => form_head(alloc, *form, read, warning),
+        FailuresJob::Root(asked) => form_head(alloc, asked.form, read, warning),
         FailuresJob::All { form, .. } => form_head(alloc, *form, read, warning),
         FailuresJob::Without { .. } => Ok(String::new(alloc)),
     }
 }
 
-// That of a form.
-fn form_head(
-    alloc: Global,
-    form: FailuresForm,
-    read: &CountedListing,
-    warning: &str,
-) -> Result<String, AllocError>
-    ensures { IfOk result (λ text. string_bytes text
-        ≡ form_head form read.now.listing read.now.left_out warning.now) }
-{
-    match form {
-        FailuresForm::JsonLines => head_line(alloc, &read.listing, read.left_out, warning),
-        FailuresForm::Text => Ok(String::new(alloc)),
-        FailuresForm::Json => Ok(String::new(alloc)),
-        FailuresForm::Harm => Ok(String::new(alloc)),
-    }
-}
-
-// The refusal of a line.
-fn line_refused(alloc: Global, number: u64, fault: EntryFault) -> Unreported
-    ensures { (input : Option (List ℕ)) (job : FailuresJob) →
-        IfSome input (λ bytes. Refuses bytes [] number fault) → IsUnreported input job result }
-{
-    match format!(in alloc; "line {number}: {}\n", fault.text()) {
-        Ok(text) => Unreported::Refused(text),
-        Err(error) => Unreported::from(error),
-    }
-}
-
-// The first router of a listing whose router-LSA has too many links.
-fn first_large(listing: &Listing) -> Option<RouterId>
-    ensures some { IfSome result (IsFirstLarge listing.now) }
-    ensures none { IfNone result (HasLarge (advertisements_of listing.now) → ⊥) }
-{
-    for lsa in listing.lsas() {
-        let view = lsa.view();
-        if is_large(&view) {
-            return Some(view.key().router);
-        }
-    }
-    None
-}
-
-// Whether an LSA is a router-LSA of too many links.
-fn is_large(lsa: &LsaView) -> bool
-    ensures { IsTrue result ↔ IsLarge (advertisement_of lsa.now) }
-{
-    match lsa.kind() {
-        Kind::Router => are_more(lsa.links(), MOST_LINKS),
-        Kind::Network => false,
-    }
-}
-
-// Whether there are more links than so many.
-fn are_more(links: Links, most: usize) -> bool
-    ensures { IsTrue result ↔ (most < length links.entry) }
-{
-    let mut left = most;
-    for link in links {
-        // For the proof.
-        let _counted = link;
-        if left == 0 {
-            return true;
-        }
-        left -= 1;
-    }
-    false
-}
-
 // What is printed besides the answer: about the root and costs, and why routes may be missing.
 fn warnings_of(alloc: Global, listing: &Listing, job: &FailuresJob) -> Result<String, AllocError>
-    ensures { IfOk result (λ text. WarnsOfAll job.now listing.now (string_bytes text)) }
-{
-    let mut text = warning_of(alloc, listing, job)?;
-    let reasons = reasons_of(alloc, listing, job)?;
-    text.push_str(&reasons)?;
-    Ok(text)
-}
-
-// Why routes may be missing over failures, as far as the LSAs show.
-fn reasons_of(alloc: Global, listing: &Listing, job: &FailuresJob) -> Result<String, AllocError>
-    ensures { IfOk result (λ text. string_bytes text ≡ reasons_of job.now listing.now) }
+    ensures { IfOk result (λ text. WarnsOf job.now listing.now (string_bytes text)) }
 {
     match job {
-        FailuresJob::Root { .. } => reasons_text(alloc, listing),
-        FailuresJob::All { .. } => reasons_text(alloc, listing),
-        FailuresJob::Without { .. } => Ok(String::new(alloc)),
-    }
-}
-
-// The refusal of a router of too many links.
-fn router_refused(alloc: Global, router: RouterId) -> Unreported
-    ensures { (input : Option (List ℕ)) (job : FailuresJob) (listing : List (List ℕ)) →
-        IfSome input (λ bytes. Reads bytes [] listing) → IsRebuilding job →
-        IsFirstLarge listing router → IsUnreported input job result }
-{
-    match format!(in alloc; "{router}: more than 1361 links\n") {
-        Ok(text) => Unreported::Refused(text),
-        Err(error) => Unreported::from(error),
-    }
-}
-
-// The warning about the root, if there is one, and about costs after failures that no LSA contains.
-fn warning_of(alloc: Global, listing: &Listing, job: &FailuresJob) -> Result<String, AllocError>
-    ensures { IfOk result (λ text. WarnsOf job.now (advertisements_of listing.now)
-        (string_bytes text)) }
-{
-    match job {
-        FailuresJob::Root { root, carrier, .. } => {
-            let mut text = root_warning(alloc, listing, *root)?;
-            text.push_str(&hidden_warning(alloc, listing, *carrier)?)?;
-            Ok(text)
-        }
-        FailuresJob::All { carrier, .. } => hidden_warning(alloc, listing, *carrier),
+        FailuresJob::Root(asked) => router_warnings(alloc, listing, asked.root, asked.carrier),
+        FailuresJob::All { carrier, .. } => area_warnings(alloc, listing, *carrier),
         FailuresJob::Without { root, .. } => root_warning(alloc, listing, *root),
     }
-}
-
-// The warning about costs after failures that no LSA contains.
-fn hidden_warning(alloc: Global, listing: &Listing, carrier: Carrier) -> Result<String, AllocError>
-    ensures { IfOk result (λ text. TellsHidden carrier (advertisements_of listing.now)
-        (string_bytes text)) }
-{
-    let hidden = hidden_costs_by(alloc, carrier, listing)?;
-    hidden_text(alloc, &hidden)
-}
-
-// The warning about a root: that its router-LSA is not listed.
-fn root_warning(alloc: Global, listing: &Listing, root: RouterId) -> Result<String, AllocError>
-    ensures { IfOk result (λ text. TellsOfRoot (advertisements_of listing.now) root
-        (string_bytes text)) }
-{
-    if is_listed(listing, root) {
-        return Ok(String::new(alloc));
-    }
-    let text = format!(in alloc; "{root}: no router-LSA of this router\n")?;
-    Ok(text)
 }
 
 // What is asked of a listing none of whose routers has too many links where router-LSAs are
@@ -531,15 +304,8 @@ fn said_of<P: Progress>(
         (IsFirstUnnamed (advertisements_of listing) (names_of job.now))) }
 {
     match job {
-        FailuresJob::Root {
-            root,
-            each,
-            strict,
-            form,
-            carrier,
-        } => {
-            let at = (&listing, *carrier);
-            let said = changes_said(alloc, rt, at, *root, *each, *strict, *form)?;
+        FailuresJob::Root(asked) => {
+            let said = changes_in_threads(alloc, rt, &listing, asked)?;
             Ok(said)
         }
         FailuresJob::All {
@@ -566,44 +332,21 @@ fn said_of<P: Progress>(
     }
 }
 
-// What each failure changes at a root, for a listing and the carrier of its links.
-fn changes_said(
-    alloc: Global,
-    rt: &(impl Threads + Sync),
-    at: (&Listing, Carrier),
-    root: RouterId,
-    each: bool,
-    strict: bool,
-    form: FailuresForm,
-) -> Result<PrintedText, AllocError>
-    requires small { at.1 ≡ Carrier.Direct → HasLarge (advertisements_of at.0.now) → ⊥ }
-    ensures said { IfOk result (λ said. SaysChanges at.entry.1 (advertisements_of at.entry.0.now)
-        root each strict form (string_bytes said.text) said.end) }
-    ensures whole { IfOk result (λ said. IsAllPrinted said.end) }
-{
-    let printed = reports_at(alloc, rt, at.0, at.1, root)?;
-    let hidden = hidden_costs_by(alloc, at.1, at.0)?;
-    let end = end_of(strict, has_cut(&printed), is_listed(at.0, root));
-    let shown = shown_reports(form, printed);
-    let text = changes_text(alloc, &shown, root, each, form, &hidden)?;
-    Ok(PrintedText { text, end })
-}
-
-// The reports of a listing.
-fn reports_at(
+// What each failure changes at a root.
+fn changes_in_threads(
     alloc: Global,
     rt: &(impl Threads + Sync),
     listing: &Listing,
-    carrier: Carrier,
-    root: RouterId,
-) -> Result<Vec<Report>, AllocError>
-    requires { carrier ≡ Carrier.Direct → HasLarge (advertisements_of listing.now) → ⊥ }
-    ensures { IfOk result (λ printed. (table : List Route)
-        × IsTable (advertisements_of listing.now) root table
-        × IsReported carrier (advertisements_of listing.now) root table printed.items) }
+    asked: &RouterFailures,
+) -> Result<PrintedText, AllocError>
+    requires small { IsRebuiltFor asked.now → HasLarge (advertisements_of listing.now) → ⊥ }
+    ensures said { IfOk result (λ said. SaysChanges asked.now (advertisements_of listing.now)
+        (string_bytes said.text) said.end) }
+    ensures whole { IfOk result (λ said. IsAllPrinted said.end) }
 {
-    let table = RouteTable::of(alloc, listing, root)?;
-    reports(alloc, rt, listing, carrier, root, &table)
+    let cases = cases_of(alloc, listing, asked.carrier, asked.root)?;
+    let reports = reports_in_threads(alloc, rt, listing, &cases)?;
+    changes_said(alloc, listing, asked, &cases, reports)
 }
 
 // What each failure changes at all routers, for a listing and the carrier of its links.
@@ -641,26 +384,6 @@ fn has_router(listing: &Listing) -> bool
     false
 }
 
-// Reports in a form.
-fn changes_text(
-    alloc: Global,
-    printed: &[Report],
-    root: RouterId,
-    each: bool,
-    form: FailuresForm,
-    hidden: &[HiddenCost],
-) -> Result<String, AllocError>
-    ensures { IfOk result (λ text. string_bytes text
-        ≡ changes_text form each root hidden.now printed.now) }
-{
-    match form {
-        FailuresForm::Text => reports_text(alloc, printed, each),
-        FailuresForm::Json => reports_json(alloc, printed, root, each, hidden),
-        FailuresForm::JsonLines => reports_lines(alloc, printed, root, each, hidden),
-        FailuresForm::Harm => reports_harm_text(alloc, printed, each),
-    }
-}
-
 // What is printed over all routers in a form.
 fn added_text(
     alloc: Global,
@@ -692,17 +415,6 @@ fn detail_of(each: bool, form: FailuresForm) -> RouteDetail
         FailuresForm::Json => RouteDetail::Routes,
         FailuresForm::JsonLines => RouteDetail::Routes,
         FailuresForm::Harm => RouteDetail::Lines,
-    }
-}
-
-// How it ends where all is printed.
-fn end_of(strict: bool, has_cut: bool, is_listed: bool) -> FailuresStatus
-    ensures { result ≡ end_by strict has_cut is_listed }
-{
-    if strict && (has_cut || !is_listed) {
-        FailuresStatus::Unmet
-    } else {
-        FailuresStatus::Ended(Status::Done)
     }
 }
 

@@ -1,34 +1,34 @@
 //! What each failure of an area changes in the tables of all its routers.
 
-ghost use Rattle.std.specs.Prelude.{◌≡◌, ◌↔◌, ◌++◌, ◌∷◌, [], All, IfOk, IsPermutation, IsTrue, OnOk, codes, flat_map, map, string_bytes};
+ghost use Rattle.std.specs.Prelude.{◌≡◌, ◌↔◌, ◌++◌, [], IfOk, IsPermutation, IsTrue, OnOk, codes, flat_map, string_bytes};
 ghost use Rattle.std.specs.List.Sorted.{IsSorted};
 ghost use Rattle.ospf_base.specs.Text.{number_text};
 ghost use Rattle.ospf_graph.specs.EdgeLists.Listed.{advertisements_of};
 ghost use Rattle.ospf_whatif.specs.Effect.{IsEffectIn};
 ghost use Rattle.ospf_whatif.specs.Failure.{HasLarge, without_all};
 ghost use Rattle.ospf_whatif.specs.Outage.{IsAreaGraph, IsOutage};
-ghost use Rattle.ospf_whatif.specs.declared.carrier.Carrier.{Carrier};
+ghost use Rattle.ospf_harm.specs.declared.carrier.Carrier.{Carrier};
 ghost use Rattle.ospf_table.specs.Changes.{change_line};
 ghost use Rattle.serde_json.specs.Data.{array, no_members};
 ghost use Rattle.serde_json.specs.View.{items_of, members_view, view};
 ghost use Rattle.ospf_harm.specs.Harm.{no_harm};
 ghost use Rattle.ospf_failures.specs.HarmLines.{overall_harm_cmp, overall_harm_line, overall_harm_rank, overall_line_data, overalls_harm_text, overalls_lines, summed_members};
 ghost use Rattle.ospf_failures.specs.Json.{overall_data, overall_members, overalls_json, sight_data};
-ghost use Rattle.ospf_failures.specs.Overall.{AreOveralls, CutsSomewhere, FitTogether, HasRoomForOne, IsSumOfBoth, IsTableBefore, KeepsMore, Sees, overall_cmp, overall_rank, overalls_text, sight_lines, sums_of};
+ghost use Rattle.ospf_failures.specs.Overall.{AreOveralls, CutsSomewhere, FitTogether, HasRoomForOne, IsSumOfBoth, KeepsMore, Sees, overall_cmp, overall_rank, overalls_text, sight_lines, sums_of};
+ghost use Rattle.ospf_harm.specs.Cases.{IsTableBefore};
 
-use crate::harmed::put_harmed;
 use crate::progress::Progress;
-use crate::report::{is_of, place_of};
-use crate::roots::{Before, outages_of, overalls_at, roots_of};
-use crate::warnings::put_hidden;
+use crate::roots::{outages_of, overalls_at, roots_of};
 use ospf_base::RouterId;
-use ospf_harm::{Harm, data_line};
-use ospf_lsa::Listing;
-use ospf_table::{Sums, add_changes, change_line, counted_members, objects_line, sums_line};
-use ospf_whatif::{
-    AreaFailure, AreaGraph, Carrier, HiddenCost, Outage, RouteChange, breakdowns, failures_by,
-    single_failures,
+use ospf_harm::{
+    Before, Carrier, Harm, HiddenCost, breakdowns, failures_by, is_of, place_of, put_harmed,
+    put_hidden,
 };
+use ospf_lsa::Listing;
+use ospf_table::{
+    Sums, add_changes, change_line, counted_members, data_line, objects_line, sums_line,
+};
+use ospf_whatif::{AreaFailure, AreaGraph, Outage, RouteChange, single_failures};
 use serde_json::{Map, Value, put};
 use std::alloc::{AllocError, Global};
 use std::cmp::Reverse;
@@ -54,7 +54,7 @@ pub(crate) struct Sight {
 }
 
 impl Model for Sight {
-    ghost use Rattle.ospf_failures.specs.Reports.{SightValue};
+    ghost use Rattle.ospf_failures.specs.Sights.{SightValue};
 
     ghost Value = { SightValue };
 

@@ -10,16 +10,17 @@ ghost use Rattle.ospf_base.specs.declared.ids.RouterId.{RouterId};
 ghost use Rattle.ospf_graph.specs.Advertisements.{Advertisement};
 ghost use Rattle.ospf_graph.specs.EdgeLists.Listed.{advertisements_of};
 ghost use Rattle.ospf_whatif.specs.Outage.{IsAreaGraph};
-ghost use Rattle.ospf_failures.specs.Overall.{AreSumsOfBoth, AreOutages, AreSeenAt, AreSeenMore, FitTogether, HasRoomForOne, IsOutageOf, IsSeenAt, IsTableBefore, failing_router, roots_in};
-ghost use Rattle.ospf_failures.specs.Together.{IsComputable};
+ghost use Rattle.ospf_failures.specs.Overall.{AreSumsOfBoth, AreOutages, AreSeenAt, AreSeenMore, FitTogether, HasRoomForOne, IsOutageOf, IsSeenAt, failing_router, roots_in};
+ghost use Rattle.ospf_harm.specs.Cases.{IsTableBefore};
+ghost use Rattle.ospf_harm.specs.Together.{IsComputable};
 ghost use Rattle.ospf_failures.specs.declared.overall.RouteDetail.{RouteDetail};
 
 use crate::overall::{Overall, RouteDetail};
 use crate::progress::Progress;
 use ospf_base::RouterId;
+use ospf_harm::{Before, Breakdown, before_of};
 use ospf_lsa::Listing;
-use ospf_spf::RouteTable;
-use ospf_whatif::{AreaFailure, AreaGraph, Breakdown, KeptRoot, Outage};
+use ospf_whatif::{AreaFailure, AreaGraph, Outage};
 use rayon::current_num_threads;
 use rayon::prelude::*;
 use std::alloc::{AllocError, Global};
@@ -36,14 +37,6 @@ const GROUPS: usize = 2;
 pub(crate) struct FailureOutage {
     pub(crate) failure: AreaFailure,
     pub(crate) outage: Outage,
-}
-
-/// A router, its table and its shortest paths before anything fails.
-#[derive(Drop)]
-pub(crate) struct Before {
-    pub(crate) root: RouterId,
-    pub(crate) table: RouteTable,
-    pub(crate) kept: KeptRoot,
 }
 
 /// What each of these failures changes in the tables of these routers.
@@ -76,10 +69,7 @@ pub(crate) fn overalls_at<P: Progress>(
 }
 
 /// The routers of an area, by its failures.
-pub(crate) fn roots_of(
-    alloc: Global,
-    failures: &[AreaFailure],
-) -> Result<Vec<RouterId>, AllocError>
+pub(crate) fn roots_of(alloc: Global, failures: &[AreaFailure]) -> Result<Vec<RouterId>, AllocError>
     ensures { IfOk result (λ roots. roots.items ≡ roots_in failures.now) }
 {
     let mut roots = Vec::new(alloc);
@@ -212,7 +202,15 @@ fn overalls_over(
     let mut overalls = nothing_of(alloc, outages)?;
     for root in roots {
         let before = before_of(alloc, listing, area, *root)?;
-        see_all(alloc, listing, area, outages, &before, detail, &mut overalls)?;
+        see_all(
+            alloc,
+            listing,
+            area,
+            outages,
+            &before,
+            detail,
+            &mut overalls,
+        )?;
     }
     Ok(overalls)
 }
@@ -240,10 +238,7 @@ fn added_up(
 }
 
 // Of each failure nothing yet.
-fn nothing_of(
-    alloc: Global,
-    outages: &[FailureOutage],
-) -> Result<Vec<Overall>, AllocError>
+fn nothing_of(alloc: Global, outages: &[FailureOutage]) -> Result<Vec<Overall>, AllocError>
     ensures { IfOk result (λ overalls. (adverts : List Advertisement) (detail : RouteDetail) →
         AllZip (IsSeenAt adverts detail []) outages.now overalls.items) }
 {
@@ -265,23 +260,8 @@ fn add_root(failure: &AreaFailure, roots: &mut Vec<RouterId>) -> Result<(), Allo
         AreaFailure::Links { .. } => Ok(()),
         AreaFailure::Attachment { .. } => Ok(()),
         AreaFailure::Network(_) => Ok(()),
+        AreaFailure::Stub { .. } => Ok(()),
     }
-}
-
-// A router, its table and its shortest paths.
-fn before_of(
-    alloc: Global,
-    listing: &Listing,
-    area: &AreaGraph,
-    root: RouterId,
-) -> Result<Before, AllocError>
-    requires { IsAreaGraph (advertisements_of listing.now) area.now }
-    ensures root { IfOk result (λ before. before.root ≡ root) }
-    ensures before { IfOk result (IsTableBefore (advertisements_of listing.now)) }
-{
-    let table = RouteTable::of(alloc, listing, root)?;
-    let kept = KeptRoot::of(alloc, area, root)?;
-    Ok(Before { root, table, kept })
 }
 
 // Adds what each of these failures changes in the table of a router more.

@@ -2,34 +2,11 @@
 
 ghost use Rattle.std.specs.Prelude.{IsPermutation};
 ghost use Rattle.std.specs.List.Sorted.{IsSorted};
-ghost use Rattle.ospf_failures.specs.Answer.{AreShownOveralls, AreShownReports};
-ghost use Rattle.ospf_failures.specs.HarmLines.{overall_harm_cmp, report_harm_cmp};
+ghost use Rattle.ospf_failures.specs.Answer.{AreShownOveralls};
+ghost use Rattle.ospf_failures.specs.HarmLines.{overall_harm_cmp};
 
-use crate::answer::FailuresForm;
 use crate::overall::{Overall, sort_overalls_by_harm};
-use crate::report::{Report, sort_reports_by_harm};
-
-// Reports in the order of a form.
-pub(crate) fn shown_reports(form: FailuresForm, reports: Vec<Report>) -> Vec<Report>
-    ensures { AreShownReports form reports.items result.items }
-{
-    match form {
-        FailuresForm::Text => reports,
-        FailuresForm::Json => reports,
-        FailuresForm::JsonLines => reports_by_harm(reports),
-        FailuresForm::Harm => reports_by_harm(reports),
-    }
-}
-
-// Reports by harm.
-fn reports_by_harm(reports: Vec<Report>) -> Vec<Report>
-    ensures same { IsPermutation reports.items result.items }
-    ensures in_order { IsSorted report_harm_cmp result.items }
-{
-    let mut shown = reports;
-    sort_reports_by_harm(&mut shown);
-    shown
-}
+use ospf_harm::FailuresForm;
 
 // What is reported over all routers in the order of a form.
 pub(crate) fn shown_overalls(form: FailuresForm, overalls: Vec<Overall>) -> Vec<Overall>

@@ -11,7 +11,7 @@ use ospf_base::{Addr, RouterId};
 use ospf_lsa::Listing;
 use ospf_spf::RouteTable;
 use ospf_table::{find_failure, output_text};
-use ospf_whatif::{AreaFailure, single_failures, without_all};
+use ospf_whatif::{AreaFailure, all_failures, without_all};
 use std::alloc::{AllocError, Global};
 
 // What is printed of a router's table without the parts that are named, and of lookups in it.
@@ -48,7 +48,7 @@ fn failures_of(
     ensures fault { IfErr result (IsFaultOfNames
         (IsFirstUnnamed (advertisements_of listing.now) names.now)) }
 {
-    let single = single_failures(alloc, listing)?;
+    let single = all_failures(alloc, listing)?;
     match named_among(alloc, &single, names) {
         Ok(failures) => Ok(failures),
         Err(fault) => Err(fault),

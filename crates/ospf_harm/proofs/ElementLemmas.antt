@@ -13,7 +13,7 @@ use Rattle.ospf_base.specs.declared.ids.RouterId.{RouterId}
 use Rattle.ospf_table.proofs.FloatLemmas.{items_none}
 use Rattle.ospf_table.specs.Objects.{count_data}
 use Rattle.ospf_whatif.specs.declared.failure.AreaFailure.{AreaFailure}
-use Rattle.ospf_whatif.specs.declared.failure.AreaFailure.TheVariants.{Attachment, End, Link, Links, Network, Router}
+use Rattle.ospf_whatif.specs.declared.failure.AreaFailure.TheVariants.{Attachment, End, Link, Links, Network, Router, Stub}
 use Rattle.ospf_harm.specs.Element.{link_state_data, named_routers, routers_data, subnet_data, with_element, with_harm}
 use Rattle.ospf_harm.specs.declared.harm.Harm.{Harm}
 
@@ -51,6 +51,7 @@ subnet_none (Links a b) = refl
 subnet_none (Attachment router network) = refl
 subnet_none (Network network) = refl
 subnet_none (Router router) = refl
+subnet_none (Stub router prefix) = refl
 
 network_none : (f : AreaFailure) → has_float (link_state_data f) ≡ false
 network_none (Link a b subnet) = refl
@@ -59,6 +60,7 @@ network_none (Links a b) = refl
 network_none (Attachment router network) = refl
 network_none (Network network) = refl
 network_none (Router router) = refl
+network_none (Stub router prefix) = refl
 
 pub element_none : (f : AreaFailure) (ms : Members) → members_have_float ms ≡ false → members_have_float (with_element f ms) ≡ false
 element_none f ms none =

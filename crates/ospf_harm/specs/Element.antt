@@ -1,18 +1,13 @@
 -- What fails, and how much that harms, as values of JSON (RFC 8259).
-use Rattle.std.specs.Prelude.{◌++◌, ◌∷◌, ℕ, List, [], codes, map}
+use Rattle.std.specs.Prelude.{◌∷◌, List, [], codes, map}
 use Rattle.serde_json.specs.Data.{Data, Members, array, null, number, put, string, unsigned}
 use Rattle.serde_json.specs.View.{items_of}
-use Rattle.serde_json.specs.Written.{compact_text}
 use Rattle.ospf_base.specs.Text.{number_text, prefix_text}
 use Rattle.ospf_base.specs.declared.ids.RouterId.{RouterId}
 use Rattle.ospf_table.specs.Objects.{count_data}
 use Rattle.ospf_whatif.specs.declared.failure.AreaFailure.{AreaFailure}
-use Rattle.ospf_whatif.specs.declared.failure.AreaFailure.TheVariants.{Attachment, End, Link, Links, Network, Router}
+use Rattle.ospf_whatif.specs.declared.failure.AreaFailure.TheVariants.{Attachment, End, Link, Links, Network, Router, Stub}
 use Rattle.ospf_harm.specs.declared.harm.Harm.{Harm}
-
--- a value on a line, without spaces
-abbrev pub data_line : Data → List ℕ
-data_line d = compact_text d ++ codes "\n"
 
 -- the routers that the name of a failure has
 abbrev pub named_routers : AreaFailure → List RouterId
@@ -22,6 +17,7 @@ named_routers (Links a b) = a ∷ b ∷ []
 named_routers (Attachment router network) = router ∷ []
 named_routers (Network network) = []
 named_routers (Router router) = router ∷ []
+named_routers (Stub router prefix) = router ∷ []
 
 -- Router IDs as texts
 abbrev pub ids_data : List RouterId → Data
@@ -31,7 +27,7 @@ ids_data routers = array (items_of (map (λ r. string (number_text r.0)) routers
 abbrev pub routers_data : AreaFailure → Data
 routers_data f = ids_data (named_routers f)
 
--- the subnet of a link
+-- the subnet of a link, or the prefix of a stub network
 abbrev pub subnet_data : AreaFailure → Data
 subnet_data (Link a b subnet) = string (prefix_text subnet)
 subnet_data (End router other subnet) = string (prefix_text subnet)
@@ -39,6 +35,7 @@ subnet_data (Links a b) = null
 subnet_data (Attachment router network) = null
 subnet_data (Network network) = null
 subnet_data (Router router) = null
+subnet_data (Stub router prefix) = string (prefix_text prefix)
 
 -- the Link State ID of a network
 abbrev pub link_state_data : AreaFailure → Data
@@ -48,6 +45,7 @@ link_state_data (Links a b) = null
 link_state_data (Attachment router network) = string (number_text network)
 link_state_data (Network network) = string (number_text network)
 link_state_data (Router router) = null
+link_state_data (Stub router prefix) = null
 
 -- what fails is added to the other members
 abbrev pub with_element : AreaFailure → Members → Members

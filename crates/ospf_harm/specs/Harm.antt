@@ -9,7 +9,7 @@ use Rattle.ospf_whatif.specs.declared.effect.Loss.{Loss}
 use Rattle.ospf_whatif.specs.declared.effect.Loss.TheVariants.{Cut, Dearer, Gone, Moved}
 use Rattle.ospf_whatif.specs.declared.effect.RouteChange.{RouteChange}
 use Rattle.ospf_whatif.specs.declared.failure.AreaFailure.{AreaFailure}
-use Rattle.ospf_whatif.specs.declared.failure.AreaFailure.TheVariants.{Attachment, End, Link, Links, Network, Router}
+use Rattle.ospf_whatif.specs.declared.failure.AreaFailure.TheVariants.{Attachment, End, Link, Links, Network, Router, Stub}
 use Rattle.ospf_harm.specs.declared.harm.Harm.{Harm}
 
 -- ---- one route
@@ -24,6 +24,7 @@ is_link_subnet (Links a b) p = false
 is_link_subnet (Attachment router network) p = false
 is_link_subnet (Network network) p = false
 is_link_subnet (Router router) p = false
+is_link_subnet (Stub router prefix) p = false
 
 -- the route is lost with what fails: nothing advertises its prefix any more, or it is the subnet of
 -- the link that fails

@@ -1,2 +1,14 @@
+pub mod Carrier
+pub mod Hidden
 pub mod Harm
 pub mod Element
+pub mod Together
+pub mod Asked
+pub mod Reports
+pub mod Cases
+pub mod Warnings
+pub mod Json
+pub mod HarmLines
+pub mod Said
+pub mod Input
+pub mod Router

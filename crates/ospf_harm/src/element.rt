@@ -4,11 +4,11 @@ ghost use Rattle.std.specs.Prelude.{◌≡◌, IfOk, OnOk};
 ghost use Rattle.serde_json.specs.Data.{string};
 ghost use Rattle.serde_json.specs.View.{members_view, view};
 ghost use Rattle.ospf_base.specs.Text.{number_text, prefix_text};
-ghost use Rattle.ospf_table.specs.Objects.{count_data};
 ghost use Rattle.ospf_harm.specs.Element.{ids_data, link_state_data, routers_data, subnet_data, with_element, with_harm};
 
 use crate::harm::Harm;
 use ospf_base::{Addr, Prefix, RouterId};
+use ospf_table::count_value;
 use ospf_whatif::AreaFailure;
 use serde_json::{Map, Value, put};
 use std::alloc::{AllocError, Global};
@@ -56,16 +56,6 @@ pub fn put_harm(
     Ok(())
 }
 
-// How many as a number, or as its digits where it is too large.
-fn count_value(alloc: Global, count: u128) -> Result<Value, AllocError>
-    ensures { IfOk result (λ value. view value ≡ count_data count) }
-{
-    match u64::try_from(count) {
-        Ok(count) => Ok(Value::from(count)),
-        Err(_) => Ok(Value::String(format!(in alloc; "{count}")?)),
-    }
-}
-
 // The Link State ID of the network.
 fn network_value(alloc: Global, failure: &AreaFailure) -> Result<Value, AllocError>
     ensures { IfOk result (λ value. view value ≡ link_state_data failure.now) }
@@ -77,6 +67,7 @@ fn network_value(alloc: Global, failure: &AreaFailure) -> Result<Value, AllocErr
         AreaFailure::End { .. } => Ok(Value::Null),
         AreaFailure::Links { .. } => Ok(Value::Null),
         AreaFailure::Router(_) => Ok(Value::Null),
+        AreaFailure::Stub { .. } => Ok(Value::Null),
     }
 }
 
@@ -87,13 +78,14 @@ fn address_value(alloc: Global, address: u32) -> Result<Value, AllocError>
     Ok(Value::String(text))
 }
 
-// The subnet of the link.
+// The subnet of the link, or the prefix of the stub network.
 fn subnet_value(alloc: Global, failure: &AreaFailure) -> Result<Value, AllocError>
     ensures { IfOk result (λ value. view value ≡ subnet_data failure.now) }
 {
     match *failure {
         AreaFailure::Link { subnet, .. } => prefix_value(alloc, subnet),
         AreaFailure::End { subnet, .. } => prefix_value(alloc, subnet),
+        AreaFailure::Stub { prefix, .. } => prefix_value(alloc, prefix),
         AreaFailure::Links { .. } => Ok(Value::Null),
         AreaFailure::Attachment { .. } => Ok(Value::Null),
         AreaFailure::Network(_) => Ok(Value::Null),
@@ -119,6 +111,7 @@ fn routers_value(alloc: Global, failure: &AreaFailure) -> Result<Value, AllocErr
         AreaFailure::Attachment { router, .. } => ids_value(alloc, &[router]),
         AreaFailure::Network(_) => ids_value(alloc, &[]),
         AreaFailure::Router(router) => ids_value(alloc, &[router]),
+        AreaFailure::Stub { router, .. } => ids_value(alloc, &[router]),
     }
 }
 

@@ -148,6 +148,7 @@ fn is_link_subnet(failure: &AreaFailure, prefix: Prefix) -> bool
         AreaFailure::Attachment { .. } => false,
         AreaFailure::Network(_) => false,
         AreaFailure::Router(_) => false,
+        AreaFailure::Stub { .. } => false,
     }
 }
 

@@ -1,7 +1,7 @@
 use Rattle.std.proofs.Common.{◌∙◌, ◌++◌, ℕ, List, ap, string_bytes, subst, sym}
 use Rattle.ospf_graph.specs.EdgeLists.Listed.{advertisements_of}
-use Rattle.ospf_failures.specs.Answer.{IsAllPrinted, SaysOf, head_of}
-use Rattle.ospf_failures.specs.declared.answer.FailuresStatus.{FailuresStatus}
+use Rattle.ospf_failures.specs.Answer.{SaysOf, head_of}
+use Rattle.ospf_harm.specs.declared.asked.FailuresStatus.{FailuresStatus}
 use Rattle.ospf_failures.proofs.AnswerLemmas.{answer_made, names_refused}
 use Rattle.ospf_failures.proofs.answer.answer_of.Goals as goal
 

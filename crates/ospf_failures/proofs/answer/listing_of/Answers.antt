@@ -1,15 +1,12 @@
+use Rattle.std.proofs.Common.{IsTrue, string_bytes, subst}
+use Rattle.ospf_harm.specs.Input.{IsAreaUnread}
+use Rattle.ospf_failures.proofs.AnswerLemmas.{area_refused}
 use Rattle.ospf_failures.proofs.answer.listing_of.Goals as goal
 
-pub returns-in-Err-Entry-clause-fault : goal.returns-in-Err-Entry-clause-fault
-returns-in-Err-Entry-clause-fault g c =
-    c.line_refused.ensures (g.R.Read.remaining c.args.input) c.args.job.now (c.in-Err-Entry.ensures.refused c.in-Err-Entry.number c.in-Err-Entry.fault (cc))
+pub returns-in-Ok-clause-small : goal.returns-in-Ok-clause-small
+returns-in-Ok-clause-small g c = λ rebuilds. c.in-Ok.ensures.small (c.is_rebuilding.ensures.1 rebuilds)
 
-pub returns-in-Some-clause-fault : goal.returns-in-Some-clause-fault
-returns-in-Some-clause-fault g c =
-    c.router_refused.ensures (g.R.Read.remaining c.args.input) c.args.job.now c.in-Ok.read.listing c.in-Ok.ensures.whole (c.is_rebuilding.ensures.0 c.if-not-is_rebuilding.false) c.in-Some.ensures.some
-
-pub returns-then-not-is_rebuilding-clause-small : goal.returns-then-not-is_rebuilding-clause-small
-returns-then-not-is_rebuilding-clause-small g c = λ rebuilds large. (let no = c.if-not-is_rebuilding.true in let yes = c.is_rebuilding.ensures.1 rebuilds in cc)
-
-pub returns-in-None-clause-small : goal.returns-in-None-clause-small
-returns-in-None-clause-small g c = λ named. c.in-None.ensures.none
+pub returns-in-Err-Refused-clause-fault : goal.returns-in-Err-Refused-clause-fault
+returns-in-Err-Refused-clause-fault g c =
+    let why = subst (IsAreaUnread (IsTrue c.is_rebuilding.result) (g.R.Read.remaining c.args.input)) c.in-Err-Refused.field-0-is c.in-Err-Refused.ensures.fault in
+    area_refused (IsTrue c.is_rebuilding.result) (g.R.Read.remaining c.args.input) c.args.job.now (string_bytes c.in-Err-Refused.text) c.is_rebuilding.ensures.0 why

@@ -1,11 +1,12 @@
 use Rattle.std.proofs.Common.{◌↔◌, ◌∙◌, List, IsTrue, subst, sym}
 use Rattle.ospf_graph.specs.EdgeLists.Listed.{advertisements_of}
-use Rattle.ospf_failures.specs.Answer.{HasRouter, IsEndBy, IsAllPrinted, IsUnmetSomewhere, added_text}
+use Rattle.ospf_failures.specs.Answer.{HasRouter, IsUnmetSomewhere, added_text}
+use Rattle.ospf_harm.specs.Asked.{IsEndBy, IsAllPrinted}
 use Rattle.ospf_failures.specs.Overall.{AreOveralls, CutsSomewhere}
-use Rattle.ospf_failures.specs.declared.answer.FailuresStatus.{FailuresStatus}
+use Rattle.ospf_harm.specs.declared.asked.FailuresStatus.{FailuresStatus}
 use Rattle.ospf_failures.specs.declared.overall.RouteDetail.{RouteDetail}
 use Rattle.ospf_failures.specs.declared.overall.Overall.{Overall}
-use Rattle.ospf_failures.proofs.AnswerLemmas.{end_is, whole_end}
+use Rattle.ospf_harm.proofs.AnswerLemmas.{end_is, whole_end}
 use Rattle.ospf_failures.proofs.answer.overalls_said.Goals as goal
 
 pub returns-clause-said : goal.returns-clause-said

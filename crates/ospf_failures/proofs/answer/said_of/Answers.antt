@@ -14,8 +14,8 @@ pub text_without-requires : goal.text_without-requires
 text_without-requires g c = λ some.
     c.requires (subst IsRebuilding (sym c.in-Without.is) (subst (λ (ns : List (String Global)). ns ≢ []) c.deref.ensures.value some))
 
-pub changes_said-requires-clause-small : goal.changes_said-requires-clause-small
-changes_said-requires-clause-small g c κs within = λ direct. c.requires (subst IsRebuilding (sym c.in-Root.is) direct)
+pub changes_in_threads-requires-clause-small : goal.changes_in_threads-requires-clause-small
+changes_in_threads-requires-clause-small g c κs within = λ direct. c.requires (subst IsRebuilding (sym c.in-Root.is) direct)
 
 pub overalls_said-requires-clause-small : goal.overalls_said-requires-clause-small
 overalls_said-requires-clause-small g c κs within = λ direct. c.requires (subst IsRebuilding (sym c.in-All.is) direct)

@@ -2,14 +2,14 @@ use Rattle.std.proofs.Common.{◌≡◌, ◌∙◌, List, ap, subst, sym}
 use Rattle.std.specs.List.{All, AllZip}
 use Rattle.ospf_base.specs.declared.ids.RouterId.{RouterId}
 use Rattle.ospf_graph.specs.EdgeLists.Listed.{advertisements_of}
-use Rattle.ospf_whatif.specs.Carrier.{together}
+use Rattle.ospf_harm.specs.Carrier.{together}
 use Rattle.ospf_whatif.specs.Single.{AreFailures}
-use Rattle.ospf_whatif.specs.declared.carrier.Breakdown.{Breakdown}
+use Rattle.ospf_harm.specs.declared.carrier.Breakdown.{Breakdown}
 use Rattle.ospf_whatif.specs.declared.failure.AreaFailure.{AreaFailure}
 use Rattle.ospf_failures.specs.Overall.{AreOutages, IsOutageOf, IsSeenAt, roots_in}
-use Rattle.ospf_failures.specs.Together.{IsComputable}
+use Rattle.ospf_harm.specs.Together.{IsComputable}
 use Rattle.ospf_failures.specs.declared.roots.FailureOutage.{FailureOutage}
-use Rattle.ospf_failures.proofs.FoundLemmas.{all_computable}
+use Rattle.ospf_harm.proofs.FoundLemmas.{all_computable}
 use Rattle.ospf_failures.proofs.OverallLemmas.{overalls_are}
 use Rattle.ospf_failures.proofs.RootLemmas.{outages_all, overalls_by_parts}
 use Rattle.ospf_failures.proofs.overall.overalls.Goals as goal

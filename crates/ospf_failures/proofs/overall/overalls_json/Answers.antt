@@ -3,7 +3,8 @@ use Rattle.serde_json.specs.Data.{Data}
 use Rattle.serde_json.specs.View.{items_of}
 use Rattle.serde_json.specs.Written.{items_have_float}
 use Rattle.ospf_failures.specs.Json.{overall_data}
-use Rattle.ospf_failures.proofs.JsonLemmas.{overalls_none, values_next}
+use Rattle.ospf_failures.proofs.JsonLemmas.{overalls_none}
+use Rattle.ospf_harm.proofs.JsonLemmas.{values_next}
 use Rattle.ospf_failures.proofs.overall.overalls_json.Goals as goal
 
 pub loop-overall-preserved : goal.loop-overall-preserved

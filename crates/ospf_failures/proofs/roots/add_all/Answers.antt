@@ -1,4 +1,4 @@
-use Rattle.std.proofs.Common.{◌≡◌, ◌+◌, ◌∷◌, [], List, arith, length, refl, sym}
+use Rattle.std.proofs.Common.{◌∷◌, [], arith, refl, sym}
 use Rattle.std.proofs.lemmas.List.{length-append}
 use Rattle.ospf_failures.proofs.RootLemmas.{added_place, added_whole, fits_there, has_added, none_behind, there, walk_on, within}
 use Rattle.ospf_failures.proofs.roots.add_all.Goals as goal

@@ -1,8 +1,6 @@
-use Rattle.std.proofs.Common.{◌≡◌, List, [], arith, length, subst, sym}
-use Rattle.std.specs.List.{AllZip}
+use Rattle.std.proofs.Common.{◌≡◌, List, [], arith, subst, sym}
 use Rattle.std.specs.Prelude.{Vec}
 use Rattle.std.specs.declared.alloc.Global.{Global}
-use Rattle.ospf_failures.specs.Overall.{AreSeenAt}
 use Rattle.ospf_failures.specs.declared.overall.Overall.{Overall}
 use Rattle.ospf_failures.proofs.RootLemmas.{IsAddedUp, added_all, added_more, added_none, no_length, piece_fits}
 use Rattle.ospf_failures.proofs.roots.added_up.Goals as goal

@@ -2,9 +2,8 @@ use Rattle.std.proofs.Common.{◌+◌, ◌≤◌, List, [], arith, length, subst
 use Rattle.std.proofs.lemmas.List.{take_all}
 use Rattle.std.specs.List.{AllZip}
 use Rattle.ospf_failures.specs.Overall.{IsSeenAt, left_after_outage}
-use Rattle.ospf_failures.specs.declared.overall.Overall.{Overall}
 use Rattle.ospf_failures.specs.declared.roots.FailureOutage.{FailureOutage}
-use Rattle.ospf_failures.proofs.FoundLemmas.{zip_more}
+use Rattle.ospf_harm.proofs.FoundLemmas.{zip_more}
 use Rattle.ospf_failures.proofs.OverallLemmas.{none_yet}
 use Rattle.ospf_failures.proofs.roots.nothing_of.Goals as goal
 

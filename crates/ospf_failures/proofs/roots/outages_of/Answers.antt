@@ -2,7 +2,7 @@ use Rattle.std.proofs.Common.{◌∙◌, ap}
 use Rattle.rayon.proofs.ToStd.{slice-AllZip}
 use Rattle.ospf_graph.specs.EdgeLists.Listed.{advertisements_of}
 use Rattle.ospf_failures.specs.Overall.{IsOutageOf}
-use Rattle.ospf_failures.proofs.FoundLemmas.{IsFound, all_found}
+use Rattle.ospf_harm.proofs.FoundLemmas.{IsFound, all_found}
 use Rattle.ospf_failures.proofs.roots.outages_of.Goals as goal
 
 pub collect-requires-clause-ready : goal.collect-requires-clause-ready

@@ -1,10 +1,8 @@
-use Rattle.std.proofs.Common.{◌≡◌, ◌++◌, ◌∙◌, List, [], ap, append_assoc, arith, length, refl, subst, sym}
+use Rattle.std.proofs.Common.{◌≡◌, ◌++◌, ◌∙◌, List, [], ap, append_assoc, arith, length, refl}
 use Rattle.std.proofs.lemmas.List.{length-append, take-append-drop}
-use Rattle.std.specs.List.{AllZip}
 use Rattle.ospf_base.specs.declared.ids.RouterId.{RouterId}
 use Rattle.ospf_graph.specs.EdgeLists.Listed.{advertisements_of}
-use Rattle.ospf_failures.specs.Overall.{IsSeenAt}
-use Rattle.ospf_failures.proofs.RootLemmas.{fit_all, joined_on, no_length}
+use Rattle.ospf_failures.proofs.RootLemmas.{fit_all, joined_on}
 use Rattle.ospf_failures.proofs.roots.overalls_at.Goals as goal
 
 pub loop-rest-init : goal.loop-rest-init
@@ -30,10 +28,9 @@ loop-rest-preserved g c =
     let behind = c.split_at.result.1.now in
     let done = c.loop-rest.invariant.0 in
     let cut : part ++ behind ≡ c.loop-rest.rest.now =
-    (λ i. c.split_at.ensures.front i ++ c.split_at.ensures.back i) ∙ take-append-drop c.min.result c.loop-rest.rest.now in
-    (
+    (λ i. c.split_at.ensures.front i ++ c.split_at.ensures.back i) ∙ take-append-drop c.min.result c.loop-rest.rest.now in (
       done ++ part,
       append_assoc done part behind ∙ ap (λ (l : List RouterId). done ++ l) cut ∙ c.loop-rest.invariant.1,
       joined_on (advertisements_of c.args.at.0.now) c.args.detail done part c.args.outages.now c.loop-rest.overalls.items c.in_ok-found.found.items c.add_all.new.overalls.items
-      c.loop-rest.invariant.2 c.in_ok-found.ensures c.in_ok-add_all.ensures,
+          c.loop-rest.invariant.2 c.in_ok-found.ensures c.in_ok-add_all.ensures,
     )

@@ -6,8 +6,7 @@ use Rattle.ospf_failures.proofs.roots.overalls_in_threads.Goals as goal
 
 pub added_up-requires : goal.added_up-requires
 added_up-requires g c =
-    let size = c.group_size-size.result in
-    (
+    let size = c.group_size-size.result in (
       advertisements_of c.args.at.0.now,
       c.args.detail,
       chunks_of size c.args.roots.now,

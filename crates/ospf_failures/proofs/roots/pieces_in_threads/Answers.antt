@@ -3,7 +3,7 @@ use Rattle.rayon.specs.Lists.{chunks_of, chunks_size, chunks_slice}
 use Rattle.rayon.proofs.ToStd.{slice-AllZip}
 use Rattle.ospf_graph.specs.EdgeLists.Listed.{advertisements_of}
 use Rattle.ospf_failures.specs.Overall.{AreSeenAt}
-use Rattle.ospf_failures.proofs.FoundLemmas.{IsFound, all_found}
+use Rattle.ospf_harm.proofs.FoundLemmas.{IsFound, all_found}
 use Rattle.ospf_failures.proofs.roots.pieces_in_threads.Goals as goal
 
 pub returns : goal.returns

@@ -2,7 +2,7 @@ use Rattle.std.proofs.Common.{rules, ◌≡◌, ◌≤◌, ◌++◌, ◌∷◌, 
 use Rattle.std.specs.List.{AllZip}
 use Rattle.std.specs.declared.alloc.Global.{Global}
 use Rattle.std.proofs.lemmas.List.{take_all}
-use Rattle.ospf_failures.proofs.FoundLemmas.{zip_more}
+use Rattle.ospf_harm.proofs.FoundLemmas.{zip_more}
 use Rattle.ospf_failures.specs.Without.{IsFirstAmong, IsNamedBy, IsUnnamedHere}
 use Rattle.ospf_failures.proofs.WithoutLemmas.{fault_weaker, first_among}
 use Rattle.ospf_failures.proofs.without.named_among.Goals as goal

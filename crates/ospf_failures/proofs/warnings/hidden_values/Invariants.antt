@@ -1,8 +1,0 @@
-use Rattle.std.proofs.Common.{◌≡◌, map, take}
-use Rattle.serde_json.specs.View.{view}
-use Rattle.ospf_failures.specs.Warnings.{hidden_names}
-use Rattle.ospf_failures.proofs.warnings.hidden_values.Given as goal
-
--- those so far
-abbrev pub invariant-loop-cost : goal.invariant-loop-cost
-invariant-loop-cost l = map view l.names.items ≡ hidden_names (take l.cost-index l.hidden) l.failure
