@@ -1,7 +1,0 @@
-use Rattle.ospf_diff.proofs.SightLemmas.{routers_among}
-use Rattle.ospf_diff.proofs.roots.all_routers.Goals as goal
-
-pub returns : goal.returns
-returns c =
-    routers_among c.args.before.now c.args.after.now c.new-routers.result.items c.add_routers.new.routers.items c.add_routers-2.new.routers.items c.put_in_order.new.routers.items
-    c.new-routers.ensures.items c.in_ok-add_routers.ensures c.in_ok-add_routers-2.ensures c.put_in_order.ensures.same c.put_in_order.ensures.rising

@@ -1,7 +1,0 @@
-use Rattle.std.proofs.Common.{◌≡◌, flat_map, string_bytes, take}
-use Rattle.ospf_diff.specs.Text.{difference_line}
-use Rattle.ospf_diff.proofs.sights.difference_lines.Given as goal
-
--- the lines of the differences so far
-abbrev pub invariant-loop-difference : goal.invariant-loop-difference
-invariant-loop-difference l = string_bytes l.lines ≡ flat_map (difference_line l.router) (take l.difference-index l.found)

@@ -1,6 +1,0 @@
-use Rattle.std.proofs.Common.{◌≡◌, map, take}
-use Rattle.ospf_edit.specs.Words.{mirrored}
-use Rattle.ospf_edit.proofs.words.all_mirrored.Given as goal
-
-abbrev pub invariant-loop-failure : goal.invariant-loop-failure
-invariant-loop-failure l = l.others.items ≡ map mirrored (take l.failure-index l.single)
