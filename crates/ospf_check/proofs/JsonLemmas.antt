@@ -81,7 +81,7 @@ other_plain fault.Partitioned e name = side_plain fault.Partitioned e name
 other_plain fault.Unheard e name = side_plain fault.Unheard e name
 other_plain fault.LoneDr e name = refl
 
-finding_plain : (files : List NamedFile) (f : Finding) → has_float (finding_data files f) ≡ false
+pub finding_plain : (files : List NamedFile) (f : Finding) → has_float (finding_data files f) ≡ false
 finding_plain files f = rw (side_plain f.fault f.here (name_at files f.here.file), other_plain f.fault f.other (name_at files f.other.file)) refl
 
 pub findings_plain : (files : List NamedFile) (fs : List Finding) → items_have_float (items_of (map (finding_data files) fs)) ≡ false

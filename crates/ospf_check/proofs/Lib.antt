@@ -2,3 +2,4 @@ pub mod Written
 mod AreaWritten
 mod Numbered
 mod JsonLemmas
+mod LineLemmas

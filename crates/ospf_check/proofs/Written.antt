@@ -13,7 +13,6 @@ use Rattle.ospf_files.specs.Files.{IsConfigIn, IsRefusedFor, bytes_of, refused_l
 use Rattle.ospf_files.specs.Streams.{IsBegun, Written, with_error, with_output, written_on}
 use Rattle.ospf_files.specs.declared.status.Failure.{Failure}
 use Rattle.ospf_files.specs.declared.status.Failure.TheVariants as failure
-use Rattle.std.specs.Io.KnownBytes.{Appends}
 use Rattle.ospf_files.specs.declared.streams.FailedStreams.{FailedStreams}
 use Rattle.ospf_check.specs.declared.check.CheckFault.{CheckFault}
 use Rattle.ospf_check.specs.declared.check.CheckFault.TheVariants as fault

@@ -1,3 +1,4 @@
 pub mod Checked
 pub mod Area
 pub mod Json
+pub mod Lines

@@ -308,7 +308,7 @@ fn push_leaf(
 }
 
 // Whether a router that passes LSAs over can become Designated Router at an interface.
-fn can_lead(passes_over: bool, interface: &Interface) -> bool
+pub(crate) fn can_lead(passes_over: bool, interface: &Interface) -> bool
     ensures { result ≡ can_lead passes_over interface.now }
 {
     let is_broadcast = match interface.kind {

@@ -176,7 +176,7 @@ fn print_line<O: Write>(
 }
 
 // Whether all findings are notes.
-fn are_notes(findings: &[Finding]) -> bool
+pub(crate) fn are_notes(findings: &[Finding]) -> bool
     ensures { result ≡ not (list_any is_fault findings.now) }
 {
     let mut sound = true;
@@ -199,7 +199,7 @@ fn findings_line(
 }
 
 // A value on a line.
-fn line_of(alloc: Global, value: &Value) -> Result<String, AllocError>
+pub(crate) fn line_of(alloc: Global, value: &Value) -> Result<String, AllocError>
     requires { has_float (view value.now) ≡ false }
     ensures { IfOk result (λ line. string_bytes line
         ≡ compact_text (view value.now) ++ codes "\n") }
@@ -225,7 +225,11 @@ fn findings_value(
 }
 
 // A finding as an object.
-fn finding_value(alloc: Global, files: &[NamedFile], found: &Finding) -> Result<Value, AllocError>
+pub(crate) fn finding_value(
+    alloc: Global,
+    files: &[NamedFile],
+    found: &Finding,
+) -> Result<Value, AllocError>
     ensures { IfOk result (λ value. view value ≡ finding_data files.now found.now) }
 {
     let Finding { fault, here, other } = *found;
