@@ -2,10 +2,10 @@
 use Rattle.std.proofs.Common.{Bool, ◌≡◌, ◌∙◌, ℕ, List, [], ◌∷◌, ◌++◌, Option, None, Some, ap, cond, false, find, is_some, map, option_and_then, refl, subst, sym, true, ◌==◌}
 use Rattle.std.proofs.lemmas.Option.{same_Some}
 use Rattle.ospf_base.specs.declared.ids.RouterId.{RouterId}
-use Rattle.ospf_headline.specs.Listings.{ListTheSame}
-use Rattle.ospf_headline.specs.World.{Member, Running, listing, router_at}
-use Rattle.ospf_headline.specs.Slots.{member_of}
-use Rattle.ospf_headline.proofs.RunFacts.{Facts-new, Facts-run}
+use Rattle.ospf_world.specs.Listings.{ListTheSame}
+use Rattle.ospf_world.specs.World.{Member, Running, listing, router_at}
+use Rattle.ospf_world.specs.Slots.{member_of}
+use Rattle.ospf_world.proofs.RunsFacts.{Facts-new, Facts-run}
 use Rattle.ospf_router.specs.Steps.{is_dropped}
 use Rattle.ospf_world.specs.Worlds.{WorldValue, is_slot_of, world_of}
 use Rattle.ospf_script.specs.Words.{Text}

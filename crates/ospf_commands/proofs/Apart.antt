@@ -1,7 +1,7 @@
 -- Routers that are gone over to find two that have different LSDBs.
 use Rattle.std.proofs.Common.{◌≡◌, ◌∙◌, ap, arith, length, subst, sym, ℕ, List, [], ◌∷◌, Option, None, Some}
 use Rattle.ospf_base.specs.declared.ids.RouterId.{RouterId}
-use Rattle.ospf_headline.specs.World.{Running}
+use Rattle.ospf_world.specs.World.{Running}
 use Rattle.ospf_router.specs.Routers.{RouterValue}
 use Rattle.ospf_world.specs.Worlds.{IsLent}
 use Rattle.ospf_commands.specs.Judged.{AreFirstToDiffer, IsFirstOther, ListsIfRuns, all_list, both, none_runs, one_lists_otherwise, one_runs}

@@ -5,9 +5,9 @@ use Rattle.std.proofs.lemmas.Bool.{eqb-true}
 use Rattle.std.proofs.lemmas.Option.{same_Some}
 use Rattle.ospf_base.specs.declared.event.event.WorldFault.{WorldFault}
 use Rattle.ospf_base.specs.declared.ids.RouterId.{RouterId}
-use Rattle.ospf_headline.specs.Slots.{member_of}
-use Rattle.ospf_headline.specs.Walks.{AllReachedAgree}
-use Rattle.ospf_headline.specs.World.{Member, Running, World, listing, member, of_member, router_at, unless_stopped}
+use Rattle.ospf_world.specs.Slots.{member_of}
+use Rattle.ospf_world.specs.Walks.{AllReachedAgree}
+use Rattle.ospf_world.specs.World.{Member, Running, World, listing, member, of_member, router_at, unless_stopped}
 use Rattle.ospf_script.specs.Words.{Text}
 use Rattle.ospf_world.specs.Worlds.{WorldValue, is_slot_of, world_of}
 use Rattle.ospf_commands.specs.Headlines.{AllReachedAgreeOfAll, HeadlineOfAll, HeadlineOfOne, IsHeadlineMet, IsHeadlineUnmet}

@@ -20,15 +20,15 @@ use Rattle.ospf_graph.specs.declared.graph.Start.{Start}
 use Rattle.ospf_graph.specs.declared.graph.Vertex.{Vertex}
 use Rattle.ospf_graph.specs.declared.graph.Vertex.TheVariants.{Router, Network}
 use Rattle.ospf_graph.specs.declared.paths.Settled.{Settled}
-use Rattle.ospf_headline.specs.Listings.{ListTheSame, ListsInstance}
-use Rattle.ospf_headline.specs.World.{Member, Running, World, listing, member, router_at}
+use Rattle.ospf_world.specs.Listings.{ListTheSame, ListsInstance}
+use Rattle.ospf_world.specs.World.{Member, Running, World, listing, member, router_at}
 use Rattle.ospf_lsa.specs.Lsa.{instance_of}
 use Rattle.ospf_router.specs.Routers.{RouterValue, listing_of}
 use Rattle.ospf_world.specs.Worlds.{IsLent, Lends, NoRouter, NotRunning, Runs}
 use Rattle.ospf_commands.specs.Premise.{AgreesWith, IsFirstOfVertices, IsFirstToDiffer, IsListedAndReached, IsOfVertex, all_agree, difference_at, difference_of, first_differs, it_differs, none_differs, none_differs_there, one_differs, HoldsFor, IsPremiseOf, IsPremiseOfSlots, fails_for_one, holds_for_all, premise_is_found}
 use Rattle.ospf_area.specs.State.{AreaValue}
 use Rattle.ospf_world.specs.Worlds.{SlotValue}
-use Rattle.ospf_headline.specs.Walks.{AllReachedAgree}
+use Rattle.ospf_world.specs.Walks.{AllReachedAgree}
 use Rattle.std.proofs.lemmas.Option.{same_Some}
 use Rattle.ospf_journal.proofs.Listings.{listed_true, true_listed}
 use Rattle.ospf_journal.specs.Differences.{difference_between, difference_by, first_extra, lists_instance}

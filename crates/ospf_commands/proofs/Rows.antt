@@ -9,7 +9,7 @@ use Rattle.ospf_base.specs.Bytes.{number_at}
 use Rattle.ospf_base.specs.Sums.{contents}
 use Rattle.ospf_base.specs.declared.ids.Instance.{Instance}
 use Rattle.ospf_base.specs.declared.ids.Kind.TheVariants.{Network, Router}
-use Rattle.ospf_headline.specs.Listings.{ListTheSame, ListsInstance}
+use Rattle.ospf_world.specs.Listings.{ListTheSame, ListsInstance}
 use Rattle.ospf_lsa.specs.Listing.{IsListable, IsListing}
 use Rattle.ospf_lsa.specs.Lsa.{instance_of}
 use Rattle.ospf_lsa.specs.declared.fault.LsaFault.TheVariants as fault

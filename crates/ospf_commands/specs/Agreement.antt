@@ -3,10 +3,10 @@ use Rattle.std.specs.Prelude.{◌≡◌, Some, false, is_some, map, true}
 use Rattle.ospf_base.specs.Sums.{contents}
 use Rattle.ospf_base.specs.declared.ids.RouterId.{RouterId}
 use Rattle.ospf_graph.specs.Advertisements.{IsListed}
-use Rattle.ospf_headline.specs.Headline.{IsReached}
-use Rattle.ospf_headline.specs.Listings.{ListTheSame}
-use Rattle.ospf_headline.specs.Walks.{AllListedAgree, adverts}
-use Rattle.ospf_headline.specs.World.{Running, World, listing, router_at}
+use Rattle.ospf_world.specs.Headline.{IsReached}
+use Rattle.ospf_world.specs.Listings.{ListTheSame}
+use Rattle.ospf_world.specs.Walks.{AllListedAgree, adverts}
+use Rattle.ospf_world.specs.World.{Running, World, listing, router_at}
 use Rattle.ospf_router.specs.Steps.{is_dropped}
 use Rattle.ospf_script.specs.Words.{Text}
 use Rattle.ospf_world.specs.Worlds.{WorldValue, world_of}

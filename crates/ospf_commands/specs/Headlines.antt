@@ -1,8 +1,8 @@
 -- What `expect headline` decides, in the words of the headline.
 use Rattle.std.specs.Prelude.{◌≡◌, ◌↔◌, None, Ok, Option, Some, false, true}
 use Rattle.ospf_base.specs.declared.ids.RouterId.{RouterId}
-use Rattle.ospf_headline.specs.Walks.{AllReachedAgree}
-use Rattle.ospf_headline.specs.World.{Running, World, router_at}
+use Rattle.ospf_world.specs.Walks.{AllReachedAgree}
+use Rattle.ospf_world.specs.World.{Running, World, router_at}
 use Rattle.ospf_script.specs.Words.{Text}
 use Rattle.ospf_world.specs.Worlds.{WorldValue, world_of}
 use Rattle.ospf_commands.specs.Judged.{IsOfHeadline}

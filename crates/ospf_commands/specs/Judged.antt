@@ -4,11 +4,11 @@ use Rattle.std.specs.List.{AllByRecursion, list_any}
 use Rattle.ospf_base.specs.Text.{number_text}
 use Rattle.ospf_base.specs.declared.ids.Addr.{Addr}
 use Rattle.ospf_base.specs.declared.ids.RouterId.{RouterId}
-use Rattle.ospf_headline.specs.World.{Running}
+use Rattle.ospf_world.specs.World.{Running}
 use Rattle.ospf_base.specs.declared.event.event.WorldFault.{WorldFault}
 use Rattle.ospf_base.specs.declared.event.event.WorldFault.TheVariants as fault
-use Rattle.ospf_headline.specs.declared.walk.WalkEnd.{WalkEnd}
-use Rattle.ospf_headline.specs.declared.walk.WalkEnd.TheVariants as end
+use Rattle.ospf_world.specs.declared.walk.WalkEnd.{WalkEnd}
+use Rattle.ospf_world.specs.declared.walk.WalkEnd.TheVariants as end
 use Rattle.ospf_router.specs.Routers.{RouterValue}
 use Rattle.ospf_script.specs.Words.{Text}
 use Rattle.ospf_script.specs.declared.expected.Expected.{Expected}

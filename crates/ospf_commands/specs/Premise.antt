@@ -11,9 +11,9 @@ use Rattle.ospf_graph.specs.Walk.{IsReachedFrom}
 use Rattle.ospf_graph.specs.declared.graph.Vertex.{Vertex}
 use Rattle.ospf_graph.specs.declared.graph.Vertex.TheVariants.{Router}
 use Rattle.ospf_graph.specs.declared.paths.Settled.{Settled}
-use Rattle.ospf_headline.specs.Listings.{ListTheSame}
-use Rattle.ospf_headline.specs.Walks.{AllReachedAgree}
-use Rattle.ospf_headline.specs.World.{Running, World, listing, member, of_member, router_at, unless_stopped}
+use Rattle.ospf_world.specs.Listings.{ListTheSame}
+use Rattle.ospf_world.specs.Walks.{AllReachedAgree}
+use Rattle.ospf_world.specs.World.{Running, World, listing, member, of_member, router_at, unless_stopped}
 use Rattle.ospf_world.specs.Worlds.{world_of}
 use Rattle.ospf_world.specs.Worlds.{SlotValue, WorldValue}
 use Rattle.ospf_journal.specs.Differences.{difference_between}

@@ -4,8 +4,8 @@ use Rattle.std.specs.declared.alloc.Global.{Global}
 use Rattle.ospf_base.specs.Text.{number_text}
 use Rattle.ospf_base.specs.declared.ids.Addr.{Addr}
 use Rattle.ospf_base.specs.declared.ids.RouterId.{RouterId}
-use Rattle.ospf_headline.specs.declared.walk.WalkEnd.{WalkEnd}
-use Rattle.ospf_headline.specs.declared.walk.WalkEnd.TheVariants.{Arrived, NoRoute, NotRunning, Turns}
+use Rattle.ospf_world.specs.declared.walk.WalkEnd.{WalkEnd}
+use Rattle.ospf_world.specs.declared.walk.WalkEnd.TheVariants.{Arrived, NoRoute, NotRunning, Turns}
 use Rattle.ospf_views.specs.Texts.{routers_text}
 use Rattle.ospf_script.specs.Words.{Text}
 use Rattle.ospf_views.specs.Shown.{headed}

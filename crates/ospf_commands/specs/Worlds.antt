@@ -1,13 +1,13 @@
 -- Worlds, in the terms of a script.
 use Rattle.std.specs.Prelude.{◌≡◌, ℕ, List, Some, Result}
 use Rattle.ospf_base.specs.declared.ids.RouterId.{RouterId}
-use Rattle.ospf_headline.specs.World.{Member, member, of_member, unless_stopped}
+use Rattle.ospf_world.specs.World.{Member, member, of_member, unless_stopped}
 use Rattle.ospf_base.specs.declared.event.event.WorldEvent.{WorldEvent}
 use Rattle.ospf_base.specs.declared.event.event.WorldFault.{WorldFault}
 use Rattle.ospf_router.specs.Routers.{RouterValue}
 use Rattle.ospf_world.specs.Does.{Does}
 use Rattle.ospf_world.specs.Random as random
-use Rattle.ospf_world.specs.Walks.{Walks}
+use Rattle.ospf_world.specs.Legs.{Walks}
 use Rattle.ospf_world.specs.Worlds.{IsLent, world_of}
 use Rattle.ospf_world.specs.declared.walk.Walk.{Walk}
 use Rattle.rand_pcg.specs.Lcg.{increment_of, started}

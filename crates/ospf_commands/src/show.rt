@@ -7,9 +7,8 @@ ghost use Rattle.ospf_commands.specs.Shown.{end_text, said_line, walk_heading, w
 
 use ospf_base::{Addr, RouterId};
 use ospf_files::{FailedStreams, Failure};
-use ospf_headline::WalkEnd;
 use ospf_views::WalkShown;
-use ospf_world::Walk;
+use ospf_world::{Walk, WalkEnd};
 use std::alloc::{AllocError, Global};
 use std::fmt::{self, Display, Formatter};
 use std::io::Write;

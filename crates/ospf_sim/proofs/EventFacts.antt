@@ -11,7 +11,7 @@ use Rattle.ospf_base.proofs.KeyMaps.{is_eq-nat_cmp}
 use Rattle.ospf_base.specs.declared.ids.RouterId.{RouterId}
 use Rattle.ospf_router.specs.Routers.{RouterValue}
 use Rattle.ospf_base.specs.Events.Events.{router_in}
-use Rattle.ospf_headline.specs.World.{Member, Running, World, member, router_at}
+use Rattle.ospf_world.specs.World.{Member, Running, World, member, router_at}
 use Rattle.ospf_base.specs.declared.event.event.WorldEvent.{WorldEvent}
 use Rattle.ospf_base.specs.declared.event.event.WorldFault.{WorldFault}
 use Rattle.ospf_world.specs.Worlds.{Lends, WorldValue}

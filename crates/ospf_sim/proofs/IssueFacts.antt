@@ -4,10 +4,10 @@ use Rattle.ospf_base.specs.declared.ids.LsaKey.{LsaKey}
 use Rattle.ospf_base.specs.Events.Events.{router_in}
 use Rattle.ospf_base.specs.declared.event.event.WorldEvent.{WorldEvent}
 use Rattle.ospf_base.specs.declared.event.event.WorldFault.{WorldFault}
-use Rattle.ospf_headline.specs.Logs.{LogsValue, issued_in}
-use Rattle.ospf_headline.specs.Slots.{SlotSteps, SlotTakes, SlotValue}
-use Rattle.ospf_headline.specs.declared.logs.Issued.{Issued}
-use Rattle.ospf_headline.specs.declared.logs.Run.{Run}
+use Rattle.ospf_world.specs.Logs.{LogsValue, issued_in}
+use Rattle.ospf_world.specs.Slots.{SlotSteps, SlotTakes, SlotValue}
+use Rattle.ospf_world.specs.declared.logs.Issued.{Issued}
+use Rattle.ospf_world.specs.declared.logs.Run.{Run}
 use Rattle.ospf_lsa.specs.Lsa.{instance_of}
 use Rattle.ospf_world.specs.Does.{Changes, Does}
 use Rattle.ospf_world.specs.Worlds.{WorldValue}

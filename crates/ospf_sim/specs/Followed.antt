@@ -8,14 +8,14 @@ use Rattle.std.specs.Io.KnownBytes.{Appends}
 use Rattle.ospf_base.specs.declared.ids.Instance.{Instance}
 use Rattle.ospf_base.specs.declared.ids.RouterId.{RouterId}
 use Rattle.ospf_files.specs.Streams.{IsBegun, IsOutputCut}
-use Rattle.ospf_headline.specs.Running.{delivery}
+use Rattle.ospf_world.specs.Running.{delivery}
 use Rattle.ospf_base.specs.Events.Events.{router_in}
-use Rattle.ospf_headline.specs.World.{Running, router_at}
+use Rattle.ospf_world.specs.World.{Running, router_at}
 use Rattle.ospf_base.specs.declared.event.event.WorldEvent.{WorldEvent}
 use Rattle.ospf_base.specs.declared.event.event.WorldEvent.TheVariants.{Start, Stop, Tick, LinkUp, LinkDown, Deliver}
 use Rattle.ospf_base.specs.declared.event.event.WorldFault.{WorldFault}
-use Rattle.ospf_headline.specs.declared.logs.Datagram.{Datagram}
-use Rattle.ospf_headline.specs.declared.logs.Issued.{Issued}
+use Rattle.ospf_world.specs.declared.logs.Datagram.{Datagram}
+use Rattle.ospf_world.specs.declared.logs.Issued.{Issued}
 use Rattle.ospf_journal.specs.Causes.{cause_of}
 use Rattle.ospf_journal.specs.Changes.{AreChanges}
 use Rattle.ospf_journal.specs.Reports.{ReportedValue, nothing_reported}

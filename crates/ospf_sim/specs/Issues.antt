@@ -5,7 +5,7 @@ use Rattle.ospf_base.specs.declared.ids.Instance.{Instance}
 use Rattle.ospf_base.specs.Events.Events.{router_in}
 use Rattle.ospf_base.specs.declared.event.event.WorldEvent.{WorldEvent}
 use Rattle.ospf_base.specs.declared.event.event.WorldFault.{WorldFault}
-use Rattle.ospf_headline.specs.Slots.{SlotGoesOn, SlotValue}
+use Rattle.ospf_world.specs.Slots.{SlotGoesOn, SlotValue}
 use Rattle.ospf_lsa.specs.Lsa.{instance_of}
 use Rattle.ospf_router.specs.AreaStep.Step.{Event}
 use Rattle.ospf_world.specs.Does.{Changes, Does}

@@ -2,9 +2,9 @@
 
 ghost use Rattle.std.specs.Prelude.{◌≡◌, ◌≢◌, ◌≤◌, None, Some, IfOk, OnOk, drop, length, map, option_map};
 ghost use Rattle.ospf_base.specs.declared.ids.RouterId.{RouterId};
-ghost use Rattle.ospf_headline.specs.Running.{delivery};
+ghost use Rattle.ospf_world.specs.Running.{delivery};
 ghost use Rattle.ospf_base.specs.Events.Events.{router_in};
-ghost use Rattle.ospf_headline.specs.World.{router_at};
+ghost use Rattle.ospf_world.specs.World.{router_at};
 ghost use Rattle.ospf_base.specs.declared.event.event.WorldEvent.TheVariants.{Deliver};
 ghost use Rattle.ospf_journal.specs.Causes.{cause_of};
 ghost use Rattle.ospf_journal.specs.Changes.{AreChanges};

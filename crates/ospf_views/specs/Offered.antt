@@ -6,7 +6,7 @@ use Rattle.ospf_area.specs.State.{AreaValue}
 use Rattle.ospf_base.specs.declared.ids.RouterId.{RouterId}
 use Rattle.ospf_base.specs.declared.event.event.WorldEvent.{WorldEvent}
 use Rattle.ospf_base.specs.declared.event.event.WorldEvent.TheVariants as event
-use Rattle.ospf_headline.specs.declared.logs.Datagram.{Datagram}
+use Rattle.ospf_world.specs.declared.logs.Datagram.{Datagram}
 use Rattle.ospf_script.specs.Words.{Text}
 use Rattle.ospf_views.specs.Drops.{drop_reason}
 use Rattle.ospf_views.specs.Misfits.{sender_misfit}

@@ -3,8 +3,8 @@ use Rattle.std.specs.Prelude.{List, [], ◌++◌, ℕ, Option, None, Some, codes
 use Rattle.ospf_area.specs.State.{AreaValue}
 use Rattle.ospf_base.specs.Sums.{contents}
 use Rattle.ospf_base.specs.Text.{number_text}
-use Rattle.ospf_headline.specs.Slots.{SlotValue}
-use Rattle.ospf_headline.specs.World.{Running}
+use Rattle.ospf_world.specs.Slots.{SlotValue}
+use Rattle.ospf_world.specs.World.{Running}
 use Rattle.ospf_router.specs.Routers.{listing_of}
 use Rattle.ospf_views.specs.Shown.{links_lines}
 

@@ -6,11 +6,10 @@ ghost use Rattle.std.specs.List.{list_any};
 ghost use Rattle.ospf_views.specs.Datagrams.{cause_words, datagram_lines, is_offer_to, kind_words, offer_line, offer_lines};
 
 use ospf_base::RouterId;
-use ospf_headline::Datagram;
 use ospf_journal::dropped_of;
 use ospf_router::Router;
 use ospf_router::step::Dropped;
-use ospf_world::{World, WorldEvent};
+use ospf_world::{Datagram, World, WorldEvent};
 use std::alloc::{AllocError, Global};
 use std::fmt::{self, Display, Formatter, Write};
 

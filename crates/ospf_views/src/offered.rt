@@ -9,9 +9,8 @@ use crate::drops::drop_reason;
 use crate::misfit::sender_misfit;
 use crate::waits::why;
 use ospf_base::RouterId;
-use ospf_headline::Datagram;
 use ospf_router::Router;
-use ospf_world::{World, WorldEvent};
+use ospf_world::{Datagram, World, WorldEvent};
 use std::alloc::{AllocError, Global};
 
 // The types of a Hello and a Database Description (RFC 2328, appendix A.3.1).

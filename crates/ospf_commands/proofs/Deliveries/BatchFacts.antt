@@ -2,12 +2,12 @@
 use Rattle.std.proofs.Common.{◌≡◌, ◌==◌, ◌<◌, ◌≤◌, ◌+◌, ◌-◌, ◌++◌, ℕ, zero, suc, Bool, true, false, List, None, Some, Option, Result, Ok, Err, [], ◌∷◌, cond, filter, length, take, drop, get_or, set, refl, sym, ap, subst, ◌∙◌, arith}
 use Rattle.std.specs.Global.{Vec}
 use Rattle.std.specs.List.{flat_map}
-use Rattle.ospf_headline.specs.Runs.{IsRun}
-use Rattle.ospf_headline.specs.Slots.{SlotValue}
+use Rattle.ospf_world.specs.Runs.{IsRun}
+use Rattle.ospf_world.specs.Slots.{SlotValue}
 use Rattle.ospf_base.specs.Events.Events.{router_in}
 use Rattle.ospf_base.specs.declared.event.event.WorldEvent.{WorldEvent}
 use Rattle.ospf_base.specs.declared.event.event.WorldFault.{WorldFault}
-use Rattle.ospf_headline.specs.declared.logs.Datagram.{Datagram}
+use Rattle.ospf_world.specs.declared.logs.Datagram.{Datagram}
 use Rattle.ospf_commands.specs.Deliveries.Batches.{AreTaken, IsBatch, IsBatchOf, IsNextWave, TakesWave, all_passed, is_at, is_place, most_waves, offers_from, put_at, queued, queues_from, queues_of, wave}
 use Rattle.ospf_world.specs.Does.{Does}
 use Rattle.ospf_world.specs.Rounds.{OffersMore, offers_of, ticks}

@@ -1,12 +1,12 @@
 -- Rounds with losses, as lists of events go over them.
 use Rattle.std.proofs.Common.{◌≡◌, ◌<◌, ◌≤◌, ◌+◌, ◌-◌, ℕ, zero, suc, Bool, true, false, List, Option, None, Some, Result, Ok, Err, length, get_or, slice_get, refl, sym, ap, subst, ◌∙◌}
 use Rattle.std.proofs.lemmas.Option.{slice_get-get_or}
-use Rattle.ospf_headline.specs.Runs.{IsRun}
+use Rattle.ospf_world.specs.Runs.{IsRun}
 use Rattle.ospf_base.specs.declared.event.event.WorldEvent.{WorldEvent}
 use Rattle.ospf_base.specs.declared.event.event.WorldFault.{WorldFault}
-use Rattle.ospf_headline.specs.declared.logs.Datagram.{Datagram}
+use Rattle.ospf_world.specs.declared.logs.Datagram.{Datagram}
 use Rattle.ospf_config.specs.declared.address.InterfaceAddress.{InterfaceAddress}
-use Rattle.ospf_headline.specs.Slots.{SlotValue}
+use Rattle.ospf_world.specs.Slots.{SlotValue}
 use Rattle.ospf_world.specs.Does.{Does}
 use Rattle.ospf_commands.specs.Deliveries.Losses.{AreNextKept, AreOfferedBut, IsLosingRound, LosesMore, LosesNext, kept_from, offers_kept}
 use Rattle.ospf_world.specs.Rounds.{offers_of, passed, sending_address, ticks}

@@ -1,7 +1,7 @@
 -- What comes about at many routers, as a list of events.
 use Rattle.std.proofs.Common.{◌≡◌, ◌≢◌, ◌==◌, ◌∙◌, ap, sym, ℕ, Bool, false, length, List, [], Result, Ok, Err, refl, subst}
 use Rattle.std.specs.List.{flat_map}
-use Rattle.ospf_headline.specs.Runs.{IsRun}
+use Rattle.ospf_world.specs.Runs.{IsRun}
 use Rattle.ospf_base.specs.declared.event.event.WorldEvent.{WorldEvent}
 use Rattle.ospf_base.specs.declared.event.event.WorldFault.{WorldFault}
 use Rattle.ospf_commands.specs.Deliveries.Many.{ComesAbout, all_gone_over, many_of, memory_ends}

@@ -3,13 +3,13 @@
 use Rattle.std.specs.Prelude.{◌≡◌, ◌≢◌, ◌==◌, ◌+◌, ◌<◌, ◌≤◌, ◌++◌, ℕ, zero, suc, Bool, true, false, List, [], ◌∷◌, Option, None, Some, Result, Ok, Err, drop, filter, get_or, length, map, set}
 use Rattle.std.specs.Global.{Vec}
 use Rattle.std.specs.List.{flat_map}
-use Rattle.ospf_headline.specs.Runs.{IsRun}
-use Rattle.ospf_headline.specs.Slots.{SlotValue}
+use Rattle.ospf_world.specs.Runs.{IsRun}
+use Rattle.ospf_world.specs.Slots.{SlotValue}
 use Rattle.ospf_base.specs.Events.Events.{router_in}
 use Rattle.ospf_base.specs.declared.event.event.WorldEvent.{WorldEvent}
 use Rattle.ospf_base.specs.declared.event.event.WorldFault.{WorldFault}
 use Rattle.ospf_base.specs.declared.event.event.WorldFault.TheVariants as fault
-use Rattle.ospf_headline.specs.declared.logs.Datagram.{Datagram}
+use Rattle.ospf_world.specs.declared.logs.Datagram.{Datagram}
 use Rattle.ospf_world.specs.Does.{Does}
 use Rattle.ospf_world.specs.Rounds.{OffersMore, offers_of, ticks}
 use Rattle.ospf_world.specs.Worlds.{WorldValue, place_of}

@@ -7,12 +7,12 @@ use Rattle.ospf_base.specs.Masks.{mask_of}
 use Rattle.ospf_base.specs.declared.ids.Addr.{Addr}
 use Rattle.ospf_config.specs.Conflicts.{network_part}
 use Rattle.ospf_config.specs.declared.address.InterfaceAddress.{InterfaceAddress}
-use Rattle.ospf_headline.specs.Runs.{IsRun}
+use Rattle.ospf_world.specs.Runs.{IsRun}
 use Rattle.ospf_base.specs.declared.event.event.WorldEvent.{WorldEvent}
 use Rattle.ospf_base.specs.declared.event.event.WorldFault.{WorldFault}
 use Rattle.ospf_base.specs.declared.event.event.WorldFault.TheVariants as fault
-use Rattle.ospf_headline.specs.declared.logs.Datagram.{Datagram}
-use Rattle.ospf_headline.specs.Slots.{SlotValue}
+use Rattle.ospf_world.specs.declared.logs.Datagram.{Datagram}
+use Rattle.ospf_world.specs.Slots.{SlotValue}
 use Rattle.ospf_world.specs.Does.{Does}
 use Rattle.ospf_world.specs.Rounds.{HasNext, offers_of, passed, sending_address, ticks}
 use Rattle.ospf_world.specs.Worlds.{WorldValue}

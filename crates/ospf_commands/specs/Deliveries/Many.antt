@@ -5,7 +5,7 @@ use Rattle.ospf_base.specs.declared.ids.RouterId.{RouterId}
 use Rattle.ospf_config.specs.declared.address.InterfaceAddress.{InterfaceAddress}
 use Rattle.ospf_config.specs.declared.config.Config.{Config}
 use Rattle.ospf_config.specs.declared.interface.Interface.{Interface}
-use Rattle.ospf_headline.specs.Runs.{IsRun}
+use Rattle.ospf_world.specs.Runs.{IsRun}
 use Rattle.ospf_base.specs.declared.event.event.WorldEvent.{WorldEvent}
 use Rattle.ospf_base.specs.declared.event.event.WorldEvent.TheVariants as event
 use Rattle.ospf_base.specs.declared.event.event.WorldFault.{WorldFault}
@@ -14,7 +14,7 @@ use Rattle.ospf_script.specs.Values.{no_floor}
 use Rattle.ospf_script.specs.declared.command.Many.{Many}
 use Rattle.ospf_script.specs.declared.command.Many.TheVariants as many
 use Rattle.ospf_commands.specs.Deliveries.Losses.{is_network_of}
-use Rattle.ospf_headline.specs.Slots.{SlotValue}
+use Rattle.ospf_world.specs.Slots.{SlotValue}
 use Rattle.ospf_world.specs.Does.{Does}
 use Rattle.ospf_world.specs.Worlds.{WorldValue}
 

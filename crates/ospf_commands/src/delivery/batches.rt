@@ -1,7 +1,7 @@
 //! Batches: a tick of each running router, and then what waits, router by router.
 
 ghost use Rattle.std.specs.Prelude.{◌≡◌, ◌<◌, IfOk, OnErr, length, option_map};
-ghost use Rattle.ospf_headline.specs.Headline.{Headline, IsReached};
+ghost use Rattle.ospf_world.specs.Headline.{Headline, IsReached};
 ghost use Rattle.ospf_router.specs.Steps.{is_dropped};
 ghost use Rattle.ospf_commands.specs.Deliveries.Batches.{AreTaken, IsBatch, IsBatchOf, IsNextWave, TakesWave, waiting_offers};
 ghost use Rattle.ospf_world.specs.Exact.{IsReachedExactly};
@@ -11,8 +11,7 @@ ghost use Rattle.ospf_world.specs.Watching.{Told};
 ghost use Rattle.ospf_world.specs.Worlds.{world_of};
 
 use crate::delivery::queues::by_router;
-use ospf_headline::{headline, runs_lead_on, soundness};
-use ospf_world::{EventWatch, World, WorldEvent, WorldFault, ticks_of};
+use ospf_world::{EventWatch, World, WorldEvent, WorldFault, headline, runs_lead_on, soundness};
 use std::alloc::{AllocError, Global};
 
 /// How many waves a batch has at most.
@@ -68,7 +67,7 @@ fn batch_of<W: EventWatch>(
     soundness();
     runs_lead_on();
     world.reached();
-    let Ok(ticks) = ticks_of(world.slots(), alloc) else {
+    let Ok(ticks) = ospf_world::ticks_of(world.slots(), alloc) else {
         return Err(WorldFault::Memory { stopped: false });
     };
     match world.run_watched(&ticks, watch, alloc) {

@@ -1,7 +1,7 @@
 //! Rounds with losses.
 
 ghost use Rattle.std.specs.Prelude.{◌≡◌, IfOk, OnErr, option_map};
-ghost use Rattle.ospf_headline.specs.Headline.{Headline, IsReached};
+ghost use Rattle.ospf_world.specs.Headline.{Headline, IsReached};
 ghost use Rattle.ospf_router.specs.Steps.{is_dropped};
 ghost use Rattle.ospf_commands.specs.Deliveries.Losses.{AreNextKept, AreOfferedBut, IsLosingRound, LosesNext};
 ghost use Rattle.ospf_world.specs.Exact.{IsReachedExactly};
@@ -12,8 +12,7 @@ ghost use Rattle.ospf_world.specs.Watching.{Told};
 ghost use Rattle.ospf_world.specs.Worlds.{world_of};
 
 use crate::delivery::losses::Losses;
-use ospf_headline::{headline, runs_lead_on, soundness};
-use ospf_world::{EventWatch, World, WorldEvent, WorldFault, ticks_of};
+use ospf_world::{EventWatch, World, WorldEvent, WorldFault, headline, runs_lead_on, soundness};
 use std::alloc::{AllocError, Global};
 
 /// Runs a round, like `World::round_of`, in which deliveries are lost: what is lost is not
@@ -45,7 +44,7 @@ pub fn round_losing<W: EventWatch>(
     runs_lead_on();
     world.reached();
     world.reached_exactly();
-    let Ok(ticks) = ticks_of(world.slots(), alloc) else {
+    let Ok(ticks) = ospf_world::ticks_of(world.slots(), alloc) else {
         return Err(WorldFault::Memory { stopped: false });
     };
     match world.run_watched(&ticks, watch, alloc) {

@@ -12,7 +12,7 @@ use Rattle.ospf_base.specs.declared.ids.Addr.{Addr}
 use Rattle.ospf_views.specs.RecordFiles.Datagram.{captured}
 use Rattle.ospf_views.specs.RecordFiles.Ip.{largest_ip_packet}
 use Rattle.ospf_views.specs.declared.records.moment.Moment.{Moment}
-use Rattle.ospf_headline.specs.declared.logs.Datagram.{Datagram}
+use Rattle.ospf_world.specs.declared.logs.Datagram.{Datagram}
 use Rattle.ospf_views.specs.RecordFiles.Captures.{captured_at, is_tick_of, microsecond_of, numbered_datagrams, second_of, seconds, within_second}
 use Rattle.ospf_views.specs.RecordFiles.Counts.{IsOneMoreOf, capped, count_in}
 use Rattle.ospf_views.specs.RecordFiles.Stamps.{AreTicksRead, IsReadTo}

@@ -6,7 +6,7 @@ use Rattle.std.proofs.lemmas.List.{append-nil, append_assoc, drop_all, drop_more
 use Rattle.std.proofs.lemmas.List.Concat.{flat_map-append, flat_map-cons}
 use Rattle.std.proofs.lemmas.List.FromFn.{get_or-enumerate_from, length-enumerate_from}
 use Rattle.std.proofs.lemmas.List.Sums.{take_while-cons}
-use Rattle.ospf_headline.specs.declared.logs.Datagram.{Datagram}
+use Rattle.ospf_world.specs.declared.logs.Datagram.{Datagram}
 use Rattle.ospf_views.specs.RecordFiles.Captures.{capture_of, captured_at, captured_of, is_by, is_tick_of, microsecond_of, numbered_datagrams, second_of, seconds, within_second}
 use Rattle.ospf_views.specs.RecordFiles.Counts.{capped}
 use Rattle.ospf_views.specs.RecordFiles.Pcap.{Captured, file_header, record_bytes}

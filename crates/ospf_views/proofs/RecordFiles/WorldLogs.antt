@@ -5,9 +5,9 @@ use Rattle.std.proofs.lemmas.List.{append-nil, append_assoc, length-append}
 use Rattle.ospf_base.specs.declared.event.event.WorldEvent.{WorldEvent}
 use Rattle.ospf_base.specs.declared.event.event.WorldEvent.TheVariants.{Deliver, LinkDown, LinkUp, Start, Stop, Tick}
 use Rattle.ospf_base.specs.declared.event.event.WorldFault.{WorldFault}
-use Rattle.ospf_headline.specs.declared.logs.Datagram.{Datagram}
-use Rattle.ospf_headline.specs.Logs.{LogsValue}
-use Rattle.ospf_headline.specs.Slots.{SlotSteps, SlotTakes, SlotValue}
+use Rattle.ospf_world.specs.declared.logs.Datagram.{Datagram}
+use Rattle.ospf_world.specs.Logs.{LogsValue}
+use Rattle.ospf_world.specs.Slots.{SlotSteps, SlotTakes, SlotValue}
 use Rattle.ospf_views.specs.RecordFiles.Recorder.{GoOnAndOn, LogsGoOn}
 use Rattle.ospf_world.specs.Does.{Does}
 use Rattle.ospf_world.specs.Ticks.{ticked_by}

@@ -4,7 +4,7 @@ use Rattle.std.specs.List.{enumerate_from}
 use Rattle.ospf_base.specs.Constants.{ip_header}
 use Rattle.ospf_views.specs.RecordFiles.Ip.{ip_packet, largest_ip_packet}
 use Rattle.ospf_views.specs.RecordFiles.Pcap.{Captured, capture_bytes}
-use Rattle.ospf_headline.specs.declared.logs.Datagram.{Datagram}
+use Rattle.ospf_world.specs.declared.logs.Datagram.{Datagram}
 use Rattle.ospf_world.specs.declared.ticks.Ticked.{Ticked}
 use Rattle.ospf_views.specs.RecordFiles.Counts.{capped}
 

@@ -2,7 +2,7 @@
 use Rattle.std.specs.Prelude.{ℕ, Bool, not, is_some, List, [], ◌∷◌, Option, None, Some, filter, map}
 use Rattle.ospf_base.specs.declared.ids.RouterId.{RouterId}
 use Rattle.ospf_inspect.specs.AreaDrawing.Graph.{graph_text}
-use Rattle.ospf_headline.specs.World.{Running, listing}
+use Rattle.ospf_world.specs.World.{Running, listing}
 use Rattle.ospf_world.specs.Worlds.{SlotValue}
 
 -- what a router lists, or else what another has

@@ -3,7 +3,7 @@ use Rattle.std.specs.Prelude.{◌≡◌, ◌==◌, ◌≤◌, ◌<◌, ◌++◌,
 use Rattle.std.specs.List.{AllByRecursion}
 use Rattle.ospf_base.specs.declared.event.event.WorldEvent.{WorldEvent}
 use Rattle.ospf_base.specs.declared.event.event.WorldFault.{WorldFault}
-use Rattle.ospf_headline.specs.declared.logs.Datagram.{Datagram}
+use Rattle.ospf_world.specs.declared.logs.Datagram.{Datagram}
 use Rattle.ospf_views.specs.RecordFiles.Captures.{capture_of, captured_of, numbered_datagrams, seconds}
 use Rattle.ospf_views.specs.RecordFiles.Counts.{capped, count_in}
 use Rattle.ospf_views.specs.RecordFiles.Pcap.{record_bytes}

@@ -10,8 +10,7 @@ use crate::records::fault::CaptureFault;
 use crate::records::moment::Moment;
 use crate::records::stamps::{moment_of, read_ticks};
 use crate::records::write::write_datagram;
-use ospf_headline::Datagram;
-use ospf_world::{Ticked, World};
+use ospf_world::{Datagram, Ticked, World};
 use std::alloc::{AllocError, Global};
 use std::collections::BTreeMap;
 
@@ -29,7 +28,7 @@ pub struct Recorder {
 
 impl Recorder {
     ghost use Rattle.std.specs.Prelude.{◌≡◌, ◌<◌, ◌+◌, ◌^◌, ◌++◌, [], List, OnOk, length};
-    ghost use Rattle.ospf_headline.specs.declared.logs.Datagram.{Datagram};
+    ghost use Rattle.ospf_world.specs.declared.logs.Datagram.{Datagram};
     ghost use Rattle.ospf_views.specs.RecordFiles.Recorder.{AddsTo, GoOn, IsNextOf, IsRecorded, IsRecordedTo, StillBegins, records_since};
     ghost use Rattle.ospf_world.specs.declared.ticks.Ticked.{Ticked};
 

@@ -1,5 +1,5 @@
 use Rattle.std.proofs.Common.{◌∙◌, ap, refl}
-use Rattle.ospf_headline.specs.Running.{delivery}
+use Rattle.ospf_world.specs.Running.{delivery}
 use Rattle.ospf_journal.specs.Causes.{cause_of}
 use Rattle.ospf_sim.proofs.EventFacts.{lent_runs, lent_state, not_lent}
 use Rattle.ospf_sim.proofs.events.cause_of.Goals as goal

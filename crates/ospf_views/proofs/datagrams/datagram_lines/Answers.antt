@@ -1,6 +1,6 @@
 use Rattle.std.proofs.Common.{◌≡◌, ◌<◌, ◌++◌, ◌∙◌, ap, sym, arith, ℕ, length, string_bytes, flat_map}
 use Rattle.std.specs.List.{list_any}
-use Rattle.ospf_headline.specs.declared.logs.Datagram.{Datagram}
+use Rattle.ospf_world.specs.declared.logs.Datagram.{Datagram}
 use Rattle.ospf_views.specs.Datagrams.{has_offer_to, is_offer_to, offer_line, offer_lines}
 use Rattle.ospf_views.proofs.LastOffers.{newest, none_more, one_more}
 use Rattle.ospf_views.proofs.datagrams.datagram_lines.Goals as goal

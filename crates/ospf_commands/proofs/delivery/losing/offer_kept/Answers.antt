@@ -1,6 +1,6 @@
 use Rattle.std.proofs.Common.{refl, rules, subst, List}
 use Rattle.ospf_base.specs.declared.event.event.WorldEvent.{WorldEvent}
-use Rattle.ospf_headline.specs.Runs.{IsRun}
+use Rattle.ospf_world.specs.Runs.{IsRun}
 use Rattle.ospf_world.specs.Does.{Does}
 use Rattle.ospf_world.specs.Ticks.{TicksOn}
 use Rattle.ospf_world.specs.Worlds.{WorldValue, world_of}

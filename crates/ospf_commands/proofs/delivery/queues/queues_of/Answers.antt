@@ -1,6 +1,6 @@
 use Rattle.std.proofs.Common.{◌≡◌, ◌∙◌, ◌<◌, ◌++◌, ◌∷◌, [], List, ap, arith, length, sym, take}
 use Rattle.std.specs.Global.{Vec}
-use Rattle.ospf_headline.specs.Slots.{SlotValue}
+use Rattle.ospf_world.specs.Slots.{SlotValue}
 use Rattle.ospf_base.specs.declared.event.event.WorldEvent.{WorldEvent}
 use Rattle.ospf_commands.specs.Deliveries.Batches.{queued}
 use Rattle.ospf_commands.proofs.Deliveries.BatchFacts.{no_events, one_empty_more, queue_count, queued_length, queued_push, queues_begin, queues_step}

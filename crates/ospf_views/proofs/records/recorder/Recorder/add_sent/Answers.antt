@@ -1,7 +1,7 @@
 use Rattle.std.proofs.Common.{List, length, subst}
 use Rattle.std.proofs.lemmas.Result.{on_ok_weaker}
 use Rattle.std.specs.Prelude.{OnOk}
-use Rattle.ospf_headline.specs.declared.logs.Datagram.{Datagram}
+use Rattle.ospf_world.specs.declared.logs.Datagram.{Datagram}
 use Rattle.ospf_views.specs.RecordFiles.Recorder.{AddsTo, IsRecordedTo}
 use Rattle.ospf_views.proofs.RecordFiles.RecorderFacts.{added_all, recorded_on}
 use Rattle.ospf_views.proofs.records.recorder.Recorder.add_sent.Goals as goal
