@@ -1,5 +1,5 @@
 -- What stays of a command to which arguments are added.
-use Rattle.std.proofs.Common.{◌≡◌, ◌∙◌, refl, ap, true, false, List, [], ◌∷◌}
+use Rattle.std.proofs.Common.{◌≡◌, refl, List, [], ◌∷◌}
 use Rattle.clap.specs.Words.{App, with_rule}
 use Rattle.ospf_words.specs.declared.arguments.Argument.{Argument}
 use Rattle.ospf_words.specs.Arguments.{rule_for, with_arguments}

@@ -1,5 +1,5 @@
 -- Texts that spell addresses.
-use Rattle.std.proofs.Common.{Any, Bool, true, false, ◌≡◌, ◌⊎◌, ◌∙◌, ◌+◌, ◌<◌, ◌^◌, ◌++◌, ℕ, suc, zero, List, [], ◌∷◌, Ok, Err, Result, IsErrAnd, IfErr, IfNone, IfOk, IfSome, Bor, map, take, length, drop, get_or, subst, refl, ap, ap₂, sym, Option, Some, None, Contains, option_map, unwrap_or, inl, inr, is_some, not, arith, codes, slice_index_or, string_bytes}
+use Rattle.std.proofs.Common.{Any, Bool, true, false, ◌≡◌, ◌⊎◌, ◌&&◌, ◌||◌, ◌∙◌, ◌+◌, ◌<◌, ◌^◌, ◌++◌, ℕ, suc, zero, List, [], ◌∷◌, Ok, Err, Result, IsErrAnd, IfErr, IfNone, IfOk, IfSome, Bor, map, take, length, drop, get_or, subst, refl, ap, ap₂, sym, Option, Some, None, Contains, option_map, unwrap_or, inl, inr, is_some, not, arith, codes, slice_index_or, string_bytes}
 use Rattle.std.proofs.lemmas.List.{map-append, take_more}
 use Rattle.std.proofs.lemmas.Option.{none-some}
 use Rattle.std.specs.Cmp.Lexicographic.{bytes_decides}
@@ -13,11 +13,11 @@ use Rattle.ospf_base.specs.Text.{IsDottedNumber, ReadsAddress, ReadsRouterId}
 use Rattle.ospf_base.specs.declared.ids.RouterId.{RouterId}
 use Rattle.ospf_base.specs.declared.ids.Addr.{Addr}
 use Rattle.ospf_words.specs.Job.{IsFaultOfNoValue, IsFaultOfValue, IsFaultOfWords}
-use Rattle.ospf_words.specs.Unasked.{HasForever, IsFirstWrong, IsForeverIn, IsJobIfAny, IsNoAddress, IsNoJob, IsNoNumber, IsNoRouter, IsUnasked, IsUncounted, IsUnending, IsUnendingRun, IsWrongValue, LacksInRun, in_lsas, in_run}
+use Rattle.ospf_words.specs.Unasked.{AreBothVersions, HasForever, IsAllInJson, IsFirstWrong, IsForeverIn, IsJobIfAny, IsNoAddress, IsNoJob, IsNoNumber, IsNoRouter, IsUnasked, IsUncounted, IsUnending, IsUnendingRun, IsWrongValue, LacksInRun, in_lsas, in_run}
 use Rattle.ospf_words.specs.Words.{AreChoices, AreForms, HasChange, IsFailuresForm, IsFlag, IsInspectJob, IsNumber, IsNumberIfAny, IsRunWith, IsTelling, Spell, command_app, endless_app, failures_form, lsas_asked, telling_of, words_for}
 use Rattle.ospf_files.specs.declared.telling.Telling.TheVariants as telling
-use Rattle.ospf_failures.specs.declared.answer.FailuresForm.{FailuresForm}
-use Rattle.ospf_failures.specs.declared.answer.FailuresForm.TheVariants as told
+use Rattle.ospf_harm.specs.declared.asked.FailuresForm.{FailuresForm}
+use Rattle.ospf_harm.specs.declared.asked.FailuresForm.TheVariants as told
 use Rattle.ospf_inspect.specs.declared.answer.Form.TheVariants as form
 use Rattle.ospf_inspect.specs.declared.answer.InspectJob.{InspectJob}
 use Rattle.ospf_inspect.specs.declared.answer.InspectJob.TheVariants.{Drawing, Lsas}
@@ -265,11 +265,25 @@ is_telling rows true false e a = (a, e)
 is_telling rows false false e a = (a, e)
 
 -- with `--all` there is no `--json`
-pub all_apart : (explain all json : Bool) → (all ≡ false) ⊎ (json ≡ false) → telling_of explain all ≡ telling.AllExplained → json ≡ false
-all_apart explain true json (inl none) is = absurd (let same : true ≡ false = none in cc)
-all_apart explain true json (inr none) is = none
-all_apart true false json apart is = absurd (let same : telling.Explained ≡ telling.AllExplained = is in cc)
-all_apart false false json apart is = absurd (let same : telling.Verdict ≡ telling.AllExplained = is in cc)
+pub all_apart : (explain all json lines : Bool) → (json && (all || lines)) ≡ false → telling_of explain all ≡ telling.AllExplained → json ≡ false
+all_apart explain all false lines apart is = refl
+all_apart explain true true lines apart is = absurd (let same : true ≡ false = apart in cc)
+all_apart true false true lines apart is = absurd (let same : telling.Explained ≡ telling.AllExplained = is in cc)
+all_apart false false true lines apart is = absurd (let same : telling.Verdict ≡ telling.AllExplained = is in cc)
+
+-- with `--json=2` there is no `--json`
+pub one_version : (all json lines : Bool) → (json && (all || lines)) ≡ false → lines ≡ true → json ≡ false
+one_version all false lines apart is = refl
+one_version true true lines apart is = absurd (let same : true ≡ false = apart in cc)
+one_version false true lines apart is = absurd (let same : true ≡ false = sym is ∙ apart in cc)
+
+-- flags of `check` that do not go together
+pub apart_flags : (rows : List Row) (all json lines : Bool) → IsFlag (one_of (codes "all") rows) all → IsFlag (one_of (codes "json") rows) json → IsFlag (one_of (codes "json2") rows) lines
+    → (json && (all || lines)) ≡ true → IsAllInJson rows ⊎ AreBothVersions rows
+apart_flags rows all false lines a j l is = absurd (let same : false ≡ true = is in cc)
+apart_flags rows true true lines a j l is = inl (a, j)
+apart_flags rows false true true a j l is = inr (l, j)
+apart_flags rows false true false a j l is = absurd (let same : false ≡ true = is in cc)
 
 -- a journal that is JSON is one
 pub journal_apart : {T : Type 0} (log : Option T) (json : Bool) → (json ≡ false) ⊎ (is_some log ≡ true) → log ≡ None → json ≡ false

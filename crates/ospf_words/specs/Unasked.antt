@@ -6,7 +6,7 @@ use Rattle.ospf_base.specs.declared.ids.RouterId.{RouterId}
 use Rattle.clap.specs.Kinds.{IsAmong}
 use Rattle.clap.specs.Words.{Row, Text, all_of, first_of, kind_of, one_of, subcommand_of}
 use Rattle.clap.specs.Faults.{fault_of}
-use Rattle.ospf_whatif.specs.declared.carrier.Carrier.{Carrier}
+use Rattle.ospf_harm.specs.declared.carrier.Carrier.{Carrier}
 use Rattle.ospf_words.specs.declared.jobs.Job.{Job}
 use Rattle.ospf_words.specs.declared.jobs.JobFault.{JobFault}
 use Rattle.ospf_words.specs.declared.jobs.JobFault.TheVariants as fault
@@ -159,19 +159,32 @@ abbrev pub IsAllInJson : List Row → Type 0
 IsAllInJson rows =
     IsFlag (one_of (codes "all") rows) true × IsFlag (one_of (codes "json") rows) true
 
--- why `table` asks for nothing: it has no root, or `--json` or `all` and more
+-- JSON of version 2 is wanted, and also that of version 1
+abbrev pub AreBothVersions : List Row → Type 0
+AreBothVersions rows =
+    IsFlag (one_of (codes "json2") rows) true × IsFlag (one_of (codes "json") rows) true
+
+-- a table is wanted as JSON of version 2, and also parts left out
+abbrev pub IsWithoutInLines : List Row → Type 0
+IsWithoutInLines rows =
+    IsFlag (one_of (codes "json2") rows) true × (words_for (codes "without") rows ≢ [])
+
+-- why `table` asks for nothing: it has no root, or `--json` or `all` and more, or version 2 of the
+-- JSON and version 1 or parts left out
 abbrev pub LacksInTable : List Row → Type 0
 LacksInTable rows =
     (first_of (codes "root") rows ≡ None) ⊎ IsMoreInJson rows ⊎ IsMoreOfAll rows
+    ⊎ AreBothVersions rows ⊎ IsWithoutInLines rows
 
 -- `lsas` has both its flags
 abbrev pub AreBothForms : List Row → Type 0
 AreBothForms rows =
     IsFlag (one_of (codes "dot") rows) true × IsFlag (one_of (codes "json") rows) true
 
--- why `check` asks for nothing: it has no files, or all faults as JSON
+-- why `check` asks for nothing: it has no files, all faults as JSON, or both versions of that
 abbrev pub LacksInCheck : List Row → Type 0
-LacksInCheck rows = (all_of (codes "files") rows ≡ None) ⊎ IsAllInJson rows
+LacksInCheck rows =
+    (all_of (codes "files") rows ≡ None) ⊎ IsAllInJson rows ⊎ AreBothVersions rows
 
 -- the words enter none of the commands
 pub record IsNoCommand (entered : Option (Text × List Row)) : Type 0 where

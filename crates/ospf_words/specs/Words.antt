@@ -15,16 +15,17 @@ use Rattle.ospf_words.specs.declared.jobs.EditWords.{EditWords}
 use Rattle.ospf_base.specs.declared.ids.RouterId.{RouterId}
 use Rattle.ospf_files.specs.declared.telling.Telling.{Telling}
 use Rattle.ospf_files.specs.declared.telling.Telling.TheVariants as telling
-use Rattle.ospf_whatif.specs.declared.carrier.Carrier.{Carrier}
-use Rattle.ospf_whatif.specs.declared.carrier.Carrier.TheVariants as carrier
-use Rattle.ospf_failures.specs.declared.answer.FailuresForm.{FailuresForm}
-use Rattle.ospf_failures.specs.declared.answer.FailuresForm.TheVariants as told
+use Rattle.ospf_harm.specs.declared.carrier.Carrier.{Carrier}
+use Rattle.ospf_harm.specs.declared.carrier.Carrier.TheVariants as carrier
+use Rattle.ospf_harm.specs.declared.asked.FailuresForm.{FailuresForm}
+use Rattle.ospf_harm.specs.declared.asked.FailuresForm.TheVariants as told
+use Rattle.ospf_harm.specs.declared.asked.RouterFailures.{RouterFailures}
 use Rattle.ospf_failures.specs.declared.answer.FailuresJob.{FailuresJob}
 use Rattle.ospf_failures.specs.declared.answer.FailuresJob.TheVariants.{All, Root, Without}
 use Rattle.ospf_inspect.specs.declared.answer.Form.{Form}
 use Rattle.ospf_inspect.specs.declared.answer.Form.TheVariants as form
 use Rattle.ospf_inspect.specs.declared.answer.InspectJob.{InspectJob}
-use Rattle.ospf_inspect.specs.declared.answer.InspectJob.TheVariants.{Lsas, Drawing, Tables, Table, Path}
+use Rattle.ospf_inspect.specs.declared.answer.InspectJob.TheVariants.{Lsas, Drawing, Tables, TablesLines, Table, TableLines, Path}
 use Rattle.ospf_words.specs.declared.jobs.Job.{Job}
 use Rattle.ospf_words.specs.declared.jobs.Job.TheVariants as job
 use Rattle.ospf_words.specs.declared.jobs.RunJob.{RunJob}
@@ -73,27 +74,29 @@ option_rule name = record (new_rule name) { long = Some name; value_names = 1 }
 abbrev pub flag_rule : Text → Rule
 flag_rule name = record (new_rule name) { long = Some name; action = Some SetTrue }
 
--- the command `table`: a root, then addresses, what is left out, and a flag
+-- the command `table`: a root, then addresses, what is left out, and two flags
 abbrev pub table_app : App
 table_app =
-    with_rule (with_rule (with_rule (with_rule (new_app (codes "table"))
+    with_rule (with_rule (with_rule (with_rule (with_rule (new_app (codes "table"))
     root_rule)
     addresses_rule)
     (repeated_rule (codes "without")))
-    (flag_rule (codes "json"))
+    (flag_rule (codes "json")))
+    (flag_rule (codes "json2"))
 
 -- the words for the files of configurations
 abbrev pub files_rule : Rule
 files_rule = several_rule (codes "files")
 
--- the command `check`: four flags, and files
+-- the command `check`: five flags, and files
 abbrev pub check_app : App
 check_app =
-    with_rule (with_rule (with_rule (with_rule (with_rule (new_app (codes "check"))
+    with_rule (with_rule (with_rule (with_rule (with_rule (with_rule (new_app (codes "check"))
     (flag_rule (codes "explain")))
     (flag_rule (codes "all")))
     (flag_rule (codes "area")))
     (flag_rule (codes "json")))
+    (flag_rule (codes "json2")))
     files_rule
 
 -- the command `failures`: a root, three flags, what carries the links, and two flags more
@@ -265,6 +268,7 @@ pub record IsTableJob (rows : List Row) (t : TableJob) : Type 0 where
   pub addresses : Spell (words_for (codes "addresses") rows) t.addresses.items
   pub whole : words_for (codes "without") rows ≡ []
   pub plain : IsFlag (one_of (codes "json") rows) false
+  pub json2 : IsFlag (one_of (codes "json2") rows) false
 
 -- the root and the addresses that `clap` reads after `table`, and the names of what is left out
 pub record IsWithoutJob (rows : List Row) (root : RouterId) (names : List (String Global))
@@ -276,6 +280,7 @@ pub record IsWithoutJob (rows : List Row) (root : RouterId) (names : List (Strin
   pub names_are : map string_bytes names ≡ words_for (codes "without") rows
   pub some : names ≢ []
   pub plain : IsFlag (one_of (codes "json") rows) false
+  pub json2 : IsFlag (one_of (codes "json2") rows) false
 
 -- the root that `clap` reads after `table`, if the table is printed as JSON: without lookups, and
 -- with nothing left out
@@ -286,6 +291,26 @@ pub record IsTableInJson (rows : List Row) (root : RouterId) : Type 0 where
   pub alone : words_for (codes "addresses") rows ≡ []
   pub whole : words_for (codes "without") rows ≡ []
   pub json : IsFlag (one_of (codes "json") rows) true
+  pub json2 : IsFlag (one_of (codes "json2") rows) false
+
+-- the same where it is printed as JSON of version 2, which has the lookups
+pub record IsTableInLines (rows : List Row) (root : RouterId) (addresses : List Addr)
+    : Type 0 where
+  pub text : Text
+  pub has_root : first_of (codes "root") rows ≡ Some text
+  pub root_is : ReadsRouterId text (Ok root)
+  pub addresses_are : Spell (words_for (codes "addresses") rows) addresses
+  pub whole : words_for (codes "without") rows ≡ []
+  pub plain : IsFlag (one_of (codes "json") rows) false
+  pub json2 : IsFlag (one_of (codes "json2") rows) true
+
+-- and with `all` as its root, of all tables
+pub record AreTablesInLines (rows : List Row) : Type 0 where
+  pub has_all : first_of (codes "root") rows ≡ Some (codes "all")
+  pub alone : words_for (codes "addresses") rows ≡ []
+  pub whole : words_for (codes "without") rows ≡ []
+  pub plain : IsFlag (one_of (codes "json") rows) false
+  pub json2 : IsFlag (one_of (codes "json2") rows) true
 
 -- the form in which it is printed
 abbrev pub IsForm : Option Text → Form → Type 0
@@ -323,15 +348,14 @@ IsCarrier text carrier.Switch = text ≡ Some (codes "switch")
 IsCarrier text carrier.Process = (text ≡ Some (codes "process")) ⊎ (text ≡ None)
 
 -- the root that `clap` reads after `failures`, the flags, and what carries the links
-pub record IsRootJob (rows : List Row) (root : RouterId) (each strict : Bool) (f : FailuresForm)
-    (carrier : Carrier) : Type 0 where
+pub record IsRootJob (rows : List Row) (asked : RouterFailures) : Type 0 where
   pub text : Text
   pub has_root : first_of (codes "root") rows ≡ Some text
-  pub root_is : ReadsRouterId text (Ok root)
-  pub each_is : IsFlag (one_of (codes "each") rows) each
-  pub strict_is : IsFlag (one_of (codes "strict") rows) strict
-  pub form_is : IsFailuresForm rows f
-  pub carrier_is : IsCarrier (first_of (codes "carrier") rows) carrier
+  pub root_is : ReadsRouterId text (Ok asked.root)
+  pub each_is : IsFlag (one_of (codes "each") rows) asked.each
+  pub strict_is : IsFlag (one_of (codes "strict") rows) asked.strict
+  pub form_is : IsFailuresForm rows asked.form
+  pub carrier_is : IsCarrier (first_of (codes "carrier") rows) asked.carrier
 
 -- the same with `all` as its root
 pub record IsAllJob (rows : List Row) (each strict : Bool) (f : FailuresForm) (carrier : Carrier)
@@ -345,9 +369,8 @@ pub record IsAllJob (rows : List Row) (each strict : Bool) (f : FailuresForm) (c
 -- what is asked of failures: by `failures` at a root, or with `all` as its root at all routers, and
 -- by `table` the table without what is named
 abbrev pub IsFailuresJob : Option (Text × List Row) → FailuresJob → Type 0
-IsFailuresJob entered (Root root each strict f carrier) =
-    (rows : List Row) × (entered ≡ Some (codes "failures", rows))
-    × IsRootJob rows root each strict f carrier
+IsFailuresJob entered (Root asked) =
+    (rows : List Row) × (entered ≡ Some (codes "failures", rows)) × IsRootJob rows asked
 IsFailuresJob entered (All each strict f carrier) =
     (rows : List Row) × (entered ≡ Some (codes "failures", rows))
     × IsAllJob rows each strict f carrier
@@ -380,7 +403,7 @@ pub record IsPathJob (rows : List Row) (from : RouterId) (address : Addr) (choic
 
 -- what is printed about LSAs: by `lsas` each in words, or with its flags as a drawing or as JSON;
 -- by `table` with `all` as its root, no addresses and nothing left out, all tables, or with its
--- flag the table of a router as JSON; and by `path` a path
+-- flags the table of a router as JSON; and by `path` a path
 abbrev pub IsInspectJob : Option (Text × List Row) → InspectJob → Type 0
 IsInspectJob entered (Lsas f) =
     (rows : List Row) × (entered ≡ Some (codes "lsas", rows))
@@ -393,8 +416,14 @@ IsInspectJob entered (Tables f) =
     × (first_of (codes "root") rows ≡ Some (codes "all"))
     × (words_for (codes "addresses") rows ≡ [])
     × (words_for (codes "without") rows ≡ []) × IsForm (one_of (codes "json") rows) f
+    × IsFlag (one_of (codes "json2") rows) false
+IsInspectJob entered TablesLines =
+    (rows : List Row) × (entered ≡ Some (codes "table", rows)) × AreTablesInLines rows
 IsInspectJob entered (Table root) =
     (rows : List Row) × (entered ≡ Some (codes "table", rows)) × IsTableInJson rows root
+IsInspectJob entered (TableLines root addresses) =
+    (rows : List Row) × (entered ≡ Some (codes "table", rows))
+    × IsTableInLines rows root (vec_items addresses)
 IsInspectJob entered (Path from address choices) =
     (rows : List Row) × (entered ≡ Some (codes "path", rows))
     × IsPathJob rows from address (vec_items choices)
@@ -434,7 +463,8 @@ IsTelling explain all telling.AllExplained = IsFlag all true
 IsTelling explain all telling.Explained = IsFlag all false × IsFlag explain true
 IsTelling explain all telling.Verdict = IsFlag all false × IsFlag explain false
 
--- the files that `clap` reads after `check`, and the flags; all faults cannot be printed as JSON
+-- the files that `clap` reads after `check`, and the flags; JSON of version 1 goes neither with all
+-- faults nor with version 2
 pub record IsCheckJob (rows : List Row) (c : CheckJob) : Type 0 where
   pub texts : List Text
   pub has_files : all_of (codes "files") rows ≡ Some texts
@@ -442,7 +472,9 @@ pub record IsCheckJob (rows : List Row) (c : CheckJob) : Type 0 where
   pub how : IsTelling (one_of (codes "explain") rows) (one_of (codes "all") rows) c.how
   pub area : IsFlag (one_of (codes "area") rows) c.area
   pub json : IsFlag (one_of (codes "json") rows) c.json
+  pub lines : IsFlag (one_of (codes "json2") rows) c.lines
   pub apart : c.how ≡ telling.AllExplained → c.json ≡ false
+  pub one_version : c.lines ≡ true → c.json ≡ false
 
 -- the script, the files, the files to be written, and whether refused lines count, that `clap`
 -- reads after `sim`; no journal is JSON where there is none

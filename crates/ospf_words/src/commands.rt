@@ -188,6 +188,11 @@ const TABLE: CommandWords = CommandWords {
             help: "Removes a part of the area, by its name in `failures`",
         },
         JSON,
+        Argument {
+            name: "json2",
+            kind: Kind::Flag,
+            help: "Prints JSON of version 2, an object a line; also written `--json=2`",
+        },
     ],
 };
 
@@ -336,6 +341,11 @@ const CHECK: CommandWords = CommandWords {
             help: "Checks the files against each other, as the routers of one area",
         },
         JSON,
+        Argument {
+            name: "json2",
+            kind: Kind::Flag,
+            help: "Prints JSON of version 2, an object a file; also written `--json=2`",
+        },
         FILES,
     ],
 };

@@ -32,9 +32,12 @@ If ROOT is `all`, each router's table follows a line
   router R
 With --without it is the table after a failure, by its name in `failures`: a link
 R-S@SUBNET (or SUBNET alone), links R-S, an interface R@NETWORK, a network @NETWORK or
-a router R.
+a router R; or R@PREFIX, an interface to a stub network.
 With --json it is one array, with an object for each route, or if ROOT is `all` for
 each router. Neither `all` nor --json can be combined with ADDRESS or --without.
+With --json=2 a line says what was read and warned of, and then an object for each
+table has its routes, with each hop in parts, and its lookups. It cannot be combined
+with --json or --without.
 
 Exit status:
   0  done; if there is no router-LSA of ROOT, standard error says so
@@ -48,6 +51,7 @@ Examples:
   ospfd table 1.1.1.1 --without 2.2.2.2 --without @10.1.0.3 < lsas.txt
   ospfd table all < lsas.txt
   ospfd table 1.1.1.1 --json < lsas.txt
+  ospfd table 1.1.1.1 192.168.2.9 --json=2 < lsas.txt
 ";
 
 // What `lsas --help` says.
@@ -158,6 +162,7 @@ A NAME is one of
   R-S@SUBNET or SUBNET        a link between two routers
   R-S                         all links between two routers, if none has a subnet
   R@NETWORK, @NETWORK, R      an interface to a network, a network, or a router
+  R@PREFIX                    an interface to a stub network
 A CHANGE is one of
   R@ADDRESS=COST              the cost of the interface of R with this address
   R-S=COST                    the cost of the links from R to S, but not back
@@ -217,7 +222,9 @@ pub(crate) const CHECK_HELP: &str = "Output:
                               with --area, on standard error: a fault between
                               files that are accepted one by one
 With --json the files are checked against each other, as with --area, and the faults
-and notes between them are one array on standard output.
+and notes between them are one array on standard output. With --json=2 standard output
+has a line about the input, and then an object for each file, with all its faults and
+warnings; with --area an object for each fault and note between them follows.
 
 Exit status:
   0  all files are accepted
@@ -226,8 +233,9 @@ Exit status:
   4  memory ran out
   5  a file was not read, or standard output not written
 
-Example:
+Examples:
   ospfd check --explain first.toml second.toml
+  ospfd check --json=2 --area first.toml second.toml
 ";
 
 // What `sim --help` says below its words.

@@ -68,6 +68,8 @@ pub struct CheckJob {
     pub area: bool,
     /// Whether that is printed as JSON.
     pub json: bool,
+    /// Whether all is printed as JSON of version 2.
+    pub lines: bool,
 }
 
 /// A simulation that is asked for.

@@ -1,7 +1,7 @@
 //! The words of the command line.
 
 ghost use Rattle.clap.specs.Faults.{fault_of};
-ghost use Rattle.std.specs.Prelude.{OnOk, true, false, [], ◌≡◌, ◌≢◌, map, option_map, unwrap_or, codes, string_bytes, Ok, Err, Some, Any, IsTrue, ◌↔◌, ◌⊎◌, IfNone, IfOk, IfErr, IfSome};
+ghost use Rattle.std.specs.Prelude.{OnOk, true, false, [], ◌≡◌, ◌≢◌, ◌&&◌, ◌||◌, map, option_map, unwrap_or, codes, string_bytes, Ok, Err, Some, Any, IsTrue, ◌↔◌, ◌⊎◌, IfNone, IfOk, IfErr, IfSome};
 ghost use Rattle.clap.specs.Words.{all_of, first_of, found_of, one_of, rows_of, subcommand_rows_of, subcommand_of};
 ghost use Rattle.ospf_words.specs.Job.{IsFaultOfNoValue, IsFaultOfValue, IsHelp};
 ghost use Rattle.ospf_words.specs.Unasked.{IsFirstWrong, IsJobIfAny, IsNoAddress, IsNoCarrier, IsNoRouter, IsUnasked, HasNoChoice, IsWrongValue, IsForeverIn, IsNoneUnending, IsUncounted, IsUnending, LacksInRun};
@@ -12,7 +12,7 @@ use crate::jobs::{CheckJob, DiffWords, EditWords, Job, JobFault, RunJob, SimJob}
 use clap::error::ErrorKind;
 use clap::{ArgMatches, Command};
 use ospf_base::{Addr, RouterId};
-use ospf_failures::{Carrier, FailuresForm, FailuresJob};
+use ospf_failures::{Carrier, FailuresForm, FailuresJob, RouterFailures};
 use ospf_files::Telling;
 use ospf_inspect::{Form, InspectJob};
 use ospf_table::TableJob;
@@ -190,6 +190,9 @@ fn table_job(alloc: Global, values: &ArgMatches<'_>) -> Result<Option<Job>, JobF
     ensures fault { IfErr result (IsFaultOfValue
         (IsWrongValue (Some (codes "table", rows_of (found_of values.now))))) }
 {
+    if has_flag(values, "json2") {
+        return lines_job(alloc, values);
+    }
     if has_flag(values, "json") {
         return json_job(alloc, values);
     }
@@ -206,6 +209,8 @@ fn table_job(alloc: Global, values: &ArgMatches<'_>) -> Result<Option<Job>, JobF
 fn whole_job(alloc: Global, values: &ArgMatches<'_>) -> Result<Option<Job>, JobFault>
     requires whole { unwrap_or (all_of (codes "without") (rows_of (found_of values.now))) [] ≡ [] }
     requires plain { IsFlag (one_of (codes "json") (rows_of (found_of values.now))) false }
+    requires json2 { IsFlag (one_of (codes "json2") (rows_of (found_of values.now))) false }
+    // the job of the words that were found
     ensures ok { IfOk result (IsJobIfAny (Some (codes "table", rows_of (found_of values.now)))) }
     ensures fault { IfErr result (IsFaultOfValue
         (IsWrongValue (Some (codes "table", rows_of (found_of values.now))))) }
@@ -237,6 +242,7 @@ fn without_job(
         ≡ unwrap_or (all_of (codes "without") (rows_of (found_of values.now))) [] }
     requires some { names.now ≢ [] }
     requires plain { IsFlag (one_of (codes "json") (rows_of (found_of values.now))) false }
+    requires json2 { IsFlag (one_of (codes "json2") (rows_of (found_of values.now))) false }
     // The job of `table` with these names, if there is a root; else which value is wrong.
     ensures ok { IfOk result (IsJobIfAny (Some (codes "table", rows_of (found_of values.now)))) }
     ensures fault { IfErr result (IsFaultOfValue
@@ -262,7 +268,8 @@ fn without_job(
 // The values of `table` that ask for JSON: its job, if they have a root, and
 // nothing is looked up or left out.
 fn json_job(alloc: Global, values: &ArgMatches<'_>) -> Result<Option<Job>, JobFault>
-    requires { IsFlag (one_of (codes "json") (rows_of (found_of values.now))) true }
+    requires json { IsFlag (one_of (codes "json") (rows_of (found_of values.now))) true }
+    requires json2 { IsFlag (one_of (codes "json2") (rows_of (found_of values.now))) false }
     ensures ok { IfOk result (IsJobIfAny (Some (codes "table", rows_of (found_of values.now)))) }
     ensures fault { IfErr result (IsFaultOfValue
         (IsWrongValue (Some (codes "table", rows_of (found_of values.now))))) }
@@ -283,6 +290,36 @@ fn json_job(alloc: Global, values: &ArgMatches<'_>) -> Result<Option<Job>, JobFa
     }
     let root = parsed(alloc, root)?;
     Ok(Some(Job::Inspect(InspectJob::Table(root))))
+}
+
+// The values of `table` that ask for JSON of version 2: its job, if they have a root, which is not
+// all roots where there are addresses, and neither version 1 nor parts to leave out.
+fn lines_job(alloc: Global, values: &ArgMatches<'_>) -> Result<Option<Job>, JobFault>
+    requires { IsFlag (one_of (codes "json2") (rows_of (found_of values.now))) true }
+    ensures ok { IfOk result (IsJobIfAny (Some (codes "table", rows_of (found_of values.now)))) }
+    ensures fault { IfErr result (IsFaultOfValue
+        (IsWrongValue (Some (codes "table", rows_of (found_of values.now))))) }
+{
+    if has_flag(values, "json") {
+        return Ok(None);
+    }
+    let parts = all_of(values, "without").unwrap_or(&[]);
+    if !parts.is_empty() {
+        return Ok(None);
+    }
+    let Some(root) = word_of(values, "root") else {
+        return Ok(None);
+    };
+    let texts = all_of(values, "addresses").unwrap_or(&[]);
+    if root == ALL {
+        if !texts.is_empty() {
+            return Ok(None);
+        }
+        return Ok(Some(Job::Inspect(InspectJob::TablesLines)));
+    }
+    let root = parsed(alloc, root)?;
+    let addresses = parsed_addresses(alloc, texts)?;
+    Ok(Some(Job::Inspect(InspectJob::TableLines { root, addresses })))
 }
 
 // The value that a word spells.
@@ -344,13 +381,13 @@ fn failures_job(alloc: Global, values: &ArgMatches<'_>) -> Result<Option<Job>, J
         })));
     }
     let root = parsed(alloc, word)?;
-    Ok(Some(Job::Failures(FailuresJob::Root {
+    Ok(Some(Job::Failures(FailuresJob::Root(RouterFailures {
         root,
         each,
         strict,
         form,
         carrier,
-    })))
+    }))))
 }
 
 // What carries the links, by its word, if that is one.
@@ -525,7 +562,7 @@ fn router_if_any(alloc: Global, word: Option<&str>) -> Result<Option<RouterId>, 
     }
 }
 
-// The values of `check`: its job, if they have files and not both flags that do not go together.
+// The values of `check`: its job, if they have files and no flags that do not go together.
 fn check_job(alloc: Global, values: &ArgMatches<'_>) -> Result<Option<Job>, AllocError>
     ensures { IfOk result (IsJobIfAny (Some (codes "check", rows_of (found_of values.now)))) }
 {
@@ -534,7 +571,8 @@ fn check_job(alloc: Global, values: &ArgMatches<'_>) -> Result<Option<Job>, Allo
     };
     let all = has_flag(values, "all");
     let json = has_flag(values, "json");
-    if all && json {
+    let lines = has_flag(values, "json2");
+    if are_apart(all, json, lines) {
         return Ok(None);
     }
     let files = owned(alloc, files)?;
@@ -546,7 +584,16 @@ fn check_job(alloc: Global, values: &ArgMatches<'_>) -> Result<Option<Job>, Allo
         how,
         area,
         json,
+        lines,
     })))
+}
+
+// Whether flags of `check` do not go together: JSON of version 1 has neither all faults of files
+// nor what version 2 has.
+fn are_apart(all: bool, json: bool, lines: bool) -> bool
+    ensures { result ≡ (json && (all || lines)) }
+{
+    json && (all || lines)
 }
 
 // How much the flags of `check` ask for.
@@ -714,15 +761,25 @@ fn no_job(command: &mut Command<'_>, matches: &ArgMatches<'_>) -> JobFault
 // Which words of the command that was entered do not go together.
 fn apart(matches: &ArgMatches<'_>) -> &'static str {
     match matches.subcommand_name() {
-        Some("table") => "neither `all` nor --json can be combined with ADDRESS or --without",
+        Some("table") => apart_in_table(matches),
         Some("failures") => apart_in_failures(matches),
         Some("lsas") => "--json cannot be combined with --dot",
         Some("edit") => "at least one of --down, --cost and --drain is needed",
         Some("diff") => "only one of BEFORE and AFTER can be `-`",
-        Some("check") => "--json cannot be combined with --all",
+        Some("check") => "--json cannot be combined with --all or --json=2",
         Some("sim") => "--json needs --log",
         Some("run") => "--json needs --log or --log-lsas",
         _ => "these arguments cannot be combined",
+    }
+}
+
+// The same for `table`, of which the versions of JSON are read first.
+fn apart_in_table(matches: &ArgMatches<'_>) -> &'static str {
+    match matches.subcommand_matches("table") {
+        Some(values) if has_flag(values, "json2") => {
+            "--json=2 cannot be combined with --json or --without, nor `all` with ADDRESS"
+        }
+        _ => "neither `all` nor --json can be combined with ADDRESS or --without",
     }
 }
 

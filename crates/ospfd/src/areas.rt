@@ -1,7 +1,7 @@
 //! Areas before and after changes.
 
-use ospf_diff::{DiffJob, DiffNames, diff_text};
-use ospf_edit::{EditJob, edit_text};
+use ospf_change::diff::{DiffJob, DiffNames, diff_text};
+use ospf_change::edit::{EditJob, edit_text};
 use ospf_files::{FailedStreams, NamedFile, Status, read_file, tell_unread};
 use ospf_words::{DiffWords, EditWords};
 use std::alloc::Global;

@@ -12,7 +12,7 @@ use crate::areas::{run_diff, run_edit};
 use crate::routers::run_routers;
 use crate::screen::FailuresLine;
 use crate::simulation::run_sim;
-use ospf_check::{check_area_json, check_area_text, check_text};
+use ospf_check::{check_area_json, check_area_text, check_lines, check_text};
 use ospf_failures::failures_text;
 use ospf_files::{FailedStreams, Failure, Status, read_files};
 use ospf_inspect::inspect_text;
@@ -138,9 +138,12 @@ fn run_check<R: Runtime + AllocGlobal, O: Write, E: Write>(
         how,
         area,
         json,
+        lines,
     } = job;
     let files = read_files(rt, files)?;
-    if json {
+    if lines {
+        Ok(check_lines(rt.alloc(), &files, how, area, out, err))
+    } else if json {
         Ok(check_area_json(rt.alloc(), &files, out, err))
     } else if area {
         Ok(check_area_text(rt.alloc(), &files, how, out, err))

@@ -1,8 +1,7 @@
-use Rattle.std.proofs.Common.{ap, ap₂, refl, sym, ◌≡◌, ◌∙◌}
+use Rattle.std.proofs.Common.{ap, ◌∙◌}
 use Rattle.std.proofs.lemmas.Result.{IfOk-weaker}
 use Rattle.clap.specs.Words.{App, app_of, with_subcommand}
 use Rattle.clap.proofs.SimpleLemmas.{plain_fields}
-use Rattle.ospf_words.specs.Arguments.{with_arguments}
 use Rattle.ospf_words.proofs.Plain.{plain_with}
 use Rattle.ospf_words.proofs.commands.with_command.Goals as goal
 

@@ -21,7 +21,7 @@ returns-then-not-is_empty-clause-ok c =
     let addresses : texts_of c.unwrap_or-addresses.result.now ≡ words_for (codes "addresses") rows =
     (words_found c.all_of.result _ c.unwrap_or-addresses.result _ refl c.unwrap_or-addresses.ensures c.all_of.ensures) in
     let some : 0 < length c.unwrap_or-addresses.result.now = grind (arith, nat_tests, c.if-not-is_empty.true, c.is_empty.ensures) in
-    in_table rows refl (inr (inl (c.requires, inl (λ none. some_words c.unwrap_or-addresses.result.now some (addresses ∙ none)))))
+    in_table rows refl (inr (inl (c.requires.json, inl (λ none. some_words c.unwrap_or-addresses.result.now some (addresses ∙ none)))))
 
 pub returns-then-not-is_empty-2-clause-ok : goal.returns-then-not-is_empty-2-clause-ok
 returns-then-not-is_empty-2-clause-ok c =
@@ -30,7 +30,7 @@ returns-then-not-is_empty-2-clause-ok c =
     let names : texts_of c.unwrap_or-names.result.now ≡ words_for (codes "without") rows =
     (words_found c.all_of-2.result _ c.unwrap_or-names.result _ refl c.unwrap_or-names.ensures c.all_of-2.ensures) in
     let some : 0 < length c.unwrap_or-names.result.now = grind (arith, nat_tests, c.if-not-is_empty-2.true, c.is_empty-2.ensures) in
-    in_table rows refl (inr (inl (c.requires, inr (λ none. some_words c.unwrap_or-names.result.now some (names ∙ none)))))
+    in_table rows refl (inr (inl (c.requires.json, inr (λ none. some_words c.unwrap_or-names.result.now some (names ∙ none)))))
 
 pub returns-in_err-root-clause-fault : goal.returns-in_err-root-clause-fault
 returns-in_err-root-clause-fault c =
@@ -60,7 +60,8 @@ returns-then-eq-clause-ok c =
       sym c.in-Some.ensures ∙ ap Some all,
       alone,
       whole,
-      c.requires,
+      c.requires.json,
+      c.requires.json2,
     )
 
 pub returns-clause-ok : goal.returns-clause-ok
@@ -81,6 +82,7 @@ returns-clause-ok c =
         root_is = search (c.in_ok-root.ensures.value);
         alone = alone;
         whole = whole;
-        json = c.requires;
+        json = c.requires.json;
+        json2 = c.requires.json2;
       },
     )

@@ -14,7 +14,8 @@ whole_job-requires c =
     let empty = nil_from_length c.unwrap_or-names.result.now (grind (arith, nat_tests, c.if-is_empty.true, c.is_empty.ensures)) in
     record {
       whole = sym names ∙ ap texts_of empty;
-      plain = subst (IsFlag (one_of (codes "json") (rows_of found))) c.if-has_flag.false c.has_flag.ensures;
+      plain = subst (IsFlag (one_of (codes "json") (rows_of found))) c.if-has_flag-2.false c.has_flag-2.ensures;
+      json2 = subst (IsFlag (one_of (codes "json2") (rows_of found))) c.if-has_flag.false c.has_flag.ensures;
     }
 
 pub without_job-requires : goal.without_job-requires
@@ -26,10 +27,19 @@ without_job-requires c =
     record {
       names = names;
       some = λ none. let zero : length c.unwrap_or-names.result.now ≡ 0 = ap length none in omega arith;
-      plain = subst (IsFlag (one_of (codes "json") (rows_of found))) c.if-has_flag.false c.has_flag.ensures;
+      plain = subst (IsFlag (one_of (codes "json") (rows_of found))) c.if-has_flag-2.false c.has_flag-2.ensures;
+      json2 = subst (IsFlag (one_of (codes "json2") (rows_of found))) c.if-has_flag.false c.has_flag.ensures;
     }
 
 pub json_job-requires : goal.json_job-requires
 json_job-requires c =
     let found = found_of c.args.values.now in
-    subst (IsFlag (one_of (codes "json") (rows_of found))) c.if-has_flag.true c.has_flag.ensures
+    record {
+      json = subst (IsFlag (one_of (codes "json") (rows_of found))) c.if-has_flag-2.true c.has_flag-2.ensures;
+      json2 = subst (IsFlag (one_of (codes "json2") (rows_of found))) c.if-has_flag.false c.has_flag.ensures;
+    }
+
+pub lines_job-requires : goal.lines_job-requires
+lines_job-requires c =
+    let found = found_of c.args.values.now in
+    subst (IsFlag (one_of (codes "json2") (rows_of found))) c.if-has_flag.true c.has_flag.ensures

@@ -57,6 +57,7 @@ returns-then-eq-clause-ok c =
       sym addresses ∙ ap texts_of empty,
       c.requires.whole,
       c.requires.plain,
+      c.requires.json2,
     )
 
 pub returns-then-not-is_empty-clause-ok : goal.returns-then-not-is_empty-clause-ok
@@ -67,10 +68,10 @@ returns-then-not-is_empty-clause-ok c =
     let addresses : texts_of c.unwrap_or-addresses.result.now ≡ words_for (codes "addresses") rows =
     (words_found c.all_of.result _ c.unwrap_or-addresses.result _ refl c.unwrap_or-addresses.ensures c.all_of.ensures) in
     let some : 0 < length c.unwrap_or-addresses.result.now = grind (arith, nat_tests, c.if-not-is_empty.true, c.is_empty.ensures) in
-    in_table rows refl (inr (inr (
+    in_table rows refl (inr (inr (inl (
       sym c.in-Some.ensures ∙ ap Some all,
       inl (λ none. some_words c.unwrap_or-addresses.result.now some (addresses ∙ none)),
-    )))
+    ))))
 
 pub returns-clause-ok : goal.returns-clause-ok
 returns-clause-ok c =
@@ -87,5 +88,6 @@ returns-clause-ok c =
         addresses = subst (λ texts. Spell texts c.in_ok-parsed_addresses.field-0.items) addresses (search (c.in_ok-parsed_addresses.ensures.spelled));
         whole = c.requires.whole;
         plain = c.requires.plain;
+        json2 = c.requires.json2;
       },
     )

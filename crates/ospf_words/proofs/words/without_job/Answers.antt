@@ -46,10 +46,10 @@ returns-then-eq-clause-ok c =
     let found = found_of c.args.values.now in
     let rows = rows_of found in
     let all : c.in-Some.root.now ≡ codes "all" = (bytes_decides c.in-Some.root.now (codes "all")).0 (sym c.eq.ensures ∙ c.if-eq.true) in
-    in_table rows refl (inr (inr (
+    in_table rows refl (inr (inr (inl (
       sym c.in-Some.ensures ∙ ap Some all,
       inr (λ none. no_names c.args.names.now c.requires.some (c.requires.names ∙ none)),
-    )))
+    ))))
 
 pub returns-clause-ok : goal.returns-clause-ok
 returns-clause-ok c =
@@ -67,6 +67,7 @@ returns-clause-ok c =
         addresses_are = subst (λ texts. Spell texts c.in_ok-addresses.addresses.items) addresses (search (c.in_ok-addresses.ensures.spelled));
         names_are = names ∙ c.requires.names;
         plain = c.requires.plain;
+        json2 = c.requires.json2;
         some = some_texts string_bytes c.in_ok-names.names.items c.args.names.now names c.requires.some;
       },
     )
