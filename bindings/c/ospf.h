@@ -32,7 +32,9 @@ struct ospf_answer {
 
 enum ospf_status {
     OSPF_DONE = 0,
-    OSPF_UNMET = 1,   /* ospf_diff: a route is lost; ospf_sim: an expectation is not met */
+    OSPF_UNMET = 1,   /* ospf_diff: a route is lost; ospf_sim: an expectation is not met;
+                         ospf_failures_at, if it is strict: a prefix is cut off, or the router is
+                         not listed */
     OSPF_WORDS = 2,   /* a word names nothing in the area */
     OSPF_REFUSED = 3, /* a line or a file is refused; the warnings say why */
     OSPF_MEMORY = 4,  /* memory ran out */
@@ -87,6 +89,32 @@ void ospf_diff(const uint8_t *before, size_t before_size, const uint8_t *after, 
 void ospf_diff_at(const uint8_t *before, size_t before_size, const uint8_t *after,
                   size_t after_size, uint32_t root, uint8_t *room, size_t room_size,
                   struct ospf_answer *answer);
+
+/* How failures are printed, and what fails together. */
+struct ospf_how {
+    uint8_t form;    /* one of enum ospf_form */
+    uint8_t carrier; /* one of enum ospf_carrier */
+    bool each;       /* as with --each: each changed prefix */
+    bool strict;     /* as with --strict: the status is OSPF_UNMET where a prefix is cut off */
+};
+
+enum ospf_form {
+    OSPF_TEXT = 0,
+    OSPF_HARM = 1,  /* as with --harm */
+    OSPF_JSON = 2,  /* as with --json */
+    OSPF_JSON_2 = 3 /* as with --json=2 */
+};
+
+enum ospf_carrier {
+    OSPF_PROCESS = 0, /* as with --carrier process */
+    OSPF_SWITCH = 1,  /* as with --carrier switch */
+    OSPF_DIRECT = 2   /* as with --carrier direct */
+};
+
+/* `ospfd failures ROOT`, with the options that `how` says */
+void ospf_failures_at(const uint8_t *lsas, size_t lsas_size, uint32_t root,
+                      const struct ospf_how *how, uint8_t *room, size_t room_size,
+                      struct ospf_answer *answer);
 
 /* `ospfd check FILE..`: `how` is 0 for the verdicts, 1 as with --explain, 2 as with --all */
 void ospf_check(const struct ospf_file *files, size_t files_count, uint8_t how, uint8_t *room,

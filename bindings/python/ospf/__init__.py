@@ -24,8 +24,9 @@ from typing import Any
 
 from . import _library
 
-__all__ = ["Answer", "Refused", "check", "diff", "dot", "edit", "elements", "lsas", "lsas_json",
-           "path", "simulate", "table", "table_json", "tables", "tables_json"]
+__all__ = ["Answer", "Refused", "check", "diff", "dot", "edit", "elements", "failures",
+           "failures_json", "lsas", "lsas_json", "path", "simulate", "table", "table_json",
+           "tables", "tables_json"]
 
 Text = str | bytes
 # No router has this Router ID, so a comparison at it lists no routes.
@@ -143,6 +144,33 @@ def diff(before: Text, after: Text, root: Number | None = None) -> Answer:
     if root is None:
         return _call("ospf_diff", _bytes(before), _bytes(after))
     return _call("ospf_diff_at", _bytes(before), _bytes(after), _number(root))
+
+
+# The forms and the carriers of failures, by their words.
+_FORMS = {"text": 0, "harm": 1, "json": 2, "json=2": 3}
+_CARRIERS = {"process": 0, "switch": 1, "direct": 2}
+
+
+def _how(form: str, carrier: str, each: bool, strict: bool) -> _library.How:
+    if carrier not in _CARRIERS:
+        raise ValueError(f"{carrier!r} is none of {', '.join(_CARRIERS)}")
+    return _library.How(_FORMS[form], _CARRIERS[carrier], each, strict)
+
+
+def failures(lsas: Text, root: Number, *, each: bool = False, strict: bool = False,
+             harm: bool = False, carrier: str = "process") -> Answer:
+    """What each failure of a link, an interface, a network or a router changes in the table of a
+    router: as `ospfd failures ROOT`, with the options of the same names. `carrier` is `process`,
+    `switch` or `direct`. With `strict` the status is 1 where a prefix is cut off."""
+    how = _how("harm" if harm else "text", carrier, each, strict)
+    return _call("ospf_failures_at", _bytes(lsas), _number(root), how)
+
+
+def failures_json(lsas: Text, root: Number, *, each: bool = False,
+                  carrier: str = "process") -> Any:
+    """The same as a list, worst first: as `ospfd failures ROOT --json`."""
+    how = _how("json", carrier, each, False)
+    return _json.loads(_call("ospf_failures_at", _bytes(lsas), _number(root), how).text)
 
 
 def elements(lsas: Text) -> list[str]:

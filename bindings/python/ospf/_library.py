@@ -23,6 +23,13 @@ class _File(ctypes.Structure):
                 ("text", ctypes.c_char_p), ("text_size", ctypes.c_size_t)]
 
 
+class How(ctypes.Structure):
+    """How failures are printed, and what fails together."""
+
+    _fields_ = [("form", ctypes.c_uint8), ("carrier", ctypes.c_uint8), ("each", ctypes.c_bool),
+                ("strict", ctypes.c_bool)]
+
+
 def _load() -> ctypes.CDLL:
     here = os.path.dirname(os.path.abspath(__file__))
     return ctypes.CDLL(os.environ.get(NAMED) or os.path.join(here, "libospf.so"))
@@ -39,6 +46,8 @@ def _given(word: Any) -> list[Any]:
         return [ctypes.c_uint32(word)]
     if isinstance(word, bytes):
         return [ctypes.c_char_p(word), ctypes.c_size_t(len(word))]
+    if isinstance(word, How):
+        return [ctypes.byref(word)]
     if word and isinstance(word[0], tuple):
         files = (_File * len(word))(*((name, len(name), text, len(text)) for name, text in word))
         return [files, ctypes.c_size_t(len(word))]

@@ -4,11 +4,11 @@ use Rattle.ospf_base.specs.declared.ids.RouterId.{RouterId}
 use Rattle.ospf_files.specs.declared.report.Report.{Report}
 use Rattle.ospf_files.specs.declared.status.Failure.{Failure}
 use Rattle.ospf_files.specs.declared.status.Failure.TheVariants.{Memory}
-use Rattle.ospf_edit.specs.Answer.{IsEditResult}
-use Rattle.ospf_edit.specs.declared.words.EditJob.{EditJob}
-use Rattle.ospf_diff.specs.Report.{IsDiffResult}
-use Rattle.ospf_diff.specs.declared.report.DiffJob.{DiffJob}
-use Rattle.ospf_diff.specs.declared.report.DiffNames.{DiffNames}
+use Rattle.ospf_change.specs.Edit.Answer.{IsEditResult}
+use Rattle.ospf_change.specs.declared.edit.words.EditJob.{EditJob}
+use Rattle.ospf_change.specs.Diff.Report.{IsDiffResult}
+use Rattle.ospf_change.specs.declared.diff.report.DiffJob.{DiffJob}
+use Rattle.ospf_change.specs.declared.diff.report.DiffNames.{DiffNames}
 use Rattle.ospf_c.specs.Words.{AreWords}
 use Rattle.ospf_c.specs.Tables.{router_of}
 

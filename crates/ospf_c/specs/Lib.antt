@@ -4,3 +4,4 @@ pub mod Tables
 pub mod Changes
 pub mod Files
 pub mod Simulated
+pub mod Failures

@@ -12,8 +12,8 @@ ghost use Rattle.ospf_c.specs.Tables.{AsksForPath, IsPathOf, form_of};
 use crate::answer::{Answer, answer_with, hand_over};
 use crate::words::words_of;
 use ospf_base::{Addr, RouterId};
-use ospf_diff::{DiffJob, DiffNames, diff_report};
-use ospf_edit::{EditJob, edit_report};
+use ospf_change::diff::{DiffJob, DiffNames, diff_report};
+use ospf_change::edit::{EditJob, edit_report};
 use ospf_files::{Failure, Report};
 use ospf_inspect::{Form, InspectJob, inspect_text};
 use std::alloc::{AllocError, Global};
@@ -69,9 +69,10 @@ pub extern "C" fn ospf_path(
     }
 }
 
-/// The LSAs of an area after changes, as `ospfd edit` prints them (`ospf_edit::edit_report`). The
-/// three texts have a word on each line: names of what goes down, then new costs as
-/// `ROUTER@ADDRESS=COST` or `ROUTER-ROUTER=COST`, then Router IDs of drained routers.
+/// The LSAs of an area after changes, as `ospfd edit` prints them
+/// (`ospf_change::edit::edit_report`). The three texts have a word on each line: names of what goes
+/// down, then new costs as `ROUTER@ADDRESS=COST` or `ROUTER-ROUTER=COST`, then Router IDs of
+/// drained routers.
 ///
 /// What is not UTF-8 in them is read as U+FFFD, and so names nothing.
 #[unsafe(no_mangle)]
@@ -92,7 +93,7 @@ pub extern "C" fn ospf_edit(
 }
 
 /// What changed between two databases, over the tables of all routers, as `ospfd diff BEFORE AFTER`
-/// prints it (`ospf_diff::diff_report`). Warnings call the databases `before` and `after`.
+/// prints it (`ospf_change::diff::diff_report`). Warnings call the databases `before` and `after`.
 #[unsafe(no_mangle)]
 pub extern "C" fn ospf_diff(
     alloc: Global,
