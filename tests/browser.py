@@ -114,7 +114,8 @@ class Browser:
                 yield str(words["exceptionDetails"])
             elif method == "Log.entryAdded" and words["entry"]["level"] == "error":
                 yield words["entry"]["text"]
-            elif method == "Network.requestWillBeSent" and words["type"] != "Document":
+            elif (method == "Network.requestWillBeSent" and words["type"] != "Document"
+                    and not words["request"]["url"].startswith("blob:")):
                 yield f"it asks for {words['request']['url'][:100]}"
 
     def close(self):

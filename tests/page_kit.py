@@ -72,6 +72,37 @@ def made(text, *words):
     return page, parsed
 
 
+def printed(text, *words):
+    """What the program prints, as lines."""
+    ran = subprocess.run([PROGRAM, *words], input=text, stdout=subprocess.PIPE, check=False)
+    return ran.stdout.decode().splitlines()
+
+
+def edited(text, *words):
+    """An LSDB, changed."""
+    ran = subprocess.run([PROGRAM, "edit", *words], input=text, stdout=subprocess.PIPE, check=True)
+    return ran.stdout
+
+
+def event(seconds, **words):
+    """An event of a watch, as a line of JSON."""
+    time = f"2026-12-01T10:00:{seconds:02}.000Z"
+    return json.dumps({"time": time, "event": "change", **words}) + "\n"
+
+
+# What a watch saw in the area of frr-mixed: a link goes and comes, and a cost changes.
+LINK = "4.4.4.4-6.6.6.6@10.0.0.32/30"
+COUNTS = {"lost": 2, "gained": 0, "longer": 3, "shorter": 0, "rerouted": 0, "routers": 2}
+EVENTS = [
+    event(1, event="start", lsas=14, routers=9, networks=2, single_points=[]),
+    event(5, change="down", kind="link", name=LINK),
+    event(6, event="settled", routes=COUNTS, lost=[{"router": "6.6.6.6", "prefix": "10.9.0.0/24"}],
+          stranded={"new": [], "gone": []}, single_points={"new": [], "gone": []}),
+    event(9, change="up", kind="link", name=LINK),
+    event(9, change="up", kind="router", name="9.9.9.9"),
+]
+
+
 def read(path):
     with open(os.path.join(TOP, path), "rb") as file:
         return file.read()

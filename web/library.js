@@ -10,13 +10,19 @@ function numberOf(address) {
   return address.split(".").reduce((sum, part) => sum * 256 + Number(part), 0) >>> 0;
 }
 
-const ROOM = 1 << 16, ANSWER = 24;
+const ANSWER_ROOM = 1 << 16, ANSWER = 24;
 
 class Library {
-  static async open(bytes) {
-    const {instance} = await WebAssembly.instantiate(bytes, {});
-    return new Library(instance.exports);
+  static async open(bytes) { return Library.of(await WebAssembly.compile(bytes)); }
+
+  /** A library of a module: several workers share one module, each with a memory of its own. */
+  static async of(module) {
+    const library = new Library((await WebAssembly.instantiate(module, {})).exports);
+    return Object.assign(library, {module});
   }
+
+  /** Whether this library has a call. */
+  has(name) { return name in this.exports; }
 
   constructor(exports) {
     this.exports = exports;
@@ -44,9 +50,15 @@ class Library {
     if (typeof word === "boolean") return [Number(word)];
     if (typeof word === "number") return [word | 0];
     if (typeof word === "string") return this.put(new TextEncoder().encode(word));
+    if ("form" in word) return this.how(word);
     if (word.length && typeof word[0] === "object") return this.files(word);
     const [place, size] = this.put(new Uint8Array(new Uint32Array(word).buffer));
     return [place, size / 4n];
+  }
+
+  /** How failures are printed: its form and its carrier as numbers, and two flags. */
+  how({form, carrier, each, strict}) {
+    return [this.put(Uint8Array.from([form, carrier, each, strict], Number))[0]];
   }
 
   files(files) {
@@ -60,7 +72,7 @@ class Library {
   call(name, ...words) {
     try {
       const given = words.flatMap(it => this.given(it)), answer = this.reserve(ANSWER);
-      for (let size = ROOM; ;) {
+      for (let size = ANSWER_ROOM; ;) {
         const room = this.reserve(size);
         this.exports[name](...given, BigInt(room), BigInt(size), BigInt(answer));
         const view = this.view(), number = at => Number(view.getBigUint64(answer + at, true));

@@ -1,6 +1,5 @@
 // An area as the page shows it: its nodes, its links, and what each failure changes. All of it is
 // taken from answers of the library; the page computes no routes.
-const LOSSES = {cut: "cut off", gone: "gone", cost: "longer", hops: "rerouted"};
 const WORDS = {lost: "cut", longer: "cost", shorter: "cost", rerouted: "hops"};
 const ENDS = /^([0-9.]+)-([0-9.]+)(?:@(.+))?$/;
 // No router has this Router ID, so a comparison at it lists no routes.
@@ -34,10 +33,9 @@ function isIn(address, prefix) {
 
 class Area {
   constructor(library, lsas) {
-    this.lsas = lsas;
+    Object.assign(this, {lsas, nodes: new Map(), list: [], edges: [], pairs: new Map(),
+      failing: new Map()});
     this.listed = JSON.parse(answerOf(library, "ospf_lsas", lsas, true).text);
-    this.nodes = new Map();
-    this.edges = [];
     this.elements = elementsOf(library, lsas);
     for (const lsa of this.listed) this.addLsa(lsa);
     for (const name of this.elements) this.addElement(name);
@@ -45,14 +43,18 @@ class Area {
     this.routers = this.listed.filter(it => it.lsa === "router").map(it => it.router);
   }
 
-  node(id, kind = "absent") {
-    if (!this.nodes.has(id)) this.nodes.set(id, {id, kind, name: id, fails: null});
+  node(id) {
+    if (!this.nodes.has(id)) {
+      this.nodes.set(id, {id, kind: "absent", fails: null, place: this.list.length});
+      this.list.push(this.nodes.get(id));
+    }
     return this.nodes.get(id);
   }
 
   addLsa(lsa) {
     if (lsa.lsa === "router") this.node(lsa.router).kind = "router";
-    else if (!lsa.unused) Object.assign(this.node("@" + lsa.id), {kind: "network", name: lsa.prefix});
+    else if (!lsa.unused)
+      Object.assign(this.node("@" + lsa.id), {kind: "network", prefix: lsa.prefix});
   }
 
   /** Gives a node its failure, or adds the link that fails. */
@@ -60,20 +62,26 @@ class Area {
     const kind = kindOf(name);
     if (kind === "router" || kind === "network") {
       this.node(name).fails = name;
-    } else if (kind === "attachment") {
-      const [router, network] = name.split("@");
-      this.addEdge({a: router, b: "@" + network, kind: "interface", fails: name, subnet: null});
+      this.failing.set(name, this.node(name));
     } else {
-      const [, a, b, subnet] = ENDS.exec(name);
-      this.addEdge({a, b, kind: "link", fails: name, subnet: subnet || null});
+      const [, one, other, subnet] = kind === "link" ? ENDS.exec(name) : [null, ...name.split("@")];
+      const to = kind === "link" ? other : "@" + other;
+      this.failing.set(name, this.addEdge(one, to, {kind: kind === "link" ? "link" : "interface",
+        fails: name, subnet: subnet || null}));
     }
   }
 
-  addEdge(edge) {
-    Object.assign(edge, {ends: []});
+  edgesOf(one, other) {
+    const key = [one, other].sort().join(" ");
+    if (!this.pairs.has(key)) this.pairs.set(key, []);
+    return this.pairs.get(key);
+  }
+
+  addEdge(one, other, edge) {
+    const [a, b] = [one, other].map(it => this.node(it).place);
+    Object.assign(edge, {a, b, ends: []});
     this.edges.push(edge);
-    this.node(edge.a);
-    this.node(edge.b);
+    this.edgesOf(one, other).push(edge);
     return edge;
   }
 
@@ -81,12 +89,16 @@ class Area {
   addEnd(router, link) {
     if (link.link !== "router" && link.link !== "network") return;
     const to = link.link === "router" ? link.to : "@" + link.to;
-    const fits = it => it.kind !== "one-way" && (!it.subnet || isIn(link.from, it.subnet)) &&
-      (it.a === router && it.b === to || it.a === to && it.b === router);
-    const found = link.one_way ? null : this.edges.find(fits);
+    const fits = it => it.kind !== "one-way" && (!it.subnet || isIn(link.from, it.subnet));
+    const found = link.one_way ? null : this.edgesOf(router, to).find(fits);
     const kind = link.one_way ? "one-way" : link.link === "router" ? "link" : "interface";
-    const edge = found || this.addEdge({a: router, b: to, kind, fails: null, subnet: null});
-    edge.ends.push({router, address: link.from, cost: link.cost});
+    const edge = found || this.addEdge(router, to, {kind, fails: null, subnet: null});
+    edge.ends.push([router, link.from, link.cost]);
+  }
+
+  /** The node or the edge of a name: that of its failure, or of a node. */
+  thing(name) {
+    return this.failing.get(name) || this.nodes.get(name) || null;
   }
 
   /** The prefixes that some LSA advertises: a network-LSA only while a router is attached to it
@@ -109,6 +121,18 @@ function changesIn(text) {
   return {routes, sums: lines[lines.length - 1], lines};
 }
 
+/** A failure of which nothing is known yet, or that changes nothing. */
+const unchanged = failure => ({failure, cut: 0, gone: 0, cost: 0, hops: 0, hit: {}, routers: 0});
+// From what is worst for a router to what is no harm: its own prefixes go with what fails.
+const BY_LOSS = ["cut", "cost", "hops", "gone"];
+
+/** Notes that a failure does something to a router. */
+function strike(harm, router, loss) {
+  const known = harm.hit[router];
+  if (!known) harm.routers += 1;
+  if (!known || BY_LOSS.indexOf(loss) < BY_LOSS.indexOf(known)) harm.hit[router] = loss;
+}
+
 /** What the failure of an element changes at the routers that stay: how many routes are cut off
  * (no path is left, though the prefix is still advertised), gone with what fails, longer, or
  * rerouted at the same cost. */
@@ -116,30 +140,36 @@ function harmOf(library, lsas, name) {
   const after = answerOf(library, "ospf_edit", lsas, name + "\n", "", "").text;
   const {routes} = changesIn(answerOf(library, "ospf_diff", lsas, after).text);
   const listed = JSON.parse(answerOf(library, "ospf_lsas", after, true).text);
-  const left = Area.prototype.prefixes.call({listed});
-  const harm = {name, cut: 0, gone: 0, cost: 0, hops: 0, at: new Map(), routers: new Set()};
+  const left = Area.prototype.prefixes.call({listed}), harm = unchanged(name);
   for (const route of routes) {
     const loss = WORDS[route.word];
     if (!loss || route.router === name) continue;
     const told = loss === "cut" && !left.has(route.prefix) ? "gone" : loss;
     harm[told] += 1;
-    harm.routers.add(route.router);
-    if (told !== "gone" && harm.at.get(route.router) !== "cut") harm.at.set(route.router, told);
+    strike(harm, route.router, told);
   }
   return harm;
 }
 
-/** How bad a failure is: what its colour and its place in the list say. */
-function levelOf(harm) {
-  return !harm ? "unknown" : harm.cut ? "cut" : harm.cost ? "cost" : harm.hops ? "hops" : "none";
+// What a failure changes in the table of one router, as JSON (bindings/c/ospf.h).
+const AS_JSON = {form: 2, carrier: 0, each: false, strict: false};
+
+/** What each failure changes at one router: those that change something. */
+function harmsAt(library, lsas, router) {
+  const answer = answerOf(library, "ospf_failures_at", lsas, numberOf(router), AS_JSON);
+  return JSON.parse(answer.text || "[]").flatMap(it => {
+    const loss = BY_LOSS.find(key => it[key]);
+    return loss ? [{...unchanged(it.failure), cut: it.cut, gone: it.gone, cost: it.cost,
+      hops: it.hops, hit: {[router]: loss}, routers: 1}] : [];
+  });
 }
 
-/** What a failure does, in words. */
-function effectOf(harm) {
-  if (!harm) return "not computed yet";
-  const told = Object.entries(LOSSES).filter(([key]) => harm[key])
-    .map(([key, word]) => `${harm[key]} ${word}`);
-  return told.join(", ") || "changes nothing at other routers";
+/** Adds what a failure does to other routers. */
+function add(harm, more) {
+  for (const loss of BY_LOSS) harm[loss] += more[loss];
+  harm.routers += more.routers;
+  if (harm.hit && more.hit) Object.assign(harm.hit, more.hit);
+  else harm.hit = null;
 }
 
 const byHarm = (a, b) => b.cut - a.cut || b.cost - a.cost || b.hops - a.hops || b.gone - a.gone;

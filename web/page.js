@@ -1,30 +1,15 @@
 // The page: what is given, what is chosen, what is changed, and what follows.
-const DATA = JSON.parse(document.getElementById("data").textContent);
-const $ = id => document.getElementById(id);
+const DATA = JSON.parse($("data").textContent);
 // The failures of an area with more elements than this are computed only on demand.
-const AT_ONCE = 400;
+const AT_ONCE = 400, MOST_WORKERS = 4;
+// Of an area with more routers the page keeps no routers that each failure hits.
+const MOST_WITH_HIT = 300;
 const KINDS = {down: "goes down", cost: "new cost", drain: "drained"};
-let library = null, before = null, now = null, drawing = null;
-let changes = [], chosen = null, harms = new Map(), round = 0;
+const UNKNOWN = {...unchanged(""), isUnknown: true};
+let library = null, before = null, now = null, changed = [], harms = new Map();
 
-/** An element with its attributes and what is in it. Texts stay texts. */
-function make(tag, words = {}, ...inner) {
-  const made = document.createElement(tag);
-  for (const [key, value] of Object.entries(words)) {
-    if (key.startsWith("on")) made.addEventListener(key.slice(2), value);
-    else if (value !== null && value !== false) made.setAttribute(key, value === true ? "" : value);
-  }
-  made.append(...inner.filter(it => it !== null));
-  return made;
-}
-
-const cell = (value, kind = null) => make("td", {class: kind}, value);
-
-function rows(head, body) {
-  return make("div", {class: "wide"}, make("table", {},
-    make("thead", {}, make("tr", {}, ...head.map(it => make("th", {scope: "col"}, it)))),
-    make("tbody", {}, ...body)));
-}
+const named = router => router;
+const failureOf = thing => thing.fails ? harms.get(thing.fails) || UNKNOWN : null;
 
 function fault(text) {
   $("fault").textContent = text;
@@ -41,6 +26,39 @@ function attempt(what) {
   }
 }
 
+// ---- what takes long, in workers
+
+const SCRIPT = URL.createObjectURL(new Blob([$("shared").textContent, $("worker").textContent],
+  {type: "text/javascript"}));
+const working = new Map(), open = new Set();
+
+/** Ends all workers that do a work. */
+function stop(work) {
+  for (const it of working.get(work) || []) it.terminate();
+  working.set(work, []);
+}
+
+/** Has a worker do a work, and hears each thing that it says. */
+function employ(work, words, hear) {
+  const worker = new Worker(SCRIPT);
+  worker.onmessage = ({data}) => data.fault ? fault(data.fault) : hear(data);
+  worker.postMessage({work, ...words});
+  working.get(work).push(worker);
+}
+
+/** A work is done: when all are, the page says so, for tests. */
+function settle(work) {
+  open.delete(work);
+  stop(work);
+  if (!open.size) document.body.dataset.done = "yes";
+}
+
+function unsettle(work) {
+  open.add(work);
+  stop(work);
+  delete document.body.dataset.done;
+}
+
 // ---- the area
 
 function read() {
@@ -48,118 +66,157 @@ function read() {
   const more = left ? `, ${left} not shown whole or with another checksum, left out` : "";
   attempt(() => {
     before = new Area(library, lsas);
-    changes = [];
+    changed = [];
     chosen = null;
-    $("read-said").textContent = `${before.listed.length} LSAs${more}`;
+    hasMovedView = false;
+    $("read-said").textContent = `${many(before.listed.length, "LSA")}${more}`;
     follow();
   });
 }
 
 /** The words of the changes of a kind, a line each. */
-const wordsOf = kind => changes.filter(it => it.kind === kind).map(it => it.word + "\n").join("");
+const wordsOf = kind => changed.filter(it => it.kind === kind).map(it => it.word + "\n").join("");
+
+const keyOf = thing => "id" in thing ? thing.id : thing.fails;
 
 /** Applies the changes, and shows what follows. */
 function follow() {
-  const lsas = changes.length ? answerOf(library, "ospf_edit", before.lsas, wordsOf("down"),
+  const lsas = changed.length ? answerOf(library, "ospf_edit", before.lsas, wordsOf("down"),
     wordsOf("cost"), wordsOf("drain")).text : before.lsas;
+  const key = chosen && keyOf(chosen), places = new Map(scene.nodes.map(it => [it.id, it.at]));
   now = new Area(library, lsas);
-  if (chosen && !now.nodes.has(chosen) && !now.edges.some(it => edgeName(it) === chosen))
-    chosen = null;
+  chosen = key ? now.thing(key) : null;
+  current = hovered = null;
   harms = new Map();
-  drawing.show(now);
-  showSummary();
+  putInPlace(places);
   showDetail();
   showAfter();
   showRouters();
   computeHarms();
+  search($("search").value);
+}
+
+/** Puts the area into the drawing. Nodes that were there before keep their places. */
+function putInPlace(places) {
+  setScene(now.list, now.edges);
+  unsettle("layout");
+  if (now.list.every(it => places.get(it.id))) {
+    for (const node of now.list) node.at = places.get(node.id);
+    showPlaces();
+    return settle("layout");
+  }
+  const edges = now.edges.map(({a, b}) => ({a, b})), area = now;
+  return employ("layout", {count: now.list.length, edges}, ({places: found, isDone}) => {
+    area.list.forEach((it, at) => { it.at = found[at]; });
+    showPlaces();
+    if (isDone) settle("layout");
+  });
 }
 
 function change(kind, word) {
-  const kept = changes.filter(it => it.kind !== kind || it.word.split("=")[0] !== word.split("=")[0]);
-  const old = changes;
-  changes = [...kept, {kind, word}];
+  const kept = changed.filter(it => it.kind !== kind || it.word.split("=")[0] !== word.split("=")[0]);
+  const old = changed;
+  changed = [...kept, {kind, word}];
   attempt(() => {
     try {
       follow();
     } catch (error) {
-      changes = old;
+      changed = old;
       throw error;
     }
   });
 }
 
 function undo(it) {
-  changes = changes.filter(other => other !== it);
+  changed = changed.filter(other => other !== it);
   attempt(follow);
 }
 
 function showSummary() {
-  const networks = [...now.nodes.values()].filter(it => it.kind === "network").length;
+  const networks = now.list.filter(it => it.kind === "network").length;
   const single = [...harms.values()].filter(it => it.cut).length;
-  $("summary").textContent = `${now.routers.length} routers, ${networks} networks, ` +
-    `${now.elements.length} elements that can fail, ${single} single points of failure` +
+  $("summary").textContent = `${many(now.routers.length, "router")}, ` +
+    `${many(networks, "network")}, ${many(now.elements.length, "failure")}, ` +
+    many(single, "single point of failure", "single points of failure") +
     (harms.size < now.elements.length ? " so far" : "");
 }
 
 // ---- what is chosen
 
-function pick(name) {
-  chosen = name === chosen ? null : name;
+function pick(thing) {
+  chosen = thing;
   showDetail();
-  drawing.paint(harms, chosen);
-  if (chosen && now.routers.includes(chosen)) {
-    $("router").value = chosen;
-    showTable();
+  $("said").textContent = thing ? description(thing) : "Nothing is chosen.";
+  markList();
+  findHit();
+  if (thing) reveal(thing);
+  draw();
+  if (thing && now.routers.includes(thing.id)) {
+    $("router").value = thing.id;
+    attempt(showTable);
   }
 }
 
-const button = (text, onclick) => make("button", {type: "button", onclick}, text);
-
 /** A field for the cost of an interface. */
-function costField(end) {
-  const id = `cost-${end.router}-${end.address}`;
-  const input = make("input", {id, type: "number", min: 1, max: 65535, value: end.cost});
-  const set = () => change("cost", `${end.router}@${end.address}=${input.value}`);
+function costField([router, address, cost]) {
+  const id = `cost-${router}-${address}`;
+  const input = make("input", {id, type: "number", min: 1, max: 65535, value: cost});
+  const set = () => change("cost", `${router}@${address}=${input.value}`);
   input.addEventListener("keydown", event => event.key === "Enter" && set());
-  return make("p", {class: "row"}, make("label", {for: id}, `Cost at ${end.router}, ${end.address}`),
+  return make("p", {class: "row"}, make("label", {for: id}, `Cost at ${router}, ${address}`),
     input, button("Set", set));
 }
 
 function showDetail() {
-  const edge = now.edges.find(it => edgeName(it) === chosen), node = now.nodes.get(chosen);
-  if (!edge && !node) return $("detail").replaceChildren(
+  if (!chosen) return $("detail").replaceChildren(
     make("h2", {id: "detail-title"}, "Choose a router or a link"),
     make("p", {}, "Then take it down, set costs, or drain a router. The tables, the paths and the " +
       "failures of the area follow."));
-  const name = failureOf(now, chosen), harm = name && harms.get(name);
-  const title = edge ? edgeLabel(now, edge).split(", cost")[0] : nodeLabel(node);
-  const inner = [make("h2", {id: "detail-title"}, title),
-    make("p", {id: "effect"}, name ? `If it fails: ${effectOf(harm)}.` : "It has no failure of its own.")];
-  if (harm?.cut) inner.push(make("p", {}, make("span", {class: "spof"}, "! Single point of failure")));
-  if (name) inner.push(button("Take it down", () => change("down", name)));
-  if (node?.kind === "router") inner.push(" ", button("Drain", () => change("drain", node.id)));
-  if (edge) inner.push(...edge.ends.map(costField));
-  if (node) inner.push(...now.edges.flatMap(it => it.ends).filter(it => it.router === node.id)
-    .map(costField));
-  return $("detail").replaceChildren(...inner);
+  const thing = chosen, failure = failureOf(thing), name = thing.fails, isNode = "id" in thing;
+  const inner = [make("h2", {id: "detail-title"}, `${thing.kind} ${thingName(thing)}`),
+    make("p", {id: "effect"}), make("p", {id: "single"})];
+  if (failure) inner.push(button("Take it down", () => change("down", name)));
+  if (thing.kind === "router") inner.push(" ", button("Drain", () => change("drain", thing.id)));
+  const ends = isNode ? now.edges.flatMap(it => it.ends).filter(it => it[0] === thing.id)
+    : thing.ends;
+  $("detail").replaceChildren(...inner, ...ends.map(costField));
+  return showEffect();
+}
+
+/** What is known of the failure of what is chosen. */
+function showEffect() {
+  const failure = chosen && failureOf(chosen);
+  if (!chosen) return;
+  $("effect").textContent = failure ? `If it fails: ${effect(failure)}.`
+    : "It has no failure of its own.";
+  $("single").replaceChildren(failure && failure.cut
+    ? make("span", {class: "spof"}, "! Single point of failure") : "");
 }
 
 // ---- before and after
 
 function showAfter() {
-  const list = changes.map(it => make("li", {}, `${it.word}: ${KINDS[it.kind]} `,
+  const list = changed.map(it => make("li", {}, `${it.word}: ${KINDS[it.kind]} `,
     button("Undo", () => undo(it))));
   $("changes").replaceChildren(list.length ? make("ol", {}, ...list)
     : make("p", {}, "Nothing is changed yet."));
-  if (!list.length) return $("difference").replaceChildren();
-  const {routes, sums} = changesIn(answerOf(library, "ospf_diff", before.lsas, now.lsas).text);
-  const body = routes.slice(0, 400).map(it => make("tr", {class: "word-" + it.word}, cell(it.router),
-    cell(it.word), cell(it.prefix), cell(it.more)));
-  const left = routes.length > body.length ? `, the first ${body.length} of them` : "";
-  return $("difference").replaceChildren(make("p", {id: "sums"}, sums + left),
-    body.length ? rows(["Router", "Route", "Prefix", "Costs and next hops"], body) : "",
-    make("details", {}, make("summary", {}, "The LSAs after the changes"),
-      make("pre", {id: "changed"}, now.lsas)));
+  unsettle("difference");
+  $("difference").replaceChildren(list.length ? "Comparing .." : "");
+  if (!list.length) return settle("difference");
+  return employ("difference", {module: library.module, before: before.lsas, after: now.lsas},
+    ({text}) => {
+      showDifference(changesIn(text));
+      settle("difference");
+    });
+}
+
+function showDifference({routes, sums}) {
+  const rowOf = it => make("tr", {class: "word-" + it.word}, cell(it.router), cell(it.word),
+    prefixCell(it.prefix), cell(it.more));
+  $("difference").replaceChildren(make("p", {id: "sums"}, sums), routes.length
+    ? rows([["Router"], ["Route"], ["Prefix"], ["Costs and next hops"]], routes, rowOf) : "",
+  make("details", {}, make("summary", {}, "The LSAs after the changes"),
+    make("pre", {id: "changed"}, now.lsas)));
 }
 
 // ---- tables and paths
@@ -177,18 +234,20 @@ const tableIn = (area, router) => new Map(
 const routeText = route => route
   ? `${route.cost} via ${route.hops.join(", ")}`.replace("via attached", "attached") : "none";
 
+/** The table of a router, before and after: routes that change come first. */
 function showTable() {
   const router = $("router").value;
   if (!router) return $("table").replaceChildren();
-  const old = tableIn(before, router), after = changes.length ? tableIn(now, router) : old;
-  const prefixes = [...new Set([...old.keys(), ...after.keys()])];
-  const body = prefixes.map(prefix => {
+  const old = tableIn(before, router), after = changed.length ? tableIn(now, router) : old;
+  const routes = [...new Set([...old.keys(), ...after.keys()])].map(prefix => {
     const [was, is] = [old, after].map(it => routeText(it.get(prefix)));
-    const told = changes.length ? [cell(was), cell(is)] : [cell(was)];
-    return make("tr", {class: was === is ? null : "changed"}, cell(prefix), ...told);
+    return {prefix, was, is, stays: was === is};
   });
-  const head = changes.length ? ["Prefix", "Before", "After"] : ["Prefix", "Route"];
-  $("table").replaceChildren(rows(head, body));
+  routes.sort((a, b) => a.stays - b.stays);
+  const isBoth = changed.length > 0;
+  $("table").replaceChildren(rows([["Prefix"], ...(isBoth ? [["Before"], ["After"]] : [["Route"]])],
+    routes, ({prefix, was, is, stays}) => make("tr", {class: stays ? null : "changed"},
+      prefixCell(prefix), cell(was), isBoth ? cell(is) : null)));
   return showPath();
 }
 
@@ -197,59 +256,153 @@ function showPath() {
   if (!/^\d+(\.\d+){3}$/.test(address) || !router) return $("path").replaceChildren();
   const pathIn = area => library.call("ospf_path", area.lsas, numberOf(router), numberOf(address),
     []).text;
-  const told = [make("h3", {}, changes.length ? "Path before" : "Path"),
+  const told = [make("h3", {}, changed.length ? "Path before" : "Path"),
     make("pre", {id: "path-before"}, pathIn(before))];
-  if (changes.length) told.push(make("h3", {}, "Path after"),
+  if (changed.length) told.push(make("h3", {}, "Path after"),
     make("pre", {id: "path-after"}, pathIn(now)));
   return $("path").replaceChildren(...told);
 }
 
 // ---- every failure
 
-/** Computes what each failure changes, a few at a time, so that the page goes on. */
-function computeHarms(all = now.elements.length <= AT_ONCE) {
-  const area = now, mine = ++round, left = all ? [...area.elements] : [];
-  const some = () => {
-    if (mine !== round) return;
-    const until = performance.now() + 60;
-    while (left.length && performance.now() < until) {
-      const name = left.shift();
-      harms.set(name, harmOf(library, area.lsas, name));
-    }
-    $("progress").replaceChildren(left.length ? `${harms.size} of ${area.elements.length} computed`
-      : all ? "" : button(`Compute all ${area.elements.length} failures`, () => computeHarms(true)));
-    showHarms();
-    if (left.length) setTimeout(some);
-    else if (all) document.body.dataset.done = String(mine);
+/** Takes what some parts say of a failure. */
+function take(found) {
+  const known = harms.get(found.failure);
+  if (known) add(known, found);
+  else harms.set(found.failure, found);
+}
+
+/** Has workers compute what each failure changes: the page goes on meanwhile. Router by router, if
+ * the library can, or else failure by failure. */
+function computeHarms(all = now.elements.length <= mostAtOnce()) {
+  const isAt = library.has("ospf_failures_at"), parts = isAt ? now.routers : now.elements;
+  const area = now, keepsHit = area.routers.length <= MOST_WITH_HIT;
+  const count = Math.min(MOST_WORKERS, Math.max((navigator.hardwareConcurrency || 2) - 1, 1),
+    parts.length);
+  const progress = {done: 0, all: parts.length, unit: isAt ? "router" : "failure"};
+  unsettle("failures");
+  if (!all || !parts.length) return offerHarms();
+  const soon = everySome(() => showHarms(progress));
+  for (let at = 0; at < count; at++) employ("failures", {module: library.module, lsas: area.lsas,
+    isAt, keepsHit, parts: parts.filter((_, part) => part % count === at)}, ({done, found}) => {
+    progress.done += done;
+    found.forEach(take);
+    if (progress.done < progress.all) return soon();
+    for (const name of area.elements) if (!harms.has(name)) harms.set(name, unchanged(name));
+    settle("failures");
+    return showHarms(null);
+  });
+  return showHarms(progress);
+}
+
+const mostAtOnce = () => library.has("ospf_failures_at") ? 3 * AT_ONCE : AT_ONCE;
+
+/** The failures of a large area are computed only if that is wanted. */
+function offerHarms() {
+  settle("failures");
+  showHarms(null);
+  $("progress").replaceChildren(now.elements.length ? button(
+    `Compute all ${many(now.elements.length, "failure")}`, () => computeHarms(true)) : "");
+}
+
+/** A call that comes at most a few times a second, and not for an earlier area. */
+function everySome(call) {
+  let isDue = false;
+  const area = now;
+  return () => {
+    if (isDue) return;
+    isDue = true;
+    setTimeout(() => {
+      isDue = false;
+      if (area === now && open.has("failures")) call();
+    }, 400);
   };
-  delete document.body.dataset.done;
-  some();
 }
 
-function showHarms() {
+function showProgress(progress) {
+  if (!progress) return $("progress").replaceChildren();
+  const told = ` ${number(progress.done)} of ${many(progress.all, progress.unit)} `;
+  if (!$("bar")) $("progress").replaceChildren(make("progress", {id: "bar", max: progress.all,
+    "aria-label": "Failures computed"}), make("span", {id: "told"}), button("Stop", () => {
+    settle("failures");
+    $("progress").replaceChildren("Stopped after" + $("told").textContent);
+  }));
+  $("bar").value = progress.done;
+  return $("told").replaceChildren(told);
+}
+
+/** In a large area, has a worker find which routers the chosen failure hits. */
+function findHit() {
+  const thing = chosen, known = thing && harms.get(thing.fails);
+  stop("harm");
+  if (!known || known.hit) return;
+  employ("harm", {module: library.module, lsas: now.lsas, name: thing.fails}, found => {
+    known.hit = found.hit;
+    stop("harm");
+    draw();
+  });
+}
+
+const HEAD = [["Failure"], ...EFFECTS.map(([, word]) => [word, true]), ["routers", true]];
+
+function rowOf(it) {
+  const thing = now.thing(it.failure);
+  return make("tr", {"data-failure": it.failure}, make("td", {},
+    make("span", {class: "mark " + harm(it), "aria-hidden": "true"}),
+    button(it.failure, () => pick(thing === chosen ? null : thing))),
+  ...EFFECTS.map(([key]) => cell(String(it[key]), true)), cell(String(it.routers), true));
+}
+
+/** Marks what is chosen in the list. */
+function markList() {
+  const name = chosen && chosen.fails;
+  for (const row of $("list").querySelectorAll("tr[data-failure]")) {
+    row.classList.toggle("on", row.dataset.failure === name);
+    if (row.dataset.failure === name) row.setAttribute("aria-current", "true");
+    else row.removeAttribute("aria-current");
+  }
+}
+
+function showHarms(progress) {
+  showProgress(progress);
   const all = [...harms.values()].sort(byHarm);
-  const body = all.map(it => make("tr", {"data-failure": it.name}, make("td", {},
-    make("span", {class: "mark " + levelOf(it)}), button(it.name, () => pick(it.name))),
-  ...Object.keys(LOSSES).map(key => cell(String(it[key]), "n")), cell(String(it.routers.size), "n")));
-  const head = ["Failure", ...Object.values(LOSSES), "routers"];
-  $("list").replaceChildren(make("thead", {}, make("tr", {},
-    ...head.map((it, at) => make("th", {scope: "col", class: at ? "n" : null}, it)))),
-  make("tbody", {}, ...body));
-  drawing.paint(harms, chosen);
+  rank(all);
+  putInOrder();
+  $("list").replaceChildren(all.length ? rows(HEAD, all, rowOf) : "");
+  markList();
+  draw();
   showSummary();
-  const effect = $("effect"), name = chosen && failureOf(now, chosen);
-  if (effect && name) effect.textContent = `If it fails: ${effectOf(harms.get(name))}.`;
+  showEffect();
 }
 
+// ---- search
+
+/** All that a node or an edge is found by. */
+const findable = thing => [keyOf(thing), thingName(thing), ...("id" in thing ? []
+  : thing.ends.map(it => it[1]))].join(" ").toLowerCase();
+
+function search(wanted) {
+  const word = wanted.trim().toLowerCase(), all = [...now.list, ...now.edges];
+  matching = word ? new Set(all.filter(it => findable(it).includes(word))) : null;
+  $("matches").textContent = word ? `${number(matching.size)} found` : "";
+  draw();
+}
+
+/** Goes to what is found: to a node that is called so, or else to the first one. */
+function goToFound() {
+  const word = $("search").value.trim(), found = [...matching || []];
+  const thing = found.find(it => it.id === word) || found[0];
+  if (!thing) return;
+  pick(thing);
+  closeUp(thing);
+}
 
 // ---- the start
 
-const THEMES = ["system", "light", "dark"];
-
-function setTheme(theme) {
-  if (theme === "system") delete document.documentElement.dataset.theme;
-  else document.documentElement.dataset.theme = theme;
-  $("theme").textContent = "Theme: " + theme;
+function redraw() {
+  readColours();
+  heatLegend();
+  draw();
 }
 
 function give(text) {
@@ -262,11 +415,11 @@ async function takeFile(file) {
 }
 
 async function start() {
+  setTheme("system", redraw);
   if (!hasMemory64()) return fault("This browser has no WebAssembly memory with 64-bit addresses " +
     "(Memory64). Chromium 133 and Firefox 134 and later have it.");
   const bytes = Uint8Array.from(atob(DATA.wasm), it => it.charCodeAt(0));
   library = await Library.open(bytes);
-  drawing = new Drawing($("map"), name => attempt(() => pick(name)));
   $("example").replaceChildren(...Object.keys(DATA.examples)
     .map(it => make("option", {value: it}, it)));
   $("source").textContent = `All answers are those of libospf ${DATA.version}, the library of ospfd, ` +
@@ -280,14 +433,17 @@ $("file").addEventListener("change", event => takeFile(event.target.files[0]));
 $("read").addEventListener("click", read);
 $("router").addEventListener("change", () => attempt(showTable));
 $("address").addEventListener("input", () => attempt(showPath));
-$("theme").addEventListener("click", () => {
-  const theme = document.documentElement.dataset.theme || "system";
-  setTheme(THEMES[(THEMES.indexOf(theme) + 1) % THEMES.length]);
-});
+$("search").addEventListener("input", event => search(event.target.value));
+$("find").addEventListener("submit", event => { event.preventDefault(); goToFound(); });
+$("theme").addEventListener("click", () => setTheme(nextTheme(), redraw));
+matchMedia("(prefers-color-scheme: dark)").addEventListener("change", redraw);
 document.body.addEventListener("dragover", event => event.preventDefault());
 document.body.addEventListener("drop", event => {
   event.preventDefault();
   takeFile(event.dataTransfer.files[0]);
 });
-// For tests: the calls of the library, as the page makes them.
+// For tests: the calls of the library, as the page makes them, and where in the window a node or
+// what fails is drawn.
 window.ospf = (...words) => library.call(...words);
+window.whereIs = name => windowPlace(now.thing(name));
+window.isAtRest = () => !open.has("layout");

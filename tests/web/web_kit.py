@@ -7,6 +7,11 @@ import tempfile
 TOP = os.path.dirname(os.path.dirname(os.path.dirname(os.path.abspath(__file__))))
 PROGRAM = os.path.abspath(sys.argv[1]) if len(sys.argv) > 1 else os.path.join(TOP, "ospfd")
 FOLDERS = ("examples", "tests/captures/databases")
+# The forms of failures and the carriers of links, as words of the program, by their numbers.
+FORMS, CARRIERS = ((), ("--harm",), ("--json",), ("--json=2",)), ("process", "switch", "direct")
+# What is asked of failures: a form, a carrier, and whether it is each prefix and strict.
+FAILURES = ((0, 0, False, True), (0, 1, True, False), (1, 2, True, True), (2, 0, False, False),
+            (2, 2, True, False), (3, 1, True, True))
 # Texts that are refused, or have lines that are passed over.
 ODD = {
     "no LSA": b"",
@@ -139,5 +144,14 @@ class Questions:
             cost = f"{root}-{self.roots[0]}=77"
             yield ("ospf_edit", [], [cost], []), ("edit", "--cost", cost)
 
+    def of_failures(self):
+        """Questions about what failures change at routers."""
+        for root in [*self.some(self.roots, 2), "9.8.7.6"]:
+            for form, carrier, each, strict in FAILURES:
+                how = {"form": form, "carrier": carrier, "each": each, "strict": strict}
+                flags = [f"--{it}" for it in ("each", "strict") if how[it]]
+                yield (("ospf_failures_at", root, how),
+                       ("failures", root, *FORMS[form], "--carrier", CARRIERS[carrier], *flags))
+
     def all(self):
-        return [*self.plain(), *self.of_roots(), *self.of_changes()]
+        return [*self.plain(), *self.of_roots(), *self.of_changes(), *self.of_failures()]

@@ -1,32 +1,10 @@
 // What a failure does, in words and tables.
-const ROWS = 200;
 const TITLES = {link: "Link", links: "All links", attachment: "Interface", network: "Network",
   router: "Router"};
 const shownRouter = {id: null, onlyChanged: true};
 
-/** The rows of a table, the first of them at first. */
-function rows(head, all, rowOfOne) {
-  const body = make("tbody", {}, ...all.slice(0, ROWS).map(rowOfOne));
-  const cells = head.map(([title, isCount]) =>
-    make("th", {scope: "col", class: isCount ? "n" : null}, title));
-  const made = make("div", {class: "wide"}, make("table", {},
-    make("thead", {}, make("tr", {}, ...cells)), body));
-  if (all.length > ROWS) {
-    const onclick = event => {
-      body.append(...all.slice(ROWS).map(rowOfOne));
-      event.currentTarget.remove();
-    };
-    made.append(make("button", {type: "button", onclick}, `Show all ${number(all.length)} rows`));
-  }
-  return made;
-}
-
 const lines = hops => hops === null ? ["\u2013"]
   : hopLines(hops).map(it => make("span", {class: "hop"}, it));
-const cell = (value, isCount) => make("td", {class: isCount ? "n" : null}, value);
-
-/** A prefix, which is one word. */
-const prefixCell = prefix => make("td", {class: "prefix"}, prefix);
 
 /** Which prefixes are lost, each with the routers that lose it. */
 function byPrefix(routes) {
@@ -181,7 +159,7 @@ function nothing() {
 function showDetail() {
   const panel = $("detail"), failure = chosen && failureOf(chosen);
   if (!chosen) return panel.replaceChildren(...nothing());
-  const name = "id" in chosen ? nodeName(chosen) : edgeName(chosen);
+  const name = thingName(chosen);
   const title = failure ? `${TITLES[failure.kind]} ${name} fails` : name;
   const inner = [make("h2", {id: "detail-title"}, title)];
   if (failure && failure.cut) inner.push(make("p", {}, make("span", {class: "spof"},

@@ -29,32 +29,40 @@ function begin(nodes, near) {
   }
 }
 
-/** Nodes by the cells of a grid. */
+/** The cells of a grid that have nodes, each with its nodes and their middle. */
 function cells(nodes, size) {
   const found = new Map();
   nodes.forEach((node, at) => {
-    const key = Math.floor(node.at[0] / size) + ":" + Math.floor(node.at[1] / size);
-    if (!found.has(key)) found.set(key, []);
-    found.get(key).push(at);
+    const [column, row] = node.at.map(it => Math.floor(it / size)), key = column + ":" + row;
+    if (!found.has(key)) found.set(key, {column, row, inside: [], middle: [0, 0]});
+    const cell = found.get(key);
+    cell.inside.push(at);
+    for (const it of [0, 1]) cell.middle[it] += node.at[it];
   });
-  return found;
+  for (const cell of found.values()) cell.middle = cell.middle.map(it => it / cell.inside.length);
+  return [...found.values()];
 }
 
-/** Pushes apart what is in the same cell or in one beside it. */
+/** Pushes a node away from a place, with the force of so many nodes. */
+function pushFrom(move, at, place, force, nudge) {
+  const dx = at[0] - place[0] || nudge * 0.01, dy = at[1] - place[1];
+  const far = Math.max(dx * dx + dy * dy, 1);
+  move[0] += dx / far * force;
+  move[1] += dy / far * force;
+}
+
+/** Pushes nodes apart: each from those in its cell and in the cells beside it, and from each other
+ * cell as a whole. */
 function push(nodes, moves, length) {
-  const size = 2.5 * length, grid = cells(nodes, size);
-  nodes.forEach((node, at) => {
-    const [column, row] = node.at.map(it => Math.floor(it / size));
-    for (let x = column - 1; x <= column + 1; x++) for (let y = row - 1; y <= row + 1; y++) {
-      for (const other of grid.get(x + ":" + y) || []) {
-        if (other === at) continue;
-        const dx = node.at[0] - nodes[other].at[0] || (at - other) * 0.01;
-        const dy = node.at[1] - nodes[other].at[1], far = Math.max(dx * dx + dy * dy, 1);
-        moves[at][0] += dx / far * length * length;
-        moves[at][1] += dy / far * length * length;
-      }
+  const all = cells(nodes, 2.5 * length), force = length * length;
+  for (const {column, row, inside} of all) for (const cell of all) {
+    const isNear = Math.abs(cell.column - column) < 2 && Math.abs(cell.row - row) < 2;
+    for (const at of inside) {
+      if (!isNear) pushFrom(moves[at], nodes[at].at, cell.middle, force * cell.inside.length, 1);
+      else for (const other of cell.inside)
+        if (other !== at) pushFrom(moves[at], nodes[at].at, nodes[other].at, force, at - other);
     }
-  });
+  }
 }
 
 function pull(nodes, moves, edges, length) {
@@ -77,13 +85,14 @@ function step(nodes, edges, length, most) {
   });
 }
 
-/** Gives all nodes places, a few steps between two pictures, and calls back each time. */
+/** Gives all nodes places, a few steps between two pictures, and calls back each time: at last with
+ * true. */
 function placeNodes(nodes, edges, show) {
-  if (nodes.every(it => it.at)) return show();
+  if (nodes.every(it => it.at)) return show(true);
   const near = nodes.map(() => []), pairs = edges.map(it => [it.a, it.b]);
   for (const [a, b] of pairs) { near[a].push(b); near[b].push(a); }
   begin(nodes, near);
-  const length = 130, steps = nodes.length > 300 ? 200 : 400;
+  const length = 130, steps = nodes.length > 300 ? 120 : 400;
   let done = 0;
   const some = () => {
     const until = performance.now() + 40;
@@ -91,7 +100,7 @@ function placeNodes(nodes, edges, show) {
       step(nodes, pairs, length, 3 * length * (1 - done / steps) ** 2 + 1);
       done += 1;
     }
-    show();
+    show(done === steps);
     if (done < steps) setTimeout(some);
   };
   return some();

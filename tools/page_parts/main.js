@@ -1,5 +1,4 @@
 // What is chosen, kept in the address of the page, so that a link to it shows the same.
-const THEMES = ["system", "light", "dark"];
 
 /** The address of the page names the failure, the router whose table is shown, and the theme. */
 function remember() {
@@ -7,8 +6,7 @@ function remember() {
   if (failure) words.set("failure", failure.failure);
   if (failure && shownRouter.id) words.set("table", shownRouter.id);
   if (query) words.set("search", query);
-  const theme = document.documentElement.dataset.theme;
-  if (theme) words.set("theme", theme);
+  if (theme() !== "system") words.set("theme", theme());
   const hash = "#" + words.toString();
   try {
     history.replaceState(null, "", hash === "#" ? location.pathname : hash);
@@ -36,34 +34,10 @@ function pick(thing, {isFromList = false} = {}) {
   draw();
 }
 
-function setTheme(theme) {
-  if (theme === "system") delete document.documentElement.dataset.theme;
-  else document.documentElement.dataset.theme = theme;
-  $("theme").textContent = "Theme: " + theme;
+function redraw() {
   readColours();
-  legend();
+  heatLegend();
   draw();
-}
-
-/** A line or a mark of the drawing, and what it means. */
-function legend() {
-  const lines = [["cut", "cut", "cuts prefixes off (!)"],
-    ["cost-few", "cost", "longer paths, few to many"],
-    ["hops-few", "hops", "rerouted, few to many"],
-    ["none", "none", "no effect on others"]];
-  const NS = "http://www.w3.org/2000/svg";
-  const shape = (name, words, ...inner) => {
-    const made = document.createElementNS(NS, name);
-    for (const [key, value] of Object.entries(words)) made.setAttribute(key, value);
-    made.append(...inner);
-    return made;
-  };
-  const wedge = (key, points) => shape("polygon", {points, fill: `var(--${key})`});
-  const items = lines.map(([few, all, words]) => make("li", {},
-    shape("svg", {width: 30, height: 14, "aria-hidden": "true"}, wedge(few, "0,6 15,5 15,9 0,8"),
-      wedge(all, "15,5 30,3 30,11 15,9")), words));
-  $("legend").replaceChildren(...items, make("li", {}, "dashed: no failure of its own, or one-way"),
-    make("li", {}, "halo: the harm to a router"));
 }
 
 function summary() {
@@ -85,7 +59,7 @@ function summary() {
 /** Shows what the address of the page names. */
 function recall() {
   const words = new URLSearchParams(location.hash.slice(1));
-  if (THEMES.includes(words.get("theme"))) setTheme(words.get("theme"));
+  if (THEMES.includes(words.get("theme"))) setTheme(words.get("theme"), redraw);
   if (words.has("table")) shownRouter.id = words.get("table");
   if (words.has("search")) {
     $("search").value = words.get("search");
@@ -95,11 +69,14 @@ function recall() {
   if (failure) pick(failure.edge || failure.node || null);
 }
 
-$("find").addEventListener("submit", event => event.preventDefault());
+$("find").addEventListener("submit", event => {
+  event.preventDefault();
+  const [first] = matching || [];
+  if (first && isPlaced()) closeUp(first);
+});
 $("search").addEventListener("input", event => { search(event.target.value); remember(); });
 $("theme").addEventListener("click", () => {
-  const now = document.documentElement.dataset.theme || "system";
-  setTheme(THEMES[(THEMES.indexOf(now) + 1) % THEMES.length]);
+  setTheme(nextTheme(), redraw);
   remember();
 });
 $("skip").addEventListener("click", event => {
@@ -107,28 +84,21 @@ $("skip").addEventListener("click", event => {
   $("failures").focus();
   $("failures").scrollIntoView();
 });
-matchMedia("(prefers-color-scheme: dark)").addEventListener("change", () => {
-  readColours();
-  draw();
-});
-let hasMovedView = false;
-for (const kind of ["wheel", "pointermove"]) canvas.addEventListener(kind, event => {
-  hasMovedView = hasMovedView || kind === "wheel" || event.buttons > 0;
-});
-new ResizeObserver(() => hasMovedView ? draw() : showAll()).observe(canvas);
+matchMedia("(prefers-color-scheme: dark)").addEventListener("change", redraw);
 addEventListener("hashchange", recall);
 
 // For tests: where in the window a node, or the middle of what fails, is drawn.
 window.whereIs = name => {
-  const failure = D.failures[FAILURES.get(name)], node = D.nodes[NODES.get(name)];
-  const thing = node || failure.edge || failure.node, frame = canvas.getBoundingClientRect();
-  const [x, y] = "id" in thing ? onScreen(thing.at) : along(curve(thing), 0.5);
-  return [x + frame.left, y + frame.top];
+  const failure = D.failures[FAILURES.get(name)];
+  return windowPlace(D.nodes[NODES.get(name)] || failure.edge || failure.node);
 };
 
-setTheme("system");
+setScene(D.nodes, D.edges);
+rank(D.failures);
+setTheme("system", redraw);
+putInOrder();
 summary();
 showList();
 showDetail();
-placeNodes(D.nodes, D.edges, () => hasMovedView ? draw() : showAll());
+placeNodes(D.nodes, D.edges, showPlaces);
 recall();

@@ -2,7 +2,7 @@
 
 /** Shows the whole area. */
 function showAll() {
-  const places = D.nodes.map(it => it.at).filter(it => it);
+  const places = scene.nodes.map(it => it.at).filter(it => it);
   if (!places.length) return;
   const [xs, ys] = [0, 1].map(it => places.map(place => place[it]));
   const [left, top] = [xs, ys].map(it => it.reduce((a, b) => Math.min(a, b)));
@@ -12,7 +12,7 @@ function showAll() {
     (high - 1.1 * edge) / Math.max(bottom - top, 1), 2);
   view.x = wide / 2 - (left + right) / 2 * view.scale;
   view.y = high / 2 - (top + bottom) / 2 * view.scale;
-  draw();
+  drawAgain();
 }
 
 function zoom(times, x = canvas.clientWidth / 2, y = canvas.clientHeight / 2) {
@@ -20,7 +20,7 @@ function zoom(times, x = canvas.clientWidth / 2, y = canvas.clientHeight / 2) {
   view.x = x - (x - view.x) * change;
   view.y = y - (y - view.y) * change;
   view.scale = scale;
-  draw();
+  drawAgain();
 }
 
 /** Moves the view so that a node or an edge is in it. */
@@ -32,12 +32,25 @@ function reveal(thing) {
     view.x += wide / 2 - place[0];
     view.y += high / 2 - place[1];
   }
-  draw();
+  drawAgain();
 }
 
-/** How far a point is from an edge. */
+/** Moves the view to a node or an edge, so near that names have room. */
+function closeUp(thing) {
+  const ends = thing.at ? [thing, thing] : [scene.nodes[thing.a], scene.nodes[thing.b]];
+  const [x, y] = [0, 1].map(it => (ends[0].at[it] + ends[1].at[it]) / 2);
+  view.scale = Math.max(view.scale, 1);
+  view.x = canvas.clientWidth / 2 - x * view.scale;
+  view.y = canvas.clientHeight / 2 - y * view.scale;
+  hasMovedView = true;
+  drawAgain();
+}
+
+/** How far a point is from an edge, if it may be near. */
 function distance(edge, [x, y]) {
-  const bent = curve(edge);
+  const bent = curve(edge), far = (it, place) => bent.every(part => part[it] < place - 9) ||
+    bent.every(part => part[it] > place + 9);
+  if (far(0, x) || far(1, y)) return Infinity;
   let least = Infinity, [fromX, fromY] = bent[0];
   for (let part = 1; part <= 12; part++) {
     const [toX, toY] = along(bent, part / 12), dx = toX - fromX, dy = toY - fromY;
@@ -51,14 +64,14 @@ function distance(edge, [x, y]) {
 
 /** The node or the edge at a point. */
 function thingAt(point) {
-  if (!D.nodes.every(it => it.at)) return null;
+  if (!isPlaced()) return null;
   const roomy = hasRoom();
-  for (let at = D.nodes.length - 1; at >= 0; at--) {
-    const [x, y] = onScreen(D.nodes[at].at), [w, h] = size(D.nodes[at], roomy);
-    if (Math.abs(point[0] - x) <= w + 3 && Math.abs(point[1] - y) <= h + 3) return D.nodes[at];
+  for (let at = scene.nodes.length - 1; at >= 0; at--) {
+    const [x, y] = onScreen(scene.nodes[at].at), [w, h] = size(scene.nodes[at], roomy);
+    if (Math.abs(point[0] - x) <= w + 3 && Math.abs(point[1] - y) <= h + 3) return scene.nodes[at];
   }
   let best = null, least = 9;
-  for (const edge of D.edges) {
+  for (const edge of scene.edges) {
     const far = distance(edge, point);
     if (far < least) [best, least] = [edge, far];
   }
@@ -72,7 +85,7 @@ function place(event) {
 
 function hover(event) {
   const point = place(event), thing = thingAt(point), tip = $("tip");
-  if (thing !== hovered) { hovered = thing; draw(); }
+  if (thing !== hovered) { hovered = thing; drawAgain(); }
   canvas.classList.toggle("over", Boolean(thing));
   tip.hidden = !thing;
   if (!thing) return;
@@ -103,7 +116,7 @@ function drag(event) {
     hasMoved = true;
     view.x += now[0] - before[0];
     view.y += now[1] - before[1];
-    draw();
+    drawAgain();
   }
   return fingers.set(event.pointerId, now);
 }
@@ -118,7 +131,7 @@ function release(event) {
 /** The nearest node in a direction. */
 function neighbourOf(node, [dx, dy]) {
   let best = null, least = Infinity;
-  for (const other of D.nodes) {
+  for (const other of scene.nodes) {
     const x = other.at[0] - node.at[0], y = other.at[1] - node.at[1];
     const ahead = x * dx + y * dy, aside = Math.abs(x * dy - y * dx);
     if (ahead <= 0 || aside > 2 * ahead || ahead + 2 * aside >= least) continue;
@@ -133,14 +146,14 @@ const ARROWS = {ArrowLeft: [-1, 0], ArrowRight: [1, 0], ArrowUp: [0, -1], ArrowD
 function base() {
   const thing = current || chosen;
   if (!thing) return null;
-  return "id" in thing ? thing : D.nodes[thing.a];
+  return "id" in thing ? thing : scene.nodes[thing.a];
 }
 
 /** Goes through the links of the node where the keys are. */
 let around = null;
 function nextLink() {
-  const node = around || base() || D.nodes[0];
-  const edges = D.edges.filter(it => D.nodes[it.a] === node || D.nodes[it.b] === node);
+  const node = around || base() || scene.nodes[0];
+  const edges = scene.edges.filter(it => scene.nodes[it.a] === node || scene.nodes[it.b] === node);
   if (!edges.length) return;
   around = node;
   goTo(edges[(edges.indexOf(current) + 1) % edges.length]);
@@ -161,10 +174,10 @@ const KEYS = {
 };
 
 function key(event) {
-  if (event.ctrlKey || event.metaKey || event.altKey || !D.nodes.length) return;
+  if (event.ctrlKey || event.metaKey || event.altKey || !scene.nodes.length) return;
   if (ARROWS[event.key]) {
     const from = around || base();
-    const next = from ? neighbourOf(from, ARROWS[event.key]) : D.nodes[0];
+    const next = from ? neighbourOf(from, ARROWS[event.key]) : scene.nodes[0];
     around = null;
     if (next) goTo(next);
   } else if (KEYS[event.key]) {
@@ -182,14 +195,35 @@ canvas.addEventListener("pointercancel", release);
 canvas.addEventListener("pointerleave", () => {
   hovered = null;
   $("tip").hidden = true;
-  draw();
+  drawAgain();
 });
 canvas.addEventListener("wheel", event => {
   event.preventDefault();
   zoom(Math.exp(-Math.sign(event.deltaY) * 0.18), ...place(event));
 }, {passive: false});
 canvas.addEventListener("keydown", key);
-canvas.addEventListener("blur", () => { current = null; around = null; draw(); });
+canvas.addEventListener("blur", () => {
+  [current, around] = [null, null];
+  drawAgain();
+});
 $("closer").addEventListener("click", () => zoom(1.3));
 $("farther").addEventListener("click", () => zoom(1 / 1.3));
 $("whole").addEventListener("click", showAll);
+
+// The whole area stays in sight until the picture is moved.
+let hasMovedView = false;
+for (const kind of ["wheel", "pointermove"]) canvas.addEventListener(kind, event => {
+  hasMovedView = hasMovedView || kind === "wheel" || event.buttons > 0;
+});
+function showPlaces() {
+  if (!hasMovedView) showAll();
+  draw();
+}
+new ResizeObserver(showPlaces).observe(canvas);
+
+/** Where in the window a node, or the middle of an edge, is drawn: for tests. */
+function windowPlace(thing) {
+  const frame = canvas.getBoundingClientRect();
+  const [x, y] = "id" in thing ? onScreen(thing.at) : along(curve(thing), 0.5);
+  return [x + frame.left, y + frame.top];
+}
