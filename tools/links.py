@@ -29,7 +29,7 @@ def link_of(word):
 
 
 def interfaces_of(name):
-    """The tables [[interface]] of a configuration."""
+    """The tables [[interface]] of a configuration that are links: those that are not passive."""
     try:
         import tomllib
     except ImportError:
@@ -41,7 +41,7 @@ def interfaces_of(name):
         end(REFUSED, f"{name}: not valid TOML: {error}")
     if not isinstance(tables, list) or not all(isinstance(table, dict) for table in tables):
         end(REFUSED, f"{name}: no [[interface]] tables")
-    return tables
+    return [table for table in tables if table.get("passive") is not True]
 
 
 def link_of_table(name, number, table, device, peer):
