@@ -1,10 +1,9 @@
-"""What `ospfd check` found, read from what it prints, and where that stands in the files.
+"""What `ospfd check` found, read from its JSON, and where that stands in the files.
 
 A place is the line and column of the value at fault; of the key, where it is not known; of the
 header of the table, where the key is not written.
 """
 import json
-import re
 import sys
 
 from toml_places import Places, fault_of
@@ -13,14 +12,7 @@ from toml_places import Places, fault_of
 NOTES, WARNING = ("A12", "A13", "A17", "A20"), "Warning"
 # What a finding is.
 FAULTY, RISKY, NOTED = "fault", "warning", "note"
-OTHER_FORM = 3
-# A fault or a note, and the indented line below it.
-FOUND = re.compile(r"(\S.*?): ([A-Z]\d+ \w+)(?:: (.*))?$")
-UNREAD, ACCEPTED = re.compile(r"(\S.*?): (not read)$"), re.compile(r"(\S.*?): ok$")
-# Where it is in a file.
-KEY = r'([A-Za-z0-9_-]+|"(?:[^"\\]|\\.)*")'
-IN_TABLE = re.compile(rf"(interface|host) (\d+): {KEY}(?: (\d+))?")
-IN_LINE, IN_TOP = re.compile(r"line (\d+)\b"), re.compile(rf"{KEY}: |(router_id|area) ")
+OTHER_FORM, VERSION = 3, 2
 # The arrays of tables, how many tables or ports there may be, and what a port may be.
 TABLES, MOST, PORTS = ("interface", "host"), 32, (1024, 65535)
 
@@ -52,18 +44,33 @@ class Finding:
 
     def found_in(self, places):
         """Where the key or the value stands; the header of its table where it is not written."""
-        path = (*(self.table or ()), *([self.key] if self.key else ()))
+        table = self.table_in(places)
+        path = (*(table or ()), *([self.key] if self.key else ()))
         if self.code.startswith("C8"):
             return places.key(path) or places.below(path)
         if self.key in TABLES and places.key((self.key, MOST)):
             return places.key((self.key, MOST))
         if self.key == "peers":
-            return places.value(self.item_of(places, path)) or places.key(self.table)
+            return places.value(self.item_of(places, path)) or places.key(table)
         found = places.value(path)
         if found is None and self.key == "dead":
             # What is written of the two is `hello`, which is not under the default.
             found = places.value((*path[:-1], "hello"))
-        return found or places.below(path) or self.table and places.key(self.table)
+        return found or places.below(path) or table and places.key(table)
+
+    def table_in(self, places):
+        """The table in the file. A fault of the file counts all tables; all else is said of links,
+        which passive interfaces are not."""
+        if not self.table or self.table[0] != TABLES[0] or self.code.startswith("C"):
+            return self.table
+        count, number = 0, 0
+        while places.key((TABLES[0], number)):
+            if places.written((TABLES[0], number, "passive")) != "true":
+                if count == self.table[1]:
+                    return TABLES[0], number
+                count += 1
+            number += 1
+        return self.table
 
     def item_of(self, places, path):
         """The item of a list: the one that is named, or the first that cannot be there; the list
@@ -77,85 +84,103 @@ class Finding:
         return path
 
 
-def of_json(items):
-    """The findings that `check --json` printed."""
-    found = []
-    for it in items:
-        here, other = it["here"], it["other"]
-        text = f"{here['key']} {here['value']}"
-        if other is not None:
-            where = "" if other["interface"] is None else f"interface {other['interface']}: "
-            text += f", {other['file']}: {where}{other['key']} {other['value']}"
-        table = None if here["interface"] is None else ("interface", here["interface"])
-        # An area is a key at the top, though it is said of an interface.
-        table = None if here["key"] == "area" else table
-        found.append(
-            Finding(here["file"], it["code"], f"{text}; {it['meaning']}", table, here["key"])
-        )
-        found[-1].item = str(here["value"])
+def side_text(side):
+    """What an interface or a router has, as `ospfd check` prints it."""
+    where = "" if side["interface"] is None else f"interface {side['interface']}: "
+    value = f"no {side['key']}" if side["value"] is None else f"{side['key']} {side['value']}"
+    return where + value
+
+
+def of_side(it, side, text):
+    """A fault or a note between files, where an interface or a router of it is."""
+    is_top = side["interface"] is None or side["key"] == "area"
+    # An area is a key at the top, though it is said of an interface.
+    table = None if is_top else (TABLES[0], side["interface"])
+    found = Finding(side["file"], it["code"], text, table, side["key"])
+    found.item = str(side["value"])
     return found
 
 
-def of_lines(lines):
-    """The findings that `check --explain` printed, or `check` alone."""
-    found, accepted = [], None
-    for line in lines:
-        if line.startswith("  ") and accepted:
-            found.append(Finding(accepted, WARNING, line.strip()))
-            locate(found[-1], line.strip())
-            continue
-        begins = ACCEPTED.match(line)
-        accepted = begins and begins[1]
-        if line.startswith("  ") and found:
-            # `check --all` names each fault of a file, with its code; `--explain` each place that
-            # has the one fault. Between files the line has the meaning of the fault.
-            again = re.match(r"  ([A-Z]\d+ \w+): (.*)", line)
-            said = again[2] if again else line.strip()
-            code = again[1] if again else found[-1].code
-            if found[-1].text and code.startswith("C"):
-                found.append(Finding(found[-1].file, code, ""))
-            found[-1].text += f"; {said}" if found[-1].text else said
-            locate(found[-1], said)
-        elif begins := FOUND.match(line):
-            found.append(Finding(begins[1], begins[2], begins[3] or ""))
-            locate(found[-1], begins[3] or "")
-        elif begins := UNREAD.match(line):
-            found.append(
-                Finding(begins[1], "not read", "the file is not there, or may not be read")
-            )
+def of_area(it):
+    """A fault or a note between files, by its object."""
+    here, other = it["here"], it["other"]
+    text = side_text(here)
+    if other is not None:
+        text += f", {other['file']}: {side_text(other)}"
+    return of_side(it, here, f"{text}; {it['meaning']}")
+
+
+def of_fault(file, it):
+    """A fault of a file, by its object."""
+    numbers = [(kind, it[kind]) for kind in TABLES if it[kind] is not None]
+    table = numbers[0] if numbers else None
+    found = Finding(file, it["code"], it["text"], table, named(it["key"]))
+    # Without a line it is no text, of which the first place is as good as any.
+    found.line = None if it["key"] is not None else it["line"] or 1
     return found
 
 
-def locate(finding, said):
-    """Takes the place in the file from what is said of it, if that is the first place."""
-    if finding.key or finding.line:
+def of_warning(file, it):
+    """A warning of a file, by its object."""
+    return Finding(file, WARNING, it["text"], (TABLES[0], it["interface"]), it["key"])
+
+
+def of_file(it):
+    """The faults and the warnings of a file, by its object."""
+    file = it["file"]
+    return [
+        *(of_fault(file, fault) for fault in it["faults"]),
+        *(of_warning(file, warning) for warning in it["warnings"]),
+    ]
+
+
+def put_place(it, found):
+    """Adds to an object where it is in the file."""
+    it["line"], it["column"], it["end_line"], it["end_column"] = found.place()
+
+
+def put_places(it):
+    """Adds to each fault and warning of a file, or to each interface or router of a fault or note
+    between files, where it is."""
+    if "faults" in it:
+        for fault in it["faults"]:
+            put_place(fault, of_fault(it["file"], fault))
+        for warning in it["warnings"]:
+            put_place(warning, of_warning(it["file"], warning))
         return
-    if begins := IN_TABLE.match(said):
-        finding.table, finding.key = (begins[1], int(begins[2])), named(begins[3])
-        finding.item = begins[4]
-        if finding.key == "area":
-            finding.table = None
-    elif begins := IN_LINE.match(said):
-        finding.line = int(begins[1])
-    elif begins := IN_TOP.match(said):
-        finding.key = named(begins[1] or begins[2])
+    for side in filter(None, (it["here"], it["other"])):
+        put_place(side, of_side(it, side, ""))
 
 
 def named(key):
     """A key as it is, of one that is printed in quotes where it needs them."""
     try:
-        return json.loads(key) if key.startswith('"') else key
+        return json.loads(key) if key and key.startswith('"') else key
     except ValueError:
         return key
 
 
-def findings(text):
-    """What `ospfd check` found, by either of its forms."""
-    for line in text.splitlines():
-        if line.startswith("["):
-            try:
-                return of_json(json.loads(line))
-            except (ValueError, KeyError, TypeError):
-                print("annotate: this is no JSON of ospfd check", file=sys.stderr)
-                sys.exit(OTHER_FORM)
-    return of_lines(text.splitlines())
+def values(text):
+    """What `ospfd check --json=2` printed, in lines; those that standard error got are passed over.
+    Of `--json` the array, behind no first line."""
+    found = [json.loads(line) for line in text.splitlines() if line.startswith(("{", "["))]
+    if isinstance(found[0], list):
+        return None, found[0]
+    if found[0]["version"] != VERSION:
+        raise ValueError
+    return found[0], found[1:]
+
+
+def read(text):
+    """What `ospfd check` found, by its JSON; and the lines of that, with places."""
+    try:
+        first, items = values(text)
+        found = [
+            one for it in items for one in (of_file(it) if "faults" in it else [of_area(it)])
+        ]
+        for it in items:
+            put_places(it)
+        return found, [first, *items] if first else []
+    except (ValueError, KeyError, TypeError, IndexError):
+        print("annotate: this is no JSON of ospfd check --json=2", file=sys.stderr)
+        sys.exit(OTHER_FORM)

@@ -6,7 +6,7 @@ import struct
 ROUTER, NETWORK = 1, 2
 POINT_TO_POINT, TRANSIT, STUB = 1, 2, 3
 # The kinds of failures in the order in which they are printed.
-LINK, LINKS, ATTACHMENT, ALL_OF_NETWORK, ALL_OF_ROUTER = range(5)
+LINK, LINKS, ATTACHMENT, ALL_OF_NETWORK, ALL_OF_ROUTER, INTERFACE = range(6)
 # Where the indices of interfaces lie, by which links without addresses are told.
 INDICES = 0, 0xFF000000
 
@@ -133,6 +133,22 @@ class Area:
         yield from ((ALL_OF_NETWORK, network) for network in sorted({network for _, network in on}))
         yield from ((ALL_OF_ROUTER, router) for router in routers)
 
+    def interfaces(self):
+        """The interfaces of routers to stub networks: the prefixes of less than 32 bits that they
+        tell, but the longest one that holds the address of a link to a router or a network."""
+        for router, links in sorted(self.links.items()):
+            told = {it for it in self.stubs(router) if it[1] != 0xFFFFFFFF}
+            addresses = {
+                it.data
+                for it in links
+                if it.kind == TRANSIT or it.kind == POINT_TO_POINT and not is_in(it.data, INDICES)
+            }
+            taken = {
+                max((it for it in told if is_in(at, it)), key=lambda it: it[1], default=None)
+                for at in addresses
+            }
+            yield from ((INTERFACE, router, *it) for it in sorted(told - taken))
+
     def without(self, failure):
         """The LSAs that are left."""
         left = []
@@ -156,6 +172,8 @@ class Area:
                 and link.id == rest[-1]
                 and (kind == ALL_OF_NETWORK or router == rest[0])
             )
+        if kind == INTERFACE:
+            return router == rest[0] and link.kind == STUB and link.prefix() == tuple(rest[1:])
         ends = dict([rest[:2], rest[1::-1]])
         if router not in ends:
             return False
@@ -184,6 +202,8 @@ def name_of(failure):
         return f"{dotted(rest[0])}-{dotted(rest[1])}@{dotted(rest[2])}/{bin(rest[3]).count('1')}"
     if kind == LINKS:
         return f"{dotted(rest[0])}-{dotted(rest[1])}"
+    if kind == INTERFACE:
+        return f"{dotted(rest[0])}@{dotted(rest[1])}/{bin(rest[2]).count('1')}"
     return {ATTACHMENT: "{}@{}", ALL_OF_NETWORK: "@{}", ALL_OF_ROUTER: "{}"}[kind].format(
         *map(dotted, rest)
     )

@@ -215,23 +215,24 @@ ODD = [
 ODD_NETWORK = ("10.9.0.4", "4.4.4.4", ["4.4.4.4", "3.3.3.3", "5.5.5.5"])
 ODD_WANTED = {
     "1.1.1.1": ["0.0.0.7 rfc3021", "point-to-point 10.0.0.0/31 cost 10",
-                "point-to-point 10.0.4.1/30 cost 9", "point-to-point 10.0.5.1/30 cost 3",
+                "point-to-point 10.0.4.1/30 cost 9",
+                "point-to-point 10.0.5.1/30 cost 3 prefix_suppression true",
                 "host 172.16.1.1 cost 0"],
     "2.2.2.2": ["0.0.0.7 rfc3021", "point-to-point 10.0.0.1/31 cost 10",
-                "broadcast 10.0.23.2/30 cost 1"],
+                "broadcast 10.0.23.2/30 cost 1 passive true"],
     "3.3.3.3": ["0.0.0.7 stub_router", "point-to-point 10.0.34.3/29 cost 4",
                 "broadcast 10.9.0.3/24 cost 65535"],
-    "4.4.4.4": ["0.0.0.7", "point-to-point 10.0.4.2/30 cost 9",
+    "4.4.4.4": ["0.0.0.7", "point-to-point 10.0.4.2/30 cost 9 prefix_suppression true",
                 "point-to-point 10.0.34.4/29 cost 5", "broadcast 10.9.0.4/24 cost 2 priority 2",
-                "broadcast 10.9.1.1/24 cost 1 priority 0"],
-    "5.5.5.5": ["0.0.0.7", "point-to-point 10.0.5.2/30 cost 3", "broadcast 10.9.0.5/24 cost 2",
-                "broadcast 10.9.1.2/24 cost 3 priority 0"]}
+                "broadcast 10.9.1.1/24 cost 1 passive true"],
+    "5.5.5.5": ["0.0.0.7", "point-to-point 10.0.5.2/30 cost 3 prefix_suppression true",
+                "broadcast 10.9.0.5/24 cost 2",
+                "broadcast 10.9.1.2/24 cost 3 passive true"]}
 NO_ADDRESS = "unnumbered: the format needs an address with a subnet"
 ODD_REPORT = [
     f"1: left out: 1.1.1.1: router 3.3.3.3 from 0.0.0.5 cost 7: {NO_ADDRESS}",
     "1: left out: 1.1.1.1: stub 10.0.4.0/30 cost 8: its link has cost 9",
     "1: assumed: 1.1.1.1: stub 10.0.4.0/30 cost 9: advertised with the link",
-    "1: assumed: 1.1.1.1: stub 10.0.5.0/30 cost 3: advertised with the link",
     "1: left out: 1.1.1.1: virtual 4.4.4.4: virtual links are not simulated",
     "1: left out: 1.1.1.1: stub 0.0.0.0/0 cost 1: the format has no interface with such an address",
     "1: left out: 1.1.1.1: stub 172.16.2.0/24 cost 0: the format has no cost 0",
@@ -239,14 +240,11 @@ ODD_REPORT = [
     "2: left out: 2.2.2.2: router 3.3.3.3 from 10.0.23.2 cost 1: one way only",
     f"3: left out: 3.3.3.3: router 1.1.1.1 from 0.0.0.6 cost 65535: {NO_ADDRESS}",
     "3: assumed: 3.3.3.3: cost 65535 to networks: the LSDB has no other of a stub router",
-    "4: assumed: 4.4.4.4: stub 10.0.4.0/30 cost 9: advertised with the link",
     "4: assumed: 4.4.4.4: 10.9.0.4/24 priority 2: keeps it the Designated Router",
-    "5: assumed: 5.5.5.5: stub 10.0.5.0/30 cost 3: advertised with the link",
-    "5: left out: 5.5.5.5: stub 10.9.0.0/24 cost 3: 10.9.0.0/24 is also a network of other routers"]
+    "5: left out: 5.5.5.5: stub 10.9.0.0/24 cost 3: another interface of this router has this "
+    "prefix"]
 ODD_WHOLE = [
     ": left out: router 6.6.6.6: no interface that the format can express",
-    ": assumed: 10.9.1.0/24 priority 0: keeps the stub networks of 4.4.4.4, 5.5.5.5 apart (A10 of "
-    "check --area)",
     ": assumed: addresses of 2 stub networks: the LSDB has none: the first free one of each"]
 
 # One subnet with three ends, and a router with 34 stub networks.
@@ -257,7 +255,7 @@ MANY = [
     ("3.3.3.3", 0, ["router 1.1.1.1 from 10.0.0.3 cost 1", "stub 10.0.0.0/24 cost 1"])]
 MANY_WANTED = {
     "1.1.1.1": ["0.0.0.7", "broadcast 10.0.0.1/24 cost 1 priority 0",
-                *(f"broadcast 10.1.{n}.1/24 cost 1" for n in range(31))],
+                *(f"broadcast 10.1.{n}.1/24 cost 1 passive true" for n in range(31))],
     "2.2.2.2": ["0.0.0.7", "broadcast 10.0.0.2/24 cost 1 priority 0"],
     "3.3.3.3": ["0.0.0.7", "broadcast 10.0.0.3/24 cost 1 priority 0"]}
 ENDS = "10.0.0.0/24 has more than two ends"

@@ -74,6 +74,32 @@ def areas_with_faults():
     yield "A20", lan(1, 0, 0)
 
 
+def configs_with_faults():
+    """Configurations with each fault of a file, and with places of each kind."""
+    good, address = pair()[0], {"address": "10.0.0.1/30"}
+    yield "C1", "area 7\n"
+    yield "C1, no text", b"\xff"
+    yield "C2", good.replace("router_id", "# router_id")
+    yield "C2, of an interface", good.replace("cost", "# cost")
+    yield "C3", config(1, {**address, "mtu": "1500"})
+    yield "C4", config(1, {**address, "mtu": 100})
+    yield "C5", config(1, {**address, "cost": 0})
+    yield "C6", config(1, address, address)
+    yield "C6, of a host", good + '\n[[host]]\naddress = "10.0.0.1"\ncost = 0\n'
+    yield "C7", config(1, {**address, "dead": 10})
+    yield "C8", "colour = 1\n" + good
+    yield "C8, in quotes", good + '"a b" = 1\n'
+    both = config(1, {**address, "cost": 0}, {**address, "mtu": 9})
+    yield "all of these", "stub_router = 1\n" + both
+
+
+def risky():
+    """A configuration with both warnings."""
+    lan_key = {"address": "10.1.0.1/24", "kind": "broadcast", "priority": 1}
+    keys = {"address": "10.0.0.1/30", "transmit_delay": 1000}
+    return 'other_lsas = "pass over"\n' + config(1, keys, lan_key)
+
+
 # ---- scripts of the simulator
 
 
@@ -136,11 +162,11 @@ class Printed:
             sys.exit(f"ospfd {' '.join(words)}: not one line, of {origin}:\n{said}")
         return self.keep(schema, f"ospfd {' '.join(words)}, of {origin}", said)
 
-    def ask_lines(self, schema, origin, words, text):
+    def ask_lines(self, schema, origin, words, text="", statuses=(0,)):
         """A value on each line, of which the first alone is about the input."""
         values = [
             self.keep(schema, f"ospfd {' '.join(words)}, of {origin}", line)
-            for line in self.run(words, text).splitlines()
+            for line in self.run(words, text, statuses).splitlines()
         ]
         if [("version" in value) for value in values] != [True] + [False] * (len(values) - 1):
             sys.exit(
@@ -151,8 +177,12 @@ class Printed:
         self.ask("lsas-1", name, ["lsas", "--json"], text)
         tables = self.ask("table-all-1", name, ["table", "--json", "all"], text)
         roots = [it["root"] for it in tables] or ["1.1.1.1"]
+        prefixes = [route["prefix"] for it in tables for route in it["routes"]]
+        addresses = ["203.0.113.77", *(it.split("/")[0] for it in prefixes[:2])]
         for root in [*roots, "99.99.99.99"]:
             self.ask("table-1", name, ["table", "--json", root], text)
+            self.ask_lines("table-2", name, ["table", "--json=2", root, *addresses], text)
+        self.ask_lines("table-2", name, ["table", "--json=2", "all"], text)
         for each in [], ["--each"]:
             self.ask("failures-1", name, ["failures", "--json", *each, roots[0]], text)
             self.ask("failures-all-1", name, ["failures", "--json", *each, "all"], text)
@@ -176,31 +206,31 @@ class Printed:
     def write_configs(self, place, texts):
         paths = [os.path.join(place, f"{at}.toml") for at in range(1, len(texts) + 1)]
         for path, text in zip(paths, texts):
-            with open(path, "w", encoding="utf-8") as file:
-                file.write(text)
+            with open(path, "wb") as file:
+                file.write(text if isinstance(text, bytes) else text.encode())
         return paths
 
     def check(self, name, paths):
         self.ask("check-1", name, ["check", "--json", *paths], statuses=(0, 3))
 
     def annotate(self, name, texts):
-        """The places of what `check --explain` says of files, with its two outputs."""
+        """What `check --json=2` says of files, and that with places, in both forms."""
         with tempfile.TemporaryDirectory() as place:
             paths = self.write_configs(place, texts)
-            self.commands += 1
-            said = subprocess.run(
-                [self.program, "check", "--area", "--explain", *paths],
-                stdout=subprocess.PIPE,
-                stderr=subprocess.STDOUT,
-                check=False,
-            )
-            found = subprocess.run(
-                [os.path.join(TOP, "tools", "annotate"), "json"],
-                input=said.stdout,
-                capture_output=True,
-                check=False,
-            )
-            self.keep("annotate-1", f"tools/annotate json, of {name}", found.stdout.decode())
+            self.ask_lines("check-2", name, ["check", "--json=2", *paths], statuses=(0, 3))
+            words = ["check", "--area", "--json=2", *paths]
+            self.ask_lines("check-2", name, words, statuses=(0, 3))
+            said = self.run(words, statuses=(0, 3))
+            for form, schema in ("json", "annotate-1"), ("json=2", "annotate-2"):
+                found = subprocess.run(
+                    [os.path.join(TOP, "tools", "annotate"), form],
+                    input=said,
+                    capture_output=True,
+                    text=True,
+                    check=False,
+                ).stdout
+                for line in found.splitlines():
+                    self.keep(schema, f"tools/annotate {form}, of {name}", line)
 
     def log(self, name, place, words):
         """The journal of a command, line by line."""
@@ -246,8 +276,9 @@ class Printed:
             with tempfile.TemporaryDirectory() as place:
                 self.check(name, self.write_configs(place, texts))
             self.annotate(name, texts)
-        risky = pair(one={"transmit_delay": 1000})
-        for name, texts in (("a warning", risky), ("a refused file", [*risky, "area = 1\n"])):
+        for name, text in configs_with_faults():
+            self.annotate(name, [text])
+        for name, texts in (("warnings", [risky()]), ("a refused file", [risky(), "area = 1\n"])):
             self.annotate(name, texts)
         for name, script, configs in simulations():
             self.simulate(name, script, configs)

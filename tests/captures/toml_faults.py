@@ -29,7 +29,7 @@ def router(number, more="", kind="point-to-point", length=30):
     return (TOP + LINK).format(number, kind, length) + more
 
 
-ALL, AREA = ["--all"], ["--area", "--explain"]
+ALL, AREA = [], ["--area"]
 ALONE = [
     ("C1, of a sign", "router_id = <C1:>= 1\n"),
     ("C1, of a line", '# é\nrouter_id = "1.1.1.1"\nrouter_id = "1.1.1.1"<C1:>\n'),

@@ -9,6 +9,7 @@ from .model import Link, Place, Refused, address_of, area_of, interface_of, plai
 NUMBERS = {"cost": "cost", "hello-interval": "hello", "dead-interval": "dead",
            "retransmit-interval": "retransmit", "transmit-delay": "transmit_delay",
            "priority": "priority"}
+SUPPRESSION = "prefix-suppression"
 KINDS = {"broadcast": model.BROADCAST, "point-to-point": model.POINT_TO_POINT}
 OTHER_KINDS = ("non-broadcast", "point-to-multipoint")
 FAST = "Hellos within a second; the default is written"
@@ -18,7 +19,6 @@ NEIGHBORS = "neighbors are found by Hellos"
 LINK_LEFT = {
     "authentication": model.AUTHENTICATION, "authentication-key": model.AUTHENTICATION,
     "message-digest-key": model.AUTHENTICATION, "mtu-ignore": NO_CHECK,
-    "prefix-suppression": "the prefix of the link is advertised",
     "database-filter": "LSAs are flooded on all links",
     "graceful-restart": model.NO_RESTART, "shutdown": model.DOWN,
     "neighbor-filter": "neighbors are not filtered",
@@ -31,7 +31,6 @@ ROUTER_LEFT = {
     "default-metric": model.OUTSIDE, "summary-address": model.OUTSIDE,
     "aggregation": model.OUTSIDE, "distribute-list": "routes are not filtered",
     "neighbor": NEIGHBORS, "graceful-restart": model.NO_RESTART, "nsf": model.NO_RESTART,
-    "prefix-suppression": "the prefixes of links are advertised",
     "maximum-paths": "a route has all next hops of equal cost",
     "ospf rfc1583compatibility": model.OUTSIDE, "compatible": model.OUTSIDE,
     "ospf abr-type": model.OTHER_AREAS,
@@ -78,8 +77,10 @@ class Device:
 
     def __init__(self, name, place):
         self.name, self.place = name, place
-        # Addresses with their places; settings, areas and passivity of all addresses (None) or one.
+        # Addresses with their places; settings, areas, passivity and suppression of all addresses
+        # (None) or one.
         self.addresses, self.settings, self.areas, self.passive = [], {}, {}, {}
+        self.suppressed = {}
         # Of each `ip ospf .. area`: its place, its text, the process and the address.
         self.processes = []
         self.ospf_lines, self.kind, self.why_not, self.bandwidth = [], None, None, None
@@ -96,6 +97,8 @@ class Reader:
     # As the dialects have it: megabits a second, kilobits in the unit of `bandwidth`, and the cost
     # of a loopback that gives none.
     reference, unit, loopback_cost = 100, 1, None
+    # Whether the prefixes of all links are suppressed.
+    is_suppressed = False
     # The VRF whose instance is read.
     vrf = None
 
@@ -229,6 +232,8 @@ class Reader:
         first = words[0] if words else "ospf"
         if first == "passive" and len(words) == 1:
             device.passive[only] = not is_no
+        elif first == SUPPRESSION and words[1:] in ([], ["disable"]):
+            device.suppressed[only] = not is_no and len(words) == 1
         elif is_no and first in {*NUMBERS, *LINK_LEFT, "network", "area"}:
             self.report.left(place, plain(text), "it is the default")
         elif first in NUMBERS and len(words) == 2:
@@ -292,7 +297,7 @@ class Reader:
     def commands(self):
         return {"router-id": self.take_router_id, "ospf router-id": self.take_router_id,
                 "network": self.take_network, "auto-cost": self.take_reference,
-                "max-metric": self.take_max_metric}
+                "max-metric": self.take_max_metric, SUPPRESSION: self.take_suppression}
 
     def take_router_id(self, place, words, text):
         found = address_of(words[-1])
@@ -348,6 +353,12 @@ class Reader:
             for word in rest:
                 if word != "administrative":
                     self.report.left(place, plain(text), f"{plain(word)}: not in the format")
+
+    def take_suppression(self, place, words, text):
+        """`prefix-suppression` of the router: each link's, unless it says otherwise itself."""
+        if len(words) > 1:
+            self.report.unknown(place, words[1], text)
+        self.is_suppressed = len(words) == 1
 
     # ---- what they give together
 
@@ -438,6 +449,10 @@ class Reader:
                                  if name == device.name}]
         passive = [it for it in (device.of(given, address.ip) for given in said) if it is not None]
         link.is_passive = passive[0] if passive else self.is_passive
+        suppressed = device.of(device.suppressed, address.ip)
+        suppressed = self.is_suppressed if suppressed is None else suppressed
+        # A passive interface's prefix is advertised always (RFC 6860).
+        link.is_suppressed = suppressed and not link.is_passive
         if "cost" not in link.settings:
             link.settings["cost"] = self.cost(device, link)
         return link

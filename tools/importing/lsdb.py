@@ -186,9 +186,10 @@ class Lsdb:
         item.link.comment = f"to {item.to}"
         if stub:
             stub.is_done = True
+        # A link whose subnet is not advertised has it suppressed (RFC 6860).
+        item.link.is_suppressed = stub is None
         if stub and stub.cost != cost:
             self.leave(stub, f"its link has cost {cost}")
-        if not stub or stub.cost != cost:
             self.report.assume(self.place(item.router),
                                f"{item.router}: {STUB} {item.subnet} cost {cost}",
                                "advertised with the link")
@@ -209,20 +210,26 @@ class Lsdb:
             else:
                 item.host, item.is_done = Host(address, item.cost), True
 
+    def has_other(self, item):
+        """Whether the router of a stub has an interface that is not passive."""
+        return any(it.link and not it.link.is_passive for it in self.items[item.router])
+
     def stubs(self):
-        """Stub networks: broadcast interfaces without neighbors."""
+        """Stub networks: passive interfaces, or one broadcast interface without neighbors where
+        the router has no other, since the format needs one."""
         by_prefix = collections.defaultdict(list)
         for item in self.all_of(STUB):
             by_prefix[item.prefix].append(item)
         for prefix, items in by_prefix.items():
             for item in items:
-                if self.on.get(prefix) and self.on[prefix][0].kind != STUB:
+                is_shared = self.on.get(prefix) and self.on[prefix][0].kind != STUB
+                if is_shared and not self.has_other(item):
                     self.leave(item, f"{prefix} is also a network of other routers")
                 elif prefix.prefixlen > model.LENGTHS[1] or prefix.prefixlen < model.LENGTHS[0]:
                     self.make(item, with_length(prefix[0], prefix), model.BROADCAST, item.cost)
                 else:
                     self.alone_on(prefix, item)
-            made = [it for it in items if it.link]
+            made = [it for it in items if it.link and not it.link.is_passive]
             if len(made) > 1:
                 self.keep_apart(prefix, made)
 
@@ -233,9 +240,11 @@ class Lsdb:
                  if it.at and not it.link and it.at in prefix and it.at not in self.taken]
         free = (prefix[at] for at in range(1, prefix.num_addresses - 1))
         at = next(iter(known), None) or next((it for it in free if it not in self.taken), None)
+        is_passive = self.has_other(item)
         if at is None:
             self.leave(item, "no address is free")
         elif self.make(item, with_length(at, prefix), model.BROADCAST, item.cost):
+            item.link.is_passive = is_passive
             item.link.comment = "stub network" if known else "stub network, its address is made up"
             if not known:
                 self.alone.append(item)
@@ -270,6 +279,8 @@ class Lsdb:
         for flag in self.flags[name]:
             self.report.left(self.place(name), f"{name}: flag {flag}", FLAGS[flag])
         made = [it for it in items if it.link]
+        if len(made) > model.MOST:
+            made.sort(key=lambda it: it.link.is_passive)
         for item in made[model.MOST:]:
             item.link = self.leave(item, f"more than {model.MOST} interfaces")
         router.links = [it.link for it in made[:model.MOST]]

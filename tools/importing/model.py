@@ -95,7 +95,7 @@ class Link:
         # Why the format cannot express it, where only the dialect knows.
         self.why_not = None
         # Whether its address alone is advertised, as that of a loopback (RFC 2328, C.7).
-        self.is_passive = self.is_host = False
+        self.is_passive = self.is_suppressed = self.is_host = False
 
     def name(self):
         return f"{plain(self.device)} {self.address}"
@@ -233,10 +233,17 @@ def expressed(report, router, area):
             router.hosts.append(Host(link.address.ip, link.settings["cost"]))
             continue
         complete(report, link)
-        if link.is_passive:
-            link.kind, link.settings["priority"] = BROADCAST, 0
         links.append(link)
+    if links and all(link.is_passive for link in links):
+        send(report, links[0])
     return links
+
+
+def send(report, link):
+    """Makes a passive interface one that is not, but has no adjacency with priority 0."""
+    link.is_passive, link.kind, link.settings["priority"] = False, BROADCAST, 0
+    report.assume(link.place, f"{link.name()}: priority 0",
+                  "it sends Hellos: the format has no router with passive interfaces alone")
 
 
 def text_of(router, area, links):
@@ -253,6 +260,8 @@ def text_of(router, area, links):
                   f"cost = {link.settings['cost']}"]
         lines += [f"{key} = {link.settings[key]}" for key, default in DEFAULTS.items()
                   if link.settings.get(key, default) != default]
+        flags = {"passive": link.is_passive, "prefix_suppression": link.is_suppressed}
+        lines += [f"{key} = true" for key, is_set in flags.items() if is_set]
     for host in router.hosts:
         lines += ["", "[[host]]", f'address = "{host.address}"', f"cost = {host.cost}"]
     return "".join(f"{line}\n" for line in lines)
