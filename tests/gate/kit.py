@@ -86,6 +86,14 @@ def library():
     return importlib.import_module("rtlib")
 
 
+def judge_of_layout():
+    """The words that, before the paths of files, name each one as an error that is not as `rt fmt`
+    writes it, and leave it as it is. `rt ci` judges a crate by the same."""
+    module = library()
+    look_for(module, "rtlib", "RATTLE")
+    return [module.RATTLE, "fmt", "--check"]
+
+
 def quicken(crate_type):
     """Has a stamp make each of those below once."""
     plain, now = crate_type.stamp, threading.local()

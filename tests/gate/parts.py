@@ -11,6 +11,7 @@ UNITS = ["tests/unit/units"]
 # These start no program of ours.
 WITHOUT_PROGRAM = [
     ["tests/gate/english"],
+    ["tests/gate/laid-out"],
     ["tests/gate/layout"],
     ["tests/gate/unused"],
     ["tests/gate/scripts"],
@@ -19,6 +20,7 @@ WITHOUT_PROGRAM = [
     ["tools/promise", "--check", "docs/promises"],
 ]
 WITHOUT_PROGRAM += [["tools/trust", "--check", "docs/TRUST.md"], ["tests/gate/pages"]]
+WITHOUT_PROGRAM += [["tests/gate/lessons"]]
 WITHOUT_PROGRAM += [["tests/gate/stand-ins"], ["tests/peers/bridge"], ["tests/peers/guarded"]]
 WITHOUT_PROGRAM += [["tests/web/heap"]]
 # The longest first, so that the others run beside them.
@@ -44,6 +46,7 @@ OF_PROGRAM += [
     "captures/annotations",
     "captures/json-schemas",
     "captures/names",
+    "gate/console",
     "gate/image",
     "gate/shown",
     "gate/streams",

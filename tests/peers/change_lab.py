@@ -2,12 +2,9 @@
 what `changes --record` writes. The labs are those of failure_lab.py.
 """
 import json
-import sys
-import threading
 
-import lab
-from failure_lab import CABLE, KILLED, MEMBER, SWITCH, Recorder, cables, direct
-from failure_lab import plain, subnet_of, version
+from failure_lab import CABLE, KILLED, MEMBER, SWITCH, cables, direct, subnet_of
+from recorder import Recorder, plain, prepare, side_by_side, version
 
 COSTS, WINDOW, DRAIN = "costs are changed", "a maintenance window", "a router is drained"
 
@@ -125,11 +122,11 @@ LABS = ((direct, changes_of_direct), (cables, changes_of_cables))
 class ChangeRecorder(Recorder):
     """Makes the changes of a lab one after the other, and notes the tables after each."""
 
-    def tables(self, dead=None):
-        dead = dead or ()
-        return {node.router: node.table() for node in self.it.routers() if node not in dead}
+    def __init__(self, it, changes):
+        super().__init__(it)
+        self.changes = changes
 
-    def make_change(self, change):
+    def make(self, change):
         lsas, number = self.database()
         if change.words is None:
             names = [one.name(lsas) for one in change.failures]
@@ -137,44 +134,26 @@ class ChangeRecorder(Recorder):
         change.make()
         after = self.settled(str(change.words), change.dead)
         tables = {root: plain(table) for root, table in after.items()}
-        self.failures.append({"what": change.what, "edit": change.words, "database": number,
+        self.recorded.append({"what": change.what, "edit": change.words, "database": number,
                               "tables": tables})
         print(f"{self.it.name}: {' '.join(change.words)}", flush=True)
         change.mend()
         self.settled(f"mended {change.words}", wanted=self.before)
 
-    def run_changes(self, changes):
+    def run(self):
         with self.it:
-            for node in self.it.routers():
-                node.start()
-            found = self.settled("the beginning")
-            while min(map(len, found.values())) < len(self.it.routers()):
-                found = self.settled("the beginning")
-            self.before = found
-            for change in changes(self.it):
-                self.make_change(change)
+            self.start()
+            for change in self.changes(self.it):
+                self.make(change)
             return {"name": self.it.name, "ends": self.it.others, "databases": self.databases,
-                    "changes": self.failures}
+                    "changes": self.recorded}
 
 
 def record(path):
     """Makes all changes, lab beside lab, and writes what was seen."""
-    lacks = lab.missing()
-    if lacks:
-        sys.exit(f"changes: not there: {', '.join(lacks)}")
-    lab.end_in_order()
-    done = {}
-
-    def go_on(make, changes):
-        done[make.__name__] = ChangeRecorder(make()).run_changes(changes)
-
-    threads = [threading.Thread(target=go_on, args=it) for it in LABS]
-    for thread in threads:
-        thread.start()
-    for thread in threads:
-        thread.join()
-    if len(done) < len(LABS):
-        sys.exit("changes: a lab did not come to its end")
+    prepare("changes")
+    recorders = [ChangeRecorder(make(), changes) for make, changes in LABS]
+    done = side_by_side("changes", {it.it.name: it.run for it in recorders})
     labs = [done[make.__name__] for make, _ in LABS]
     with open(path, "w", encoding="utf-8") as file:
         file.write(one_line_each({"frr": version(), "labs": labs}))

@@ -6,22 +6,10 @@ routers on a cable. In `switched` each link has a switch in it, so that its two 
 one.
 """
 import json
-import os
-import re
-import shutil
-import subprocess
-import sys
-import threading
-import time
 
-import lab
 from lab import Frr, Lab
+from recorder import Recorder, plain, prepare, side_by_side, version
 
-NEEDED = ("/usr/lib/frr/ospfd", "ip", "vtysh")
-# After a failure routers wait for RouterDeadInterval, then for MinLSInterval, or RxmtInterval where
-# a packet was lost, of 5 seconds each, and then SPF for its own delays.
-SECONDS_AT_LEAST, SECONDS_ALIKE, SECONDS_AT_MOST = 12, 12, 180
-MAX_AGE = 3600
 # The words of what was done.
 CABLE, SWITCH, MEMBER, KILLED = (
     "a cable is cut",
@@ -222,52 +210,17 @@ def switched():
 LABS = (direct, cables, switched)
 
 
-class Recorder:
-    """Makes the failures of a lab one after the other, and notes what is there before and after
-    each."""
-
-    def __init__(self, it):
-        self.it, self.databases, self.forms = it, [], []
-        self.before, self.failures = {}, []
-
-    def tables(self, dead=None):
-        return {node.router: node.table() for node in self.it.routers() if node is not dead}
-
-    def settled(self, what, dead=None, wanted=None):
-        """The tables, once they have been alike for some seconds, and are those that are wanted."""
-        began = since = time.monotonic()
-        found = self.tables(dead)
-        while True:
-            time.sleep(lab.LOOK)
-            now, moment = self.tables(dead), time.monotonic()
-            if now != found:
-                found, since = now, moment
-            is_over = moment - began > SECONDS_AT_LEAST and moment - since > SECONDS_ALIKE
-            if is_over and (wanted is None or found == wanted):
-                return found
-            if moment - began > SECONDS_AT_MOST:
-                raise RuntimeError(f"{self.it.name}: {what}: not settled: {found}")
-
-    def database(self):
-        """The LSAs of the area, and the number of its database: one that differs from an earlier
-        one in ages and numbers alone is that one."""
-        lines = self.it.node(1).lsas().split()
-        lsas = [f"0001{line[4:]}" for line in lines if int(line[:4], 16) < MAX_AGE]
-        # An LSA without age, number and checksum.
-        form = sorted(lsa[4:24] + lsa[36:] for lsa in lsas)
-        if form not in self.forms:
-            self.forms.append(form)
-            self.databases.append(lsas)
-        return lsas, self.forms.index(form)
+class FailureRecorder(Recorder):
+    """Makes the failures of a lab one after the other, and notes what each changes."""
 
     def make(self, failure):
         """Makes a failure, notes what changes, and mends it."""
         lsas, number = self.database()
         name = failure.name(lsas)
         failure.make()
-        after = self.settled(name, failure.dead)
+        after = self.settled(name, [failure.dead])
         noted = {root: difference(self.before[root], table) for root, table in after.items()}
-        self.failures.append(
+        self.recorded.append(
             {
                 "what": failure.what,
                 "name": name,
@@ -282,12 +235,7 @@ class Recorder:
 
     def run(self):
         with self.it:
-            for node in self.it.routers():
-                node.start()
-            found = self.settled("the beginning")
-            while min(map(len, found.values())) < len(self.it.routers()):
-                found = self.settled("the beginning")
-            self.before = found
+            self.start()
             for failure in self.it.failures:
                 self.make(failure)
             before = {root: plain(table) for root, table in self.before.items()}
@@ -296,12 +244,8 @@ class Recorder:
                 "ends": self.it.others,
                 "before": before,
                 "databases": self.databases,
-                "failures": self.failures,
+                "failures": self.recorded,
             }
-
-
-def plain(table):
-    return {prefix: [cost, sorted(hops)] for prefix, (cost, hops) in sorted(table.items())}
 
 
 def difference(before, after):
@@ -314,37 +258,15 @@ def difference(before, after):
     }
 
 
-def version():
-    said = subprocess.run([NEEDED[0], "--version"], capture_output=True, text=True, check=False)
-    return re.search(r"version (\S+)", said.stdout + said.stderr)[1]
-
-
 def record(path, names):
     """Makes all failures, or those of some labs, lab beside lab, and writes what was seen."""
-    lacks = [name for name in NEEDED if shutil.which(name) is None] + (
-        ["root"] if os.geteuid() else []
-    )
-    if lacks:
-        sys.exit(f"failures: not there: {', '.join(lacks)}")
-    lab.end_in_order()
+    prepare("failures")
     found = {}
     if names:
         with open(path, encoding="utf-8") as file:
             found = {it["name"]: it for it in json.load(file)["labs"]}
     labs = [make() for make in LABS if not names or make.__name__ in names]
-
-    done = {}
-
-    def go_on(it):
-        done[it.name] = Recorder(it).run()
-
-    threads = [threading.Thread(target=go_on, args=(it,)) for it in labs]
-    for thread in threads:
-        thread.start()
-    for thread in threads:
-        thread.join()
-    if len(done) < len(labs):
-        sys.exit("failures: a lab did not come to its end")
+    done = side_by_side("failures", {it.name: FailureRecorder(it).run for it in labs})
     found.update(done)
     with open(path, "w", encoding="utf-8") as file:
         file.write(one_line_each({"frr": version(), "labs": [found[it.__name__] for it in LABS]}))

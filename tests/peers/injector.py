@@ -1,4 +1,5 @@
-"""A neighbour over UDP that describes a whole area and hands it over: a master of the exchange, which wants nothing itself (RFC 2328, section 10.8)."""
+"""A neighbour over UDP that describes a whole area and hands it over: a master of the exchange,
+which wants nothing itself (RFC 2328, section 10.8)."""
 import socket
 import struct
 import threading
@@ -20,7 +21,8 @@ def key_of(lsa):
 
 
 class Injector(threading.Thread):
-    """Speaks for the router of an address at the far end of a router's interface, until it is told to end."""
+    """Speaks for the router of an address at the far end of a router's interface, until it is told
+    to end."""
 
     def __init__(self, wire, router, address, lsas):
         super().__init__(daemon=True)
@@ -49,7 +51,7 @@ class Injector(threading.Thread):
 
     def begin(self):
         headers = [lsa[:LSA_HEADER] for lsa in self.lsas.values()]
-        self.parts = [headers[at:at + DESCRIBED] for at in range(0, len(headers), DESCRIBED)]
+        self.parts = [headers[at : at + DESCRIBED] for at in range(0, len(headers), DESCRIBED)]
         self.place, self.sequence = None, self.sequence + 1000
         self.describe()
 
@@ -59,7 +61,11 @@ class Injector(threading.Thread):
             # The other begins: as long as it has not taken us for the master it says this.
             if self.place is not None:
                 self.begin()
-        elif sequence == self.sequence and not flags & peer.MASTER and (self.place is None or self.place < len(self.parts) or flags & peer.MORE):
+        elif (
+            sequence == self.sequence
+            and not flags & peer.MASTER
+            and (self.place is None or self.place < len(self.parts) or flags & peer.MORE)
+        ):
             self.place = 0 if self.place is None else self.place + 1
             self.sequence += 1
             if self.place < len(self.parts) or flags & peer.MORE:
@@ -74,7 +80,7 @@ class Injector(threading.Thread):
         """Hands over what is asked for."""
         pack, size = [], 0
         for at in range(0, len(body) - 11, 12):
-            lsa = self.lsas.get(body[at:at + 12])
+            lsa = self.lsas.get(body[at : at + 12])
             if lsa is None:
                 continue
             if pack and size + len(lsa) > CARRIED:
@@ -89,10 +95,14 @@ class Injector(threading.Thread):
         """Acknowledges all that comes."""
         at, headers = 4, []
         for _ in range(struct.unpack_from(">I", body)[0]):
-            headers.append(body[at:at + LSA_HEADER])
+            headers.append(body[at : at + LSA_HEADER])
             at += struct.unpack_from(">H", body, at + 18)[0]
         for begin in range(0, len(headers), DESCRIBED):
-            self.send(peer.packet(ACKNOWLEDGMENT, self.router, b"".join(headers[begin:begin + DESCRIBED])))
+            self.send(
+                peer.packet(
+                    ACKNOWLEDGMENT, self.router, b"".join(headers[begin : begin + DESCRIBED])
+                )
+            )
 
     def take(self, packet):
         kind, body = packet[1], packet[HEADER:]
@@ -114,7 +124,9 @@ class Injector(threading.Thread):
             now = time.monotonic()
             if now >= self.next_hello:
                 self.next_hello = now + SECONDS_OF_A_HELLO
-                self.send(peer.hello(self.router, "255.255.255.252", [self.heard] if self.heard else []))
+                self.send(
+                    peer.hello(self.router, "255.255.255.252", [self.heard] if self.heard else [])
+                )
             if self.last and now >= self.next_repeat:
                 self.next_repeat = now + SECONDS_OF_A_REPEAT
                 self.send(self.last)
@@ -125,18 +137,22 @@ class Injector(threading.Thread):
 
 
 class Reader(Injector):
-    """A neighbour that has all LSAs described, and goes no further: the router's own LSAs do not change by it."""
+    """A neighbour that has all LSAs described, and goes no further: the router's own LSAs do not
+    change by it."""
 
     def __init__(self, wire, router, address, heard):
         super().__init__(wire, router, address, [])
         self.heard, self.headers, self.is_read = heard, [], False
 
     def take_description(self, body):
-        """Takes the headers of the slave, and asks on for more; that there is nothing more of ours it never says."""
+        """Takes the headers of the slave, and asks on for more; that there is nothing more of ours
+        it never says."""
         flags, sequence = body[3], struct.unpack_from(">I", body, 4)[0]
         if flags & peer.MASTER or sequence != self.sequence:
             return
-        self.headers += [body[at:at + LSA_HEADER] for at in range(8, len(body) - LSA_HEADER + 1, LSA_HEADER)]
+        self.headers += [
+            body[at : at + LSA_HEADER] for at in range(8, len(body) - LSA_HEADER + 1, LSA_HEADER)
+        ]
         if not flags & peer.MORE:
             self.is_read = self.is_over = True
             return
@@ -146,14 +162,23 @@ class Reader(Injector):
         self.send(self.last)
 
     def database(self, seconds):
-        """The instances that are described: type, Link State ID, Advertising Router, number and checksum; None where it took too long."""
+        """The instances that are described: type, Link State ID, Advertising Router, number and
+        checksum; None where it took too long."""
         self.start()
         self.join(seconds)
         self.is_over = True
         self.join()
         self.wire.close()
         fields = [struct.unpack(">HBBIIIHH", header) for header in self.headers]
-        return {(kind, dotted(state), dotted(router), number, checksum) for age, _, kind, state, router, number, checksum, _ in fields if age < MAX_AGE} if self.is_read else None
+        return (
+            {
+                (kind, dotted(state), dotted(router), number, checksum)
+                for age, _, kind, state, router, number, checksum, _ in fields
+                if age < MAX_AGE
+            }
+            if self.is_read
+            else None
+        )
 
 
 def dotted(number):

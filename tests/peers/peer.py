@@ -1,4 +1,5 @@
-"""Packets of OSPF version 2 (RFC 2328, appendix A.3), as a neighbour of a router that runs here would send them over UDP."""
+"""Packets of OSPF version 2 (RFC 2328, appendix A.3), as a neighbour of a router that runs here
+would send them over UDP."""
 import socket
 import struct
 
@@ -22,19 +23,25 @@ def checksum(data):
 
 def packet(kind, router, body, area="0.0.0.0", authentication=0):
     """A packet of this area with this AuType, which is 0 for null authentication."""
-    head = struct.pack(">BBHIIHH", 2, kind, 24 + len(body), number(router), number(area), 0, authentication)
+    head = struct.pack(
+        ">BBHIIHH", 2, kind, 24 + len(body), number(router), number(area), 0, authentication
+    )
     summed = checksum(head + body)
     return head[:12] + struct.pack(">H", summed) + head[14:] + bytes(8) + body
 
 
 def hello(router, mask, heard, interval=10, options=OPTIONS, **header_fields):
-    """A Hello with the intervals of section C.3's samples, or this HelloInterval, that has heard these routers."""
+    """A Hello with the intervals of section C.3's samples, or this HelloInterval, that has heard
+    these routers."""
     body = struct.pack(">IHBBIII", number(mask), interval, options, 1, 40, 0, 0)
-    return packet(HELLO, router, body + b"".join(socket.inet_aton(one) for one in heard), **header_fields)
+    return packet(
+        HELLO, router, body + b"".join(socket.inet_aton(one) for one in heard), **header_fields
+    )
 
 
 def digested(sent):
-    """A packet with cryptographic authentication (appendix D.4.3): AuType 2, no checksum, and a digest behind it that its length does not count."""
+    """A packet with cryptographic authentication (appendix D.4.3): AuType 2, no checksum, and a
+    digest behind it that its length does not count."""
     return sent[:12] + struct.pack(">HHHBBI", 0, 2, 0, 1, 16, 1) + sent[24:] + bytes(16)
 
 
@@ -60,7 +67,17 @@ def summed(lsa):
 
 def header(kind, link_state_id, router):
     """The header of an LSA, new, of the least length that a header allows, with some checksum."""
-    return struct.pack(">HBBIIIHH", 1, OPTIONS, kind, number(link_state_id), number(router), 0x80000001, AT_RANDOM, 36)
+    return struct.pack(
+        ">HBBIIIHH",
+        1,
+        OPTIONS,
+        kind,
+        number(link_state_id),
+        number(router),
+        0x80000001,
+        AT_RANDOM,
+        36,
+    )
 
 
 def frame(source, destination, sent):

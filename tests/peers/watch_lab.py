@@ -22,6 +22,9 @@ KILLED = 6
 LOOK = 0.1
 SECONDS_TO_SETTLE, SECONDS_AT_REST, SECONDS_AT_MOST = 1.0, 7, 90
 OWN = "10.9.9.9"
+# RxmtInterval at the neighbors of the watcher. Of two instances that come within MinLSArrival a
+# router drops the second (RFC 2328, section 13, step 5a), and gets it when it comes again.
+SECONDS_TO_REPEAT = 1
 
 
 class Watching(Ours):
@@ -127,6 +130,8 @@ class Stepping(Lab):
             self.ends[one, other] = [self.node(number).sides[-1] for number in (one, other)]
         self.watcher = self.add(Watching, "w", OWN)
         self.lan([self.node(1), self.node(4), self.watcher], priorities=(1, 1, 0))
+        for number in (1, 4):
+            self.node(number).sides[-1].retransmit = SECONDS_TO_REPEAT
 
     def node(self, number):
         return self.nodes[f"r{number}"]

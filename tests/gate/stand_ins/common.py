@@ -68,7 +68,7 @@ def until(is_so, what):
 def written(top, name, text, mode=0o644):
     path = os.path.join(top, name)
     os.makedirs(os.path.dirname(path), exist_ok=True)
-    with open(path, "w", encoding="ascii") as file:
+    with open(path, "w", encoding="utf-8") as file:
         file.write(text)
     os.chmod(path, mode)
     return path

@@ -2,9 +2,13 @@
 import contextlib
 import io
 import os
+import sys
 import tempfile
 
 from common import TOP, fail, in_a_folder, module_of, see, written
+
+# Where tools/trust finds its texts.
+sys.path.insert(0, os.path.join(TOP, "tools"))
 
 
 class Proved:
