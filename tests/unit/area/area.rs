@@ -71,6 +71,7 @@ fn link(
             retransmit: 5,
             transmit_delay: 3,
             mtu: 1500,
+            suppressed: false,
         },
         neighbours,
         delayed: Vec::new(alloc),

@@ -54,6 +54,7 @@ fn router_of(
             retransmit: 5,
             transmit_delay: 1,
             mtu: if mtu == 576 { 576 } else { 1500 },
+            suppressed: false,
         },
         neighbours: Neighbours::new(alloc),
         delayed: Vec::new(alloc),

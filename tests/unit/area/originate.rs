@@ -1,7 +1,9 @@
 //! The numbers and contents of own LSAs over an area, against sums that were computed elsewhere.
 
 use ospf_area::{Area, AreaLink, LinkSettings, PacketSource, Outputs};
-use ospf_base::{Addr, AreaId, Host, Instance, InterfaceKind, Kind, LsaKey, MAX_AGE, RouterId, is_mask};
+use ospf_base::{
+    Addr, AreaId, Instance, InterfaceKind, Kind, LsaKey, MAX_AGE, Prefix, RouterId, StubNetwork, is_mask,
+};
 use ospf_neighbour::iface::{Iface, IfaceSettings, IfaceState};
 use ospf_lsa::{LinkKind, Lsa, LsaView};
 use ospf_lsdb::Lsdb;
@@ -108,6 +110,7 @@ fn link(alloc: Global, own: End, state: IfaceState, other: Option<End>) -> Resul
         retransmit: 5,
         transmit_delay: 1,
         mtu: 1500,
+        suppressed: false,
     };
     if neighbours.all().len() > 1 {
         return Err("more than one neighbour".into());
@@ -143,7 +146,7 @@ fn area(alloc: Global, own: End, stub_router: bool, floor: i32, links: Vec<AreaL
         stub_router,
         passes_over: false,
         links,
-        hosts: Vec::new(alloc),
+        stubs: Vec::new(alloc),
         database: Lsdb::new(alloc),
         direct: Vec::new(alloc),
         numbering: Vec::new(alloc),
@@ -318,19 +321,23 @@ fn stub_routers(rt: HostRuntime) -> Result<(), Fail> {
     Ok(())
 }
 
-// 192.0.2.1 at no cost, and 192.0.2.7
-const HOSTS: [Host; 2] = [
-    Host { address: Addr(0xc000_0201), cost: 0 },
-    Host { address: Addr(0xc000_0207), cost: 300 },
-];
+fn stub(address: u32, length: u8, cost: u16) -> StubNetwork {
+    let prefix = Prefix { address: Addr(address), length };
+    StubNetwork { prefix, cost }
+}
 
-// 1.1.1.1, fully adjacent to 2.2.2.2 on the first link and alone on the second, at 10.0.0.5, with these hosts.
-fn one_with_hosts(alloc: Global, stub_router: bool, hosts: &[Host]) -> Result<Area, Fail> {
+// 192.0.2.1 at no cost, and 192.0.2.7
+fn hosts() -> [StubNetwork; 2] {
+    [stub(0xc000_0201, 32, 0), stub(0xc000_0207, 32, 300)]
+}
+
+// 1.1.1.1, fully adjacent to 2.2.2.2 on the first link and alone on the second, at 10.0.0.5, with these stub networks.
+fn one_with_stubs(alloc: Global, stub_router: bool, stubs: &[StubNetwork]) -> Result<Area, Fail> {
     let second = End { router: ONE.router, address: Addr(0x0a00_0005) };
     let mut links = links(alloc, ONE, IfaceState::PointToPoint, Some(TWO))?;
     links.push(link(alloc, second, IfaceState::Dr, None)?)?;
     let mut area = area(alloc, ONE, stub_router, FIRST, links);
-    area.hosts = Vec::from_slice(alloc, hosts)?;
+    area.stubs = Vec::from_slice(alloc, stubs)?;
     Ok(area)
 }
 
@@ -345,7 +352,7 @@ fn lists(area: &Area, expected: &[u8]) -> bool {
 #[test]
 fn hosts_behind_the_interfaces(rt: HostRuntime) -> Result<(), Fail> {
     let alloc = rt.alloc();
-    let mut area = one_with_hosts(alloc, false, &HOSTS)?;
+    let mut area = one_with_stubs(alloc, false, &hosts())?;
     assert!(rt; issues(&mut area, ROUTER_KEY, FIRST + 1, 0xfb12, alloc)?);
     let expected = [
         0u8, 0, 2, 1, 1, 1, 1, 1, 1, 1, 1, 1, 0x80, 0, 0, 2, 0xfb, 0x12, 0, 84, 0, 0, 0, 5, 2, 2, 2,
@@ -362,7 +369,7 @@ fn hosts_behind_the_interfaces(rt: HostRuntime) -> Result<(), Fail> {
 #[test]
 fn hosts_of_a_stub_router(rt: HostRuntime) -> Result<(), Fail> {
     let alloc = rt.alloc();
-    let mut area = one_with_hosts(alloc, true, &HOSTS)?;
+    let mut area = one_with_stubs(alloc, true, &hosts())?;
     assert!(rt; issues(&mut area, ROUTER_KEY, FIRST + 1, 0x47d0, alloc)?);
     let expected = [
         0u8, 0, 2, 1, 1, 1, 1, 1, 1, 1, 1, 1, 0x80, 0, 0, 2, 0x47, 0xd0, 0, 84, 0, 0, 0, 5, 2, 2, 2,
@@ -375,18 +382,36 @@ fn hosts_of_a_stub_router(rt: HostRuntime) -> Result<(), Fail> {
     Ok(())
 }
 
-// As many hosts as a router has at most: 192.0.2.1 at cost 1 to 192.0.2.32 at cost 32, behind two other links.
+// Networks of 24, 26 and no bits, each under its own mask.
 #[test]
-fn as_many_hosts_as_there_may_be(rt: HostRuntime) -> Result<(), Fail> {
+fn stub_networks_of_all_lengths(rt: HostRuntime) -> Result<(), Fail> {
+    let alloc = rt.alloc();
+    let stubs = [stub(0xc000_0200, 24, 7), stub(0xc633_6440, 26, 300), stub(0, 0, 1)];
+    let mut area = one_with_stubs(alloc, false, &stubs)?;
+    assert!(rt; issues(&mut area, ROUTER_KEY, FIRST + 1, 0xa3bd, alloc)?);
+    let expected = [
+        0u8, 0, 2, 1, 1, 1, 1, 1, 1, 1, 1, 1, 0x80, 0, 0, 2, 0xa3, 0xbd, 0, 96, 0, 0, 0, 6, 2, 2, 2,
+        2, 10, 0, 0, 1, 1, 0, 0, 10, 10, 0, 0, 0, 255, 255, 255, 252, 3, 0, 0, 10, 10, 0, 0, 4, 255,
+        255, 255, 252, 3, 0, 0, 10, 192, 0, 2, 0, 255, 255, 255, 0, 3, 0, 0, 7, 198, 51, 100, 64, 255,
+        255, 255, 192, 3, 0, 1, 44, 0, 0, 0, 0, 0, 0, 0, 0, 3, 0, 0, 1,
+    ];
+    assert!(rt; lists(&area, &expected));
+    assert!(rt; rests(&mut area, alloc)?);
+    Ok(())
+}
+
+// As many as a router has at most: 192.0.2.1 at cost 1 to 192.0.2.63 at cost 63, behind two other links.
+#[test]
+fn as_many_stub_networks_as_there_may_be(rt: HostRuntime) -> Result<(), Fail> {
     let alloc = rt.alloc();
     let mut area = one(alloc, false, FIRST, Some(TWO))?;
-    let mut hosts = Vec::new(alloc);
-    for n in 1..=32u16 {
-        hosts.push(Host { address: Addr(0xc000_0200 + u32::from(n)), cost: n })?;
+    let mut stubs = Vec::new(alloc);
+    for n in 1..=63u16 {
+        stubs.push(stub(0xc000_0200 + u32::from(n), 32, n))?;
     }
-    area.hosts = hosts;
-    assert!(rt; issues(&mut area, ROUTER_KEY, FIRST + 1, 0x1c73, alloc)?);
-    assert!(rt; has_size(&area, 432));
+    area.stubs = stubs;
+    assert!(rt; issues(&mut area, ROUTER_KEY, FIRST + 1, 0xec6f, alloc)?);
+    assert!(rt; has_size(&area, 804));
     assert!(rt; rests(&mut area, alloc)?);
     Ok(())
 }
@@ -398,21 +423,111 @@ fn has_size(area: &Area, size: usize) -> bool {
     }
 }
 
-// A copy that says another cost of a host than the router has is out of date, as is one that lists a host fewer.
+// A copy that says another cost or another length of a stub network than the router has is out of date, as is one that
+// lists one fewer.
 #[test]
-fn hosts_that_change(rt: HostRuntime) -> Result<(), Fail> {
+fn stub_networks_that_change(rt: HostRuntime) -> Result<(), Fail> {
     let alloc = rt.alloc();
-    let mut area = one_with_hosts(alloc, false, &HOSTS)?;
+    let mut area = one_with_stubs(alloc, false, &hosts())?;
     assert!(rt; issues_number(&mut area, FIRST + 1, alloc)?);
     area.tick = 5;
-    area.hosts[1].cost = 301;
+    area.stubs[1].cost = 301;
     assert!(rt; issues_number(&mut area, FIRST + 2, alloc)?);
     area.tick = 10;
-    area.hosts.truncate(1);
+    area.stubs.truncate(1);
     assert!(rt; issues_number(&mut area, FIRST + 3, alloc)?);
     area.tick = 15;
+    area.stubs[0].prefix = Prefix { address: Addr(0xc000_0200), length: 31 };
+    assert!(rt; issues_number(&mut area, FIRST + 4, alloc)?);
+    area.tick = 20;
     assert!(rt; rests(&mut area, alloc)?);
     Ok(())
+}
+
+// All links of a router, with their subnets suppressed.
+fn suppress(area: &mut Area) {
+    for link in &mut area.links {
+        link.settings.suppressed = true;
+    }
+}
+
+// A suppressed point-to-point link lists its neighbour alone. The broadcast link with no one on it is no transit-only
+// network, and lists its subnet all the same.
+#[test]
+fn suppressed_subnets(rt: HostRuntime) -> Result<(), Fail> {
+    let alloc = rt.alloc();
+    let mut area = one_with_stubs(alloc, false, &[])?;
+    suppress(&mut area);
+    assert!(rt; issues(&mut area, ROUTER_KEY, FIRST + 1, 0x39d0, alloc)?);
+    let expected = [
+        0u8, 0, 2, 1, 1, 1, 1, 1, 1, 1, 1, 1, 0x80, 0, 0, 2, 0x39, 0xd0, 0, 48, 0, 0, 0, 2, 2, 2, 2,
+        2, 10, 0, 0, 1, 1, 0, 0, 10, 10, 0, 0, 4, 255, 255, 255, 252, 3, 0, 0, 10,
+    ];
+    assert!(rt; lists(&area, &expected));
+    assert!(rt; rests(&mut area, alloc)?);
+    Ok(())
+}
+
+// With no neighbour a suppressed point-to-point link lists nothing, and the router still has a router-LSA.
+#[test]
+fn a_suppressed_link_alone(rt: HostRuntime) -> Result<(), Fail> {
+    let alloc = rt.alloc();
+    let mut area = one(alloc, false, FIRST, None)?;
+    suppress(&mut area);
+    assert!(rt; issues(&mut area, ROUTER_KEY, FIRST + 1, 0x3129, alloc)?);
+    assert!(rt; has_size(&area, 24));
+    assert!(rt; rests(&mut area, alloc)?);
+    Ok(())
+}
+
+// A copy that lists a subnet is out of date once the subnet is suppressed, and the other way round.
+#[test]
+fn subnets_that_become_suppressed(rt: HostRuntime) -> Result<(), Fail> {
+    let alloc = rt.alloc();
+    let mut area = one(alloc, false, FIRST, Some(TWO))?;
+    assert!(rt; issues_number(&mut area, FIRST + 1, alloc)?);
+    suppress(&mut area);
+    area.tick = 5;
+    assert!(rt; issues_number(&mut area, FIRST + 2, alloc)?);
+    assert!(rt; has_size(&area, 36));
+    area.links[0].settings.suppressed = false;
+    area.tick = 10;
+    assert!(rt; issues_number(&mut area, FIRST + 3, alloc)?);
+    assert!(rt; has_size(&area, 48));
+    Ok(())
+}
+
+// The network-LSA of 10.0.0.1, of 1.1.1.1 and 2.2.2.2, has the network's mask unless that is suppressed: then it has 32
+// ones, the checksum is another, and a copy under the mask is out of date.
+#[test]
+fn suppressed_networks(rt: HostRuntime) -> Result<(), Fail> {
+    let alloc = rt.alloc();
+    let links = links(alloc, ONE, IfaceState::Dr, Some(TWO))?;
+    let mut area = area(alloc, ONE, false, FIRST, links);
+    assert!(rt; issues_network(&mut area, FIRST + 1, 0x49f7, alloc)?);
+    assert!(rt; has_mask(&area, MASK));
+    suppress(&mut area);
+    area.tick = 5;
+    assert!(rt; issues(&mut area, NETWORK_KEY, FIRST + 2, 0x59e3, alloc)?);
+    assert!(rt; has_mask(&area, 0xffff_ffff));
+    assert!(rt; rests(&mut area, alloc)?);
+    Ok(())
+}
+
+// A step issues two LSAs, the second one the network-LSA of this number and sum.
+fn issues_network(area: &mut Area, number: i32, sum: u16, alloc: Global) -> Result<bool, Fail> {
+    let issued = step(area, alloc)?;
+    let instance = Instance { key: NETWORK_KEY, number, sum };
+    Ok(issued.len() == 2 && issued[1].is_same(&instance))
+}
+
+// The copy of the network-LSA has this mask, and both routers behind it.
+fn has_mask(area: &Area, mask: u32) -> bool {
+    let [a, b, c, d] = mask.to_be_bytes();
+    match area.database.get(&NETWORK_KEY) {
+        Some(copy) => copy.lsa().as_bytes()[20..] == [a, b, c, d, 1, 1, 1, 1, 2, 2, 2, 2],
+        None => false,
+    }
 }
 
 // The other end of the link.

@@ -96,6 +96,7 @@ fn link(alloc: Global, iface: Iface, neighbours: Neighbours) -> AreaLink {
             retransmit: 5,
             transmit_delay: 3,
             mtu: MTU,
+            suppressed: false,
         },
         neighbours,
         delayed: Vec::new(alloc),

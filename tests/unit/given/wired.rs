@@ -99,7 +99,7 @@ pub(crate) fn area_of(
         stub_router: false,
         passes_over: false,
         links,
-        hosts: Vec::new(alloc),
+        stubs: Vec::new(alloc),
         database: Lsdb::new(alloc),
         direct: Vec::new(alloc),
         numbering: Vec::new(alloc),

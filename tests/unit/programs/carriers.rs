@@ -2,7 +2,7 @@
 
 use super::made::{FIRST, FIRST_NUMBER, SECOND, THIRD, link, router_bytes, stub, to};
 use ospf_base::RouterId;
-use ospf_failures::{Carrier, FailuresForm, FailuresJob, FailuresStatus, Progress, failures_text};
+use ospf_failures::{Carrier, FailuresForm, FailuresJob, FailuresStatus, Progress, RouterFailures, failures_text};
 use ospf_files::Status;
 use ospf_lsa::{Link, LinkKind, Lsa};
 use std::alloc::{AllocGlobal, Global};
@@ -140,24 +140,24 @@ fn expect(
 
 // How many prefixes each failure changes at a root.
 fn at(root: RouterId, carrier: Carrier) -> FailuresJob {
-    FailuresJob::Root {
+    FailuresJob::Root(RouterFailures {
         root,
         each: false,
         strict: false,
         form: FailuresForm::Text,
         carrier,
-    }
+    })
 }
 
 // Which prefixes each failure changes at the first router.
 fn each(carrier: Carrier) -> FailuresJob {
-    FailuresJob::Root {
+    FailuresJob::Root(RouterFailures {
         root: FIRST,
         each: true,
         strict: false,
         form: FailuresForm::Text,
         carrier,
-    }
+    })
 }
 
 // How many prefixes each failure changes at all routers.
@@ -323,13 +323,13 @@ fn status_tells_of_what_the_carrier_cuts_off(rt: HostRuntime) -> Result<(), Fail
         (Carrier::Switch, FailuresStatus::Unmet, "", switch),
         (Carrier::Process, DONE, "1.1.1.1-2.2.2.2@10.0.0.0/30 cut 0 gone 1 cost 0 hops 0\n", process),
     ] {
-        let job = FailuresJob::Root {
+        let job = FailuresJob::Root(RouterFailures {
             root: SECOND,
             each: false,
             strict: true,
             form: FailuresForm::Text,
             carrier,
-        };
+        });
         let out = format!(in alloc; "{front}{out}")?;
         let wanted = Wanted {
             status,
@@ -360,13 +360,13 @@ fn no_cost_is_hidden_on_direct_cables(rt: HostRuntime) -> Result<(), Fail> {
     for (carrier, out, err) in
         [(Carrier::Direct, direct, ""), (Carrier::Switch, kept, said), (Carrier::Process, kept, said)]
     {
-        let job = FailuresJob::Root {
+        let job = FailuresJob::Root(RouterFailures {
             root: SECOND,
             each: false,
             strict: false,
             form: FailuresForm::Json,
             carrier,
-        };
+        });
         let wanted = Wanted {
             status: DONE,
             out,

@@ -1,7 +1,7 @@
 //! Configurations that are checked, by name.
 
 use super::failing::Failing;
-use ospf_check::{check_area_json, check_text};
+use ospf_check::{check_area_json, check_area_text, check_lines, check_text};
 use ospf_files::{NamedFile, Status, Telling};
 use std::alloc::{AllocError, Global};
 use std::test::Fail;
@@ -252,7 +252,7 @@ fn explains_refused_files(rt: HostRuntime) -> Result<(), Fail> {
     assert_eq!(rt; told.out.as_slice(), b"a.toml: ok\n".as_slice());
     assert_eq!(rt;
         told.err.as_slice(),
-        b"b.toml: C5 ZeroCost\n  interface 0: cost: 1 to 65535 wanted, 0 found\nc.toml: C1 NotToml\n  the file is not UTF-8\nd.toml: C2 Missing\n  area: a dotted string such as \"0.0.0.1\", wanted, none found\n  interface: 1 to 32 tables [[interface]] wanted, none found\n".as_slice()
+        b"b.toml: C5 ZeroCost\n  interface 0: cost: 1 to 65535 wanted, 0 found\nc.toml: C1 NotToml\n  the file is not UTF-8\nd.toml: C2 Missing\n  area: a dotted string such as \"0.0.0.1\", wanted, none found\n  interface: 1 to 32 tables [[interface]], not all passive, wanted, none found\n".as_slice()
     );
     Ok(())
 }
@@ -424,5 +424,293 @@ fn prints_no_json_where_a_file_is_refused(rt: HostRuntime) -> Result<(), Fail> {
     assert_eq!(rt; outcome.status, Status::Refused);
     assert!(rt; outcome.out.is_empty());
     assert_eq!(rt; outcome.err.as_slice(), b"b.toml: C5 ZeroCost\n".as_slice());
+    Ok(())
+}
+
+// What is printed in lines of JSON.
+fn lines_of(
+    alloc: Global,
+    files: &[(&str, Option<&[u8]>)],
+    how: Telling,
+    area: bool,
+) -> Result<Outcome, AllocError> {
+    let mut named_files = Vec::new(alloc);
+    for (name, bytes) in files {
+        named_files.push(named(alloc, name, *bytes)?)?;
+    }
+    let mut out = Vec::new(alloc);
+    let mut err = Vec::new(alloc);
+    let status = check_lines(alloc, &named_files, how, area, &mut out, &mut err);
+    Ok(Outcome { out, err, status })
+}
+
+// The line before those of one file, and of two.
+const HEAD: &str = "{\"input\":{\"files\":1},\"version\":2,\"warnings\":[]}\n";
+
+const HEAD_OF_TWO: &str = "{\"input\":{\"files\":2},\"version\":2,\"warnings\":[]}\n";
+
+// A fault, what has it, and what is printed of it in lines of JSON.
+struct Faulty {
+    name: &'static str,
+    text: &'static [u8],
+    faults: &'static str,
+    told: &'static str,
+}
+
+// A file for each fault of a file, and for each kind of place.
+static FAULTY: [Faulty; 12] = [
+    Faulty {
+        name: "C1 NotToml, in a line",
+        text: b"router_id = \"1.1.1.1\"\narea 7\n",
+        faults: "{\"code\":\"C1 NotToml\",\"host\":null,\"interface\":null,\"key\":null,\"line\":2,\"text\":\"line 2: not valid TOML\"}",
+        told: "C1 NotToml",
+    },
+    Faulty {
+        name: "C1 NotToml, no text",
+        text: b"\xff",
+        faults: "{\"code\":\"C1 NotToml\",\"host\":null,\"interface\":null,\"key\":null,\"line\":null,\"text\":\"the file is not UTF-8\"}",
+        told: "C1 NotToml",
+    },
+    Faulty {
+        name: "C2 Missing",
+        text: b"area = \"0.0.0.0\"\n\n[[interface]]\nkind = \"point-to-point\"\naddress = \"10.0.0.1/30\"\ncost = 10\n",
+        faults: "{\"code\":\"C2 Missing\",\"host\":null,\"interface\":null,\"key\":\"router_id\",\"line\":null,\"text\":\"router_id: a dotted string such as \\\"10.0.0.1\\\", not \\\"0.0.0.0\\\", wanted, none found\"}",
+        told: "C2 Missing",
+    },
+    Faulty {
+        name: "C2 Missing, at an interface",
+        text: b"router_id = \"1.1.1.1\"\narea = \"0.0.0.0\"\n\n[[interface]]\nkind = \"point-to-point\"\naddress = \"10.0.0.1/30\"\n",
+        faults: "{\"code\":\"C2 Missing\",\"host\":null,\"interface\":0,\"key\":\"cost\",\"line\":null,\"text\":\"interface 0: cost: 1 to 65535 wanted, none found\"}",
+        told: "C2 Missing",
+    },
+    Faulty {
+        name: "C3 Type",
+        text: b"router_id = \"1.1.1.1\"\narea = \"0.0.0.0\"\nstub_router = 1\n\n[[interface]]\nkind = \"point-to-point\"\naddress = \"10.0.0.1/30\"\ncost = 10\n",
+        faults: "{\"code\":\"C3 Type\",\"host\":null,\"interface\":null,\"key\":\"stub_router\",\"line\":null,\"text\":\"stub_router: true or false wanted, 1 found\"}",
+        told: "C3 Type",
+    },
+    Faulty {
+        name: "C4 Range",
+        text: b"router_id = \"1.1.1.1\"\narea = \"0.0.0.0\"\n\n[[interface]]\nkind = \"point-to-point\"\naddress = \"10.0.0.1/30\"\ncost = 10\nmtu = 100\n",
+        faults: "{\"code\":\"C4 Range\",\"host\":null,\"interface\":0,\"key\":\"mtu\",\"line\":null,\"text\":\"interface 0: mtu: 576 to 9000 wanted, 100 found\"}",
+        told: "C4 Range",
+    },
+    Faulty {
+        name: "C5 ZeroCost",
+        text: b"router_id = \"1.1.1.1\"\narea = \"0.0.0.0\"\n\n[[interface]]\nkind = \"point-to-point\"\naddress = \"10.0.0.1/30\"\ncost = 0\n",
+        faults: "{\"code\":\"C5 ZeroCost\",\"host\":null,\"interface\":0,\"key\":\"cost\",\"line\":null,\"text\":\"interface 0: cost: 1 to 65535 wanted, 0 found\"}",
+        told: "C5 ZeroCost",
+    },
+    Faulty {
+        name: "C6 SamePrefix",
+        text: b"router_id = \"1.1.1.1\"\narea = \"0.0.0.0\"\n\n[[interface]]\nkind = \"point-to-point\"\naddress = \"10.0.0.1/30\"\ncost = 10\n\n[[interface]]\nkind = \"point-to-point\"\naddress = \"10.0.0.2/30\"\ncost = 10\n",
+        faults: "{\"code\":\"C6 SamePrefix\",\"host\":null,\"interface\":1,\"key\":\"address\",\"line\":null,\"text\":\"interface 1: address: a prefix and an address that no earlier interface has wanted, \\\"10.0.0.2/30\\\" found\"}",
+        told: "C6 SamePrefix",
+    },
+    Faulty {
+        name: "C6 SamePrefix, at a host",
+        text: b"router_id = \"1.1.1.1\"\narea = \"0.0.0.0\"\n\n[[interface]]\nkind = \"point-to-point\"\naddress = \"10.0.0.1/30\"\ncost = 10\n\n[[host]]\naddress = \"192.0.2.1\"\ncost = 0\n\n[[host]]\naddress = \"192.0.2.1\"\ncost = 1\n",
+        faults: "{\"code\":\"C6 SamePrefix\",\"host\":1,\"interface\":null,\"key\":\"address\",\"line\":null,\"text\":\"host 1: address: an address that no interface and no earlier host has wanted, \\\"192.0.2.1\\\" found\"}",
+        told: "C6 SamePrefix",
+    },
+    Faulty {
+        name: "C7 DeadNotOverHello",
+        text: b"router_id = \"1.1.1.1\"\narea = \"0.0.0.0\"\n\n[[interface]]\nkind = \"point-to-point\"\naddress = \"10.0.0.1/30\"\ncost = 10\ndead = 10\n",
+        faults: "{\"code\":\"C7 DeadNotOverHello\",\"host\":null,\"interface\":0,\"key\":\"dead\",\"line\":null,\"text\":\"interface 0: dead: more than `hello` (defaults: dead 40, hello 10) wanted, 10 found\"}",
+        told: "C7 DeadNotOverHello",
+    },
+    Faulty {
+        name: "C8 Unknown",
+        text: b"router_id = \"1.1.1.1\"\narea = \"0.0.0.0\"\n\n[[interface]]\nkind = \"point-to-point\"\naddress = \"10.0.0.1/30\"\ncost = 10\n\"a b\" = 1\n",
+        faults: "{\"code\":\"C8 Unknown\",\"host\":null,\"interface\":0,\"key\":\"\\\"a b\\\"\",\"line\":null,\"text\":\"interface 0: \\\"a b\\\": a known key wanted, 1 found\"}",
+        told: "C8 Unknown",
+    },
+    Faulty {
+        name: "three faults",
+        text: b"router_id = \"1.1.1.1\"\narea = \"0.0.0.0\"\n\n[[interface]]\nkind = \"point-to-point\"\naddress = \"10.0.0.1/30\"\ncost = 0\nmtu = 100\ncolour = \"red\"\n",
+        faults: "{\"code\":\"C4 Range\",\"host\":null,\"interface\":0,\"key\":\"mtu\",\"line\":null,\"text\":\"interface 0: mtu: 576 to 9000 wanted, 100 found\"},\
+            {\"code\":\"C5 ZeroCost\",\"host\":null,\"interface\":0,\"key\":\"cost\",\"line\":null,\"text\":\"interface 0: cost: 1 to 65535 wanted, 0 found\"},\
+            {\"code\":\"C8 Unknown\",\"host\":null,\"interface\":0,\"key\":\"colour\",\"line\":null,\"text\":\"interface 0: colour: a known key wanted, \\\"red\\\" found\"}",
+        told: "C4 Range",
+    },
+];
+
+#[test]
+fn prints_each_fault_of_a_file_in_lines(rt: HostRuntime) -> Result<(), Fail> {
+    for faulty in &FAULTY {
+        let name = faulty.name;
+        for area in [false, true] {
+            let file = ("a.toml", Some(faulty.text));
+            let outcome = lines_of(rt.alloc(), &[file], Telling::Verdict, area)?;
+            let wanted = format!(in rt.alloc();
+                "{HEAD}{{\"faults\":[{}],\"file\":\"a.toml\",\"warnings\":[]}}\n", faulty.faults
+            )?;
+            let told = format!(in rt.alloc(); "a.toml: {}\n", faulty.told)?;
+            assert_eq!(rt; outcome.status, Status::Refused, "{name}");
+            assert_eq!(rt; str::from_utf8(&outcome.out)?, wanted.as_str(), "{name}");
+            assert_eq!(rt; str::from_utf8(&outcome.err)?, told.as_str(), "{name}");
+        }
+    }
+    Ok(())
+}
+
+#[test]
+fn prints_an_accepted_file_in_lines(rt: HostRuntime) -> Result<(), Fail> {
+    let good = Some(GOOD.as_bytes());
+    let outcome = lines_of(rt.alloc(), &[("a \"b\".toml", good)], Telling::Verdict, false)?;
+    assert_eq!(rt; outcome.status, Status::Done);
+    let wanted = format!(in rt.alloc();
+        "{HEAD}{{\"faults\":[],\"file\":\"a \\\"b\\\".toml\",\"warnings\":[]}}\n"
+    )?;
+    assert_eq!(rt; str::from_utf8(&outcome.out)?, wanted.as_str());
+    assert!(rt; outcome.err.is_empty());
+    Ok(())
+}
+
+// A configuration with both warnings, at two interfaces, and one that is right.
+const RISKY: &str =
+    "router_id = \"1.1.1.1\"\narea = \"0.0.0.0\"\nother_lsas = \"pass over\"\n\n[[interface]]\nkind = \"point-to-point\"\naddress = \"10.0.0.1/30\"\ncost = 10\ntransmit_delay = 901\n\n[[interface]]\nkind = \"point-to-point\"\naddress = \"10.0.1.1/30\"\ncost = 10\ntransmit_delay = 900\n\n[[interface]]\nkind = \"broadcast\"\naddress = \"10.0.2.1/24\"\ncost = 10\npriority = 7\n";
+
+#[test]
+fn prints_warnings_in_lines(rt: HostRuntime) -> Result<(), Fail> {
+    let outcome = lines_of(
+        rt.alloc(),
+        &[("a.toml", Some(RISKY.as_bytes()))],
+        Telling::Verdict,
+        false,
+    )?;
+    assert_eq!(rt; outcome.status, Status::Done);
+    let wanted = format!(in rt.alloc();
+        "{HEAD}{{\"faults\":[],\"file\":\"a.toml\",\"warnings\":[\
+        {{\"interface\":0,\"key\":\"transmit_delay\",\"text\":\"interface 0: transmit_delay 901: above 900, the acknowledgment of an LSA may count for another instance, and the LSA is retransmitted without end; at both ends of a point-to-point link, or at one interface of a broadcast network with others, neighbors may never reach Full (RFC 2328, sections 13.1 and 13.3)\",\"value\":901}},\
+        {{\"interface\":2,\"key\":\"priority\",\"text\":\"interface 2: priority 7: as Designated Router it would not flood the LSAs that it passes over (other_lsas), so the other routers would get them late or not at all; set priority = 0 to keep it out of the election (RFC 2328, section 13.3)\",\"value\":7}}]}}\n"
+    )?;
+    assert_eq!(rt; str::from_utf8(&outcome.out)?, wanted.as_str());
+    assert!(rt; outcome.err.is_empty());
+    Ok(())
+}
+
+#[test]
+fn prints_an_area_in_lines(rt: HostRuntime) -> Result<(), Fail> {
+    let files = [("a.toml", Some(GOOD.as_bytes())), ("b.toml", Some(HASTY.as_bytes()))];
+    let of_files = "{\"faults\":[],\"file\":\"a.toml\",\"warnings\":[]}\n\
+        {\"faults\":[],\"file\":\"b.toml\",\"warnings\":[]}\n";
+    let alone = lines_of(rt.alloc(), &files, Telling::Verdict, false)?;
+    let wanted = format!(in rt.alloc(); "{HEAD_OF_TWO}{of_files}")?;
+    assert_eq!(rt; alone.status, Status::Done);
+    assert_eq!(rt; str::from_utf8(&alone.out)?, wanted.as_str());
+    let outcome = lines_of(rt.alloc(), &files, Telling::AllExplained, true)?;
+    assert_eq!(rt; outcome.status, Status::Refused);
+    let wanted = format!(in rt.alloc();
+        "{HEAD_OF_TWO}{of_files}\
+        {{\"code\":\"A5 Hello\",\"here\":{{\"file\":\"b.toml\",\"interface\":0,\"key\":\"hello\",\"value\":5}},\
+        \"meaning\":\"each drops the other's Hellos: they never become neighbors (section 10.5)\",\"note\":false,\
+        \"other\":{{\"file\":\"a.toml\",\"interface\":0,\"key\":\"hello\",\"value\":10}}}}\n\
+        {{\"code\":\"A18 Partitioned\",\"here\":{{\"file\":\"b.toml\",\"interface\":null,\"key\":\"router_id\",\"value\":\"2.2.2.2\"}},\
+        \"meaning\":\"the area is partitioned: over these networks no route leads there\",\"note\":false,\
+        \"other\":{{\"file\":\"a.toml\",\"interface\":null,\"key\":\"router_id\",\"value\":\"1.1.1.1\"}}}}\n"
+    )?;
+    assert_eq!(rt; str::from_utf8(&outcome.out)?, wanted.as_str());
+    assert!(rt; outcome.err.is_empty());
+    let one = lines_of(rt.alloc(), &files[..1], Telling::Verdict, true)?;
+    assert_eq!(rt; one.status, Status::Done);
+    assert!(rt; str::from_utf8(&one.out)?.ends_with(
+        "{\"code\":\"A13 NoNeighbor\",\"here\":{\"file\":\"a.toml\",\"interface\":0,\"key\":\"address\",\"value\":\"10.0.0.1/30\"},\
+        \"meaning\":\"no other interface is on this network: it is a stub\",\"note\":true,\"other\":null}\n"
+    ));
+    Ok(())
+}
+
+#[test]
+fn prints_no_area_in_lines_where_a_file_is_refused(rt: HostRuntime) -> Result<(), Fail> {
+    let files = [("a.toml", Some(HASTY.as_bytes())), ("b.toml", Some(BAD.as_bytes()))];
+    for (how, more) in [
+        (Telling::Verdict, ""),
+        (Telling::Explained, "  interface 0: cost: 1 to 65535 wanted, 0 found\n"),
+    ] {
+        let outcome = lines_of(rt.alloc(), &files, how, true)?;
+        let wanted = format!(in rt.alloc();
+            "{HEAD_OF_TWO}{{\"faults\":[],\"file\":\"a.toml\",\"warnings\":[]}}\n\
+            {{\"faults\":[{}],\"file\":\"b.toml\",\"warnings\":[]}}\n", FAULTY[6].faults
+        )?;
+        let told = format!(in rt.alloc(); "b.toml: C5 ZeroCost\n{more}")?;
+        assert_eq!(rt; outcome.status, Status::Refused);
+        assert_eq!(rt; str::from_utf8(&outcome.out)?, wanted.as_str());
+        assert_eq!(rt; str::from_utf8(&outcome.err)?, told.as_str());
+    }
+    Ok(())
+}
+
+#[test]
+fn prints_no_lines_where_a_file_is_not_read(rt: HostRuntime) -> Result<(), Fail> {
+    let files = [
+        ("a.toml", Some(b"\xff".as_slice())),
+        ("missing.toml", None),
+        ("b.toml", Some(GOOD.as_bytes())),
+    ];
+    for area in [false, true] {
+        let outcome = lines_of(rt.alloc(), &files, Telling::Verdict, area)?;
+        assert_eq!(rt; outcome.status, Status::Stream);
+        assert!(rt; outcome.out.is_empty());
+        assert_eq!(rt;
+            outcome.err.as_slice(),
+            b"a.toml: C1 NotToml\nmissing.toml: not read\n".as_slice()
+        );
+    }
+    Ok(())
+}
+
+// The statuses and what standard error gets are those of the same check without JSON.
+#[test]
+fn ends_in_lines_as_without(rt: HostRuntime) -> Result<(), Fail> {
+    let alloc = rt.alloc();
+    let hows = [Telling::Verdict, Telling::Explained, Telling::AllExplained];
+    for case in &CASES {
+        let files = [named(alloc, "a.toml", Some(case.text.as_bytes()))?];
+        for how in hows {
+            let (mut plain, mut told) = (Vec::new(alloc), Vec::new(alloc));
+            let (mut lines, mut said) = (Vec::new(alloc), Vec::new(alloc));
+            let status = check_text(alloc, &files, how, &mut plain, &mut told);
+            let other = check_lines(alloc, &files, how, false, &mut lines, &mut said);
+            assert_eq!(rt; other, status, "{}", case.name);
+            assert!(rt; said.as_slice() == told.as_slice(), "{}", case.name);
+        }
+    }
+    for other in [HASTY, MUTE[1], BAD, GOOD] {
+        let files = [
+            named(alloc, "a.toml", Some(GOOD.as_bytes()))?,
+            named(alloc, "b.toml", Some(other.as_bytes()))?,
+        ];
+        let (mut out, mut err) = (Vec::new(alloc), Vec::new(alloc));
+        let (mut lines, mut said) = (Vec::new(alloc), Vec::new(alloc));
+        let status = check_area_text(alloc, &files, Telling::Verdict, &mut out, &mut err);
+        let in_lines =
+            check_lines(alloc, &files, Telling::Verdict, true, &mut lines, &mut said);
+        assert_eq!(rt; in_lines, status);
+    }
+    Ok(())
+}
+
+#[test]
+fn tells_of_failed_writes_of_lines(rt: HostRuntime) -> Result<(), Fail> {
+    let alloc = rt.alloc();
+    for (text, status) in [(GOOD, Status::Done), (BAD, Status::Refused)] {
+        let files = [named(alloc, "a.toml", Some(text.as_bytes()))?];
+        for left in 0..2 {
+            let mut out = Failing { left };
+            let mut err = Failing { left: 20 };
+            let failed = check_lines(alloc, &files, Telling::Verdict, false, &mut out, &mut err);
+            assert_eq!(rt; failed, Status::Stream, "{left}");
+        }
+        let mut out = Failing { left: 20 };
+        let mut err = Failing { left: 20 };
+        let written = check_lines(alloc, &files, Telling::Verdict, false, &mut out, &mut err);
+        assert_eq!(rt; written, status);
+    }
+    let files = [named(alloc, "a.toml", Some(BAD.as_bytes()))?];
+    let (mut out, mut err) = (Vec::new(alloc), Failing { left: 0 });
+    let failed = check_lines(alloc, &files, Telling::Verdict, false, &mut out, &mut err);
+    assert_eq!(rt; failed, Status::Stream);
+    assert!(rt; out.is_empty());
     Ok(())
 }

@@ -512,7 +512,7 @@ fn explains_the_top(rt: HostRuntime) -> Result<(), Fail> {
     let wanted =
         "router_id: a dotted string such as \"10.0.0.1\", not \"0.0.0.0\", wanted, none found\n\
         area: a dotted string such as \"0.0.0.1\", wanted, none found\n\
-        interface: 1 to 32 tables [[interface]] wanted, none found\n";
+        interface: 1 to 32 tables [[interface]], not all passive, wanted, none found\n";
     assert_eq!(rt; told.as_str(), wanted);
     Ok(())
 }
@@ -559,13 +559,15 @@ fn hosts_in_order(rt: HostRuntime) -> Result<(), Fail> {
     let text = joined(rt.alloc(), TOP, INTERFACE, two)?;
     let config = Config::from_text(rt.alloc(), text.as_str())?;
     assert_eq!(rt; config.interfaces.len(), 1);
-    assert_eq!(rt; config.hosts.len(), 2);
-    assert_eq!(rt; config.hosts[0].address, Addr(0xc000_0201));
-    assert_eq!(rt; config.hosts[0].cost, 0);
-    assert_eq!(rt; config.hosts[1].address, Addr(0x0a00_0002));
-    assert_eq!(rt; config.hosts[1].cost, 65535);
+    assert_eq!(rt; config.stubs.len(), 2);
+    assert_eq!(rt; config.stubs[0].prefix.address, Addr(0xc000_0201));
+    assert_eq!(rt; config.stubs[0].prefix.length, 32);
+    assert_eq!(rt; config.stubs[0].cost, 0);
+    assert_eq!(rt; config.stubs[1].prefix.address, Addr(0x0a00_0002));
+    assert_eq!(rt; config.stubs[1].prefix.length, 32);
+    assert_eq!(rt; config.stubs[1].cost, 65535);
     let without = joined(rt.alloc(), TOP, INTERFACE, "")?;
-    assert!(rt; Config::from_text(rt.alloc(), without.as_str())?.hosts.is_empty());
+    assert!(rt; Config::from_text(rt.alloc(), without.as_str())?.stubs.is_empty());
     Ok(())
 }
 
@@ -663,6 +665,149 @@ fn counts_of_hosts(rt: HostRuntime) -> Result<(), Fail> {
     Ok(())
 }
 
+// An interface of this address and cost, with further lines.
+fn interface(alloc: Global, address: &str, cost: u16, more: &str) -> Result<String, ConfigFault> {
+    let text = format!(in alloc; "[[interface]]\nkind = \"point-to-point\"\naddress = \"{address}\"\ncost = {cost}\n{more}")?;
+    Ok(text)
+}
+
+// So many interfaces, of which so many behind the first ones are passive.
+fn passive_behind(alloc: Global, count: u8, passive: u8) -> Result<String, ConfigFault> {
+    let mut text = String::new(alloc);
+    for i in 0..count {
+        let address = format!(in alloc; "10.{i}.1.1/24")?;
+        let flag = if i + passive < count { "" } else { "passive = true\n" };
+        let one = interface(alloc, address.as_str(), 1, flag)?;
+        text.push_str(one.as_str())?;
+    }
+    Ok(text)
+}
+
+// The networks of the passive interfaces in order, then the hosts in order; a link's number counts
+// the other interfaces alone.
+#[test]
+fn passive_interfaces_in_order(rt: HostRuntime) -> Result<(), Fail> {
+    let alloc = rt.alloc();
+    let host = "[[host]]\naddress = \"192.0.2.1\"\ncost = 3\n";
+    let first = interface(alloc, "10.1.2.3/24", 7, "passive = true\n")?;
+    let second = interface(alloc, "10.0.0.1/30", 5, "passive = false\n")?;
+    let third = interface(alloc, "172.16.255.1/12", 65535, "passive = true\nprefix_suppression = true\n")?;
+    let fourth = interface(alloc, "10.0.0.5/30", 9, "prefix_suppression = true\n")?;
+    let early = joined(alloc, TOP, first.as_str(), second.as_str())?;
+    let late = joined(alloc, third.as_str(), host, fourth.as_str())?;
+    let text = joined(alloc, early.as_str(), late.as_str(), "")?;
+    let config = Config::from_text(alloc, text.as_str())?;
+    assert_eq!(rt; config.interfaces.len(), 2);
+    assert_eq!(rt; config.interfaces[0].address.address, Addr(0x0a00_0001));
+    assert!(rt; !config.interfaces[0].prefix_suppression);
+    assert_eq!(rt; config.interfaces[1].address.address, Addr(0x0a00_0005));
+    assert!(rt; config.interfaces[1].prefix_suppression);
+    assert_eq!(rt; config.stubs.len(), 3);
+    assert_eq!(rt; config.stubs[0].prefix.address, Addr(0x0a01_0200));
+    assert_eq!(rt; config.stubs[0].prefix.length, 24);
+    assert_eq!(rt; config.stubs[0].cost, 7);
+    assert_eq!(rt; config.stubs[1].prefix.address, Addr(0xac10_0000));
+    assert_eq!(rt; config.stubs[1].prefix.length, 12);
+    assert_eq!(rt; config.stubs[1].cost, 65535);
+    assert_eq!(rt; config.stubs[2].prefix.address, Addr(0xc000_0201));
+    assert_eq!(rt; config.stubs[2].prefix.length, 32);
+    assert_eq!(rt; config.stubs[2].cost, 3);
+    Ok(())
+}
+
+#[test]
+fn most_passive_interfaces(rt: HostRuntime) -> Result<(), Fail> {
+    let alloc = rt.alloc();
+    let interfaces = passive_behind(alloc, 32, 31)?;
+    let hosts = hosts(alloc, 32)?;
+    let text = joined(alloc, TOP, interfaces.as_str(), hosts.as_str())?;
+    let config = Config::from_text(alloc, text.as_str())?;
+    assert_eq!(rt; config.interfaces.len(), 1);
+    assert_eq!(rt; config.stubs.len(), 63);
+    assert_eq!(rt; config.stubs[30].prefix.address, Addr(0x0a1f_0100));
+    assert_eq!(rt; config.stubs[31].prefix.address, Addr(0x0a09_0000));
+    Ok(())
+}
+
+// The fault of a configuration of an interface that is not passive and of one with these lines.
+fn beside(alloc: Global, address: &str, more: &str) -> Result<Option<ConfigFault>, ConfigFault> {
+    let second = interface(alloc, address, 1, more)?;
+    fault_of(alloc, TOP, INTERFACE, second.as_str())
+}
+
+#[test]
+fn passive_interfaces_have_faults_too(rt: HostRuntime) -> Result<(), Fail> {
+    let same = Some(ConfigFault::SamePrefix);
+    let wrong = Some(ConfigFault::Type);
+    let range = Some(ConfigFault::Range);
+    let cases = [
+        ("10.0.1.1/24", "passive = true\n", None, "a passive interface"),
+        ("10.0.1.1/24", "passive = false\n", None, "one that is not"),
+        ("10.0.1.1/24", "passive = 1\n", wrong, "a number"),
+        ("10.0.1.1/24", "passive = \"true\"\n", wrong, "a text"),
+        ("10.0.1.1/24", "prefix_suppression = true\n", None, "a suppressed prefix"),
+        ("10.0.1.1/24", "prefix_suppression = 1\n", wrong, "suppression by a number"),
+        ("10.0.1.1/24", "passive = true\nprefix_suppression = 0\n", wrong, "and at a passive one"),
+        ("10.0.1.0/24", "passive = true\n", range, "an address that is the network's"),
+        ("10.0.1.1/32", "passive = true\n", range, "a passive interface of 32 bits"),
+        ("10.0.1.1/24", "passive = true\nmtu = 9001\n", range, "an MTU out of range"),
+        (
+            "10.0.1.1/24",
+            "passive = true\ndead = 10\n",
+            Some(ConfigFault::DeadNotOverHello),
+            "dead with its next Hello",
+        ),
+        ("10.0.1.1/24", "passive = true\nmetric = 1\n", Some(ConfigFault::Unknown), "an unknown key"),
+        ("10.0.0.1/24", "passive = true\n", same, "the address of the other interface"),
+        ("10.0.0.2/30", "passive = true\n", same, "its prefix"),
+        (
+            "10.0.1.1/24",
+            "passive = true\n[[host]]\naddress = \"10.0.1.1\"\ncost = 0\n",
+            same,
+            "a host at its address",
+        ),
+        (
+            "10.0.1.1/24",
+            "passive = true\n[[host]]\naddress = \"10.0.1.2\"\ncost = 0\n",
+            None,
+            "a host in its prefix",
+        ),
+    ];
+    for (address, more, fault, name) in cases {
+        assert_eq!(rt; beside(rt.alloc(), address, more)?, fault, "{name}");
+    }
+    Ok(())
+}
+
+#[test]
+fn one_interface_is_not_passive(rt: HostRuntime) -> Result<(), Fail> {
+    let alloc = rt.alloc();
+    let range = Some(ConfigFault::Range);
+    let cases: [(u8, u8, Option<ConfigFault>); 7] = [
+        (1, 0, None),
+        (1, 1, range),
+        (2, 1, None),
+        (2, 2, range),
+        (32, 31, None),
+        (32, 32, range),
+        (33, 32, range),
+    ];
+    for (count, passive, fault) in cases {
+        let interfaces = passive_behind(alloc, count, passive)?;
+        let found = fault_of(alloc, TOP, interfaces.as_str(), "")?;
+        assert_eq!(rt; found, fault, "{passive} of {count}");
+    }
+    let alone = passive_behind(alloc, 1, 1)?;
+    let told = explained(alloc, TOP, alone.as_str(), "")?;
+    assert_eq!(rt; told.as_str(), "interface: 1 to 32 tables [[interface]], not all passive, wanted, a list of 1 found\n");
+    let wrong = interface(alloc, "10.0.1.1/24", 1, "passive = 1\nprefix_suppression = \"no\"\n")?;
+    let told = explained(alloc, TOP, INTERFACE, wrong.as_str())?;
+    let wanted = "interface 1: passive: true or false wanted, 1 found\n\
+        interface 1: prefix_suppression: true or false wanted, \"no\" found\n";
+    assert_eq!(rt; told.as_str(), wanted);
+    Ok(())
+}
+
 // A configuration of one interface: these lines at the top, its kind and its address.
 fn of_31_bits(
     alloc: Global,
@@ -735,7 +880,7 @@ fn explains_hosts_and_31_bits(rt: HostRuntime) -> Result<(), Fail> {
         host: at most 32 tables [[host]] wanted, 5 found\n";
     assert_eq!(rt; told.as_str(), wanted);
     let told = explained(alloc, TOP, OTHER, "\"10.0.0.1/31\"\ncost = 1\n")?;
-    let wanted = "interface 0: address: a host address and prefix length, 1 to 30, such as \"10.0.0.1/30\", wanted, \"10.0.0.1/31\" found\n";
+    let wanted = "interface 0: address: a host address and prefix length, 1 to 30 (31 with rfc3021), such as \"10.0.0.1/30\", wanted, \"10.0.0.1/31\" found\n";
     assert_eq!(rt; told.as_str(), wanted);
     Ok(())
 }

@@ -3,7 +3,7 @@
 use super::failing::Failing;
 use super::made::{FIRST, FIRST_NUMBER, SECOND, THIRD, link, stub, to};
 use ospf_base::{Age, MAX_AGE, RouterId};
-use ospf_diff::{DiffJob, DiffNames, diff_text};
+use ospf_change::diff::{DiffJob, DiffNames, diff_text};
 use ospf_lsa::{Link, LinkKind, Lsa};
 use std::alloc::{AllocGlobal, Global};
 use std::process::Abort;

@@ -3,7 +3,7 @@
 use super::failing::Failing;
 use super::made::{FIRST, FIRST_NUMBER, SECOND, THIRD, link, router_bytes, stub, to};
 use ospf_base::{Addr, Age, Prefix, RouterId};
-use ospf_edit::{Change, EditJob, apply, edit_text};
+use ospf_change::edit::{Change, EditJob, apply, edit_text};
 use ospf_lsa::{Link, LinkKind, Listing, Lsa, LsaView};
 use ospf_whatif::{AreaFailure, WithoutFault, without};
 use std::alloc::Global;
@@ -361,5 +361,24 @@ fn the_subnet_of_a_link_is_hinted(rt: HostRuntime) -> Result<(), Fail> {
         let lines = format!(in alloc; "{word}: not in this area\n{hint}\n")?;
         assert_eq!(rt; refused.err.as_slice(), lines.as_bytes(), "{word}");
     }
+    Ok(())
+}
+
+// A LAN of the second router alone goes down by its name; its prefix alone is hinted.
+#[test]
+fn an_interface_to_a_stub_network_goes_down(rt: HostRuntime) -> Result<(), Fail> {
+    let alloc = rt.alloc();
+    let lan = stub(0xc0a8_0700, 0xffff_ff00, 5);
+    let [a, b, c, d] = second(10, 20, 10, 5);
+    let one = listing(alloc, &first(10, 20, 10), &[a, b, c, d, lan], &third(5, 4))?;
+    let input = lines(alloc, &one)?;
+    let down = printed(alloc, &input, &["2.2.2.2@192.168.7.0/24"], &[], &[])?;
+    let left = listing(alloc, &first(10, 20, 10), &second(10, 20, 10, 5), &third(5, 4))?;
+    assert_eq!(rt; down.status, 0);
+    assert_eq!(rt; down.out.as_slice(), lines(alloc, &left)?.as_bytes());
+    let short = printed(alloc, &input, &["192.168.7.0/24"], &[], &[])?;
+    assert_eq!(rt; short.status, 2);
+    let hint = "192.168.7.0/24: not in this area\n  did you mean 2.2.2.2@192.168.7.0/24?\n";
+    assert_eq!(rt; short.err.as_slice(), hint.as_bytes());
     Ok(())
 }

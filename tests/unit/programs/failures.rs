@@ -4,8 +4,9 @@ use super::failing::Failing;
 use super::made::{FIRST, FIRST_NUMBER, SECOND, THIRD, link, router_bytes, stub, to};
 use super::program::Nobody;
 use ospf_base::{Addr, RouterId};
-use ospf_failures::{Carrier, FailuresForm, FailuresJob, FailuresStatus, Progress, failures_text};
+use ospf_failures::{Carrier, FailuresForm, FailuresJob, FailuresStatus, Progress, RouterFailures, failures_text};
 use ospf_files::Status;
+use ospf_harm::failures_report;
 use ospf_lsa::{Link, LinkKind, Listing, Lsa};
 use ospf_table::find_failure;
 use ospf_whatif::{AreaFailure, single_failures};
@@ -208,13 +209,13 @@ impl<'a> Case<'a> {
 }
 
 fn expect(rt: &(impl Abort + AllocGlobal + Threads + Sync), alloc: Global, case: &Case<'_>) -> Result<(), Fail> {
-    let job = FailuresJob::Root {
+    let job = FailuresJob::Root(RouterFailures {
         root: case.root,
         each: case.each,
         strict: case.strict,
         form: FailuresForm::Text,
         carrier: Carrier::Process,
-    };
+    });
     expect_of(rt, alloc, &job, case)
 }
 
@@ -230,6 +231,27 @@ fn expect_of(
     assert_eq!(rt; str::from_utf8(&out)?, case.out);
     assert_eq!(rt; str::from_utf8(&err)?, case.err);
     assert_eq!(rt; status, case.status);
+    if let FailuresJob::Root(asked) = job {
+        expect_in_turn(rt, alloc, asked, case)?;
+    }
+    Ok(())
+}
+
+// What is wanted of the same without threads.
+fn expect_in_turn(
+    rt: &(impl Abort + AllocGlobal),
+    alloc: Global,
+    asked: &RouterFailures,
+    case: &Case<'_>,
+) -> Result<(), Fail> {
+    match failures_report(alloc, asked, case.input.as_bytes()) {
+        Ok(report) => {
+            assert_eq!(rt; report.text.as_str(), case.out);
+            assert_eq!(rt; report.warnings.as_str(), case.err);
+            assert_eq!(rt; report.status, case.status.code());
+        }
+        Err(failure) => assert_eq!(rt; failure.status().code(), case.status.code()),
+    }
     Ok(())
 }
 
@@ -619,13 +641,13 @@ fn expect_json(
     each: bool,
     out: &str,
 ) -> Result<(), Fail> {
-    let job = FailuresJob::Root {
+    let job = FailuresJob::Root(RouterFailures {
         root: FIRST,
         each,
         strict: true,
         form: FailuresForm::Json,
         carrier: Carrier::Process,
-    };
+    });
     expect_all(rt, alloc, lsas, job, DONE, out)
 }
 
@@ -683,13 +705,13 @@ fn cost_of_a_stub_router_left_alone_is_unknown(rt: HostRuntime) -> Result<(), Fa
         {\"cost\":0,\"cut\":0,\"failure\":\"1.1.1.1\",\"gone\":0,\"hops\":0,\"kind\":\"router\",\
         \"unknown_costs\":[\"2.2.2.2@10.1.0.2\"]}]\n";
     for (form, out) in [(FailuresForm::Text, text), (FailuresForm::Json, json)] {
-        let job = FailuresJob::Root {
+        let job = FailuresJob::Root(RouterFailures {
             root: SECOND,
             each: false,
             strict: false,
             form,
             carrier: Carrier::Process,
-        };
+        });
         expect_of(&rt, alloc, &job, &Case::over(&input, DONE, out, err))?;
     }
     Ok(())
@@ -753,13 +775,13 @@ fn failures_are_told_as_json_of_version_two(rt: HostRuntime) -> Result<(), Fail>
         {\"cost\":0,\"cut\":0,\"failure\":\"2.2.2.2\",\"gone\":1,\"hops\":0,\"kind\":\"router\",\"lost\":0,\
         \"network\":null,\"own\":1,\"rerouted\":0,\"routers\":[\"2.2.2.2\"],\"subnet\":null,\"unknown_costs\":[],\"worst_rise\":0}\n",
     )?;
-    let job = FailuresJob::Root {
+    let job = FailuresJob::Root(RouterFailures {
         root: FIRST,
         each: false,
         strict: true,
         form: FailuresForm::JsonLines,
         carrier: Carrier::Process,
-    };
+    });
     expect_all(&rt, alloc, &lsas, job, DONE, &out)
 }
 
@@ -811,13 +833,13 @@ fn warnings_are_in_the_first_line(rt: HostRuntime) -> Result<(), Fail> {
         {\"cost\":0,\"cut\":0,\"failure\":\"1.1.1.1\",\"gone\":0,\"hops\":0,\"kind\":\"router\",\"lost\":0,\
         \"network\":null,\"own\":0,\"rerouted\":0,\"routers\":[\"1.1.1.1\"],\"subnet\":null,\
         \"unknown_costs\":[\"2.2.2.2@10.1.0.2\"],\"worst_rise\":0}\n";
-    let job = FailuresJob::Root {
+    let job = FailuresJob::Root(RouterFailures {
         root: SECOND,
         each: false,
         strict: false,
         form: FailuresForm::JsonLines,
         carrier: Carrier::Process,
-    };
+    });
     expect_of(&rt, alloc, &job, &Case::over(&input, DONE, out, err))
 }
 
@@ -836,13 +858,13 @@ fn failures_are_told_by_harm(rt: HostRuntime) -> Result<(), Fail> {
         2.2.2.2 lost 0 rerouted 0 rise 0 own 1 routers 1\n\
         1.1.1.1 lost 0 rerouted 0 rise 0 own 0 routers 0\n";
     for (wants_each, out) in [(false, at_root), (true, each)] {
-        let job = FailuresJob::Root {
+        let job = FailuresJob::Root(RouterFailures {
             root: FIRST,
             each: wants_each,
             strict: false,
             form: FailuresForm::Harm,
             carrier: Carrier::Process,
-        };
+        });
         expect_all(&rt, alloc, &chain(alloc)?, job, DONE, out)?;
     }
     let job = FailuresJob::All {
@@ -912,6 +934,27 @@ fn tables_without_parts(rt: HostRuntime) -> Result<(), Fail> {
     expect_without(&rt, alloc, &["3.3.3.3", name, name], DONE, alone, "")
 }
 
+// The LAN 192.168.2.0/24 of the second router goes, and nothing else.
+#[test]
+fn table_without_an_interface_to_a_stub_network(rt: HostRuntime) -> Result<(), Fail> {
+    let alloc = rt.alloc();
+    let input = lines(alloc, &chain(alloc)?)?;
+    let lan = "192.168.2.0/24 15 10.0.0.1>2.2.2.2\n";
+    let subnet = "10.0.0.0/30 10 attached\n";
+    let whole = format!(in alloc; "{subnet}{lan}")?;
+    let none = without(alloc, Vec::new(alloc));
+    expect_of(&rt, alloc, &none, &Case::over(&input, DONE, &whole, ""))?;
+    let name = String::from_str(alloc, "2.2.2.2@192.168.2.0/24")?;
+    let left = without(alloc, vec![in alloc; name]?);
+    expect_of(&rt, alloc, &left, &Case::over(&input, DONE, subnet, ""))?;
+    // The subnet of a link is no stub network.
+    let words = FailuresStatus::Ended(Status::Words);
+    let name = String::from_str(alloc, "2.2.2.2@10.0.0.0/30")?;
+    let refused = without(alloc, vec![in alloc; name]?);
+    let err = "2.2.2.2@10.0.0.0/30: not in this area\n";
+    expect_of(&rt, alloc, &refused, &Case::over(&input, words, "", err))
+}
+
 #[test]
 fn names_of_nothing_are_refused(rt: HostRuntime) -> Result<(), Fail> {
     let alloc = rt.alloc();
@@ -925,13 +968,13 @@ fn names_of_nothing_are_refused(rt: HostRuntime) -> Result<(), Fail> {
 fn failed_stream_is_told(rt: HostRuntime) -> Result<(), Fail> {
     let alloc = rt.alloc();
     let input = lines(alloc, &chain(alloc)?)?;
-    let job = FailuresJob::Root {
+    let job = FailuresJob::Root(RouterFailures {
         root: FIRST,
         each: false,
         strict: true,
         form: FailuresForm::Text,
         carrier: Carrier::Process,
-    };
+    });
     let mut err = Vec::new(alloc);
     let mut out = Failing { left: 0 };
     let status = failures_text(&rt, &job, input.as_bytes(), &mut out, &mut err, &mut Nobody);

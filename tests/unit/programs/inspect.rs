@@ -291,6 +291,64 @@ fn tables_of_all_routers_stand_in_json(rt: HostRuntime) -> Result<(), Fail> {
     expect(&rt, alloc, &InspectJob::Tables(Form::Json), &input, (Status::Done, &wanted, ""))
 }
 
+// The line about the four LSAs of the area.
+static HEAD: &str = "{\"input\":{\"left_out\":0,\"lsas\":4},\"outside\":false,\"version\":2,\"warnings\":[]}\n";
+
+// The routes of the second router in version 2, by hand.
+static SECOND_PARTS: &str = "[{\"cost\":20,\"hops\":[{\"address\":null,\"interface\":\"10.0.0.2\",\"router\":\"1.1.1.1\"}],\"prefix\":\"10.0.0.0/30\"},\
+    {\"cost\":5,\"hops\":[{\"address\":null,\"interface\":null,\"router\":null}],\"prefix\":\"10.1.0.0/24\"},\
+    {\"cost\":6,\"hops\":[{\"address\":\"10.1.0.3\",\"interface\":\"10.1.0.2\",\"router\":\"3.3.3.3\"}],\"prefix\":\"172.16.0.3/32\"}]";
+
+// The virtual link of the third router is warned of, in the line too.
+#[test]
+fn table_stands_in_lines_of_json(rt: HostRuntime) -> Result<(), Fail> {
+    let alloc = rt.alloc();
+    let input = lines(alloc, &area(alloc)?)?;
+    let alone = InspectJob::TableLines {
+        root: SECOND,
+        addresses: Vec::new(alloc),
+    };
+    let wanted = format!(in alloc;
+        "{HEAD}{{\"lookups\":[],\"root\":\"2.2.2.2\",\"routes\":{SECOND_PARTS}}}\n"
+    )?;
+    expect(&rt, alloc, &alone, &input, (Status::Done, &wanted, ""))?;
+    let asked = InspectJob::TableLines {
+        root: SECOND,
+        addresses: vec![in alloc; Addr(0xac10_0003), Addr(0x0909_0909)]?,
+    };
+    let told = "3.3.3.3: virtual link: routes over it are not computed\n";
+    let wanted = format!(in alloc;
+        "{{\"input\":{{\"left_out\":0,\"lsas\":4}},\"outside\":false,\"version\":2,\
+        \"warnings\":[\"3.3.3.3: virtual link: routes over it are not computed\"]}}\n\
+        {{\"lookups\":[{{\"address\":\"172.16.0.3\",\"route\":{{\"cost\":6,\
+        \"hops\":[{{\"address\":\"10.1.0.3\",\"interface\":\"10.1.0.2\",\"router\":\"3.3.3.3\"}}],\
+        \"prefix\":\"172.16.0.3/32\"}}}},{{\"address\":\"9.9.9.9\",\"route\":null}}],\
+        \"root\":\"2.2.2.2\",\"routes\":{SECOND_PARTS}}}\n"
+    )?;
+    expect(&rt, alloc, &asked, &input, (Status::Done, &wanted, told))
+}
+
+#[test]
+fn tables_of_all_routers_stand_in_lines_of_json(rt: HostRuntime) -> Result<(), Fail> {
+    let alloc = rt.alloc();
+    let input = lines(alloc, &area(alloc)?)?;
+    let both = "[{\"address\":null,\"interface\":\"10.0.0.1\",\"router\":\"2.2.2.2\"},\
+        {\"address\":null,\"interface\":\"10.0.0.5\",\"router\":\"2.2.2.2\"}]";
+    let here = "[{\"address\":null,\"interface\":null,\"router\":null}]";
+    let wanted = format!(in alloc;
+        "{HEAD}\
+        {{\"lookups\":[],\"root\":\"1.1.1.1\",\"routes\":[{{\"cost\":10,\"hops\":{here},\"prefix\":\"10.0.0.0/30\"}},\
+        {{\"cost\":15,\"hops\":{both},\"prefix\":\"10.1.0.0/24\"}},\
+        {{\"cost\":16,\"hops\":{both},\"prefix\":\"172.16.0.3/32\"}}]}}\n\
+        {{\"lookups\":[],\"root\":\"2.2.2.2\",\"routes\":{SECOND_PARTS}}}\n\
+        {{\"lookups\":[],\"root\":\"3.3.3.3\",\"routes\":[{{\"cost\":25,\
+        \"hops\":[{{\"address\":\"10.1.0.2\",\"interface\":\"10.1.0.3\",\"router\":\"2.2.2.2\"}}],\"prefix\":\"10.0.0.0/30\"}},\
+        {{\"cost\":5,\"hops\":{here},\"prefix\":\"10.1.0.0/24\"}},\
+        {{\"cost\":1,\"hops\":{here},\"prefix\":\"172.16.0.3/32\"}}]}}\n"
+    )?;
+    expect(&rt, alloc, &InspectJob::TablesLines, &input, (Status::Done, &wanted, ""))
+}
+
 #[test]
 fn empty_input_is_an_empty_array(rt: HostRuntime) -> Result<(), Fail> {
     let alloc = rt.alloc();

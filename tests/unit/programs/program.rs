@@ -1,8 +1,8 @@
 //! Whole answers to words and input.
 
 use super::failing::Failing;
-use ospf_check::{check_area_json, check_area_text, check_text};
-use ospf_edit::{EditJob, edit_text};
+use ospf_change::edit::{EditJob, edit_text};
+use ospf_check::{check_area_json, check_area_text, check_lines, check_text};
 use ospf_failures::{Progress, failures_text};
 use ospf_files::{FailedStreams, Failure, NamedFile, Status, tell_unread};
 use ospf_inspect::inspect_text;
@@ -436,9 +436,12 @@ fn status_of<R: AllocGlobal + Threads + Wait + Sync, O: Write, E: Write>(
                 how,
                 area,
                 json,
+                lines,
             } = check;
             let files = unread(alloc, files)?;
-            if json {
+            if lines {
+                check_lines(alloc, &files, how, area, out, err)
+            } else if json {
                 check_area_json(alloc, &files, out, err)
             } else if area {
                 check_area_text(alloc, &files, how, out, err)

@@ -1,13 +1,13 @@
 //! What failures do to the tables of a small area.
 
-use super::made::{FIRST, FIRST_NUMBER, SECOND, THIRD, router_bytes, stub, to};
+use super::made::{FIRST, FIRST_NUMBER, SECOND, THIRD, link as link_of, router_bytes, stub, to};
 use ospf_base::{Addr, Prefix, RouterId};
 use ospf_graph::{NextHop, Route};
-use ospf_lsa::{Link, Listing, Lsa, LsaView};
+use ospf_lsa::{Link, LinkKind, Listing, Lsa, LsaView};
 use ospf_spf::RouteTable;
 use ospf_whatif::{
-    AreaFailure, AreaGraph, KeptRoot, Loss, Outage, RouteChange, WithoutFault, single_failures,
-    without,
+    AreaFailure, AreaGraph, KeptRoot, Loss, Outage, RouteChange, WithoutFault, all_failures,
+    single_failures, without,
 };
 use std::alloc::Global;
 use std::test::Fail;
@@ -188,5 +188,81 @@ fn links_are_too_many_only_where_they_are_told_again(rt: HostRuntime) -> Result<
     let elsewhere = link(FIRST, THIRD, 0x0a00_0004)?;
     let same = without(alloc, &many, &elsewhere)?;
     assert!(rt; same.lsas()[1].view().as_bytes() == many.lsas()[1].view().as_bytes());
+    Ok(())
+}
+
+fn interface(router: RouterId, address: u32, mask: u32) -> Result<AreaFailure, Fail> {
+    Ok(AreaFailure::Stub {
+        router,
+        prefix: prefix(address, mask)?,
+    })
+}
+
+#[test]
+fn interfaces_to_stub_networks_fail_too(rt: HostRuntime) -> Result<(), Fail> {
+    let alloc = rt.alloc();
+    let failures = all_failures(alloc, &listing(alloc)?)?;
+    // After those of `single_failures`, of which there are eight: what is no subnet of a link.
+    let wanted = [
+        interface(FIRST, 0x0a00_0000, 0xff00_0000)?,
+        interface(SECOND, 0x0a00_0000, 0xff00_0000)?,
+        interface(SECOND, 0xc0a8_0200, 0xffff_ff00)?,
+        interface(THIRD, 0xc0a8_0300, 0xffff_ff00)?,
+        interface(LAST, 0xac10_0400, 0xffff_ff00)?,
+    ];
+    assert!(rt; failures.len() == 13);
+    assert!(rt; &failures[8..] == wanted.as_slice());
+    Ok(())
+}
+
+// A router on 10.1.0.0/24 with another one, at 10.1.0.1; with a link without an address, the fifth of its interfaces; with a link
+// in 10.2.0.0/30, and its own address there as a host route; a
+// loopback; a LAN of two addresses; 10.0.0.0/8, in which its address lies; and 0.0.0.0/8, in which no address of it lies.
+fn kinds(alloc: Global) -> Result<Listing, Fail> {
+    let first = [
+        link_of(LinkKind::Transit, 0x0a01_0002, 0x0a01_0001, 10),
+        to(SECOND, 5, 10),
+        to(SECOND, 0x0a02_0001, 10),
+        stub(0x0a02_0000, 0xffff_fffc, 10),
+        stub(0x0a02_0001, 0xffff_ffff, 0),
+        stub(0x0101_0101, 0xffff_ffff, 0),
+        stub(0, 0xff00_0000, 1),
+        stub(0xac10_0000, 0xffff_fffe, 7),
+        stub(0x0a00_0000, 0xff00_0000, 1),
+    ];
+    let mut listing = Listing::new(alloc);
+    listing.add(Lsa::router(alloc, FIRST, FIRST_NUMBER, &first)?)?;
+    Ok(listing)
+}
+
+#[test]
+fn loopbacks_and_subnets_of_links_do_not_fail(rt: HostRuntime) -> Result<(), Fail> {
+    let alloc = rt.alloc();
+    let wanted = [
+        AreaFailure::Router(FIRST),
+        interface(FIRST, 0, 0xff00_0000)?,
+        interface(FIRST, 0xac10_0000, 0xffff_fffe)?,
+    ];
+    assert!(rt; all_failures(alloc, &kinds(alloc)?)?.as_slice() == wanted.as_slice());
+    Ok(())
+}
+
+#[test]
+fn interface_to_a_stub_network(rt: HostRuntime) -> Result<(), Fail> {
+    // A LAN of one router is gone.
+    let lan = effect(rt.alloc(), &interface(LAST, 0xac10_0400, 0xffff_ff00)?)?;
+    assert!(rt; lan.len() == 1);
+    assert!(rt; is_to(&lan[0].before, 0xac10_0400, 0xffff_ff00, 21)?);
+    assert!(rt; matches!(&lan[0].loss, Loss::Gone));
+    // One of two routers is reached over the other.
+    let dual = effect(rt.alloc(), &interface(FIRST, 0x0a00_0000, 0xff00_0000)?)?;
+    assert!(rt; dual.len() == 1);
+    assert!(rt; is_to(&dual[0].before, 0x0a00_0000, 0xff00_0000, 100)?);
+    let Loss::Dearer(dearer) = &dual[0].loss else {
+        return Err("a higher cost".into());
+    };
+    assert!(rt; is_to(dearer, 0x0a00_0000, 0xff00_0000, 110)?);
+    let far = effect(rt.alloc(), &interface(SECOND, 0x0a00_0000, 0xff00_0000)?)?;
+    assert!(rt; far.is_empty());
     Ok(())
 }

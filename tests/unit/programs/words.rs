@@ -2,14 +2,14 @@
 
 use super::program::outcome_of;
 use ospf_base::{Addr, RouterId};
-use ospf_failures::{Carrier, FailuresForm, FailuresJob};
+use ospf_failures::{Carrier, FailuresForm, FailuresJob, RouterFailures};
 use ospf_files::Telling;
 use ospf_words::{Job, RunJob, job};
 use std::alloc::Global;
 use std::test::Fail;
 
 // Words by name, the exit status, and how standard output and standard error begin.
-static WORDS: [(&str, &str, u8, &str, &str); 87] = [
+static WORDS: [(&str, &str, u8, &str, &str); 97] = [
     ("help", "--help", 0, "OSPF version 2 for one area\n", ""),
     ("help word", "help", 0, "OSPF version 2 for one area\n", ""),
     ("help of table", "table --help", 0, "Computes a routing", ""),
@@ -74,6 +74,12 @@ static WORDS: [(&str, &str, u8, &str, &str); 87] = [
     ("all tables as JSON", "table all --json", 0, "[]\n", ""),
     ("a lookup as JSON", "table --json 1.1.1.1 10.0.0.1", 2, "", "error: neither `all` nor --json can be combined with ADDRESS or --without\n"),
     ("what is left out as JSON", "table --json 1.1.1.1 --without 2.2.2.2", 2, "", "error: neither `all` nor --json can be combined with ADDRESS"),
+    ("all tables in lines", "table all --json2", 0, "{\"input\":{\"left_out\":0,\"lsas\":0},\"outside\":false,\"version\":2,\"warnings\":[]}\n", ""),
+    ("two versions of a table", "table --json --json2 1.1.1.1", 2, "", "error: --json=2 cannot be combined with --json or --without, nor `all` with ADDRESS\n"),
+    ("what is left out in lines", "table --json2 1.1.1.1 --without 2.2.2.2", 2, "", "error: --json=2 cannot be combined with --json or --without"),
+    ("lookups in the lines of all", "table --json2 all 10.0.0.1", 2, "", "error: --json=2 cannot be combined with --json or --without"),
+    ("no address in lines", "table --json2 1.1.1.1 10.0.0.01", 2, "", "10.0.0.01: not an address\n"),
+    ("no root in lines", "table --json2 1.1.1", 2, "", "1.1.1: not an address\n"),
     ("a lookup in all tables", "table all 10.0.0.1", 2, "", "error: neither `all` nor --json can be combined with ADDRESS"),
     ("no address in all tables", "table all 10.0.0.01", 2, "", "error: neither `all` nor --json can be combined with ADDRESS"),
     ("all tables without a part", "table all --without 2.2.2.2", 2, "", "error: neither `all` nor --json can be combined with ADDRESS"),
@@ -81,7 +87,11 @@ static WORDS: [(&str, &str, u8, &str, &str); 87] = [
     ("unread file as JSON", "check --json a.toml", 5, "", "a.toml: not read\n"),
     ("unread file with all faults", "check --all a.toml", 5, "", "a.toml: not read\n"),
     ("all faults of no file", "check --all", 2, "", "error: "),
-    ("all faults as JSON", "check --all --json a.toml", 2, "", "error: --json cannot be combined with --all\n"),
+    ("all faults as JSON", "check --all --json a.toml", 2, "", "error: --json cannot be combined with --all or --json=2\n"),
+    ("two versions of a check", "check --json --json2 a.toml", 2, "", "error: --json cannot be combined with --all or --json=2\n"),
+    ("unread file in lines", "check --json2 a.toml", 5, "", "a.toml: not read\n"),
+    ("unread file of an area in lines", "check --json2 --area --all a.toml", 5, "", "a.toml: not read\n"),
+    ("no file in lines", "check --json2", 2, "", "error: "),
     ("JSON of no log in sim", "sim --json a b.toml", 2, "", "error: --json needs --log\n"),
     ("JSON of a log in sim", "sim --json --log a.log a b.toml", 5, "", "a: not read\n"),
     ("an unread script of a strict simulation", "sim --strict a b.toml", 5, "", "a: not read\n"),
@@ -251,6 +261,12 @@ fn names_files(rt: HostRuntime) -> Result<(), Fail> {
     };
     assert_eq!(rt; explained.files.len(), 1);
     assert_eq!(rt; explained.how, Telling::Explained);
+    let Ok(Job::Check(lines)) = job(rt.alloc(), &["check", "--all", "--json2", "a.toml"]) else {
+        return Err(Fail::from("words"));
+    };
+    assert!(rt; lines.lines && !lines.json && !lines.area);
+    assert_eq!(rt; lines.how, Telling::AllExplained);
+    assert!(rt; !check.lines && !check.json);
     let Ok(Job::Check(all)) = job(rt.alloc(), &["check", "--all", "--area", "a.toml"]) else {
         return Err(Fail::from("words"));
     };
@@ -332,7 +348,7 @@ fn reads_what_carries_links(rt: HostRuntime) -> Result<(), Fail> {
         assert!(rt; carrier == wanted);
     }
     let words = ["failures", "--carrier", "switch", "1.1.1.1"];
-    let Ok(Job::Failures(FailuresJob::Root { carrier, .. })) = job(rt.alloc(), &words) else {
+    let Ok(Job::Failures(FailuresJob::Root(RouterFailures { carrier, .. }))) = job(rt.alloc(), &words) else {
         return Err(Fail::from("words"));
     };
     assert!(rt; carrier == Carrier::Switch);

@@ -2,7 +2,7 @@
 
 use answers::{Answers, is_silent};
 use hex::decode;
-use ospf_base::{Addr, Host, RouterId};
+use ospf_base::{Addr, Prefix, RouterId, StubNetwork};
 use ospf_config::Config;
 use ospf_neighbour::NeighbourState;
 use ospf_router::{Dropped, Event, Outputs, Router, Sent, StartFault, Step, Stopped};
@@ -196,13 +196,18 @@ fn cost_to(router: &Router, address: u32) -> Option<u64> {
     Some(route.cost)
 }
 
+fn stub(address: u32, length: u8, cost: u16) -> StubNetwork {
+    let prefix = Prefix { address: Addr(address), length };
+    StubNetwork { prefix, cost }
+}
+
 // 2.2.2.2 has the hosts 192.0.2.7 and 192.0.2.1: each costs 1.1.1.1 the link and what it costs 2.2.2.2.
 #[test]
 fn hosts_are_reached(rt: HostRuntime) -> Result<(), Fail> {
     let alloc = rt.alloc();
     let mut config = Config::from_text(alloc, SECOND)?;
-    config.hosts.push(Host { address: Addr(0xc000_0207), cost: 300 })?;
-    config.hosts.push(Host { address: Addr(0xc000_0201), cost: 0 })?;
+    config.stubs.push(stub(0xc000_0207, 32, 300))?;
+    config.stubs.push(stub(0xc000_0201, 32, 0))?;
     let mut first = start(FIRST, 100, alloc)?;
     let mut second = Router::start(&config, 200, NO_FLOOR, alloc)?;
     bring_up(&mut first, &mut second, alloc)?;
@@ -212,6 +217,51 @@ fn hosts_are_reached(rt: HostRuntime) -> Result<(), Fail> {
     assert_eq!(rt; cost_to(&first, 0xc000_0206), None);
     assert_eq!(rt; cost_to(&second, 0xc000_0207), Some(300));
     assert_eq!(rt; cost_to(&second, 0xc000_0201), Some(0));
+    Ok(())
+}
+
+// The network 198.51.100.0/24 behind 2.2.2.2, and no address beside it.
+#[test]
+fn stub_networks_are_reached(rt: HostRuntime) -> Result<(), Fail> {
+    let alloc = rt.alloc();
+    let mut config = Config::from_text(alloc, SECOND)?;
+    config.stubs.push(stub(0xc633_6400, 24, 5))?;
+    let mut first = start(FIRST, 100, alloc)?;
+    let mut second = Router::start(&config, 200, NO_FLOOR, alloc)?;
+    bring_up(&mut first, &mut second, alloc)?;
+    rounds(&mut first, &mut second, 20, alloc)?;
+    assert_eq!(rt; cost_to(&first, 0xc633_6463), Some(15));
+    assert_eq!(rt; cost_to(&first, 0xc633_6563), None);
+    assert_eq!(rt; cost_to(&second, 0xc633_6463), Some(5));
+    Ok(())
+}
+
+// Two routers whose subnets are suppressed or not, after 20 ticks, and 192.0.2.7 behind the second.
+fn two_suppressed(alloc: Global, one: bool, two: bool) -> Result<(Router, Router), Fail> {
+    let mut config = Config::from_text(alloc, FIRST)?;
+    config.interfaces[0].prefix_suppression = one;
+    let mut first = Router::start(&config, 100, NO_FLOOR, alloc)?;
+    let mut config = Config::from_text(alloc, SECOND)?;
+    config.interfaces[0].prefix_suppression = two;
+    config.stubs.push(stub(0xc000_0207, 32, 0))?;
+    let mut second = Router::start(&config, 200, NO_FLOOR, alloc)?;
+    bring_up(&mut first, &mut second, alloc)?;
+    rounds(&mut first, &mut second, 20, alloc)?;
+    Ok((first, second))
+}
+
+// The subnet of a link is hidden where both ends suppress it: then no one reaches an address in it, and all that lies
+// behind the link is reached over it as before. One end alone does not hide it.
+#[test]
+fn subnets_are_hidden(rt: HostRuntime) -> Result<(), Fail> {
+    let alloc = rt.alloc();
+    let (first, second) = two_suppressed(alloc, true, true)?;
+    assert_eq!(rt; cost_to(&first, 0x0a00_0002), None);
+    assert_eq!(rt; cost_to(&second, 0x0a00_0001), None);
+    assert_eq!(rt; cost_to(&first, 0xc000_0207), Some(10));
+    let (first, second) = two_suppressed(alloc, true, false)?;
+    assert_eq!(rt; cost_to(&first, 0x0a00_0002), Some(20));
+    assert_eq!(rt; cost_to(&second, 0x0a00_0001), Some(10));
     Ok(())
 }
 
