@@ -7,8 +7,9 @@ import html
 import os
 import re
 
+from citations import citations, names_in
 from sources import Call, items
-from specs import TOKEN, TOP, Word, citations, definition, module, modules_of, names_in
+from specs import TOKEN, TOP, Word, definition, module, modules_of
 
 WORDS = "words"
 SECTION = re.compile(r"==== (\S+)(.*)")

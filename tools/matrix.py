@@ -24,8 +24,9 @@ import os
 import re
 import textwrap
 
+from citations import closure
 from sources import call
-from specs import TOP, Fault, closure, file_of, one_word
+from specs import TOP, Fault, file_of, one_word
 
 SECTIONS = """
 8 8.1 8.2 9 9.1 9.2 9.3 9.4 9.5 9.5.1 10 10.1 10.2 10.3 10.4 10.5 10.6 10.7 10.8 10.9 10.10 11 11.1

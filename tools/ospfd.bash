@@ -9,12 +9,12 @@ _ospfd() {
     fi
     case $command in
     "") ;;
-    table) options="--without --json --help" ;;
+    table) options="--without --json --json2 --help" ;;
     failures) options="--each --strict --json --json2 --harm --carrier --help" ;;
     lsas) options="--dot --json --help" ;;
     edit) options="--down --cost --drain --help" ;;
     diff) options="--root --help" files=yes ;;
-    check) options="--explain --all --area --json --help" files=yes ;;
+    check) options="--explain --all --area --json --json2 --help" files=yes ;;
     sim) options="--dot --pcap --log --json --strict --help" files=yes ;;
     run) options="--tick --lookup --floor --neighbours --listing --lsdb --drops --every --until-eof --pcap --log --log-lsas --json --help" files=yes ;;
     help) [ "$COMP_CWORD" -gt 2 ] || options=$commands ;;

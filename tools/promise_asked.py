@@ -6,21 +6,9 @@ import os
 import re
 import textwrap
 
+from citations import citations, closure
 from sources import Declared, call
-from specs import (
-    NAME,
-    TOP,
-    Fault,
-    Outside,
-    Word,
-    citations,
-    closure,
-    definition,
-    module,
-    one_word,
-    shown_as,
-    sought,
-)
+from specs import NAME, TOP, Fault, Outside, Word, definition, module, one_word, shown_as, sought
 
 # The usage of the script, which sets it.
 USAGE = ""

@@ -2,7 +2,9 @@
 import os
 import textwrap
 
-from sources import entries, folder_of, lines_of, said
+from exports import entries, said
+from rattle import lines_of
+from sources import folder_of
 from specs import TOP
 
 COLUMNS = 100

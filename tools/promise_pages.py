@@ -6,10 +6,12 @@ import re
 
 import matrix
 import story
-from promise_calls import crate_calls, filled
+from citations import closure
+from exports import entries
 from promise_asked import Asked
-from sources import entries, items
-from specs import TOP, Fault, closure
+from promise_calls import crate_calls, filled
+from sources import items
+from specs import TOP, Fault
 
 # The status where a page or a number is not that of the code.
 WRONG = 1

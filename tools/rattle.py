@@ -11,6 +11,8 @@ SIGNATURE = re.compile(rf"^([ \t]*){VISIBLE}{KINDS}fn (\w+)", re.M)
 OF_ITEM = r"(const|static|struct|enum|union|type|trait|mod|use|impl\b\S*) (?:\w+::)*(\w+)"
 ITEM = re.compile(rf"^[ \t]*{VISIBLE}(?:unsafe )?{OF_ITEM}", re.M)
 HEAD = re.compile(r"^(?:unsafe )?(?:impl|trait|pub trait)\b(.*?)(?:\{|$)", re.M)
+# The first line of a public type or trait.
+TYPE = re.compile(r"pub (struct|enum|trait) (\w+)")
 # The first line of a definition of specs/, with its word.
 DEFINITION = re.compile(r"(?:pub )?(?:abbrev|unfoldable|record|data)(?: pub)? (\S+)")
 
@@ -19,6 +21,11 @@ def files_of(folder, ending):
     """The files with an ending below a folder, in order."""
     found = (os.path.join(at, file) for at, _, files in os.walk(folder) for file in files)
     return sorted(path for path in found if path.endswith(ending))
+
+
+def rust_files(folder):
+    """The sources below a folder, in order."""
+    return files_of(folder, ".rt")
 
 
 @functools.lru_cache(maxsize=None)

@@ -1,38 +1,25 @@
-"""The sources of crates/*/src: the public functions with their clauses, the types, and what a crate
-exports."""
+"""The sources of crates/*/src: the public functions with their clauses, the types, and the public
+modules."""
 import collections
 import functools
 import os
 import re
 
-from rattle import files_of, lines_of
-from specs import NAME, TOP, Fault, Outside, Scan, Word, operators, targets, used_at
+from ghosts import cited_by
+from rattle import TYPE, lines_of, rust_files
+from specs import NAME, TOP, Fault, Word
 
 FUNCTION = re.compile(r"\s*pub (?:const |final |unsafe |extern \"C\" )*fn (\w+)")
 METHOD = re.compile(r"    (?:const |final |unsafe )*fn (\w+)")
 BLOCK = re.compile(r"(?:unsafe )?impl\b(?:<.*?>)?\s*(?:(\w+).* for )?(\w+)")
-TYPE = re.compile(r"pub (struct|enum|trait) (\w+)")
 SMALL = re.compile(r"pub (const|type) ([A-Z]\w*)")
 CLAUSE = re.compile(r"\s*(requires|ensures)\b(?: (\w+))? \{")
-# A ghost value of a block, and a ghost field: what an implementation promises, and what a type says
-# of its fields.
-GHOST, FIELD = re.compile(r"\s*(?:pub )?ghost (\w+) = \{"), re.compile(
-    r"\s*(?:pub )?ghost (\w+)\s*: \{"
-)
-EXPORT = re.compile(r"\bpub use (?:crate::)?((?:\w+::)+)(?:\{([^}]*)\}|(\w+));")
 # The modules of a file, and whether others see them.
 MODULE = re.compile(r"\b(pub )?mod (\w+);")
 
 # A public function, a type or an implementation: where its comment, its head and its body begin.
 # `owner` is the type of a method.
 Item = collections.namedtuple("Item", "kind owner name start head end")
-# What a list of calls says of one: its name, what kind of thing it is, its comment, its clauses by
-# name, and the words that they cite.
-Entry = collections.namedtuple("Entry", "name kind comment requires ensures words")
-
-
-def rust_files(folder):
-    return files_of(folder, ".rt")
 
 
 def folder_of(crate):
@@ -158,19 +145,6 @@ class Call:
         ]
 
 
-def cited_by(crate, path, at, text, bound=()):
-    """What a ghost text at a line of a file cites."""
-    scope, rust = ghost_scope(path, at), rust_scope(path)
-    scan = Scan(scope, lambda name: None, set(), bound)
-    scan.text(re.sub(r"\s+", " ", re.sub(r"^\s*//.*$", "", text, flags=re.M)))
-    found = list(scan.cited) + operators(scope, scan.symbols)
-    for one in sorted(scan.symbols):
-        name = one.split(".")[0]
-        if name in rust and name not in scope:
-            found.append(Outside(rust_place(crate, rust[name], name), name))
-    return found
-
-
 def call(crate, name):
     """The one public function of a name: `Router::step`, `run_text`, and of a public module
     `link_steps::take_request`. Of several of a name it is the one that stands in no public
@@ -193,73 +167,6 @@ def call(crate, name):
             "Router::step"
         )
     return Call(crate, *found[0])
-
-
-@functools.lru_cache(maxsize=None)
-def ghost_uses(path):
-    """The `ghost use` lines of a file: where each is, where its block ends, whether it is of the
-    whole file, and what it brings."""
-    lines = lines_of(path)
-    ends = [n for n, line in enumerate(lines) if line.startswith("}")] + [len(lines)]
-    found = [
-        (n, used_at(lines, n, "ghost ")) for n in range(len(lines)) if "ghost use " in lines[n]
-    ]
-    return [
-        (
-            n,
-            next(end for end in ends if end > n),
-            lines[n][0] != " ",
-            targets(used[2], used[3], used[4]),
-        )
-        for n, used in found
-        if used
-    ]
-
-
-def ghost_scope(path, at):
-    """The words that `ghost use` brings to a place: those of the file, and those of the block that
-    the place is in."""
-    lines, scope = lines_of(path), {}
-    block = max(
-        (n for n in range(at + 1) if lines[n][:1].strip() and lines[n][0] not in "}/"), default=0
-    )
-    for n, end, is_whole, words in ghost_uses(path):
-        if is_whole or block < n <= at <= end:
-            scope.update(words)
-    return scope
-
-
-@functools.lru_cache(maxsize=None)
-def rust_scope(path):
-    """The crates that the file's `use` lines have types of, by type; those that it declares are of
-    its own."""
-    found = {}
-    for line in re.sub(
-        r"\{[^}]*\}", lambda it: " ".join(it[0].split()), "\n".join(lines_of(path))
-    ).split("\n"):
-        if used := re.match(r"use (\w+)(?:::\w+)*::(?:\{(.*)\}|(\w+));", line):
-            for name in re.findall(r"\b[A-Z]\w*", used[2] or used[3]):
-                found[name] = used[1]
-        elif declared := TYPE.match(line):
-            found[declared[2]] = "crate"
-    return found
-
-
-@functools.lru_cache(maxsize=None)
-def rust_place(crate, of, name):
-    """Where a type of the code is declared."""
-    home = crate if of == "crate" else of
-    crates = sorted(os.listdir(os.path.join(TOP, "crates")))
-    if home not in crates:
-        return home
-    for one in [home] + crates:
-        for path in rust_files(os.path.join(TOP, "crates", one, "src")):
-            if any(
-                re.match(rf"pub (?:struct|enum|trait|type) {name}\b", line)
-                for line in lines_of(path)
-            ):
-                return os.path.relpath(path, TOP)
-    return f"crates/{home}"
 
 
 # ---- types that the code declares ----
@@ -285,33 +192,7 @@ class Declared:
         raise Fault(f"no public type '{name}' in crates/{crate}/src")
 
 
-# ---- what a crate exports ----
-
-
-def said(lines, mark):
-    """The first paragraph of a comment."""
-    text = [line.strip()[len(mark) :].strip() for line in lines if line.strip().startswith(mark)]
-    return " ".join(text[: text.index("")] if "" in text else text)
-
-
-def exported(crate):
-    """The names that lib.rt, and the public modules of it, export of the crate's own modules; none
-    of a program."""
-    return exported_by(os.path.join(folder_of(crate), "lib.rt"))
-
-
-def exported_by(path):
-    """The names that a file exports of its modules, and those that its public modules export."""
-    if not os.path.exists(path):
-        return set()
-    text, names = " ".join(" ".join(lines_of(path)).split()), set()
-    own = {found[2]: found[1] for found in MODULE.finditer(text)}
-    for found in EXPORT.finditer(text):
-        if {*found[1].split("::")} & own.keys():
-            names |= {name.strip() for name in (found[2] or found[3]).split(",") if name.strip()}
-    for name in (name for name, is_public in own.items() if is_public):
-        names |= exported_by(below(path, name))
-    return names
+# ---- public modules ----
 
 
 def below(path, name):
@@ -349,76 +230,3 @@ def public_above(crate, path):
         if path == file or path.startswith(file[: -len(".rt")] + os.sep)
     ]
     return max(inside, key=len, default=[])
-
-
-def ghost_texts(lines, it, pattern):
-    """The ghost values or fields of a block, by name: where each stands, and its text."""
-    for n in range(it.head, it.end + 1):
-        if found := pattern.match(lines[n]):
-            yield found[1], n, braced("\n".join(lines[n : it.end + 1])[found.end() :])
-
-
-def braced(text):
-    """A text up to the brace that closes the one before it."""
-    depth = 1
-    for n, sign in enumerate(text):
-        depth += (sign == "{") - (sign == "}")
-        if depth == 0:
-            return text[:n]
-    return text
-
-
-def own_words(found):
-    return list(dict.fromkeys(one.name for one in found if isinstance(one, Word)))
-
-
-def entry(crate, path, it):
-    """What a list of calls says of an item."""
-    lines = lines_of(path)
-    comment = said(lines[it.start : it.head], "///")
-    if it.kind == "fn":
-        made, name = Call(crate, path, it), f"{it.owner}::{it.name}" if it.owner else it.name
-        head = " ".join(lines[it.head : it.end]).partition("ensures")[0]
-        is_law = not it.owner and "->" not in head and "&mut" not in head
-        return Entry(
-            name,
-            "law" if is_law else "",
-            comment,
-            made.clauses("requires"),
-            made.clauses("ensures"),
-            own_words(made.cited()),
-        )
-    is_block = it.kind.startswith("impl ")
-    ghosts = list(ghost_texts(lines, it, GHOST if is_block else FIELD))
-    words = own_words(
-        one for _, n, text in ghosts for one in cited_by(crate, path, n, text, {"self"})
-    )
-    name = f"{it.kind[5:]} for {it.owner}" if is_block else it.name
-    return Entry(
-        name, "" if is_block else it.kind, comment, [], [name for name, _, _ in ghosts], words
-    )
-
-
-@functools.lru_cache(maxsize=None)
-def entries(crate):
-    """What a crate exports, by file: its public types, functions and laws, and what it promises of
-    its types by traits. The file of a public module is there for its comment."""
-    names, modules, files = (
-        exported(crate),
-        public_modules(os.path.join(folder_of(crate), "lib.rt")),
-        [],
-    )
-    for path in rust_files(folder_of(crate)):
-        found = []
-        for it in items(path):
-            if (
-                it.kind in ("impl Model", "impl Drop")
-                or not {it.owner or it.name, it.kind[5:]} & names
-            ):
-                continue
-            one = entry(crate, path, it)
-            if one.comment or one.words or not it.kind.startswith("impl "):
-                found.append(one)
-        if found or path in modules:
-            files.append((path, said(lines_of(path), "//!"), found))
-    return files

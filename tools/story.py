@@ -19,11 +19,12 @@ import re
 import textwrap
 
 import matrix
-from specs import TOP, Fault, Word, citations, closure, definition, file_of, one_word, shown_as
+from citations import citations, closure
 from sources import call
+from specs import TOP, Fault, Word, definition, file_of, one_word, shown_as
 
 LIST = os.path.join(TOP, "docs", "promises", "headline.txt")
-STATEMENT, THEOREM = ("ospf_headline", "headline"), ("ospf_headline", "Headline")
+STATEMENT, THEOREM = ("ospf_world", "headline"), ("ospf_world", "Headline")
 PRINTED = os.path.join("examples", "ring-loses-a-link", "printed")
 HEADING = re.compile(r"\[(clause|read|small|leaf|ring)((?: \w+)*)\]")
 LINE = re.compile(r"  (is|print) (.+)")
