@@ -22,10 +22,13 @@ use Rattle.ospf_spf.specs.declared.changes.Change.{Change}
 use Rattle.publishes.proofs.time_of_changes.Goals as goal
 
 pub publish_changes-requires-clause-in_order : goal.publish_changes-requires-clause-in_order
-publish_changes-requires-clause-in_order g c = subst (λ (l : List Change). AllPairs IsChangeBefore l) (sym c.deref.ensures.value) c.in_ok-there.ensures.in_order
+publish_changes-requires-clause-in_order g c = subst (λ (l : List Change). AllPairs IsChangeBefore \
+l) (sym c.deref.ensures.value) c.in_ok-there.ensures.in_order
 
-pub publish_changes-requires-in-loop-clause-in_order : goal.publish_changes-requires-in-loop-clause-in_order
-publish_changes-requires-in-loop-clause-in_order g c = subst (λ (l : List Change). AllPairs IsChangeBefore l) (sym c.deref-in-loop.ensures.value) c.in_ok-back.ensures.in_order
+pub publish_changes-requires-in-loop-clause-in_order : \
+goal.publish_changes-requires-in-loop-clause-in_order
+publish_changes-requires-in-loop-clause-in_order g c = subst (λ (l : List Change). AllPairs \
+IsChangeBefore l) (sym c.deref-in-loop.ensures.value) c.in_ok-back.ensures.in_order
 """
 
 
